@@ -1,0 +1,17 @@
+-- Searches among the ancestors of a node, which come nearest first.
+use Prim.Native.Nat.{ℕ}
+use mathlib.Core.List.{List, foldr}
+use mathlib.Core.Bool.{Bool, cond}
+use Rattle.common.specs.Upto.{any}
+use Rattle.common.specs.Tests.{within}
+use Rattle.tables.specs.Table.{kindOf, ancestors}
+use Rattle.tables.specs.declared.Found.{Found}
+use Rattle.tables.specs.declared.Found.the-variants.{At, Nothing}
+
+-- the nearest ancestor of n with a kind from low to high
+unfoldable pub nearestOf : List ℕ → ℕ → ℕ → ℕ → Found
+nearestOf ns low high n = foldr (λ a r. cond (within (kindOf ns a) low high) (At (record { 0 = a })) r) Nothing (ancestors ns n)
+
+-- some ancestor of n has a kind from low to high
+unfoldable pub hasAncestor : List ℕ → ℕ → ℕ → ℕ → Bool
+hasAncestor ns low high n = any (λ a. within (kindOf ns a) low high) (ancestors ns n)

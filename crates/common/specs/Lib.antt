@@ -1,0 +1,4 @@
+pub mod Upto
+pub mod Tests
+pub mod Wrote
+pub mod Bools

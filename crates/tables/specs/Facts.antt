@@ -1,0 +1,32 @@
+-- What the layers above rely on: each record is what one refusal gives where it does not apply.
+use Prim.Native.Nat.{ℕ, _+_, _≤_, _<_}
+use mathlib.Core.Path.{_≡_}
+use mathlib.Core.List.{List}
+use lib.ListN.{length}
+use Rattle.walk.specs.Above.{Falls}
+use Rattle.walk.specs.Preorder.{Preorder}
+use Rattle.tables.specs.Table.{count, kindOf, parentOf, depthOf, nameStartOf, nameLenOf, countScopes, scopeParentOf, scopeFlagsOf}
+
+-- what is known where no node is out of place
+pub record Tree (ns : List ℕ) : Type 0 where
+  pub some : 0 < count ns
+  pub small : count ns ≤ 65535
+  pub root : kindOf ns 0 ≡ 0
+  pub top : parentOf ns 0 ≡ 0
+  pub inner : (i : ℕ) → 0 < i → i < count ns → kindOf ns i ≡ 0 → ⊥
+  pub order : Preorder (parentOf ns) (count ns)
+  pub falls : Falls (parentOf ns) (count ns)
+  pub depth : (i : ℕ) → i < count ns → depthOf ns i ≤ 512
+
+-- what is known where no scope record is broken
+pub record Chained (ss : List ℕ) : Type 0 where
+  pub some : 0 < countScopes ss
+  pub small : countScopes ss ≤ 65535
+  pub flags : (s : ℕ) → s < countScopes ss → scopeFlagsOf ss s ≤ 31
+  pub top : scopeParentOf ss 0 ≡ 0
+  pub falls : Falls (scopeParentOf ss) (countScopes ss)
+
+-- every node's name lies within the bytes
+pub record Named (ns names : List ℕ) : Type 0 where
+  pub inside : (i : ℕ) → i < count ns → nameStartOf ns i + nameLenOf ns i ≤ length names
+
