@@ -70,10 +70,10 @@ put-put s w vs us h =
     let lp : length (take w s ++ vs) ≡ w + length vs = length-append (take w s) vs ∙ ap (λ (k : ℕ). k + length vs) t in
     let la : length (vs ++ us) ≡ length vs + length us = length-append vs us in
     let d : drop (w + length vs + length us) (put s w vs) ≡ drop (w + length (vs ++ us)) s =
-        sym (drop-drop (length us) (w + length vs) (put s w vs))
-        ∙ ap (drop (length us)) (drop-at (take w s ++ vs) (drop (w + length vs) s) (w + length vs) lp)
-        ∙ drop-drop (length us) (w + length vs) s
-        ∙ ap (λ (k : ℕ). drop k s) (let e : w + length vs + length us ≡ w + length (vs ++ us) = omega arith in e) in
+    sym (drop-drop (length us) (w + length vs) (put s w vs))
+    ∙ ap (drop (length us)) (drop-at (take w s ++ vs) (drop (w + length vs) s) (w + length vs) lp)
+    ∙ drop-drop (length us) (w + length vs) s
+    ∙ ap (λ (k : ℕ). drop k s) (let e : w + length vs + length us ≡ w + length (vs ++ us) = omega arith in e) in
     rw (take-at (take w s ++ vs) (drop (w + length vs) s) (w + length vs) lp, d) (ap (λ (l : List ℕ). l ++ drop (w + length (vs ++ us)) s) (append-assoc (take w s) vs us))
 
 pub sink-all : (s : List ℕ) (w : ℕ) (fs : List Finding) → w + 7 * length fs ≤ length s → sink s w fs ≡ put s w (flat fs)

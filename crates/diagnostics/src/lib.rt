@@ -53,7 +53,13 @@ pub fn error_at(nodes: &[u32], code: u32, node: NodeId, at: NodeId, context: u32
 }
 
 // A finding at the spans of two nodes.
-pub fn error_between(nodes: &[u32], code: u32, node: NodeId, first: NodeId, second: NodeId) -> Raised
+pub fn error_between(
+    nodes: &[u32],
+    code: u32,
+    node: NodeId,
+    first: NodeId,
+    second: NodeId,
+) -> Raised
     requires { ⌜ first .0 < count (now nodes) ⌝ }
     requires { ⌜ second .0 < count (now nodes) ⌝ }
     ensures { λ r. ⌜ r ≡ errorBetween (now (nodes .entry)) code (node .0) (first .0) (second .0) ⌝ }

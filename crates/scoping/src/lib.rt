@@ -23,10 +23,7 @@ pub fn strict_mode(nodes: &[u32], scopes: &[u32], n: NodeId) -> bool
     requires { ⌜ n .0 < count (now nodes) ⌝ }
     ensures { λ r. ⌜ r ≡ isStrict (now (nodes .entry)) (now (scopes .entry)) (n .0) ⌝ }
 {
-    tables::has_flag(
-        current_scope_flags(nodes, scopes, n),
-        scope_flag::STRICT,
-    )
+    tables::has_flag(current_scope_flags(nodes, scopes, n), scope_flag::STRICT)
 }
 
 // Whether, from this scope outward, a static block comes before a function.
