@@ -41,11 +41,7 @@ pub fn is_call(nodes: &[u32], n: NodeId) -> bool
     requires { ⌜ n .0 < count (now nodes) ⌝ }
     ensures { λ r. ⌜ r ≡ isCall (now (nodes .entry)) (n .0) ⌝ }
 {
-    common::within(
-        ancestry::parent_kind(nodes, n),
-        kinds::CALL,
-        kinds::NEW,
-    )
+    common::within(ancestry::parent_kind(nodes, n), kinds::CALL, kinds::NEW)
 }
 
 // Where a property may be taken of `super`, and `super` may not be called.
@@ -97,7 +93,11 @@ fn element_part(nodes: &[u32], start: NodeId) -> ElementPart
             break ElementPart::NoElement;
         }
         let a = ancestry::up(nodes, x);
-        if common::within(tables::kind(nodes, a), kinds::METHOD_DEFINITION, kinds::ACCESSOR_PROPERTY) {
+        if common::within(
+            tables::kind(nodes, a),
+            kinds::METHOD_DEFINITION,
+            kinds::ACCESSOR_PROPERTY,
+        ) {
             break part_of(nodes, a, x);
         }
         x = a;
@@ -258,7 +258,7 @@ fn at_class(nodes: &[u32], call: bool, start: NodeId) -> Step
 }
 
 // What the scope s of the search says.
-fn step_at(
+pub fn step_at(
     nodes: &[u32],
     scopes: &[u32],
     n: NodeId,
@@ -293,7 +293,7 @@ fn step_at(
 }
 
 // The class in which the search goes on after a step.
-fn class_after(nodes: &[u32], class: Found, step: Step) -> Found
+pub fn class_after(nodes: &[u32], class: Found, step: Step) -> Found
     requires { ⌜ Tree (now nodes) ⌝ }
     requires { ⌜ below (now nodes) class ⌝ }
     ensures { λ r. ⌜ r ≡ classAfter (now (nodes .entry)) class step ⌝ }
