@@ -16,9 +16,13 @@ use Rattle.diagnostics.specs.Finding.{errorAt, errorBetween}
 use Rattle.diagnostics.specs.declared.Raised.{Raised}
 use Rattle.diagnostics.specs.declared.Raised.the-variants.{Error, Clear}
 
--- "not crossing function or static initialization block boundaries"
+-- "function or static initialization block boundaries": Function, Arrow, StaticBlock
 abbrev pub isBoundary : ℕ → Bool
 isBoundary kind = within kind k.Function k.StaticBlock
+
+-- a unit, which no jump leaves: the Program or a boundary
+abbrev pub isUnit : ℕ → Bool
+isUnit kind = within kind k.Program k.StaticBlock
 
 -- an IterationStatement: For, ForIn, ForOf, While, DoWhile
 abbrev pub isIteration : ℕ → Bool
@@ -51,43 +55,33 @@ abbrev pub labeledItem : List ℕ → ℕ → ℕ
 labeledItem ns a = under ns (count ns) a
 
 -- WHAT THE ANCESTOR a SAYS TO THE STATEMENT n; r is what the ancestors above it say.
--- To a break without a label: 18 at the program or a boundary; an iteration statement or a switch is its target.
+-- To a break without a label: an iteration statement or a switch is its target; in its unit there is none: 18.
 unfoldable pub plainBreakAt : List ℕ → ℕ → ℕ → Raised → Raised
-plainBreakAt ns n a r =
-    cond (eqb (kindOf ns a) k.Program) (errorAt ns code.invalidBreak n n context.none)
-    (cond (isBoundary (kindOf ns a)) (errorAt ns code.invalidBreak n n context.none)
-    (cond (isBreakable (kindOf ns a)) Clear r))
+plainBreakAt ns n a r = cond (isUnit (kindOf ns a)) (errorAt ns code.invalidBreak n n context.none) (cond (isBreakable (kindOf ns a)) Clear r)
 
--- To a break with the label l: 19 at the program, 20 at a boundary; a Labeled of that name is its target.
+-- A jump with the label l finds no such label up to a unit of this kind: in the whole program 19, else 20.
+unfoldable pub noLabel : List ℕ → ℕ → ℕ → ℕ → Raised
+noLabel ns n l kind = cond (eqb kind k.Program) (errorAt ns code.invalidLabelTarget n l context.none) (errorAt ns code.invalidLabelJumpTarget n l context.none)
+
+-- To a break with the label l: a Labeled of that name is its target.
 unfoldable pub labelledBreakAt : List ℕ → List ℕ → ℕ → ℕ → ℕ → Raised → Raised
-labelledBreakAt ns names n l a r =
-    cond (eqb (kindOf ns a) k.Program) (errorAt ns code.invalidLabelTarget n l context.none)
-    (cond (isBoundary (kindOf ns a)) (errorAt ns code.invalidLabelJumpTarget n l context.none)
-    (whenFound (sameLabel ns names l a) (λ m. Clear) r))
+labelledBreakAt ns names n l a r = cond (isUnit (kindOf ns a)) (noLabel ns n l (kindOf ns a)) (whenFound (sameLabel ns names l a) (λ m. Clear) r)
 
--- To a continue without a label: 21 at the program or a boundary; an iteration statement is its target.
+-- To a continue without a label: an iteration statement is its target; in its unit there is none: 21.
 unfoldable pub plainContinueAt : List ℕ → ℕ → ℕ → Raised → Raised
-plainContinueAt ns n a r =
-    cond (eqb (kindOf ns a) k.Program) (errorAt ns code.invalidContinue n n context.none)
-    (cond (isBoundary (kindOf ns a)) (errorAt ns code.invalidContinue n n context.none)
-    (cond (isIteration (kindOf ns a)) Clear r))
+plainContinueAt ns n a r = cond (isUnit (kindOf ns a)) (errorAt ns code.invalidContinue n n context.none) (cond (isIteration (kindOf ns a)) Clear r)
 
 -- A continue with the label l, at the Labeled a of that name whose label is m: its target if a labels an iteration statement, and else 22.
 unfoldable pub continueTo : List ℕ → ℕ → ℕ → ℕ → ℕ → Raised
 continueTo ns n l a m = cond (isIteration (kindOf ns (labeledItem ns a))) Clear (errorBetween ns code.invalidLabelNonIteration n m l)
 
--- To a continue with the label l: 19 at the program, 20 at a boundary; the nearest Labeled of that name decides, a loop or not.
+-- To a continue with the label l: the nearest Labeled of that name decides, on a loop or not.
 unfoldable pub labelledContinueAt : List ℕ → List ℕ → ℕ → ℕ → ℕ → Raised → Raised
-labelledContinueAt ns names n l a r =
-    cond (eqb (kindOf ns a) k.Program) (errorAt ns code.invalidLabelTarget n l context.none)
-    (cond (isBoundary (kindOf ns a)) (errorAt ns code.invalidLabelJumpTarget n l context.none)
-    (whenFound (sameLabel ns names l a) (λ m. continueTo ns n l a m) r))
+labelledContinueAt ns names n l a r = cond (isUnit (kindOf ns a)) (noLabel ns n l (kindOf ns a)) (whenFound (sameLabel ns names l a) (λ m. continueTo ns n l a m) r)
 
 -- To a Labeled with the label l: nothing at a boundary, 23 at a Labeled of that name.
 unfoldable pub labeledAt : List ℕ → List ℕ → ℕ → ℕ → ℕ → Raised → Raised
-labeledAt ns names n l a r =
-    cond (isBoundary (kindOf ns a)) Clear
-    (whenFound (sameLabel ns names l a) (λ m. errorBetween ns code.labelRedeclaration n m l) r)
+labeledAt ns names n l a r = cond (isBoundary (kindOf ns a)) Clear (whenFound (sameLabel ns names l a) (λ m. errorBetween ns code.labelRedeclaration n m l) r)
 
 -- THE CHECKS
 abbrev pub checkBreakStatement : List ℕ → List ℕ → ℕ → Raised

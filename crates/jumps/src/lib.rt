@@ -4,7 +4,7 @@ ghost use Prim.Native.Nat.{_<_};
 ghost use Rattle.tables.specs.Table.{count};
 ghost use Rattle.tables.specs.Facts.{Tree, Named};
 ghost use Rattle.children.specs.ChildrenLaws.{below};
-ghost use Rattle.jumps.specs.Jumps.{isBoundary, isIteration, isBreakable, walkUp, sameLabel, labeledItem, plainBreakAt, labelledBreakAt, plainContinueAt, continueTo, labelledContinueAt, labeledAt, checkBreakStatement, checkContinueStatement, checkLabeledStatement};
+ghost use Rattle.jumps.specs.Jumps.{isBoundary, isUnit, isIteration, isBreakable, walkUp, sameLabel, labeledItem, plainBreakAt, noLabel, labelledBreakAt, plainContinueAt, continueTo, labelledContinueAt, labeledAt, checkBreakStatement, checkContinueStatement, checkLabeledStatement};
 use common::or;
 use common::within;
 use diagnostics::Raised;
@@ -20,6 +20,12 @@ fn is_boundary(kind: u32) -> bool
     ensures { λ r. ⌜ r ≡ isBoundary kind ⌝ }
 {
     within(kind, kinds::FUNCTION, kinds::STATIC_BLOCK)
+}
+
+fn is_unit(kind: u32) -> bool
+    ensures { λ r. ⌜ r ≡ isUnit kind ⌝ }
+{
+    within(kind, kinds::PROGRAM, kinds::STATIC_BLOCK)
 }
 
 fn is_iteration_statement(kind: u32) -> bool
@@ -88,16 +94,24 @@ fn plain_break(nodes: &[u32], n: NodeId) -> Raised
         }
         at = ancestry::up(nodes, at);
         let kind = tables::kind(nodes, at);
-        if kind == kinds::PROGRAM {
-            break error_at(nodes, codes::INVALID_BREAK, n, n, contexts::NONE);
-        }
-        if is_boundary(kind) {
+        if is_unit(kind) {
             break error_at(nodes, codes::INVALID_BREAK, n, n, contexts::NONE);
         }
         if is_breakable(kind) {
             break Raised::Clear;
         }
     }
+}
+
+// A jump whose label is not found up to a unit of this kind.
+fn no_label(nodes: &[u32], n: NodeId, label: NodeId, kind: u32) -> Raised
+    requires { ⌜ label .0 < count (now nodes) ⌝ }
+    ensures { λ r. ⌜ r ≡ noLabel (now (nodes .entry)) (n .0) (label .0) kind ⌝ }
+{
+    if kind == kinds::PROGRAM {
+        return error_at(nodes, codes::INVALID_LABEL_TARGET, n, label, contexts::NONE);
+    }
+    error_at(nodes, codes::INVALID_LABEL_JUMP_TARGET, n, label, contexts::NONE)
 }
 
 fn labelled_break(nodes: &[u32], names: &[u8], n: NodeId, label: NodeId) -> Raised
@@ -114,11 +128,8 @@ fn labelled_break(nodes: &[u32], names: &[u8], n: NodeId, label: NodeId) -> Rais
         }
         at = ancestry::up(nodes, at);
         let kind = tables::kind(nodes, at);
-        if kind == kinds::PROGRAM {
-            break error_at(nodes, codes::INVALID_LABEL_TARGET, n, label, contexts::NONE);
-        }
-        if is_boundary(kind) {
-            break error_at(nodes, codes::INVALID_LABEL_JUMP_TARGET, n, label, contexts::NONE);
+        if is_unit(kind) {
+            break no_label(nodes, n, label, kind);
         }
         let Found::At(_) = same_label(nodes, names, label, at) else {
             continue;
@@ -152,10 +163,7 @@ fn plain_continue(nodes: &[u32], n: NodeId) -> Raised
         }
         at = ancestry::up(nodes, at);
         let kind = tables::kind(nodes, at);
-        if kind == kinds::PROGRAM {
-            break error_at(nodes, codes::INVALID_CONTINUE, n, n, contexts::NONE);
-        }
-        if is_boundary(kind) {
+        if is_unit(kind) {
             break error_at(nodes, codes::INVALID_CONTINUE, n, n, contexts::NONE);
         }
         if is_iteration_statement(kind) {
@@ -193,11 +201,8 @@ fn labelled_continue(nodes: &[u32], names: &[u8], n: NodeId, label: NodeId) -> R
         }
         at = ancestry::up(nodes, at);
         let kind = tables::kind(nodes, at);
-        if kind == kinds::PROGRAM {
-            break error_at(nodes, codes::INVALID_LABEL_TARGET, n, label, contexts::NONE);
-        }
-        if is_boundary(kind) {
-            break error_at(nodes, codes::INVALID_LABEL_JUMP_TARGET, n, label, contexts::NONE);
+        if is_unit(kind) {
+            break no_label(nodes, n, label, kind);
         }
         let Found::At(outer) = same_label(nodes, names, label, at) else {
             continue;
