@@ -111,7 +111,13 @@ fn no_label(nodes: &[u32], n: NodeId, label: NodeId, kind: u32) -> Raised
     if kind == kinds::PROGRAM {
         return error_at(nodes, codes::INVALID_LABEL_TARGET, n, label, contexts::NONE);
     }
-    error_at(nodes, codes::INVALID_LABEL_JUMP_TARGET, n, label, contexts::NONE)
+    error_at(
+        nodes,
+        codes::INVALID_LABEL_JUMP_TARGET,
+        n,
+        label,
+        contexts::NONE,
+    )
 }
 
 fn labelled_break(nodes: &[u32], names: &[u8], n: NodeId, label: NodeId) -> Raised

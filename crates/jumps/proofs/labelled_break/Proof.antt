@@ -62,9 +62,11 @@ loop-again : tie.Need-loop-again Inv-loop μ-loop
 unfolding labelledBreakAt
 loop-again c =
     let a = c .before .before .before .before .before .before .before .before .before .before .before .before .args in
-    let o = c .before .before .before .before .before .before .before .before .before .loop in
-    (omega arith, sym (walk-up (a .nodes .now) (labelledBreakAt (a .nodes .now) (a .names .now) (a .n .0) (a .label .0)) (c .before .before .before .before .before .before .before .before .before .before .before .before .pre .0) (o .at .0) (c .before .before .before .before .before .before .up .result .0) (omega arith) (omega arith) (c .before .before .before .before .before .before .up .ensures .0)
-    ∙ rw (← c .before .before .before .before .before .kind .ensures, ← c .before .before .before .before .is-unit .ensures, c .before .before .before .if2 .left, ← c .before .before .same-label .ensures .0, c .enum-told2 .given .1)) ∙ o .inv .1)
+    let o = c .before .before .before .before .before .before .before .before .before .loop in (
+      omega arith,
+      sym (walk-up (a .nodes .now) (labelledBreakAt (a .nodes .now) (a .names .now) (a .n .0) (a .label .0)) (c .before .before .before .before .before .before .before .before .before .before .before .before .pre .0) (o .at .0) (c .before .before .before .before .before .before .up .result .0) (omega arith) (omega arith) (c .before .before .before .before .before .before .up .ensures .0)
+          ∙ rw (← c .before .before .before .before .before .kind .ensures, ← c .before .before .before .before .is-unit .ensures, c .before .before .before .if2 .left, ← c .before .before .same-label .ensures .0, c .enum-told2 .given .1)) ∙ o .inv .1,
+    )
 
 -- src/lib.rt:117:1
 returns : tie.Need-returns Inv-loop μ-loop

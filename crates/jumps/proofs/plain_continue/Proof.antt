@@ -55,9 +55,11 @@ loop-again : tie.Need-loop-again Inv-loop μ-loop
 unfolding plainContinueAt
 loop-again c =
     let a = c .before .before .before .before .before .before .before .before .before .before .args in
-    let o = c .before .before .before .before .before .before .before .before .loop in
-    (omega arith, sym (walk-up (a .nodes .now) (plainContinueAt (a .nodes .now) (a .n .0)) (c .before .before .before .before .before .before .before .before .before .before .pre .0) (o .at .0) (c .before .before .before .before .before .up .result .0) (omega arith) (omega arith) (c .before .before .before .before .before .up .ensures .0)
-    ∙ rw (← c .before .before .before .before .kind .ensures, ← c .before .before .before .is-unit .ensures, c .before .before .if2 .left, ← c .before .is-iteration-statement .ensures, c .if3 .left)) ∙ o .inv .1)
+    let o = c .before .before .before .before .before .before .before .before .loop in (
+      omega arith,
+      sym (walk-up (a .nodes .now) (plainContinueAt (a .nodes .now) (a .n .0)) (c .before .before .before .before .before .before .before .before .before .before .pre .0) (o .at .0) (c .before .before .before .before .before .up .result .0) (omega arith) (omega arith) (c .before .before .before .before .before .up .ensures .0)
+          ∙ rw (← c .before .before .before .before .kind .ensures, ← c .before .before .before .is-unit .ensures, c .before .before .if2 .left, ← c .before .is-iteration-statement .ensures, c .if3 .left)) ∙ o .inv .1,
+    )
 
 -- src/lib.rt:154:1
 returns : tie.Need-returns Inv-loop μ-loop

@@ -59,9 +59,11 @@ loop-again : tie.Need-loop-again Inv-loop μ-loop
 unfolding labeledAt
 loop-again c =
     let a = c .before .before .before .before .before .before .before .before .before .before .before .before .args in
-    let o = c .before .before .before .before .before .before .before .before .before .loop in
-    (omega arith, sym (walk-up (a .nodes .now) (labeledAt (a .nodes .now) (a .names .now) (a .n .0) (a .label .0)) (c .before .before .before .before .before .before .before .before .before .before .before .before .pre .0) (o .at .0) (c .before .before .before .before .before .before .up .result .0) (omega arith) (omega arith) (c .before .before .before .before .before .before .up .ensures .0)
-    ∙ rw (← c .before .before .before .before .before .kind .ensures, ← c .before .before .before .before .is-boundary .ensures, c .before .before .before .if2 .left, ← c .before .before .same-label .ensures .0, c .enum-told .given .1)) ∙ o .inv .1)
+    let o = c .before .before .before .before .before .before .before .before .before .loop in (
+      omega arith,
+      sym (walk-up (a .nodes .now) (labeledAt (a .nodes .now) (a .names .now) (a .n .0) (a .label .0)) (c .before .before .before .before .before .before .before .before .before .before .before .before .pre .0) (o .at .0) (c .before .before .before .before .before .before .up .result .0) (omega arith) (omega arith) (c .before .before .before .before .before .before .up .ensures .0)
+          ∙ rw (← c .before .before .before .before .before .kind .ensures, ← c .before .before .before .before .is-boundary .ensures, c .before .before .before .if2 .left, ← c .before .before .same-label .ensures .0, c .enum-told .given .1)) ∙ o .inv .1,
+    )
 
 -- src/lib.rt:246:15
 error-between-requires : tie.Need-error-between-requires Inv-loop μ-loop
