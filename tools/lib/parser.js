@@ -45,12 +45,14 @@ const NOTED = words(`
   ModuleExportNameHasLoneSurrogate ModuleExportUndefined OptionalChainingNoTemplate ParamDupe StaticPrototype
   UnexpectedNewTarget VarRedeclaration YieldBindingIdentifier`);
 
-// The reserved words that an identifier check looks for; any other reserved word is no identifier at all.
-const LOOKED_FOR = words('implements interface let package private protected public static yield await');
+// The words that an identifier check looks for; any other reserved word is no identifier at all.
+const LOOKED_FOR = words('implements interface let package private protected public static yield await eval arguments');
 
 // 'checked', 'noted' or 'grammar'
-function sortOf(error, ast) {
+function sortOf(error, ast, text) {
   const code = error.reasonCode;
+  // `0_8` is no number in any code
+  if (code === 'StrictOctalLiteral' && /^0\d*_/.test(text.slice(error.loc.index))) return 'grammar';
   if (CHECKED.has(code)) return 'checked';
   if (NOTED.has(code)) return 'noted';
   if (code === 'UnexpectedReservedWord') {
@@ -119,7 +121,10 @@ function repair(text, error, marks) {
     if (defer) return blanked(text, at - defer[0].length + 6, at);
     const attributes = /(?:['"]\s*)(with\s*)$/.exec(text.slice(0, at));
     const list = /^\{[^{}]*\}/.exec(text.slice(at));
-    if (attributes && list) return blanked(text, at - attributes[1].length, at + list[0].length);
+    // the same attribute twice is an error of the import's own
+    const plain = (key) => key.replace(/\\u([0-9a-fA-F]{4})/g, (_, h) => String.fromCharCode(parseInt(h, 16))).replace(/[{}\s'"]/g, '');
+    const keys = list ? list[0].split(',').map((a) => plain(a.split(':')[0])).filter(Boolean) : [];
+    if (attributes && list && new Set(keys).size === keys.length) return blanked(text, at - attributes[1].length, at + list[0].length);
   }
   if (error.reasonCode === 'UnexpectedToken' && text.startsWith('await', at) && /\bfor\s*$/.test(text.slice(0, at))) {
     marks.forAwait.add(text.slice(0, at).lastIndexOf('for'));
@@ -160,10 +165,11 @@ function parse(text, { module = false, jsx = false } = {}) {
       if (!(e instanceof SyntaxError) && !(e instanceof RangeError)) throw e;
       errors = [e];
     }
-    const wrong = file ? errors.filter((e) => sortOf(e, file.program) === 'grammar') : errors;
+    const wrong = file ? errors.filter((e) => sortOf(e, file.program, source) === 'grammar') : errors;
     if (wrong.length === 0) {
       const unmark = (i) => (marks.nameless === null || i <= marks.nameless ? i : Math.max(marks.nameless, i - NAME.length));
-      return { ok: true, program: file.program, errors, notes: errors.filter((e) => sortOf(e, file.program) === 'noted'), marks, unmark };
+      const notes = errors.filter((e) => sortOf(e, file.program, source) === 'noted');
+      return { ok: true, program: file.program, comments: file.comments, errors, notes, marks, unmark };
     }
     const next = turn < 8 ? wrong.map((e) => repair(source, e, marks)).find((s) => s !== null) : null;
     if (!next) return { ok: false, message: wrong[0].message, reason: wrong[0].reasonCode || wrong[0].name, errors };
