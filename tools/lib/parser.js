@@ -60,31 +60,46 @@ function sortOf(error, ast, text) {
     return LOOKED_FOR.has(word) ? 'checked' : 'grammar';
   }
   if (code === 'AwaitNotInAsyncContext' || code === 'AwaitNotInAsyncFunction') {
-    return awaitHasTree(ast, error.loc.index) ? 'checked' : 'grammar';
+    const at = around(ast, (n) => n.type === 'AwaitExpression' && n.start === error.loc.index);
+    return at && (at.staticBlock || at.asyncParameters) ? 'checked' : 'grammar';
   }
   return 'grammar';
 }
 
-// `await x` outside async code is in the grammar of a static block, and in the parameters of an async arrow
-// it is an error of its own.
-function awaitHasTree(ast, index) {
-  let found = false;
-  const walk = (node, inside) => {
+// Where a node stands: directly in a static block, in the parameters of an async arrow, in async code. `await` outside
+// async code is in the grammar of a static block, and in such parameters it is an error of its own.
+function around(ast, test) {
+  let found = null;
+  const walk = (node, here) => {
     if (!node || typeof node.type !== 'string' || found) return;
-    if (node.type === 'AwaitExpression' && node.start === index) { found = inside; return; }
+    if (test(node)) { found = here; return; }
     for (const key of Object.keys(node)) {
       const value = node[key];
       if (!value || typeof value !== 'object' || key === 'loc') continue;
-      let within = inside;
-      if (node.type === 'StaticBlock') within = true;
-      else if (node.type === 'ArrowFunctionExpression') within = key === 'params' ? inside || node.async : false;
-      else if (/Function|ObjectMethod|ClassMethod|ClassPrivateMethod/.test(node.type) && key !== 'key') within = false;
-      else if (/^Class(Private|Accessor)?Property$/.test(node.type) && key === 'value') within = false;
-      for (const child of Array.isArray(value) ? value : [value]) walk(child, within);
+      const inside = insideOf(node, key, here);
+      for (const child of Array.isArray(value) ? value : [value]) walk(child, inside);
     }
   };
-  walk(ast, false);
+  walk(ast, { async: ast.sourceType === 'module' });
   return found;
+}
+
+function insideOf(node, key, here) {
+  const { type } = node;
+  if (type === 'StaticBlock') return { staticBlock: true };
+  if (type === 'ArrowFunctionExpression') {
+    return key === 'params' ? { ...here, asyncParameters: here.asyncParameters || node.async } : { async: node.async };
+  }
+  if (/Function|ObjectMethod|ClassMethod|ClassPrivateMethod/.test(type)) return key === 'key' ? here : { async: node.async };
+  if (/^Class(Private|Accessor)?Property$/.test(type) && key === 'value') return {};
+  return here;
+}
+
+// What was marked may stand only where `await` may.
+function misplacedMark(ast, marks) {
+  const loops = [...marks.forAwait].map((i) => around(ast, (n) => n.type === 'ForOfStatement' && n.start === i));
+  const usings = [...marks.awaitUsing.keys()].map((i) => around(ast, (n) => n.type === 'VariableDeclaration' && n.start === i));
+  return loops.some((at) => !at || !at.staticBlock) || usings.some((at) => !at || !(at.staticBlock || at.async));
 }
 
 let babel = null;
@@ -166,6 +181,9 @@ function parse(text, { module = false, jsx = false } = {}) {
       errors = [e];
     }
     const wrong = file ? errors.filter((e) => sortOf(e, file.program, source) === 'grammar') : errors;
+    if (wrong.length === 0 && misplacedMark(file.program, marks)) {
+      return { ok: false, message: '`await` outside async code', reason: 'AwaitNotInAsyncContext', errors };
+    }
     if (wrong.length === 0) {
       const unmark = (i) => (marks.nameless === null || i <= marks.nameless ? i : Math.max(marks.nameless, i - NAME.length));
       const notes = errors.filter((e) => sortOf(e, file.program, source) === 'noted');
