@@ -409,10 +409,65 @@ class Text {
   }
 }
 
+// Texts without mischief and almost without expressions: many statements, for routes.
+class RouteText extends Text {
+  constructor(seed, module, tries) {
+    super(seed, module);
+    this.mischief = 0;
+    this.size = 10 + this.random.below(50);
+    this.withTry = tries;
+  }
+
+  expression() { return 'a'; }
+  primary() { return 'a'; }
+  tries() { return this.withTry ? super.tries() : this.switches(); }
+  pattern() { return this.fresh(); }
+
+  last() { return this.chance(0.4) ? this.jump() : this.simple(); }
+
+  list() {
+    const n = this.random.below(5);
+    const out = [];
+    for (let i = 0; i < n; i++) out.push(this.statement());
+    return out.join(' ');
+  }
+
+  held() {
+    if (this.deepEnough()) return this.last();
+    return this.within({}, () => this.one([() => this.block(), () => this.block(), () => this.block(), () => this.jump(), () => this.labeled(), () => this.ifs(), () => this.loop(), () => this.switches()])());
+  }
+
+  statement() {
+    if (this.deepEnough()) return this.last();
+    return this.one([
+      () => this.simple(), () => this.declaration(), () => this.block(), () => this.ifs(), () => this.ifs(), () => this.loop(), () => this.loop(),
+      () => this.switches(), () => this.tries(), () => this.labeled(), () => this.labeled(), () => this.jump(), () => this.jump(), () => this.jump(),
+      () => (this.chance(0.4) ? this.functionDeclaration() : this.ifs()), () => (this.chance(0.3) ? `f(${this.arrow()});` : this.loop()),
+      () => (this.chance(0.3) ? `class ${this.fresh()} { ${this.within({ strict: true }, () => this.staticBlock())} }` : this.switches()),
+      () => (this.here.strict ? this.simple() : `with (a) ${this.held()}`),
+    ])();
+  }
+
+  simple() {
+    return this.one([() => 'a;', () => 'a;', () => ';', () => 'debugger;', () => (this.here.func && this.chance(0.3) ? 'return a;' : 'a;'), () => (this.chance(0.2) ? 'throw a;' : 'a;')])();
+  }
+}
+
+const mix = (seed, n) => (Math.imul(seed, 0x9e3779b1) ^ Math.imul(n + 1, 0x85ebca6b)) >>> 0;
+
 // The n-th text of a seed. Every third is a module.
 function textOf(seed, n) {
   const module = n % 3 === 2;
-  return { module, text: new Text((Math.imul(seed, 0x9e3779b1) ^ Math.imul(n + 1, 0x85ebca6b)) >>> 0, module).program() };
+  return { module, text: new Text(mix(seed, n), module).program() };
 }
 
-module.exports = { textOf };
+// The n-th text for routes, with lists of answers for its units.
+function routeTextOf(seed, n, tries) {
+  const module = n % 5 === 4;
+  const text = new RouteText(mix(seed, n), module, tries).program();
+  const random = new Random(mix(seed + 1, n));
+  const answers = () => Array.from({ length: random.below(14) }, () => random.pick([0, 0, 1, 1, 1, 2, 3, 5, 4294967295]));
+  return { module, text, answers };
+}
+
+module.exports = { textOf, routeTextOf };

@@ -56,7 +56,8 @@ class Maker {
     this.scopes = [];
     this.parent = 0;
     this.scope = 0;
-    this.words = null;
+    // from a node of the parser's to the first of this table's that stands for it
+    this.made = new Map();
   }
 
   // ---- nodes and scopes
@@ -75,6 +76,7 @@ class Maker {
   // a node of the parser's, and what is in it
   node(kind, role, n, more, inside) {
     const i = this.add(kind, role, n.start, n.end, more);
+    if (!this.made.has(n)) this.made.set(n, i);
     if (inside) this.within(i, inside);
     return i;
   }
@@ -102,6 +104,7 @@ class Maker {
 
   program(p) {
     this.add(K.Program, R.other, 0, 0);
+    this.made.set(p, 0);
     this.nodes[0].end = this.byte(this.text.length);
     this.within(0, () => {
       this.scoped(S.top | (this.module || hasUseStrict(p.directives) ? S.strict : 0), () => {
@@ -258,6 +261,7 @@ class Maker {
       kind = 4;
     }
     const i = this.add(K.VariableDeclaration, role, start, n.end, { extra: kind });
+    this.made.set(n, i);
     this.within(i, () => {
       for (const d of n.declarations) {
         const flags = (d.init ? F.initialiser : 0) | (d.id.type === 'Identifier' ? F.plainName : 0);
@@ -338,6 +342,8 @@ class Maker {
   func(n, role, flags, start) {
     const all = flags | (simple(n.params) ? F.simpleParameters : 0) | (n.id ? F.plainName : 0);
     const i = this.add(K.Function, role, start, n.end, { flags: all });
+    this.made.set(n, i);
+    this.made.set(n.body, i);
     this.within(i, () => this.scoped(S.function | (hasUseStrict(n.body.directives) ? S.strict : 0), () => {
       if (n.id && n.type !== 'ObjectMethod') this.binding(n.id, R.other);
       this.parameters(n, n.id ? n.id.end : start);
@@ -790,7 +796,7 @@ function literalName(n, computed) {
 function treeOf(text, parsed, { module = false } = {}) {
   const maker = new Maker(text, parsed, module);
   maker.program(parsed.program);
-  return { type: module ? 1 : 0, nodes: maker.nodes, scopes: maker.scopes, source: bytesOf(text) };
+  return { type: module ? 1 : 0, nodes: maker.nodes, scopes: maker.scopes, source: bytesOf(text), made: maker.made };
 }
 
 module.exports = { treeOf, bytesOf };
