@@ -124,7 +124,12 @@ class Text {
 
   ifs() {
     const held = () => (this.here.strict || !this.chance(0.1) ? this.held() : `function ${this.fresh()}() {}`);
-    return `if (${this.expression()}) ${held()}${this.chance(0.4) ? ` else ${held()}` : ''}`;
+    const test = this.expression();
+    const first = held();
+    if (!this.chance(0.4)) return `if (${test}) ${first}`;
+    // an if within would take the else
+    const closed = /\bif\b/.test(first) && !first.startsWith('{') ? `{ ${first} }` : first;
+    return `if (${test}) ${closed} else ${held()}`;
   }
 
   loop() {

@@ -36,11 +36,12 @@ function smallerTexts({ text, module }) {
 function shrink(run, judged, test) {
   let best = { text: run.text, module: run.module, detail: run.detail };
   for (let round = 0; round < 12; round++) {
-    const texts = smallerTexts(best).filter((t) => t.length < best.text.length).slice(0, 400);
+    const texts = smallerTexts(best).filter((t) => t.length < best.text.length).slice(0, 4000);
     let better = null;
-    for (let from = 0; from < texts.length && !better; from += 100) {
-      const runs = judged(texts.slice(from, from + 100).map((text) => ({ text, module: run.module })));
-      const hit = runs.find((r) => test(r) !== null);
+    for (let from = 0; from < texts.length && !better; from += 200) {
+      const runs = judged(texts.slice(from, from + 200).map((text) => ({ text, module: run.module })));
+      // a class that lost its name can't be made smaller still
+      const hit = runs.find((r) => !(r.parsed.ok && r.parsed.marks.nameless !== null) && test(r) !== null);
       if (hit) better = { text: hit.text, module: run.module, detail: test(hit) };
     }
     if (!better) return best;

@@ -2,7 +2,7 @@
 // Names for the ways in which V8, the parser and the checks may disagree about a text. Each is recognised by a small
 // function; what none recognises is a fault.
 
-const { K, S } = require('./kinds.js');
+const { K, F, S } = require('./kinds.js');
 const { classOf } = require('./reasons.js');
 
 // The nearest function or program around a node is sloppy, so that only a class makes the code strict.
@@ -21,10 +21,19 @@ const MISSED = [
   // ContainsArguments looks at references alone; V8 and the parser look at every such word
   ['V8 takes no label `arguments` in a field or static block',
     ({ verdict, tree }) => /^'arguments' is not allowed/.test(verdict) && named(tree, K.LabelIdentifier, 'arguments')],
+  // `await` is an identifier there in a script; V8 reads the value like a static block
+  ['V8 takes no `await` in the value of a static field',
+    ({ verdict, tree }) => verdict === 'Unexpected reserved word' && tree.nodes.some((n) => n.name.toString() === 'await' && inStaticField(tree, n))],
   // only a declaration's names are barred from being `let`; V8 bars those of a catch pattern too
   ['V8 takes no `let` in a catch pattern',
     ({ verdict, tree }) => /^let is disallowed/.test(verdict) && letInCatch(tree)],
 ];
+
+function inStaticField({ nodes }, n) {
+  let p = n.parent;
+  while (p !== 0 && nodes[p].kind !== K.Function && nodes[p].kind !== K.PropertyDefinition) p = nodes[p].parent;
+  return nodes[p].kind === K.PropertyDefinition && (nodes[p].flags & F.static) !== 0;
+}
 
 function letInCatch({ nodes }) {
   return nodes.some((n) => {
@@ -40,7 +49,16 @@ const EXTRA = [
   // V8 looks for octals at the end of a strict function or program, not in a class of sloppy code
   ['V8 takes octals in a class of sloppy code, outside its functions',
     ({ findings, tree }) => findings.every((f) => [9, 10, 11].includes(f[0]) && strictByClassAlone(tree, f[1]))],
+  // V8 forgets the name when a later parameter's default has parentheses
+  ['V8 takes eval or arguments before a default in parentheses, in an arrow\'s parameters',
+    ({ findings, tree, text }) => findings.every((f) => f[0] === 4 && parameterOfArrow(tree, f[1])) && /=\s*\(/.test(text)],
 ];
+
+function parameterOfArrow({ nodes }, i) {
+  let p = nodes[i].parent;
+  while (nodes[p].kind === K.Other || nodes[p].kind === K.FormalParameter || nodes[p].kind === K.BindingRestElement) p = nodes[p].parent;
+  return nodes[p].kind === K.Arrow;
+}
 
 function verdictClass(run) {
   const { parsed, verdict, findings } = run;
