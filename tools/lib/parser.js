@@ -190,7 +190,10 @@ function parse(text, { module = false, jsx = false } = {}) {
       return { ok: true, program: file.program, comments: file.comments, errors, notes, marks, unmark };
     }
     const next = turn < 8 ? wrong.map((e) => repair(source, e, marks)).find((s) => s !== null) : null;
-    if (!next) return { ok: false, message: wrong[0].message, reason: wrong[0].reasonCode || wrong[0].name, errors };
+    if (!next) {
+      const deep = /call stack/.test(wrong[0].message);
+      return { ok: false, deep, message: wrong[0].message, reason: wrong[0].reasonCode || wrong[0].name, errors };
+    }
     source = next;
   }
 }

@@ -45,6 +45,8 @@ function baseOf(raw, value) {
   return raw.includes('.') ? 1 : 0;
 }
 
+const BLANK = /(?:\s+|\/\/[^\n\r\u2028\u2029]*|\/\*[^]*?\*\/|<!--[^\n\r\u2028\u2029]*)*/y;
+
 class Maker {
   constructor(text, parsed, module) {
     this.text = text;
@@ -390,12 +392,9 @@ class Maker {
 
   // past blanks and comments
   skip(i) {
-    for (;;) {
-      const j = this.unmark(i);
-      const m = /^(?:\s+|\/\/[^\n\r\u2028\u2029]*|\/\*[^]*?\*\/|<!--[^\n\r\u2028\u2029]*)/.exec(this.text.slice(j, j + 4096));
-      if (!m) return i;
-      i += m[0].length;
-    }
+    BLANK.lastIndex = this.unmark(i);
+    const m = BLANK.exec(this.text);
+    return i + (m ? m[0].length : 0);
   }
 
   parameter(p) {
