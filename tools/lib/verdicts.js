@@ -131,8 +131,19 @@ const ONLY_CHECK = [
     (f, { tree }) => f[0] === 4 && tree.nodes[tree.nodes[f[1]].parent].kind === K.Class],
   ['a private name that is told once by the parser, for all its uses',
     (f, { parsed }) => f[0] === 8 && parsed.errors.some((e) => e.reasonCode === 'InvalidPrivateFieldResolution')],
+  ['in a default that is strict only by its function\'s own directive, which the parser has not read yet',
+    (f, { tree }) => [2, 4, 9, 10, 11, 31].includes(f[0]) && inLateStrictDefault(tree, f[1])],
   ['`for await` in a static block, which the parser doesn\'t read', (f) => f[0] === 25],
 ];
+
+function inLateStrictDefault({ nodes, scopes }, i) {
+  for (let p = i; p !== 0; p = nodes[p].parent) {
+    if (nodes[p].kind !== K.FormalParameter) continue;
+    const own = scopes[nodes[p].scope];
+    if (own.flags & S.strict && !(scopes[own.parent].flags & S.strict)) return true;
+  }
+  return false;
+}
 
 function nameOf(list, side, what, item, run) {
   const known = list.find(([, test]) => test(item, run));
