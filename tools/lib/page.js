@@ -130,7 +130,8 @@ class Page {
 <h1>${escape(title)}</h1>
 <p>Route of ${UNITS[unit.kind]}${this.unit === 0 ? '' : ` at line ${this.lineOf(unit.start)}`} with answers <code>${this.answers.join(', ') || 'none'}</code>.
 It <b>${ENDS[end]}</b> after ${count(steps.length, 'entry', 'entries')} and ${count(taken, 'answer')}${left.length > 0 ? `; left over: <code>${left.join(', ')}</code>` : ''}.</p>
-<main><pre>${this.source(steps)}</pre>
+<main><pre>
+${this.source(steps)}</pre>
 <table><thead><tr><th></th><th>line</th><th>statement</th><th>answer</th></tr></thead><tbody>
 ${this.rows(steps)}
 <tr class="end"><td></td><td></td><td colspan="2">${ENDS[end]}</td></tr></tbody></table></main>
