@@ -1,0 +1,50 @@
+'use strict';
+// rulecheck's lines, its limits, and a view for people.
+
+const { KINDS, ROLES, F } = require('./kinds.js');
+
+const LIMIT = 1024;
+
+function depthOf(nodes) {
+  const depth = new Array(nodes.length).fill(0);
+  for (let i = 1; i < nodes.length; i++) depth[i] = depth[nodes[i].parent] + 1;
+  return depth;
+}
+
+// which limit of rulecheck's a tree is beyond, or null
+function tooLarge(tree) {
+  const names = tree.nodes.reduce((n, x) => n + x.name.length, 0);
+  const counts = { nodes: tree.nodes.length, scopes: tree.scopes.length, 'bytes of names': names, 'bytes of source': tree.source.length };
+  for (const [what, n] of Object.entries(counts)) if (n > LIMIT) return `${n} ${what}, and rulecheck reads ${LIMIT}`;
+  const depth = Math.max(...depthOf(tree.nodes));
+  return depth > 512 ? `depth ${depth}, and 512 is the deepest` : null;
+}
+
+function linesOf(tree) {
+  const out = [Buffer.from(`J,${tree.type},${tree.nodes.length},${tree.scopes.length}\n`)];
+  for (const s of tree.scopes) out.push(Buffer.from(`S,${s.parent},${s.flags},${s.node}\n`));
+  for (const n of tree.nodes) {
+    out.push(Buffer.from(`N,${n.kind},${n.parent},${n.role},${n.start},${n.end},${n.scope},${n.flags},${n.extra},`), n.name, Buffer.from('\n'));
+  }
+  out.push(Buffer.from(`X,${tree.source.toString('hex')}\n`));
+  return Buffer.concat(out);
+}
+
+function viewOf(tree) {
+  const depth = depthOf(tree.nodes);
+  const out = [];
+  tree.scopes.forEach((s, i) => {
+    const flags = ['strict', 'top', 'function', 'arrow', 'static block'].filter((_, b) => s.flags & (1 << b)).join(', ');
+    out.push(`scope ${i}: in ${s.parent}, node ${s.node}${flags ? `, ${flags}` : ''}`);
+  });
+  tree.nodes.forEach((n, i) => {
+    const flags = Object.keys(F).filter((f) => n.flags & F[f]).map((f) => ` +${f}`).join('');
+    const extra = n.extra ? ` extra ${n.extra}` : '';
+    const name = n.name.length ? ` '${n.name.toString('utf8')}'` : '';
+    const role = n.role ? ` as ${ROLES[n.role]}` : '';
+    out.push(`${String(i).padStart(4)}  ${'  '.repeat(depth[i])}${KINDS[n.kind]}${role}${name}${flags}${extra}  ${n.start}-${n.end} scope ${n.scope}`);
+  });
+  return out.join('\n') + '\n';
+}
+
+module.exports = { linesOf, viewOf, tooLarge, depthOf };

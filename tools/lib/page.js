@@ -1,0 +1,163 @@
+'use strict';
+// A route as one page: the rule's text with the statements that ran, in order, the answers where they were taken,
+// and the end in words. No script, nothing from elsewhere.
+
+const { K, R } = require('./kinds.js');
+
+const LOOPS = [K.For, K.ForIn, K.ForOf, K.While, K.DoWhile];
+const ENDS = ['fell through its last statement', 'returned', 'threw', 'stopped, since the answers were spent'];
+const UNITS = ['the program', 'the function', 'the arrow function', 'the static block'];
+
+const takesAnswer = (kind) => kind === K.If || kind === K.Switch || LOOPS.includes(kind);
+
+const escape = (s) => s.replace(/[&<>"]/g, (c) => ({ '&': '&amp;', '<': '&lt;', '>': '&gt;', '"': '&quot;' }[c]));
+
+class Page {
+  constructor(tree, unit, answers, route) {
+    Object.assign(this, { tree, unit, answers, route });
+    this.children = tree.nodes.map(() => []);
+    tree.nodes.forEach((n, i) => { if (i > 0) this.children[n.parent].push(i); });
+  }
+
+  text(from, to) { return this.tree.source.subarray(from, to).toString('utf8'); }
+  child(i, test) { return this.children[i].find((c) => test(this.tree.nodes[c])); }
+
+  // The bytes that show a statement: without the statements that it holds.
+  headOf(i) {
+    const { nodes } = this.tree;
+    const n = nodes[i];
+    const body = this.child(i, (c) => c.role === R.body || c.kind === K.ClassBody);
+    if (n.kind === K.Switch) {
+      const subject = nodes[this.children[i][0]];
+      const brace = this.text(subject.end, n.end).indexOf('{');
+      return [[n.start, subject.end + (brace < 0 ? 0 : Buffer.byteLength(this.text(subject.end, n.end).slice(0, brace)))]];
+    }
+    if (n.kind === K.DoWhile) return [[nodes[body].end, n.end]];
+    if (body === undefined) return [[n.start, n.end]];
+    return [[n.start, nodes[body].start]];
+  }
+
+  // every statement of the unit that can be listed, in node order
+  statements() {
+    const { nodes } = this.tree;
+    const out = [];
+    const visit = (i) => {
+      for (const c of this.children[i]) {
+        const n = nodes[c];
+        const listed = n.role === R.body || n.role === R.alternate;
+        const simple = (n.kind >= K.Break && n.kind <= K.Statement) || [K.Function, K.VariableDeclaration, K.Class, K.ExportDefault, K.ExportNamed].includes(n.kind);
+        if (listed && (simple || takesAnswer(n.kind) || n.kind === K.With)) out.push(c);
+        if (![K.Function, K.Arrow, K.Class].includes(n.kind)) visit(c);
+      }
+    };
+    visit(this.unit);
+    return out;
+  }
+
+  // the steps, each with the answer that it took
+  steps() {
+    let taken = 0;
+    return this.route.list.map((node, k) => {
+      const { kind } = this.tree.nodes[node];
+      if (!takesAnswer(kind)) return { number: k + 1, node, kind };
+      return { number: k + 1, node, kind, answer: this.answers[taken++] };
+    });
+  }
+
+  words({ node, kind, answer }) {
+    if (answer === undefined) return '';
+    if (kind === K.Switch) return this.switchWords(node, answer);
+    const n = this.tree.nodes[node];
+    if (kind === K.For && !(n.flags & 256)) return `${answer}: goes on, as there is no test`;
+    const [yes, no] = kind === K.If ? ['yes', 'no'] : ['another turn', 'no more turns'];
+    return `${answer}: ${answer ? yes : no}`;
+  }
+
+  switchWords(node, answer) {
+    const cases = this.children[node].filter((c) => this.tree.nodes[c].kind === K.SwitchCase);
+    const fallback = cases.findIndex((c) => this.tree.nodes[c].flags & 4096);
+    const picked = answer < cases.length ? answer : fallback;
+    if (picked < 0) return `${answer}: no case`;
+    const n = this.tree.nodes[cases[picked]];
+    const test = this.children[cases[picked]][0];
+    return `${answer}: ${n.flags & 4096 ? 'default' : `case ${this.text(this.tree.nodes[test].start, this.tree.nodes[test].end)}`}`;
+  }
+
+  lineOf(byte) { return this.text(0, byte).split('\n').length; }
+
+  // the text in pieces: shown statements with their marks, and what is between
+  source(steps) {
+    const by = new Map();
+    for (const s of steps) by.set(s.node, [...(by.get(s.node) || []), s]);
+    const pieces = this.statements().flatMap((i) => this.headOf(i).map(([from, to]) => ({ from, to, steps: by.get(i) || [] })));
+    pieces.sort((a, b) => a.from - b.from);
+    let out = '';
+    let at = 0;
+    for (const p of pieces) {
+      const end = p.to - Buffer.byteLength(/\s*$/.exec(this.text(p.from, p.to))[0]);
+      out += escape(this.text(at, p.from));
+      out += `<span class="${p.steps.length > 0 ? 'ran' : 'idle'}"${p.steps.length > 0 ? ` id="n${p.steps[0].node}"` : ''}>`;
+      out += p.steps.map((s) => this.badge(s)).join('') + escape(this.text(p.from, end)) + '</span>';
+      at = end;
+    }
+    return out + escape(this.text(at, this.tree.source.length));
+  }
+
+  badge(s) {
+    const answer = s.answer === undefined ? '' : `<i>${escape(this.words(s))}</i>`;
+    return `<a class="step" href="#s${s.number}">${s.number}${answer}</a>`;
+  }
+
+  rows(steps) {
+    return steps.map((s) => {
+      const n = this.tree.nodes[s.node];
+      const [from, to] = this.headOf(s.node)[0];
+      const text = this.text(from, to).replace(/\s+/g, ' ').trim();
+      return `<tr id="s${s.number}"><td>${s.number}</td><td>${this.lineOf(n.start)}</td>`
+        + `<td><a href="#n${s.node}"><code>${escape(text.length > 60 ? `${text.slice(0, 59)}…` : text)}</code></a></td><td>${escape(this.words(s))}</td></tr>`;
+    }).join('\n');
+  }
+
+  html(title) {
+    const steps = this.steps();
+    const { end, taken } = this.route;
+    const left = this.answers.slice(taken);
+    const unit = this.tree.nodes[this.unit];
+    return `<!doctype html>
+<html lang="en"><head><meta charset="utf-8"><title>${escape(title)}</title>
+<meta name="viewport" content="width=device-width, initial-scale=1">
+<style>${STYLE}</style></head><body>
+<h1>${escape(title)}</h1>
+<p>Route of ${UNITS[unit.kind]}${this.unit === 0 ? '' : ` at line ${this.lineOf(unit.start)}`} with answers <code>${this.answers.join(', ') || 'none'}</code>.
+It <b>${ENDS[end]}</b> after ${count(steps.length, 'entry', 'entries')} and ${count(taken, 'answer')}${left.length > 0 ? `; left over: <code>${left.join(', ')}</code>` : ''}.</p>
+<main><pre>
+${this.source(steps)}</pre>
+<table><thead><tr><th></th><th>line</th><th>statement</th><th>answer</th></tr></thead><tbody>
+${this.rows(steps)}
+<tr class="end"><td></td><td></td><td colspan="2">${ENDS[end]}</td></tr></tbody></table></main>
+</body></html>
+`;
+  }
+}
+
+const count = (n, one, many = `${one}s`) => `${n} ${n === 1 ? one : many}`;
+
+const STYLE = `
+:root { color-scheme: light dark; --ran: #d8f0d8; --mark: #1c6b2a; --idle: #8a8a8a; --at: #ffe08a; }
+@media (prefers-color-scheme: dark) { :root { --ran: #17381d; --mark: #7ed491; --idle: #7a7a7a; --at: #6a5200; } }
+body { font: 16px/1.5 system-ui, sans-serif; margin: 2rem; max-width: 90rem; }
+h1 { font-size: 1.3rem; }
+main { display: flex; flex-wrap: wrap; gap: 2rem; align-items: flex-start; }
+pre { font: 15px/1.9 ui-monospace, monospace; margin: 0; white-space: pre-wrap; flex: 2 1 30rem; }
+.ran { background: var(--ran); border-radius: 3px; padding: 1px 2px; }
+.idle { color: var(--idle); }
+.step { font-size: 11px; color: var(--mark); border: 1px solid; border-radius: 8px; padding: 0 5px; margin-right: 3px; text-decoration: none; }
+.step i { font-style: normal; margin-left: 5px; opacity: .85; }
+table { border-collapse: collapse; flex: 1 1 24rem; font-size: 14px; }
+td, th { text-align: left; padding: 2px 8px; border-bottom: 1px solid #8884; }
+td a { color: inherit; text-decoration: none; }
+.end td { font-weight: bold; }
+:target { background: var(--at); }
+`;
+
+module.exports = { Page };
