@@ -16,7 +16,15 @@ pub const MOST_BYTES: usize = 1_048_576;
 pub const MOST_DEPTH: usize = 512;
 
 /// Tables are well-formed exactly if this gives nothing.
+///
+/// 6: "Shape, at the lowest node. .. Else, at its Super, a walk that the Rust ends in `unreachable!` or a failed
+/// `unwrap`." Else: the walks are looked at only where no node is out of shape.
 pub fn input_refusal(t: &Tables) -> Option<InputRefusal> {
+    refusal_before_walks(t).or_else(|| supers::lowest_stuck(t).map(|place| InputRefusal { number: 6, place }))
+}
+
+/// All but Super's walks.
+pub fn refusal_before_walks(t: &Tables) -> Option<InputRefusal> {
     if wrong_sizes(t) {
         return Some(InputRefusal { number: 1, place: 0 });
     }
@@ -116,11 +124,9 @@ fn subtree_ends(t: &Tables) -> Vec<usize> {
     ends
 }
 
-/// 6. Shape, at the lowest node. Else, at its Super, a walk that the Rust ends in `unreachable!` or a failed
-/// `unwrap`: so the walks are looked at only where no node is out of shape.
+/// 6. Shape, at the lowest node (misplaced child, or parent with a wrong count).
 pub fn misshapen(t: &Tables) -> Option<usize> {
-    let nodes = 0..t.node_count();
-    nodes.clone().find(|&n| misplaced_child(t, n) || wrong_count(t, n)).or_else(|| supers::lowest_stuck(t))
+    (0..t.node_count()).find(|&n| misplaced_child(t, n) || wrong_count(t, n))
 }
 
 /// "Kinds 5-14, 16 and 18-22": always statements.
