@@ -53,6 +53,13 @@ impl Counts {
         }
     }
 
+    /// Codes and input refusals that no case gave.
+    pub fn unseen(&self) -> (Vec<usize>, Vec<usize>) {
+        let none = |row: &[u64; 5]| row.iter().sum::<u64>() == 0;
+        let codes = (1..34).filter(|&code| none(&self.codes[code])).collect();
+        (codes, (1..7).filter(|&number| none(&self.refusals[number])).collect())
+    }
+
     pub fn route(&mut self, answer: &Result<Route, Refusal>) {
         match answer {
             Ok(route) => self.ends[route.end as usize] += 1,
@@ -81,8 +88,8 @@ impl fmt::Display for Counts {
         writeln!(f, "contexts 0 to 4: {:?}", self.contexts)?;
         writeln!(f, "routes by end 0 to 3: {:?}, entries {}", self.ends, self.entries)?;
         writeln!(f, "routes refused by 7, 8, 9: {:?}", &self.route_refusals[7..10])?;
-        let unseen: Vec<usize> = (1..34).filter(|&code| self.codes[code].iter().sum::<u64>() == 0).collect();
-        writeln!(f, "codes not seen: {unseen:?}")?;
+        let (codes, refusals) = self.unseen();
+        writeln!(f, "not seen: codes {codes:?}, refusals {refusals:?}")?;
         writeln!(f, "{} cases, {} differences", self.cases.iter().sum::<u64>(), self.differences)
     }
 }

@@ -24,19 +24,23 @@ use rng::Rng;
 fn main() {
     let args: Vec<String> = std::env::args().skip(1).collect();
     let number = |i: usize| args.get(i).and_then(|a| a.parse().ok()).unwrap_or_else(usage);
-    // The crate's text may panic at a Super; that is an answer. Other panics are told.
-    let tell = panic::take_hook();
-    panic::set_hook(Box::new(move |info| {
-        if !info.location().is_some_and(|l| l.file().contains("vendor")) {
-            tell(info);
-        }
-    }));
+    quiet();
     match args.first().map(String::as_str) {
         Some("run") => run(number(1), number(2)),
         Some("show") => show(number(1), number(2)),
         Some("vectors") => vectors(args.get(1).unwrap_or_else(usage), number(2), number(3)),
         _ => usage(),
     }
+}
+
+/// The crate's text may panic at a Super; that is an answer. Other panics are told.
+fn quiet() {
+    let tell = panic::take_hook();
+    panic::set_hook(Box::new(move |info| {
+        if !info.location().is_some_and(|l| l.file().contains("vendor")) {
+            tell(info);
+        }
+    }));
 }
 
 fn usage<T>() -> T {
@@ -94,6 +98,15 @@ fn answers(rng: &mut Rng) -> Vec<u32> {
 }
 
 fn run(cases: u64, seed: u64) {
+    let counts = compare_all(cases, seed);
+    print!("{counts}");
+    if counts.differences > 0 {
+        std::process::exit(1);
+    }
+}
+
+/// Stops at the tenth difference.
+fn compare_all(cases: u64, seed: u64) -> Counts {
     let mut counts = Counts::new();
     for index in 0..cases {
         let (sort, tables, mut rng) = case(seed, index);
@@ -106,10 +119,7 @@ fn run(cases: u64, seed: u64) {
             }
         }
     }
-    print!("{counts}");
-    if counts.differences > 0 {
-        std::process::exit(1);
-    }
+    counts
 }
 
 /// All that can be compared of one case.
@@ -229,4 +239,12 @@ fn vectors(dir: &str, cases: u64, seed: u64) {
         write(format!("{written:05}.route.out"), ruleroute(&lines).as_bytes());
         written += 1;
     }
+}
+
+#[test]
+fn judges_agree_and_everything_is_seen() {
+    quiet();
+    let counts = compare_all(20_000, 1);
+    assert_eq!(counts.differences, 0);
+    assert_eq!(counts.unseen(), (Vec::new(), Vec::new()));
 }
