@@ -75,7 +75,11 @@ impl fmt::Display for Counts {
             numbers.iter().try_for_each(|n| write!(f, "{n:10}"))?;
             writeln!(f)
         };
-        writeln!(f, "{:24}{:>10}{:>10}{:>10}{:>10}{:>10}{:>10}", "", "all", "source", "calm", "wild", "damaged", "huge")?;
+        writeln!(
+            f,
+            "{:24}{:>10}{:>10}{:>10}{:>10}{:>10}{:>10}",
+            "", "all", "source", "calm", "wild", "damaged", "huge"
+        )?;
         row(f, "cases", &self.cases)?;
         row(f, "well-formed", &self.refusals[0])?;
         for number in 1..7 {

@@ -5,8 +5,28 @@ use plain::reader::OwnedTables;
 use crate::rng::Rng;
 
 const NAMES: [&str; 22] = [
-    "", "", "a", "b", "x", "p", "q", "eval", "arguments", "await", "yield", "let", "static", "public", "use strict",
-    "__proto__", "constructor", "evall", "awai", "\u{e9}", "arguments", "a",
+    "",
+    "",
+    "a",
+    "b",
+    "x",
+    "p",
+    "q",
+    "eval",
+    "arguments",
+    "await",
+    "yield",
+    "let",
+    "static",
+    "public",
+    "use strict",
+    "__proto__",
+    "constructor",
+    "evall",
+    "awai",
+    "\u{e9}",
+    "arguments",
+    "a",
 ];
 
 /// Node n's field, by its place in the record.
@@ -52,7 +72,8 @@ fn kind_like(rng: &mut Rng, kind: u32) -> u32 {
         28..=30 => rng.pick(&[28, 29, 30]),
         1 | 2 => rng.pick(&[1, 2]),
         23 | 25 | 31..=55 => rng.pick(&[
-            23, 25, 31, 32, 33, 34, 35, 36, 37, 38, 39, 40, 41, 42, 43, 44, 45, 46, 47, 48, 49, 50, 51, 52, 55, 24, 53, 54, 2, 37, 44, 41,
+            23, 25, 31, 32, 33, 34, 35, 36, 37, 38, 39, 40, 41, 42, 43, 44, 45, 46, 47, 48, 49, 50, 51, 52, 55, 24, 53,
+            54, 2, 37, 44, 41,
         ]),
         kind => kind,
     }
@@ -157,7 +178,13 @@ pub fn rescope(rng: &mut Rng, t: &mut OwnedTables) {
         };
         let fit: Vec<usize> = (0..scopes).filter(|&s| fits(s)).collect();
         // The innermost more often than another.
-        let scope = if fit.is_empty() { 0 } else if rng.once_in(3) { rng.pick(&fit) } else { fit[fit.len() - 1] };
+        let scope = if fit.is_empty() {
+            0
+        } else if rng.once_in(3) {
+            rng.pick(&fit)
+        } else {
+            fit[fit.len() - 1]
+        };
         *field(t, n, 5) = scope as u32;
         if kind(t, n) == 26 {
             // Often the scope of what is around, or one that stands at the class or in it.
@@ -222,7 +249,15 @@ fn remove(t: &mut OwnedTables, n: usize, with_all: bool) {
         end += 1;
     }
     t.nodes.drain(10 * n..10 * end);
-    let moved = |m: usize| if m >= end { m - (end - n) } else if m >= n { up } else { m };
+    let moved = |m: usize| {
+        if m >= end {
+            m - (end - n)
+        } else if m >= n {
+            up
+        } else {
+            m
+        }
+    };
     for i in n..count(t) {
         let parent = moved(parent(t, i)) as u32;
         *field(t, i, 1) = parent;
@@ -262,7 +297,8 @@ fn insert(rng: &mut Rng, t: &mut OwnedTables, n: usize, kind: u32, role: u32) {
 
 /// Sizes at the limits of refusals 1 and 3.
 pub fn huge(rng: &mut Rng) -> OwnedTables {
-    let mut t = OwnedTables { source_type: 0, nodes: Vec::new(), scopes: vec![0, 2, 0], source: Vec::new(), names: Vec::new() };
+    let mut t =
+        OwnedTables { source_type: 0, nodes: Vec::new(), scopes: vec![0, 2, 0], source: Vec::new(), names: Vec::new() };
     let nodes = 65_535 + rng.below(2);
     match rng.below(6) {
         0 => t.source = vec![0; 1_048_576 + rng.below(2)],
@@ -277,7 +313,13 @@ pub fn huge(rng: &mut Rng) -> OwnedTables {
         4 => {
             // Chains of the greatest depth.
             for n in 0..nodes as u32 {
-                let (kind, parent) = if n == 0 { (0, 0) } else if n % 512 == 1 { (55, 0) } else { (55, n - 1) };
+                let (kind, parent) = if n == 0 {
+                    (0, 0)
+                } else if n % 512 == 1 {
+                    (55, 0)
+                } else {
+                    (55, n - 1)
+                };
                 t.nodes.extend([kind, parent, 0, 0, 0, 0, 0, 0, 0, 0]);
             }
         }

@@ -8,21 +8,63 @@ use crate::rng::Rng;
 
 /// Names of which the checks know most.
 const NAMES: [&str; 16] = [
-    "a", "b", "x", "eval", "arguments", "await", "yield", "let", "static", "public", "implements", "interface", "package",
-    "private", "protected", "arguments",
+    "a",
+    "b",
+    "x",
+    "eval",
+    "arguments",
+    "await",
+    "yield",
+    "let",
+    "static",
+    "public",
+    "implements",
+    "interface",
+    "package",
+    "private",
+    "protected",
+    "arguments",
 ];
 const LABELS: [&str; 8] = ["a", "b", "c", "a", "b", "a", "await", "yield"];
 const PRIVATE: [&str; 3] = ["p", "q", "r"];
 const NUMBERS: [(&str, u32); 12] = [
-    ("0", 0), ("7", 0), ("07", 3), ("08", 0), ("0.5", 1), ("00", 3), ("09.5", 1), ("0o7", 3), ("0b1", 2), ("0x1f", 4),
-    ("010", 3), ("1", 0),
+    ("0", 0),
+    ("7", 0),
+    ("07", 3),
+    ("08", 0),
+    ("0.5", 1),
+    ("00", 3),
+    ("09.5", 1),
+    ("0o7", 3),
+    ("0b1", 2),
+    ("0x1f", 4),
+    ("010", 3),
+    ("1", 0),
 ];
 /// A raw string and the length of its value.
 const STRINGS: [(&str, u32); 22] = [
-    ("''", 0), ("'x'", 1), (r"'\0'", 1), (r"'\08'", 2), (r"'\8'", 1), (r"'\9'", 1), (r"'\\1'", 2), (r"'\1'", 1),
-    (r"'\7'", 1), (r"'\00'", 1), (r"'\x41'", 1), (r"'\\\1'", 2), ("'0123456789abcdef'", 16), (r"'0123456789abcdef\9'", 17),
-    (r"'0123456789abcdef\\9'", 18), (r"'0123456789abcdef\\\\\7'", 19), (r"'0123456789abcd\07'", 15),
-    (r"'0123456789abcdefgh\0'", 19), (r"'\0\0\0\0\0\0\0\08'", 9), (r"'\n0123456789\1'", 12), (r"'\u{41}\\8\8'", 4), (r"'\0\1'", 2),
+    ("''", 0),
+    ("'x'", 1),
+    (r"'\0'", 1),
+    (r"'\08'", 2),
+    (r"'\8'", 1),
+    (r"'\9'", 1),
+    (r"'\\1'", 2),
+    (r"'\1'", 1),
+    (r"'\7'", 1),
+    (r"'\00'", 1),
+    (r"'\x41'", 1),
+    (r"'\\\1'", 2),
+    ("'0123456789abcdef'", 16),
+    (r"'0123456789abcdef\9'", 17),
+    (r"'0123456789abcdef\\9'", 18),
+    (r"'0123456789abcdef\\\\\7'", 19),
+    (r"'0123456789abcd\07'", 15),
+    (r"'0123456789abcdefgh\0'", 19),
+    (r"'\0\0\0\0\0\0\0\08'", 9),
+    (r"'\n0123456789\1'", 12),
+    (r"'\u{41}\\8\8'", 4),
+    (r"'\0\1'", 2),
 ];
 
 pub struct Grammar<'r> {
@@ -213,7 +255,11 @@ impl Grammar<'_> {
     }
 
     fn labeled(&mut self, role: u32) {
-        let label = if self.calm { ["a", "b", "c", "d"].into_iter().find(|l| !self.labels_in_sight().contains(l)) } else { Some(self.rng.pick(&LABELS)) };
+        let label = if self.calm {
+            ["a", "b", "c", "d"].into_iter().find(|l| !self.labels_in_sight().contains(l))
+        } else {
+            Some(self.rng.pick(&LABELS))
+        };
         let Some(label) = label else { return self.leaf(22, role, 0, 0, "") };
         self.open(6, role, 0, 0, "");
         self.leaf(33, 6, 0, 0, label);
@@ -339,8 +385,10 @@ impl Grammar<'_> {
                 let inside: Vec<u32> = self.path.iter().rev().copied().take_while(|&n| self.kind_of(n) > 3).collect();
                 let held = |n: u32| inside.iter().rev().copied().find(|&m| m > n && self.kind_of(m) != 6);
                 let fit = inside.iter().copied().filter(|&n| self.kind_of(n) == 6);
-                let labels: Vec<&'static str> =
-                    fit.filter(|&n| held(n).is_some_and(|m| (7..=11).contains(&self.kind_of(m)))).map(|n| self.label_of(n)).collect();
+                let labels: Vec<&'static str> = fit
+                    .filter(|&n| held(n).is_some_and(|m| (7..=11).contains(&self.kind_of(m))))
+                    .map(|n| self.label_of(n))
+                    .collect();
                 if labels.is_empty() { self.leaf(22, role, 0, 0, "") } else { self.labelled_jump(19, role, &labels) }
             }
             _ => self.leaf(22, role, 0, 0, ""),
@@ -448,7 +496,8 @@ impl Grammar<'_> {
     fn function_body(&mut self) {
         self.open(4, 3, 0, 0, "");
         if self.rng.once_in(3) {
-            let directive = if self.calm { "use other" } else { self.rng.pick(&["use strict", "use strict", "use other"]) };
+            let directive =
+                if self.calm { "use other" } else { self.rng.pick(&["use strict", "use strict", "use other"]) };
             if directive == "use strict" {
                 self.t.scopes[3 * self.scope as usize + 1] |= 1;
             }
@@ -644,7 +693,11 @@ impl Grammar<'_> {
                 0 => {
                     let extra = self.rng.number(3);
                     self.open(44, 0, if extra == 0 { 128 } else { 0 }, extra, "");
-                    if self.rng.once_in(3) { self.expression(2) } else { self.leaf(55, 2, 0, 0, name) }
+                    if self.rng.once_in(3) {
+                        self.expression(2)
+                    } else {
+                        self.leaf(55, 2, 0, 0, name)
+                    }
                     self.function(1, 0, 0);
                 }
                 _ => {
@@ -671,7 +724,11 @@ impl Grammar<'_> {
             1 => self.private_expression(role),
             2 => {
                 self.open(46, role, 0, 0, "");
-                if self.rng.once_in(3) { self.expression(0) } else { self.private_expression(0) }
+                if self.rng.once_in(3) {
+                    self.expression(0)
+                } else {
+                    self.private_expression(0)
+                }
                 self.close();
             }
             _ => self.expression(role),

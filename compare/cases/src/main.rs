@@ -171,7 +171,8 @@ fn calls(t: &Tables, refusal: Option<(u32, usize)>) -> Result<(), String> {
             None => Ok(found.len()),
         };
         same("the check call", &answer, &expected)?;
-        let mut written: Vec<u32> = if answer.is_ok() { found.iter().flat_map(plain::Finding::numbers).collect() } else { Vec::new() };
+        let mut written: Vec<u32> =
+            if answer.is_ok() { found.iter().flat_map(plain::Finding::numbers).collect() } else { Vec::new() };
         written.resize(length, 77);
         same("the findings slice", &out, &written)?;
     }

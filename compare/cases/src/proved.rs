@@ -10,8 +10,25 @@ use crate::{answers, same};
 // passed as pointer and length.
 #[expect(improper_ctypes)]
 unsafe extern "C" {
-    safe fn check(source_type: u32, nodes: &[u32], scopes: &[u32], source: &[u8], names: &[u8], findings: &mut [u32], answer: &mut [u64]);
-    safe fn code(source_type: u32, nodes: &[u32], scopes: &[u32], source: &[u8], names: &[u8], unit: u32, code: &mut [u32], answer: &mut [u64]);
+    safe fn check(
+        source_type: u32,
+        nodes: &[u32],
+        scopes: &[u32],
+        source: &[u8],
+        names: &[u8],
+        findings: &mut [u32],
+        answer: &mut [u64],
+    );
+    safe fn code(
+        source_type: u32,
+        nodes: &[u32],
+        scopes: &[u32],
+        source: &[u8],
+        names: &[u8],
+        unit: u32,
+        code: &mut [u32],
+        answer: &mut [u64],
+    );
     safe fn route(
         source_type: u32,
         nodes: &[u32],

@@ -16,18 +16,23 @@ extern crate standin as oxc_syntax;
 extern crate standin as rustc_hash;
 
 mod builder;
+// The crate's text, which is neither formatted nor judged by lints.
 #[path = "../vendor/checker/mod.rs"]
 #[allow(dead_code, unused, clippy::all)]
+#[rustfmt::skip]
 mod checker;
 #[path = "../vendor/class/mod.rs"]
 #[allow(dead_code, clippy::all)]
+#[rustfmt::skip]
 mod class;
 mod codes;
 #[path = "../vendor/diagnostics.rs"]
 #[allow(dead_code, clippy::all)]
+#[rustfmt::skip]
 mod diagnostics;
 #[path = "../vendor/node/mod.rs"]
 #[allow(dead_code, clippy::all)]
+#[rustfmt::skip]
 mod node;
 mod scoping;
 mod tree;

@@ -7,9 +7,7 @@ use std::marker::PhantomData;
 use oxc_ast::{AstKind, ast::*};
 use oxc_span::Span;
 use oxc_str::Ident;
-use oxc_syntax::{
-    node::NodeId, number::NumberBase, operator::UnaryOperator, reference::ReferenceId, scope::ScopeId,
-};
+use oxc_syntax::{node::NodeId, number::NumberBase, operator::UnaryOperator, reference::ReferenceId, scope::ScopeId};
 
 /// Keeps the nodes of one tree at their places until it is dropped.
 #[derive(Default)]
@@ -56,7 +54,8 @@ pub struct Record<'a> {
 impl<'a> Record<'a> {
     pub fn read(nodes: &[u32], names: &'a [u8], number: u32) -> Self {
         let at = 10 * number as usize;
-        let [kind, parent, role, start, end, scope, flags, extra, name, length] = nodes[at..at + 10].try_into().unwrap();
+        let [kind, parent, role, start, end, scope, flags, extra, name, length] =
+            nodes[at..at + 10].try_into().unwrap();
         Record {
             number,
             kind,
@@ -246,21 +245,10 @@ fn node<'a>(arena: &'a Arena, r: Record<'a>, children: &Children<'a>, source: &'
             },
             r#static: r.has(2),
         }),
-        29 => make!(PropertyDefinition {
-            key: key(children, r.has(4)),
-            value: value(children),
-            r#static: r.has(2),
-        }),
-        30 => make!(AccessorProperty {
-            key: key(children, r.has(4)),
-            value: value(children),
-            r#static: r.has(2),
-        }),
+        29 => make!(PropertyDefinition { key: key(children, r.has(4)), value: value(children), r#static: r.has(2) }),
+        30 => make!(AccessorProperty { key: key(children, r.has(4)), value: value(children), r#static: r.has(2) }),
         31 => make!(BindingIdentifier { name: r.name }),
-        32 => make!(IdentifierReference {
-            name: r.name,
-            reference_id: Cell::new(Some(ReferenceId::new(r.number))),
-        }),
+        32 => make!(IdentifierReference { name: r.name, reference_id: Cell::new(Some(ReferenceId::new(r.number))) }),
         33 => make!(LabelIdentifier { name: r.name }),
         34 => make!(PrivateIdentifier { name: r.name }),
         35 => make!(NumericLiteral {
@@ -318,7 +306,9 @@ fn node<'a>(arena: &'a Arena, r: Record<'a>, children: &Children<'a>, source: &'
         51 => make!(BindingRestElement),
         52 => make!(JSXAttribute),
         53 => make!(ExportDefaultDeclaration),
-        55 if r.extra == 1 => make!(ParenthesizedExpression { expression: Expression::of(children.first().map(|c| c.1)) }),
+        55 if r.extra == 1 => {
+            make!(ParenthesizedExpression { expression: Expression::of(children.first().map(|c| c.1)) })
+        }
         _ => make!(Other),
     }
 }

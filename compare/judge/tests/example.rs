@@ -18,10 +18,6 @@ fn the_example() {
 /// A function scope whose node is the Program: the crate's text ends in a failed `unwrap`.
 #[test]
 fn a_stuck_walk() {
-    let nodes = [
-        [0, 0, 0, 0, 0, 0, 0, 0, 0, 0],
-        [22, 0, 3, 0, 0, 0, 0, 0, 0, 0],
-        [37, 1, 0, 0, 0, 0, 0, 0, 0, 0],
-    ];
+    let nodes = [[0, 0, 0, 0, 0, 0, 0, 0, 0, 0], [22, 0, 3, 0, 0, 0, 0, 0, 0, 0], [37, 1, 0, 0, 0, 0, 0, 0, 0, 0]];
     assert_eq!(judge(0, &nodes.concat(), &[0, 4, 0], b"", b""), Verdict::Stuck(2));
 }

@@ -240,7 +240,8 @@ impl Checker<'_, '_> {
                     self.error(code::AWAIT_IN_STATIC_BLOCK, t.span(n));
                 }
             }
-            b"implements" | b"interface" | b"let" | b"package" | b"private" | b"protected" | b"public" | b"static" | b"yield" => {
+            b"implements" | b"interface" | b"let" | b"package" | b"private" | b"protected" | b"public" | b"static"
+            | b"yield" => {
                 if t.strict(n) {
                     self.raise(code::RESERVED_WORD, t.span(n), NO_SPAN, self.strict_context(n));
                 }
@@ -408,7 +409,9 @@ impl Checker<'_, '_> {
         for a in t.ancestors(n) {
             match (t.kind(a), label) {
                 (PROGRAM, Some(label)) => return self.error(code::UNDEFINED_LABEL, t.span(label)),
-                (FUNCTION | ARROW | STATIC_BLOCK, Some(label)) => return self.error(code::JUMP_OVER_A_FUNCTION, t.span(label)),
+                (FUNCTION | ARROW | STATIC_BLOCK, Some(label)) => {
+                    return self.error(code::JUMP_OVER_A_FUNCTION, t.span(label))
+                }
                 (PROGRAM | FUNCTION | ARROW | STATIC_BLOCK, None) => return self.error(code::BREAK, t.span(n)),
                 (LABELED, Some(label)) if self.same_label(a, label) => return,
                 (kind, None) if is_loop_kind(kind) || kind == SWITCH => return,
@@ -423,7 +426,9 @@ impl Checker<'_, '_> {
         for a in t.ancestors(n) {
             match (t.kind(a), label) {
                 (PROGRAM, Some(label)) => return self.error(code::UNDEFINED_LABEL, t.span(label)),
-                (FUNCTION | ARROW | STATIC_BLOCK, Some(label)) => return self.error(code::JUMP_OVER_A_FUNCTION, t.span(label)),
+                (FUNCTION | ARROW | STATIC_BLOCK, Some(label)) => {
+                    return self.error(code::JUMP_OVER_A_FUNCTION, t.span(label))
+                }
                 (PROGRAM | FUNCTION | ARROW | STATIC_BLOCK, None) => return self.error(code::CONTINUE, t.span(n)),
                 (LABELED, Some(label)) if self.same_label(a, label) => {
                     let mut target = t.part(a, BODY);
@@ -466,7 +471,9 @@ impl Checker<'_, '_> {
         let mut declarators = t.children(decl).filter(|&d| t.kind(d) == VARIABLE_DECLARATOR);
         let (Some(declarator), None) = (declarators.next(), declarators.next()) else { return };
         let is_var = t.extra(decl) == 0;
-        if t.has(declarator, HAS_INITIALISER) && ((t.strict(n) && is_var) || !is_for_in || !t.has(declarator, PLAIN_NAME)) {
+        if t.has(declarator, HAS_INITIALISER)
+            && ((t.strict(n) && is_var) || !is_for_in || !t.has(declarator, PLAIN_NAME))
+        {
             self.error(code::FOR_HEAD_INITIALISER, t.span(decl));
         }
     }

@@ -35,7 +35,8 @@ impl OwnedTables {
 
     /// The lines that read as these tables, where their names stand one after the other.
     pub fn lines(&self) -> Vec<u8> {
-        let mut out = format!("J,{},{},{}\n", self.source_type, self.nodes.len() / 10, self.scopes.len() / 3).into_bytes();
+        let mut out =
+            format!("J,{},{},{}\n", self.source_type, self.nodes.len() / 10, self.scopes.len() / 3).into_bytes();
         for s in self.scopes.chunks(3) {
             out.extend(format!("S,{},{},{}\n", s[0], s[1], s[2]).bytes());
         }
@@ -86,7 +87,11 @@ impl<'a> Reader<'a> {
         let length = self.rest.iter().position(|&b| b == b'\n').unwrap_or(self.rest.len());
         let line = &self.rest[..length];
         self.rest = self.rest.get(length + 1..).unwrap_or(&[]);
-        if length > MOST_LINE { Err(self.bad()) } else { Ok(line) }
+        if length > MOST_LINE {
+            Err(self.bad())
+        } else {
+            Ok(line)
+        }
     }
 
     /// A line that is its letter and any number of numbers.
@@ -117,7 +122,8 @@ impl<'a> Reader<'a> {
             self.node(&mut t)?;
         }
         let line = self.next_line()?;
-        t.source = line.strip_prefix(b"X,").and_then(hexadecimal).filter(|s| s.len() <= MOST_BYTES).ok_or(self.bad())?;
+        t.source =
+            line.strip_prefix(b"X,").and_then(hexadecimal).filter(|s| s.len() <= MOST_BYTES).ok_or(self.bad())?;
         Ok(t)
     }
 
@@ -134,7 +140,11 @@ impl<'a> Reader<'a> {
         let name = parts.next().ok_or(self.bad())?;
         t.nodes.extend([t.names.len() as u32, name.len() as u32]);
         t.names.extend(name);
-        if t.names.len() > MOST_BYTES { Err(self.bad()) } else { Ok(()) }
+        if t.names.len() > MOST_BYTES {
+            Err(self.bad())
+        } else {
+            Ok(())
+        }
     }
 
     /// For routes: `U,unit`, then `A` with the answers.
@@ -149,7 +159,11 @@ fn number(digits: &[u8]) -> Option<u32> {
         return None;
     }
     digits.iter().try_fold(0u32, |n, &d| {
-        if d.is_ascii_digit() { n.checked_mul(10)?.checked_add(u32::from(d - b'0')) } else { None }
+        if d.is_ascii_digit() {
+            n.checked_mul(10)?.checked_add(u32::from(d - b'0'))
+        } else {
+            None
+        }
     })
 }
 

@@ -35,7 +35,8 @@ pub fn refusal_before_walks(t: &Tables) -> Option<InputRefusal> {
 /// 1. A table is empty or no whole number of records; more than 65,535 records; source or names above 1,048,576
 /// bytes; source type above 1.
 pub fn wrong_sizes(t: &Tables) -> bool {
-    let wrong = |length: usize, width: usize| length == 0 || !length.is_multiple_of(width) || length / width > MOST_RECORDS;
+    let wrong =
+        |length: usize, width: usize| length == 0 || !length.is_multiple_of(width) || length / width > MOST_RECORDS;
     wrong(t.nodes.len(), NODE)
         || wrong(t.scopes.len(), SCOPE)
         || t.source.len() > MOST_BYTES
@@ -100,7 +101,8 @@ pub fn stray(t: &Tables) -> Option<usize> {
 /// chain. All scope records come before any node.
 pub fn misscoped(t: &Tables) -> Option<usize> {
     let scopes = t.scope_count();
-    let broken = |s: usize| t.scope_flags(s) > 31 || (if s == 0 { t.scope_parent(0) != 0 } else { t.scope_parent(s) >= s });
+    let broken =
+        |s: usize| t.scope_flags(s) > 31 || (if s == 0 { t.scope_parent(0) != 0 } else { t.scope_parent(s) >= s });
     if let Some(s) = (0..scopes).find(|&s| broken(s)) {
         return Some(s);
     }
@@ -157,7 +159,12 @@ fn misplaced_child(t: &Tables, n: usize) -> bool {
     }
     // "Kinds 1, 24, 26, 53 and 54 may, and are statements then. No other kind has these roles there, but 17 under
     // Try." There: under a holder. FunctionBody may so have role 3 under a Function, which is no holder.
-    if held && is_holder(parent) && !is_statement(kind) && !may_be_statement(kind) && !(kind == CATCH_CLAUSE && parent == TRY) {
+    if held
+        && is_holder(parent)
+        && !is_statement(kind)
+        && !may_be_statement(kind)
+        && !(kind == CATCH_CLAUSE && parent == TRY)
+    {
         return true;
     }
     // "(If one and at most one with role 4;) else only Try holds roles 4 and 5." Read of every parent, holder or not.
@@ -166,7 +173,8 @@ fn misplaced_child(t: &Tables, n: usize) -> bool {
     }
     // "Switch holds only SwitchCase with role 3": of its children with roles 3 to 5; others, as the discriminant, are
     // not held. "A SwitchCase stands only there": under Switch and with role 3.
-    if (parent == SWITCH && held && kind != SWITCH_CASE) || (kind == SWITCH_CASE && !(parent == SWITCH && role == BODY)) {
+    if (parent == SWITCH && held && kind != SWITCH_CASE) || (kind == SWITCH_CASE && !(parent == SWITCH && role == BODY))
+    {
         return true;
     }
     // "Try holds one Block with role 3, at most one CatchClause with role 4, one Block with role 5": and nothing else
@@ -175,7 +183,9 @@ fn misplaced_child(t: &Tables, n: usize) -> bool {
         return true;
     }
     // "CatchClause, only there, holds one Block": there, under Try and with role 4; it holds nothing but a Block.
-    if (kind == CATCH_CLAUSE && !(parent == TRY && role == ALTERNATE)) || (parent == CATCH_CLAUSE && held && kind != BLOCK) {
+    if (kind == CATCH_CLAUSE && !(parent == TRY && role == ALTERNATE))
+        || (parent == CATCH_CLAUSE && held && kind != BLOCK)
+    {
         return true;
     }
     // "FunctionBody stands only under kind 1 or 2", with any role.

@@ -71,7 +71,9 @@ fn element_above(t: &Tables, start: usize) -> Option<InElement> {
     let mut previous = start;
     for a in t.ancestors(start) {
         match t.kind(a) {
-            PROPERTY_DEFINITION | ACCESSOR_PROPERTY if t.part(a, VALUE) == Some(previous) => return Some(InElement::Value),
+            PROPERTY_DEFINITION | ACCESSOR_PROPERTY if t.part(a, VALUE) == Some(previous) => {
+                return Some(InElement::Value)
+            }
             PROPERTY_DEFINITION | ACCESSOR_PROPERTY | METHOD_DEFINITION => return Some(InElement::Elsewhere),
             _ => previous = a,
         }
@@ -80,7 +82,14 @@ fn element_above(t: &Tables, start: usize) -> Option<InElement> {
 }
 
 /// The nearest function that is no arrow: is it the value of a method, getter, setter or constructor?
-fn in_function(t: &Tables, classes: &Classes, class: Option<usize>, function: usize, sup: usize, is_call: bool) -> Walk {
+fn in_function(
+    t: &Tables,
+    classes: &Classes,
+    class: Option<usize>,
+    function: usize,
+    sup: usize,
+    is_call: bool,
+) -> Walk {
     debug_assert!(function == sup || t.ancestors(sup).any(|a| a == function));
     if function == 0 {
         // Nothing is above node 0: `func_kinds.next().unwrap()`.
@@ -91,7 +100,11 @@ fn in_function(t: &Tables, classes: &Classes, class: Option<usize>, function: us
     match t.kind(parent) {
         OBJECT_PROPERTY => {
             let is_method = t.has(parent, IS_METHOD) || t.extra(parent) != 0;
-            if is_method && is_value && !is_call { Walk::Legal } else { Walk::Illegal }
+            if is_method && is_value && !is_call {
+                Walk::Legal
+            } else {
+                Walk::Illegal
+            }
         }
         METHOD_DEFINITION if is_value && !is_call => Walk::Legal,
         METHOD_DEFINITION if is_value && t.extra(parent) == 0 => {

@@ -4,8 +4,8 @@ use std::cell::Cell;
 
 use crate::flags::{NumberBase, UnaryOperator};
 use crate::tools::{
-    Address, BoundNames, GetAddress, GetSpan, Ident, IsSimpleParameterList, NodeId, PropName, ReferenceId, ScopeId, Span,
-    SymbolId,
+    Address, BoundNames, GetAddress, GetSpan, Ident, IsSimpleParameterList, NodeId, PropName, ReferenceId, ScopeId,
+    Span, SymbolId,
 };
 
 pub use crate::tools::Str;
