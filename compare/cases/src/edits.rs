@@ -193,6 +193,33 @@ pub fn rescope(rng: &mut Rng, t: &mut OwnedTables) {
     }
 }
 
+/// A chain of new scopes at some Super, at nodes above it in any order; classes above take some of them as theirs.
+pub fn tangle(rng: &mut Rng, t: &mut OwnedTables) {
+    let supers: Vec<usize> = (0..count(t)).filter(|&n| kind(t, n) == 37).collect();
+    if supers.is_empty() || t.scopes[2] != 0 {
+        return;
+    }
+    let sup = rng.pick(&supers);
+    let above = path(t, sup);
+    let functions: Vec<usize> = above.iter().copied().filter(|&n| matches!(kind(t, n), 0..=3)).collect();
+    let first = (t.scopes.len() / 3) as u32;
+    let scopes = 1 + rng.number(4);
+    for s in 0..scopes {
+        let parent = if s == 0 { 0 } else { first + s - 1 };
+        let (flags, node) = match rng.below(4) {
+            0 => (rng.pick(&[0, 1, 12, 16]), rng.pick(&above)),
+            _ => (4, rng.pick(&functions)),
+        };
+        t.scopes.extend([parent, flags, node as u32]);
+    }
+    *field(t, sup, 5) = first + scopes - 1;
+    for class in above.into_iter().filter(|&n| kind(t, n) == 26).collect::<Vec<_>>() {
+        if !rng.once_in(3) {
+            *field(t, class, 7) = first + rng.number(scopes);
+        }
+    }
+}
+
 /// An edit that damages more often than not.
 pub fn rough(rng: &mut Rng, t: &mut OwnedTables) {
     if t.nodes.len() < 10 || t.scopes.len() < 3 {

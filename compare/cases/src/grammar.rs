@@ -503,6 +503,12 @@ impl Grammar<'_> {
             }
             self.leaf(23, 0, 0, 0, directive);
         }
+        let method = self.path.iter().rev().nth(2).is_some_and(|&n| self.kind_of(n) == 28);
+        if method && !self.calm && self.rng.once_in(2) {
+            self.open(22, 3, 0, 0, "");
+            self.super_expression(1);
+            self.close();
+        }
         self.statements();
         self.close();
     }

@@ -79,6 +79,9 @@ fn case(seed: u64, index: u64) -> (Sort, OwnedTables, Rng) {
         if rng.once_in(3) {
             edits::rescope(&mut rng, &mut tables);
         }
+        if rng.once_in(3) {
+            edits::tangle(&mut rng, &mut tables);
+        }
         for _ in 0..1 + rng.below(8) {
             edits::gentle(&mut rng, &mut tables);
         }
