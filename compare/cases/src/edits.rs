@@ -82,7 +82,7 @@ fn kind_like(rng: &mut Rng, kind: u32) -> u32 {
 /// An edit after which the tables are often still well-formed.
 pub fn gentle(rng: &mut Rng, t: &mut OwnedTables) {
     let n = rng.below(count(t));
-    match rng.below(12) {
+    match rng.below(13) {
         0 | 1 => *field(t, n, 6) ^= 2 << rng.below(12),
         2 => {
             let extra = extra_for(rng, t, kind(t, n));
@@ -117,6 +117,17 @@ pub fn gentle(rng: &mut Rng, t: &mut OwnedTables) {
             let node = t.scopes[3 * s + 2] as usize;
             if node < count(t) {
                 t.scopes[3 * s + 2] = rng.pick(&path(t, node)) as u32;
+            }
+        }
+        11 => {
+            // No name for all that have this one.
+            let name = |t: &OwnedTables, n: usize| {
+                let (start, length) = (t.nodes[10 * n + 8] as usize, t.nodes[10 * n + 9] as usize);
+                t.names.get(start..start + length).map(<[u8]>::to_vec)
+            };
+            let blank = name(t, n);
+            for m in (0..count(t)).filter(|&m| name(t, m) == blank).collect::<Vec<_>>() {
+                *field(t, m, 9) = 0;
             }
         }
         _ => {
@@ -327,12 +338,12 @@ pub fn huge(rng: &mut Rng) -> OwnedTables {
     let mut t =
         OwnedTables { source_type: 0, nodes: Vec::new(), scopes: vec![0, 2, 0], source: Vec::new(), names: Vec::new() };
     let nodes = 65_535 + rng.below(2);
-    match rng.below(6) {
+    match rng.below(8) {
         0 => t.source = vec![0; 1_048_576 + rng.below(2)],
         1 => t.names = vec![0; 1_048_576 + rng.below(2)],
         2 => (1..65_535 + rng.number(2)).for_each(|s| t.scopes.extend([s - 1, 0, 0])),
         // As deep as may be, or one deeper.
-        3 => {
+        3 | 6 | 7 => {
             for n in 0..513 + rng.number(2) {
                 t.nodes.extend([if n == 0 { 0 } else { 55 }, n.saturating_sub(1), 0, 0, 0, 0, 0, 0, 0, 0]);
             }
