@@ -1,0 +1,99 @@
+//! What was seen.
+
+use std::fmt;
+
+use plain::{Refusal, Route};
+
+use crate::Sort;
+
+pub struct Counts {
+    pub differences: usize,
+    /// Super's walks at which the crate's text ends in a panic.
+    pub stuck: u64,
+    /// Entries of all routes.
+    pub entries: u64,
+    cases: [u64; 5],
+    refusals: [[u64; 5]; 7],
+    clean: u64,
+    codes: [[u64; 5]; 34],
+    contexts: [u64; 5],
+    ends: [u64; 4],
+    route_refusals: [u64; 13],
+}
+
+impl Counts {
+    pub fn new() -> Counts {
+        Counts {
+            differences: 0,
+            stuck: 0,
+            entries: 0,
+            cases: [0; 5],
+            refusals: [[0; 5]; 7],
+            clean: 0,
+            codes: [[0; 5]; 34],
+            contexts: [0; 5],
+            ends: [0; 4],
+            route_refusals: [0; 13],
+        }
+    }
+
+    pub fn case(&mut self, sort: Sort) {
+        self.cases[sort as usize] += 1;
+    }
+
+    pub fn refusal(&mut self, sort: Sort, number: u32) {
+        self.refusals[number as usize][sort as usize] += 1;
+    }
+
+    pub fn findings(&mut self, sort: Sort, found: &[[u32; 7]]) {
+        self.clean += u64::from(found.is_empty());
+        for finding in found {
+            self.codes[finding[0] as usize][sort as usize] += 1;
+            self.contexts[finding[6] as usize] += 1;
+        }
+    }
+
+    /// Codes and input refusals that no case gave.
+    pub fn unseen(&self) -> (Vec<usize>, Vec<usize>) {
+        let none = |row: &[u64; 5]| row.iter().sum::<u64>() == 0;
+        let codes = (1..34).filter(|&code| none(&self.codes[code])).collect();
+        (codes, (1..7).filter(|&number| none(&self.refusals[number])).collect())
+    }
+
+    pub fn route(&mut self, answer: &Result<Route, Refusal>) {
+        match answer {
+            Ok(route) => self.ends[route.end as usize] += 1,
+            Err(refusal) => self.route_refusals[refusal.number as usize] += 1,
+        }
+    }
+}
+
+impl fmt::Display for Counts {
+    fn fmt(&self, f: &mut fmt::Formatter<'_>) -> fmt::Result {
+        let row = |f: &mut fmt::Formatter<'_>, what: &str, numbers: &[u64; 5]| {
+            write!(f, "{what:24}{:10}", numbers.iter().sum::<u64>())?;
+            numbers.iter().try_for_each(|n| write!(f, "{n:10}"))?;
+            writeln!(f)
+        };
+        writeln!(
+            f,
+            "{:24}{:>10}{:>10}{:>10}{:>10}{:>10}{:>10}",
+            "", "all", "source", "calm", "wild", "damaged", "huge"
+        )?;
+        row(f, "cases", &self.cases)?;
+        row(f, "well-formed", &self.refusals[0])?;
+        for number in 1..7 {
+            row(f, &format!("refusal {number}"), &self.refusals[number])?;
+        }
+        for code in 1..34 {
+            row(f, &format!("code {code}"), &self.codes[code])?;
+        }
+        writeln!(f, "well-formed without findings {}, of refusal 6 at a Super {}", self.clean, self.stuck)?;
+        writeln!(f, "contexts 0 to 4: {:?}", self.contexts)?;
+        writeln!(f, "routes by end 0 to 3: {:?}, entries {}", self.ends, self.entries)?;
+        writeln!(f, "routes refused by 7, 8, 9: {:?}", &self.route_refusals[7..10])?;
+        let (codes, refusals) = self.unseen();
+        writeln!(f, "not seen: codes {codes:?}, refusals {refusals:?}")?;
+        writeln!(f, "{} cases, {} differences", self.cases.iter().sum::<u64>(), self.differences)
+    }
+}

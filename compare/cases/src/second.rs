@@ -1,0 +1,248 @@
+//! A second reading of document 01 where the crate's text says nothing: refusals 1 to 6 but for Super's walks, and
+//! routes. Written another way round than `plain`, to find slips: each rule is a test of one node by lists that are
+//! made anew each time, shape is two tables, and a route goes from statement to statement without a stack.
+
+use plain::Tables;
+
+/// The lowest refusal, but for Super's walks.
+pub fn refusal(t: &Tables) -> Option<(u32, usize)> {
+    let sizes = [(t.nodes.len(), 10), (t.scopes.len(), 3)];
+    let too_long = |bytes: &[u8]| bytes.len() > 1 << 20;
+    let wrong = |(length, width): (usize, usize)| !(width..=65_535 * width).contains(&length) || length % width != 0;
+    if sizes.into_iter().any(wrong) || too_long(t.source) || too_long(t.names) || t.source_type >= 2 {
+        return Some((1, 0));
+    }
+    let (nodes, scopes) = (t.nodes.len() / 10, t.scopes.len() / 3);
+    let lowest = |number: u32, range: std::ops::Range<usize>, bad: &dyn Fn(usize) -> bool| {
+        range.into_iter().find(|&i| bad(i)).map(|i| (number, i))
+    };
+    lowest(2, 0..nodes, &|n| !listed(&t.nodes[10 * n..][..10]))
+        .or_else(|| lowest(3, 0..nodes, &|n| !in_place(t, n)))
+        .or_else(|| lowest(4, 0..nodes, &|n| !inside(t, n)))
+        .or_else(|| lowest(5, 0..scopes, &|s| !scope_fits(t, s)))
+        .or_else(|| lowest(5, 0..nodes, &|n| !scoped(t, n)))
+        .or_else(|| lowest(6, 0..nodes, &|n| !shaped(t, n)))
+}
+
+fn listed(r: &[u32]) -> bool {
+    let most_extra = match r[0] {
+        24 | 35 => 4,
+        26 | 36 => u32::MAX,
+        28 => 3,
+        44 => 2,
+        55 => 1,
+        _ => 0,
+    };
+    let all_flags = 2 | 4 | 8 | 16 | 32 | 64 | 128 | 256 | 512 | 1024 | 2048 | 4096;
+    r[0] < 56 && r[2] < 8 && r[6] & !all_flags == 0 && r[7] <= most_extra
+}
+
+/// A node and all above it, nearest first. Only where those before it are in place.
+fn up(t: &Tables, n: usize) -> Vec<usize> {
+    let mut list = vec![n];
+    while let Some(&last) = list.last().filter(|&&n| n != 0) {
+        list.push(t.nodes[10 * last + 1] as usize);
+    }
+    list
+}
+
+fn in_place(t: &Tables, n: usize) -> bool {
+    let (kind, parent) = (t.nodes[10 * n], t.nodes[10 * n + 1] as usize);
+    if n == 0 {
+        return kind == 0 && parent == 0;
+    }
+    // As node n - 1 is in place, so are all before it.
+    kind != 0 && up(t, n - 1).contains(&parent) && up(t, parent).len() <= 512
+}
+
+fn inside(t: &Tables, n: usize) -> bool {
+    let r: Vec<u64> = t.nodes[10 * n..][..10].iter().map(|&x| u64::from(x)).collect();
+    r[3] <= r[4] && r[4] <= t.source.len() as u64 && r[8] + r[9] <= t.names.len() as u64
+}
+
+fn scope_fits(t: &Tables, s: usize) -> bool {
+    let [parent, flags, _] = t.scopes[3 * s..][..3] else { unreachable!() };
+    flags < 32 && (if s == 0 { parent == 0 } else { (parent as usize) < s })
+}
+
+fn scoped(t: &Tables, n: usize) -> bool {
+    let (kind, scope, extra) = (t.nodes[10 * n], t.nodes[10 * n + 5] as usize, t.nodes[10 * n + 7] as usize);
+    let scopes = t.scopes.len() / 3;
+    if scope >= scopes || (kind == 26 && extra >= scopes) {
+        return false;
+    }
+    let above = up(t, n);
+    let mut s = scope;
+    loop {
+        if !above.contains(&(t.scopes[3 * s + 2] as usize)) {
+            return false;
+        }
+        if s == 0 {
+            return true;
+        }
+        s = t.scopes[3 * s] as usize;
+    }
+}
+
+const STATEMENTS: [u32; 21] = [5, 6, 7, 8, 9, 10, 11, 12, 13, 14, 16, 18, 19, 20, 21, 22, 1, 24, 26, 53, 54];
+
+/// May a child of this kind and role stand under this parent?
+fn may_stand(parent: u32, kind: u32, role: u32) -> bool {
+    let place = match (role, parent) {
+        (3, 0 | 3..=13 | 15) => STATEMENTS.contains(&kind),
+        (4, 12) => STATEMENTS.contains(&kind),
+        (3, 14) => kind == 15,
+        (3, 16 | 17) | (5, 16) => kind == 5,
+        (4, 16) => kind == 17,
+        (4 | 5, _) => false,
+        // Elsewhere what only stands as a statement, a case or a catch may not be.
+        _ => !(5..=22).contains(&kind),
+    };
+    place
+        && match kind {
+            4 => parent == 1 || parent == 2,
+            27 => parent == 26,
+            3 | 28..=30 => parent == 27,
+            _ => true,
+        }
+}
+
+/// Parent's kinds; the child's kind and role, if they matter; least and most.
+type Count = (&'static [u32], Option<u32>, Option<u32>, usize, usize);
+
+const COUNTS: [Count; 13] = [
+    (&[6, 7, 8, 9, 10, 11, 12, 13], None, Some(3), 1, 1),
+    (&[12], None, Some(4), 0, 1),
+    (&[16], Some(5), Some(3), 1, 1),
+    (&[16], Some(17), Some(4), 0, 1),
+    (&[16], Some(5), Some(5), 0, 1),
+    (&[17], Some(5), Some(3), 1, 1),
+    (&[6], Some(33), Some(6), 1, 1),
+    (&[18, 19], Some(33), Some(6), 0, 1),
+    (&[1, 2], Some(4), None, 0, 1),
+    (&[26], Some(27), None, 1, 1),
+    (&[28, 29, 30], None, Some(2), 1, 1),
+    (&[28, 29, 30], None, Some(1), 0, 1),
+    (&[28], Some(1), Some(1), 1, 1),
+];
+
+fn shaped(t: &Tables, n: usize) -> bool {
+    let field = |n: usize, i: usize| t.nodes[10 * n + i];
+    let children: Vec<usize> = (1..t.nodes.len() / 10).filter(|&c| field(c, 1) as usize == n).collect();
+    let count = |fits: &dyn Fn(usize) -> bool| children.iter().filter(|&&c| fits(c)).count();
+    let kind = field(n, 0);
+    let counted = COUNTS.iter().filter(|c| c.0.contains(&kind)).all(|&(_, of_kind, with_role, least, most)| {
+        let found = count(&|c| of_kind.is_none_or(|k| k == field(c, 0)) && with_role.is_none_or(|r| r == field(c, 2)));
+        (least..=most).contains(&found)
+    });
+    let one_default = kind != 14 || count(&|c| field(c, 0) == 15 && field(c, 6) & 4096 != 0) < 2;
+    let some_way_out =
+        kind != 16 || count(&|c| (field(c, 0) == 17 && field(c, 2) == 4) || (field(c, 0) == 5 && field(c, 2) == 5)) > 0;
+    let placed = n == 0 || may_stand(field(field(n, 1) as usize, 0), kind, field(n, 2));
+    placed && counted && one_default && some_way_out
+}
+
+/// Where a run is: before a statement, at the answer of one, behind one.
+enum At {
+    Before(usize),
+    Ask(usize),
+    Behind(usize),
+}
+
+/// List, end and answers taken, of tables, unit and answers that no refusal turns down.
+pub fn route(t: &Tables, unit: usize, answers: &[u32]) -> (Vec<u32>, u32, usize) {
+    let (mut list, mut taken) = (Vec::new(), 0);
+    let start = match t.kind(unit) {
+        1 | 2 => t.children(unit).find(|&c| t.kind(c) == 4),
+        _ => Some(unit),
+    };
+    let Some(start) = start else { return (list, 0, 0) };
+    let Some(first) = next_held(t, start, start) else { return (list, 0, 0) };
+    let mut at = At::Before(first);
+    loop {
+        at = match at {
+            At::Before(n) => match t.kind(n) {
+                5 => next_held(t, n, n).map_or(At::Behind(n), At::Before),
+                6 | 11 => At::Before(held(t, n, 3).unwrap()),
+                7..=10 | 12 | 14 => At::Ask(n),
+                kind => {
+                    list.push(n as u32);
+                    match kind {
+                        13 => At::Before(held(t, n, 3).unwrap()),
+                        18 => At::Behind(target(t, n)),
+                        19 => At::Ask(target(t, n)),
+                        20 => return (list, 1, taken),
+                        21 => return (list, 2, taken),
+                        _ => At::Behind(n),
+                    }
+                }
+            },
+            At::Ask(n) => {
+                let Some(&answer) = answers.get(taken) else { return (list, 3, taken) };
+                taken += 1;
+                list.push(n as u32);
+                let goes_on = answer != 0 || (t.kind(n) == 7 && t.flags(n) & 256 == 0);
+                let to = match t.kind(n) {
+                    12 => held(t, n, if goes_on { 3 } else { 4 }),
+                    14 => picked(t, n, answer).and_then(|case| first_from(t, case)),
+                    _ => held(t, n, 3).filter(|_| goes_on),
+                };
+                to.map_or(At::Behind(n), At::Before)
+            }
+            At::Behind(n) => {
+                let p = t.parent(n);
+                match t.kind(p) {
+                    7..=11 => At::Ask(p),
+                    15 => match next_held(t, p, n) {
+                        Some(next) => At::Before(next),
+                        None => {
+                            let later = next_held(t, t.parent(p), p).and_then(|case| first_from(t, case));
+                            later.map_or(At::Behind(t.parent(p)), At::Before)
+                        }
+                    },
+                    _ => match next_held(t, p, n).filter(|_| matches!(t.kind(p), 0 | 3..=5)) {
+                        Some(next) => At::Before(next),
+                        None if p == start => return (list, 0, taken),
+                        None => At::Behind(p),
+                    },
+                }
+            }
+        }
+    }
+}
+
+fn held(t: &Tables, n: usize, role: u32) -> Option<usize> {
+    t.children(n).find(|&c| t.role(c) == role)
+}
+
+/// The next statement, or case, of a holder behind this node.
+fn next_held(t: &Tables, holder: usize, behind: usize) -> Option<usize> {
+    t.children(holder).find(|&c| c > behind && t.role(c) == 3)
+}
+
+/// The first statement of a case or of those after it.
+fn first_from(t: &Tables, case: usize) -> Option<usize> {
+    let cases = t.children(t.parent(case)).filter(|&c| c >= case && t.kind(c) == 15);
+    let mut firsts = cases.filter_map(|c| next_held(t, c, c));
+    firsts.next()
+}
+
+fn picked(t: &Tables, switch: usize, answer: u32) -> Option<usize> {
+    let mut cases = t.children(switch).filter(|&c| t.kind(c) == 15);
+    cases.nth(answer as usize).or_else(|| t.children(switch).find(|&c| t.kind(c) == 15 && t.flags(c) & 4096 != 0))
+}
+
+/// The target of a jump.
+fn target(t: &Tables, n: usize) -> usize {
+    let name_of = |n: usize| t.children(n).find(|&c| t.kind(c) == 33 && t.role(c) == 6).map(|l| t.name(l));
+    let is_loop = |n: usize| (7..=11).contains(&t.kind(n));
+    let fits = |a: usize| match name_of(n) {
+        None => is_loop(a) || (t.kind(a) == 14 && t.kind(n) == 18),
+        name => t.kind(a) == 6 && name_of(a) == name,
+    };
+    let mut target = up(t, n).into_iter().find(|&a| fits(a)).expect("a target");
+    while t.kind(n) == 19 && t.kind(target) == 6 {
+        target = held(t, target, 3).unwrap();
+    }
+    target
+}

@@ -1,0 +1,7 @@
+use std::io::{Read, Write};
+
+fn main() -> std::io::Result<()> {
+    let mut input = Vec::new();
+    std::io::stdin().read_to_end(&mut input)?;
+    std::io::stdout().write_all(plain::reader::ruleroute(&input).as_bytes())
+}

@@ -1,0 +1,77 @@
+//! The three calls with their refusals: 1-6 and 10; 1-9 and 11; 1-9, 11 and 12. A refusal leaves every slice
+//! unchanged; success changes no entry past the last one written.
+
+use crate::findings::findings;
+use crate::refusals::input_refusal;
+use crate::routes;
+use crate::tables::*;
+
+#[derive(Clone, Copy, Debug, PartialEq, Eq)]
+pub struct Refusal {
+    pub number: u32,
+    pub place: usize,
+    /// The length needed, for 10 and 12.
+    pub needed: Option<u64>,
+}
+
+fn refuse<T>(number: u32, place: usize) -> Result<T, Refusal> {
+    Err(Refusal { number, place, needed: None })
+}
+
+#[derive(Clone, Copy, Debug, PartialEq, Eq)]
+pub struct Route {
+    pub entries: usize,
+    pub end: u32,
+    pub answers_taken: usize,
+}
+
+fn well_formed(t: &Tables) -> Result<(), Refusal> {
+    input_refusal(t).map_or(Ok(()), |r| refuse(r.number, r.place))
+}
+
+/// Writes the findings; gives how many.
+pub fn check(t: &Tables, out: &mut [u32]) -> Result<usize, Refusal> {
+    well_formed(t)?;
+    let found = findings(t);
+    let needed = 7 * found.len();
+    if out.len() < needed {
+        return Err(Refusal { number: 10, place: 0, needed: Some(needed as u64) });
+    }
+    for (entry, finding) in out.chunks_exact_mut(7).zip(&found) {
+        entry.copy_from_slice(&finding.numbers());
+    }
+    Ok(found.len())
+}
+
+/// The refusals of the code call. What the code is, document 01 leaves free.
+pub fn code_refusal(t: &Tables, unit: u32, code_length: usize) -> Result<(), Refusal> {
+    well_formed(t)?;
+    let place = unit as usize;
+    if place >= t.node_count() || !is_unit_kind(t.kind(place)) {
+        return refuse(7, place);
+    }
+    if routes::holds_try(t, place) {
+        return refuse(8, place);
+    }
+    if let Some(first) = findings(t).first() {
+        return refuse(9, first.node as usize);
+    }
+    if let Some(jump) = routes::lowest_without_target(t) {
+        return refuse(9, jump);
+    }
+    if code_length < 16 * t.node_count() {
+        return refuse(11, 0);
+    }
+    Ok(())
+}
+
+/// Writes the route.
+pub fn route(t: &Tables, unit: u32, answers: &[u32], code_length: usize, out: &mut [u32]) -> Result<Route, Refusal> {
+    code_refusal(t, unit, code_length)?;
+    let run = routes::run(t, unit as usize, answers);
+    if out.len() < run.list.len() {
+        return Err(Refusal { number: 12, place: 0, needed: Some(run.list.len() as u64) });
+    }
+    out[..run.list.len()].copy_from_slice(&run.list);
+    Ok(Route { entries: run.list.len(), end: run.end, answers_taken: run.answers_taken })
+}
