@@ -1,0 +1,5 @@
+pub mod Code
+pub mod Machine
+pub mod Steps
+pub mod Size
+pub mod Correct

@@ -1,0 +1,121 @@
+-- The machine's laws: it goes from step to step, for every list of numbers as code, and its bound on the steps is never met.
+use Prim.Native.Nat.{ℕ, zero, suc, _+_, _*_, _-_, _≤_, _<_}
+use mathlib.Core.Path.{_≡_, refl, sym, _∙_, ap, subst}
+use mathlib.Core.Bool.{Bool, true, false, _&&_, true≢false}
+use mathlib.Core.List.{List, [], _∷_, _++_}
+use lib.ListN.{length, getD, List·getD-eq-default}
+use lib.Dec.{eqb, ltb, T, ltb→lt, lt→ltb}
+use native.Mathlib.Omega.{arith}
+use native.Mathlib.Decide.{decLt}
+use mathlib.Core.Logic.{_≢_}
+use Rattle.completion.specs.Sem.{Entry, plain, asked, pick, isYes}
+use Rattle.flat.specs.Code.{Stat, at, ended}
+use Rattle.flat.specs.Machine.{Res, res, pre, Instr, NONE, LIST, LEAVE, ASK, SELECT, OPEN, END, CASE, decode, fetch, Frame, open′, pend, Pos, pos, unwind, isCase, chase, askNow, behind, forward, endAs, step, runs, measure, run}
+
+-- Past the code stands no instruction.
+pub past : (C : List ℕ) (pc : ℕ) → length C ≤ pc → fetch C pc ≡ NONE
+unfolding fetch
+past C pc h = ap (λ x. decode x (getD C (suc pc) 0) (getD C (suc (suc pc)) 0) (getD C (suc (suc (suc pc))) 0)) (List·getD-eq-default C 0 h)
+
+pub ltbTrue : (a b : ℕ) → ltb a b ≡ true → a < b
+ltbTrue a b e = ltb→lt a b (subst T (sym e) tt)
+
+pub ltbOf : (a b : ℕ) → a < b → ltb a b ≡ true
+ltbOf a b p = go (ltb a b) (lt→ltb a b p)
+  where
+    go : (x : Bool) → T x → x ≡ true
+    go true t = refl
+
+pub ltbNot : (a b : ℕ) → b ≤ a → ltb a b ≡ false
+ltbNot a b p = go (ltb a b) refl
+  where
+    go : (x : Bool) → ltb a b ≡ x → x ≡ false
+    go true e = let q : a < b = ltbTrue a b e in absurd (omega arith)
+    go false e = refl
+
+abbrev isNone : Instr → Bool
+isNone NONE = true
+isNone (LIST n) = false
+isNone (LEAVE t d) = false
+isNone (ASK n y z) = false
+isNone (SELECT n m d) = false
+isNone (OPEN f) = false
+isNone (END e) = false
+isNone (CASE c t d) = false
+
+inside : (C : List ℕ) (pc : ℕ) → isNone (fetch C pc) ≡ false → pc < length C
+inside C pc h = go (decLt pc (length C))
+  where
+    go : Dec (pc < length C) → pc < length C
+    go (yes p) = p
+    go (no p) = absurd (true≢false (sym (ap isNone (past C pc (omega arith))) ∙ h))
+
+module _ (C : List ℕ) (k k′ : ℕ → List Frame → List ℕ → Res) (pc : ℕ) (qs : List ℕ)
+    (ih : (pc′ : ℕ) (K′ : List Frame) (qs′ : List ℕ) → measure C pc′ qs′ < measure C pc qs → k pc′ K′ qs′ ≡ k′ pc′ K′ qs′) where
+  askCong : (i : Instr) (K : List Frame) → askNow i k K qs ≡ askNow i k′ K qs
+  askCong NONE K = refl
+  askCong (LIST n) K = refl
+  askCong (LEAVE t d) K = refl
+  askCong (ASK n y z) K = go qs ih
+    where
+      go : (u : List ℕ) → ((pc′ : ℕ) (K′ : List Frame) (qs′ : List ℕ) → measure C pc′ qs′ < measure C pc u → k pc′ K′ qs′ ≡ k′ pc′ K′ qs′) → askNow (ASK n y z) k K u ≡ askNow (ASK n y z) k′ K u
+      go [] f = refl
+      go (a ∷ u) f = ap (pre (asked n ∷ [])) (f _ K u (omega arith))
+  askCong (SELECT n c e) K = refl
+  askCong (OPEN f) K = refl
+  askCong (END e) K = refl
+  askCong (CASE c t d) K = refl
+
+  forwardCong : pc < length C → (p : Pos) → forward C pc k p qs ≡ forward C pc k′ p qs
+  forwardCong h p = go (ltb pc (p .pc)) refl
+    where
+      go : (b : Bool) → ltb pc (p .pc) ≡ b
+          → pick b (k (p .pc) (p .stack) qs) (askNow (behind C (p .pc)) k (p .stack) qs) ≡ pick b (k′ (p .pc) (p .stack) qs) (askNow (behind C (p .pc)) k′ (p .stack) qs)
+      go true e =
+          let q : pc < p .pc = ltbTrue pc (p .pc) e in
+          ih (p .pc) (p .stack) qs (omega arith)
+      go false e = askCong (behind C (p .pc)) (p .stack)
+
+stepCong : (lim : ℕ) (C : List ℕ) (k k′ : ℕ → List Frame → List ℕ → Res) (pc : ℕ) (K : List Frame) (qs : List ℕ)
+    → ((pc′ : ℕ) (K′ : List Frame) (qs′ : List ℕ) → measure C pc′ qs′ < measure C pc qs → k pc′ K′ qs′ ≡ k′ pc′ K′ qs′)
+    → (i : Instr) → fetch C pc ≡ i → step lim C k i pc K qs ≡ step lim C k′ i pc K qs
+stepCong lim C k k′ pc K qs ih NONE h = refl
+stepCong lim C k k′ pc K qs ih (LIST n) h =
+    let p : pc < length C = inside C pc (ap isNone h) in
+    ap (pre (plain n ∷ [])) (ih (pc + 2) K qs (omega arith))
+stepCong lim C k k′ pc K qs ih (LEAVE t d) h = forwardCong C k k′ pc qs ih (inside C pc (ap isNone h)) (unwind K t d)
+stepCong lim C k k′ pc K qs ih (ASK n y z) h = askCong C k k′ pc qs ih (ASK n y z) K
+stepCong lim C k k′ pc K [] ih (SELECT n m d) h = refl
+stepCong lim C k k′ pc K (a ∷ qs) ih (SELECT n m d) h = ap (pre (asked n ∷ [])) (ih _ K qs (omega arith))
+stepCong lim C k k′ pc K qs ih (OPEN f) h =
+    let p : pc < length C = inside C pc (ap isNone h) in
+    ap (λ r. pick (ltb (length K) lim) r (res [] 5 qs)) (ih (pc + 2) (open′ f ∷ K) qs (omega arith))
+stepCong lim C k k′ pc K qs ih (END e) h = refl
+stepCong lim C k k′ pc K qs ih (CASE c t d) h = forwardCong C k k′ pc qs ih (inside C pc (ap isNone h)) (unwind K t d)
+
+same : (lim f g : ℕ) (C : List ℕ) (pc : ℕ) (K : List Frame) (qs : List ℕ) → measure C pc qs < f → measure C pc qs < g → runs lim f C pc K qs ≡ runs lim g C pc K qs
+unfolding runs
+same lim zero g C pc K qs p q = absurd (omega arith)
+same lim (suc f) zero C pc K qs p q = absurd (omega arith)
+same lim (suc f) (suc g) C pc K qs p q =
+    stepCong lim C (runs lim f C) (runs lim g C) pc K qs (λ pc′ K′ qs′ h. same lim f g C pc′ K′ qs′ (omega arith) (omega arith)) (fetch C pc) refl
+
+-- The run goes on from step to step.
+pub runStep : (lim : ℕ) (C : List ℕ) (pc : ℕ) (K : List Frame) (qs : List ℕ) → run lim C pc K qs ≡ step lim C (run lim C) (fetch C pc) pc K qs
+unfolding run runs
+runStep lim C pc K qs =
+    stepCong lim C (runs lim (measure C pc qs) C) (run lim C) pc K qs
+      (λ pc′ K′ qs′ h. same lim (measure C pc qs) (suc (measure C pc′ qs′)) C pc′ K′ qs′ h (omega arith))
+      (fetch C pc) refl
+
+-- Any budget above the measure serves.
+pub runEnough : (lim f : ℕ) (C : List ℕ) (pc : ℕ) (K : List Frame) (qs : List ℕ) → measure C pc qs < f → runs lim f C pc K qs ≡ run lim C pc K qs
+unfolding run
+runEnough lim f C pc K qs h = same lim f (suc (measure C pc qs)) C pc K qs h (omega arith)
+
+abbrev pub runPos : ℕ → List ℕ → Pos → List ℕ → Res
+runPos lim C p qs = run lim C (p .pc) (p .stack) qs
+
+unfoldable pub resume : ℕ → List ℕ → Stat → List Frame → List ℕ → Res
+resume lim C (at t d) K qs = runPos lim C (unwind K t d) qs
+resume lim C (ended e) K qs = res [] e qs
