@@ -1,5 +1,10 @@
 pub mod Code
 pub mod Machine
+pub mod Own
 pub mod Steps
 pub mod Size
 pub mod Correct
+pub mod Sum
+pub mod Room
+pub mod Claims
+pub mod Examples

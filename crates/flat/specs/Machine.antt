@@ -6,6 +6,7 @@ use mathlib.Core.List.{List, [], _∷_, _++_}
 use lib.ListN.{length, getD}
 use lib.Dec.{eqb, ltb}
 use Rattle.completion.specs.Sem.{Entry, plain, asked, pick, isYes}
+use Rattle.completion.specs.Route.{Route, routeOf}
 
 -- What a run lists, its end, and the answers that are left.
 pub record Res : Type 0 where
@@ -129,3 +130,7 @@ run lim C pc K qs = runs lim (suc (measure C pc qs)) C pc K qs
 -- The base machine has room for no pending end: an OPEN ends it with 5, and the depth of a LEAVE or CASE says nothing.
 abbrev pub base : List ℕ → ℕ → List ℕ → Res
 base C pc qs = run 0 C pc [] qs
+
+-- The route that the base machine gives for a list of numbers as code: "A run reads the code and the answers, never the tables."
+abbrev pub codeRoute : List ℕ → List ℕ → Route
+codeRoute C qs = routeOf (base C 0 qs .nodes) (base C 0 qs .end)
