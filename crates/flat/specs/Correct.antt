@@ -5,17 +5,16 @@ use mathlib.Core.Bool.{Bool, true, false, not, _||_, _&&_, true≢false}
 use mathlib.Core.List.{List, [], _∷_, _++_, append-assoc, append-nil}
 use lib.ListN.{length, getD, length-append}
 use lib.Dec.{ltb, eqb}
-use borrow.Author.Tests.{eq-eqb}
+use borrow.Author.Tests.{eq-eqb, ltb-true, ltb-false, lt-ltb, le-ltb}
 use mathlib.Core.Logic.{_⊎_, inl, inr}
 use native.Mathlib.Omega.{arith}
 use native.Mathlib.Nat.{add-zero}
-use native.Mathlib.Decide.{decLt}
 use Rattle.completion.specs.Tree.{Lab, near, named, Stmt, Stmts, Cases, Leaf, simple, brk, con, ret, thr, leaf, if1, if2, if3, withs, block, label, loop, switch, tryC, tryF, nil, cons, none, case}
 use Rattle.completion.specs.Sem.{Entry, plain, asked, Out, Comp, normal, breaks, continues, returns, throws, spent, out, more, ask, goOn, andThen, catching, finally, finallyIf, unbreak, turn, turns, rounds, loops, pick, isYes, isNormal, isThrow, isSpent, loopContinues, noBreak, noLabel, exec, execs, execFrom, entry, count, defaultAt, compOf}
 use Rattle.completion.specs.Route.{endOf}
 use Rattle.flat.specs.Code.{Stat, at, ended, placeOf, depthOf, goto, caseTo, next, inTry, inLoop, first, link, through, size, sizes, sizeCases, place, code, codes, codeCases, top, ends, unit, Room, RoomAll, RoomCases}
 use Rattle.flat.specs.Machine.{Res, res, pre, Instr, NONE, LIST, LEAVE, ASK, SELECT, OPEN, END, CASE, Frame, open′, pend, Pos, pos, isZero, unwind, isCase, chase, askNow, behind, forward, endAs, decode, fetch, step, run, base}
-use Rattle.flat.specs.Steps.{runStep, runPos, resume, ltbOf, ltbTrue, ltbNot}
+use Rattle.flat.specs.Steps.{runStep, runPos, resume}
 use Rattle.completion.specs.Rest.{Shrinks, execRest}
 use Rattle.flat.specs.Size.{codeLength, codesLength, codeCasesLength, sizePos}
 
@@ -43,13 +42,6 @@ hasOf C o (x ∷ l) h =
 pub hasSelf : (C : List ℕ) → Has C 0 C
 hasSelf C = hasOf C 0 C (λ i p. ap (λ x. getD C x 0) (omega arith))
 
-notLess : (a b : ℕ) → ltb a b ≡ false → b ≤ a
-notLess a b e = go (decLt a b)
-  where
-    go : Dec (a < b) → b ≤ a
-    go (yes p) = absurd (true≢false (sym (ltbOf a b p) ∙ e))
-    go (no p) = omega arith
-
 isZeroNot : (t : ℕ) → 0 < t → isZero t ≡ false
 isZeroNot zero h = absurd (omega arith)
 isZeroNot (suc t) h = refl
@@ -57,22 +49,22 @@ isZeroNot (suc t) h = refl
 unwindHere : (K : List Frame) (t d : ℕ) → 0 < t → length K ≡ d → unwind K t d ≡ pos t K
 unfolding unwind
 unwindHere [] t d z h = refl
-unwindHere (open′ f ∷ K) t d z h = ap (λ b. pick b (pos t (open′ f ∷ K)) (pos f (pend t d ∷ K))) (ltbOf (length K) d (omega arith))
+unwindHere (open′ f ∷ K) t d z h = ap (λ b. pick b (pos t (open′ f ∷ K)) (pos f (pend t d ∷ K))) (lt-ltb (length K) d (omega arith))
 unwindHere (pend u v ∷ K) t d z h =
-    ap (λ b. pick b (pick (isZero t) (unwind K u v) (pos t (pend u v ∷ K))) (unwind K t d)) (ltbOf (length K) d (omega arith))
+    ap (λ b. pick b (pick (isZero t) (unwind K u v) (pos t (pend u v ∷ K))) (unwind K t d)) (lt-ltb (length K) d (omega arith))
       ∙ ap (λ b. pick b (unwind K u v) (pos t (pend u v ∷ K))) (isZeroNot t z)
 
 unwindBack : (K : List Frame) (u v d : ℕ) → suc (length K) ≡ d → unwind (pend u v ∷ K) 0 d ≡ unwind K u v
 unfolding unwind
-unwindBack K u v d h = ap (λ b. pick b (unwind K u v) (unwind K 0 d)) (ltbOf (length K) d (omega arith))
+unwindBack K u v d h = ap (λ b. pick b (unwind K u v) (unwind K 0 d)) (lt-ltb (length K) d (omega arith))
 
 unwindOpen : (K : List Frame) (f t d : ℕ) → d ≤ length K → unwind (open′ f ∷ K) t d ≡ pos f (pend t d ∷ K)
 unfolding unwind
-unwindOpen K f t d h = ap (λ b. pick b (pos t (open′ f ∷ K)) (pos f (pend t d ∷ K))) (ltbNot (length K) d h)
+unwindOpen K f t d h = ap (λ b. pick b (pos t (open′ f ∷ K)) (pos f (pend t d ∷ K))) (le-ltb (length K) d h)
 
 unwindPend : (K : List Frame) (u v t d : ℕ) → d ≤ length K → unwind (pend u v ∷ K) t d ≡ unwind K t d
 unfolding unwind
-unwindPend K u v t d h = ap (λ b. pick b (pick (isZero t) (unwind K u v) (pos t (pend u v ∷ K))) (unwind K t d)) (ltbNot (length K) d h)
+unwindPend K u v t d h = ap (λ b. pick b (pick (isZero t) (unwind K u v) (pos t (pend u v ∷ K))) (unwind K t d)) (le-ltb (length K) d h)
 
 spentBreak : (c : Comp) → isSpent (noBreak c) ≡ isSpent c
 spentBreak normal = refl
@@ -218,7 +210,7 @@ module _ (lim : ℕ) (C : List ℕ) where
   behindIs (suc t) h = refl
 
   onForward : (o : ℕ) (p : Pos) (qs : List ℕ) → Fwd (suc o) (p .pc) → forward C o (run lim C) p qs ≡ runPos lim C p qs
-  onForward o p qs (inl h) = ap (λ b. pick b (run lim C (p .pc) (p .stack) qs) (askNow (behind C (p .pc)) (run lim C) (p .stack) qs)) (ltbOf o (p .pc) h)
+  onForward o p qs (inl h) = ap (λ b. pick b (run lim C (p .pc) (p .stack) qs) (askNow (behind C (p .pc)) (run lim C) (p .stack) qs)) (lt-ltb o (p .pc) h)
   onForward o p qs (inr (z, h)) = go (ltb o (p .pc))
     where
       go : (b : Bool) → pick b (run lim C (p .pc) (p .stack) qs) (askNow (behind C (p .pc)) (run lim C) (p .stack) qs) ≡ run lim C (p .pc) (p .stack) qs
@@ -233,7 +225,7 @@ module _ (lim : ℕ) (C : List ℕ) where
   onOpen : (o f : ℕ) (l : List ℕ) → Has C o (5 ∷ f ∷ l) → (K : List Frame) → length K < lim → (qs : List ℕ) → run lim C o K qs ≡ run lim C (o + 2) (open′ f ∷ K) qs
   onOpen o f l h K p qs =
       runAt o (OPEN f) (fetches o 5 f _ _ (h .0) (h .1 .0) refl refl) K qs
-        ∙ ap (λ b. pick b (run lim C (o + 2) (open′ f ∷ K) qs) (res [] 5 qs)) (ltbOf (length K) lim p)
+        ∙ ap (λ b. pick b (run lim C (o + 2) (open′ f ∷ K) qs) (res [] 5 qs)) (lt-ltb (length K) lim p)
 
   onEnd : (o e : ℕ) (l : List ℕ) → Has C o (6 ∷ e ∷ l) → (K : List Frame) (qs : List ℕ) → run lim C o K qs ≡ res [] (endAs e) qs
   onEnd o e l h K qs = runAt o (END e) (fetches o 6 e _ _ (h .0) (h .1 .0) refl refl) K qs
@@ -408,10 +400,10 @@ module _ (lim : ℕ) (C : List ℕ) where
   throughLands (case d ss cs) o δ e ρ K z p g = landsHere o δ K o z (g .depth) (inl (omega arith))
 
   caseHere : (p c e : ℕ) (x : ℕ) → p < c → getD C c 0 ≡ 7 → pick (isCase C p c) x e ≡ x
-  caseHere p c e x l h = ap (λ b. pick (b && eqb (getD C c 0) 7) x e) (ltbOf p c l) ∙ ap (λ b. pick b x e) (eq-eqb (getD C c 0) 7 h)
+  caseHere p c e x l h = ap (λ b. pick (b && eqb (getD C c 0) 7) x e) (lt-ltb p c l) ∙ ap (λ b. pick b x e) (eq-eqb (getD C c 0) 7 h)
 
   caseNot : (p c e : ℕ) (x : ℕ) → c ≤ p → pick (isCase C p c) x e ≡ e
-  caseNot p c e x l = ap (λ b. pick (b && eqb (getD C c 0) 7) x e) (ltbNot p c l)
+  caseNot p c e x l = ap (λ b. pick (b && eqb (getD C c 0) 7) x e) (le-ltb p c l)
 
   -- The chain of the cases leads to their places.
   chaseIs : (cs : Cases) (p o δ : ℕ) (ρ : Comp → Stat) → p < o → Has C o (codeCases cs o δ ρ) → (e a : ℕ) → chase C p (link cs o) e a ≡ place cs o e a
@@ -446,8 +438,8 @@ module _ (lim : ℕ) (C : List ℕ) where
   choice cs o e z a h = go (ltb a (count cs)) refl
     where
       go : (b : Bool) → ltb a (count cs) ≡ b → place cs o e a ≡ place cs o z (pick b a (defaultAt cs))
-      go true q = placeIn cs o e z a (ltbTrue a (count cs) q)
-      go false q = placeEnd cs o e a (notLess a (count cs) q) ∙ h
+      go true q = placeIn cs o e z a (ltb-true a (count cs) q)
+      go false q = placeEnd cs o e a (ltb-false a (count cs) q) ∙ h
 
   -- The statements' laws, with those of their parts as premises: S is what the code a of the length k does, which stands at o.
   abbrev Runs : ℕ → ℕ → ℕ → List ℕ → (Comp → Stat) → (List ℕ → Out) → Type 0

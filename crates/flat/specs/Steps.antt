@@ -4,7 +4,8 @@ use mathlib.Core.Path.{_≡_, refl, sym, _∙_, ap, subst}
 use mathlib.Core.Bool.{Bool, true, false, _&&_, true≢false}
 use mathlib.Core.List.{List, [], _∷_, _++_}
 use lib.ListN.{length, getD, List·getD-eq-default}
-use lib.Dec.{eqb, ltb, T, ltb→lt, lt→ltb}
+use lib.Dec.{eqb, ltb}
+use borrow.Author.Tests.{ltb-true}
 use native.Mathlib.Omega.{arith}
 use native.Mathlib.Decide.{decLt}
 use mathlib.Core.Logic.{_≢_, _⊎_, inl, inr}
@@ -16,22 +17,6 @@ use Rattle.flat.specs.Machine.{Res, res, pre, Instr, NONE, LIST, LEAVE, 
 pub past : (C : List ℕ) (pc : ℕ) → length C ≤ pc → fetch C pc ≡ NONE
 unfolding fetch
 past C pc h = ap (λ x. decode x (getD C (suc pc) 0) (getD C (suc (suc pc)) 0) (getD C (suc (suc (suc pc))) 0)) (List·getD-eq-default C 0 h)
-
-pub ltbTrue : (a b : ℕ) → ltb a b ≡ true → a < b
-ltbTrue a b e = ltb→lt a b (subst T (sym e) tt)
-
-pub ltbOf : (a b : ℕ) → a < b → ltb a b ≡ true
-ltbOf a b p = go (ltb a b) (lt→ltb a b p)
-  where
-    go : (x : Bool) → T x → x ≡ true
-    go true t = refl
-
-pub ltbNot : (a b : ℕ) → b ≤ a → ltb a b ≡ false
-ltbNot a b p = go (ltb a b) refl
-  where
-    go : (x : Bool) → ltb a b ≡ x → x ≡ false
-    go true e = let q : a < b = ltbTrue a b e in absurd (omega arith)
-    go false e = refl
 
 abbrev isNone : Instr → Bool
 isNone NONE = true
@@ -72,7 +57,7 @@ module _ (C : List ℕ) (k k′ : ℕ → List Frame → List ℕ → Res) (pc :
       go : (b : Bool) → ltb pc (p .pc) ≡ b
           → pick b (k (p .pc) (p .stack) qs) (askNow (behind C (p .pc)) k (p .stack) qs) ≡ pick b (k′ (p .pc) (p .stack) qs) (askNow (behind C (p .pc)) k′ (p .stack) qs)
       go true e =
-          let q : pc < p .pc = ltbTrue pc (p .pc) e in
+          let q : pc < p .pc = ltb-true pc (p .pc) e in
           ih (p .pc) (p .stack) qs (omega arith)
       go false e = askCong (behind C (p .pc)) (p .stack)
 
@@ -156,7 +141,7 @@ module _ (lim : ℕ) (C : List ℕ) (k : ℕ → List Frame → List ℕ → Res
   stepEnds (END e) pc K qs = go (ltb e 3) refl
     where
       go : (b : Bool) → ltb e 3 ≡ b → Ends (pick b e 5)
-      go true h = let p : e < 3 = ltbTrue e 3 h in inl (omega arith)
+      go true h = let p : e < 3 = ltb-true e 3 h in inl (omega arith)
       go false h = inr refl
   stepEnds (CASE c t d) pc K qs = forwardEnds pc (unwind K t d) qs
 
