@@ -10,7 +10,7 @@ use Rattle.completion.specs.Tree.{Lab, near, named, Stmt, Stmts, Cases, 
 use Rattle.completion.specs.Sem.{Entry, plain, asked, Out, Comp, normal, out, ask, goOn, andThen, unbreak, turn, turns, rounds, loops, pick, isYes, isNormal, isThrow, isSpent, finallyIf, loopContinues, exec, execs, execFrom, entry}
 use Rattle.completion.specs.Route.{asks}
 
-asksAppend : (a b : List Entry) → asks (a ++ b) ≡ asks a + asks b
+pub asksAppend : (a b : List Entry) → asks (a ++ b) ≡ asks a + asks b
 unfolding asks
 asksAppend [] b = omega arith
 asksAppend (plain n ∷ a) b = asksAppend a b
