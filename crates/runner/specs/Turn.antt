@@ -179,8 +179,31 @@ module _ (C qs : List ℕ) (pc i : ℕ) (op : getD C pc 0 ≡ 4) where
           ∙ ap (λ r. step 0 C (run 0 C) (SELECT n c d) pc [] r) (dropped qs i h)
           ∙ ap (λ p. pre (asked n ∷ []) (base C p (drop (i + 1) qs))) (sym ht))
 
--- Control goes from pc to x.
-module _ (C qs : List ℕ) (pc i x : ℕ) (eq : base C pc (drop i qs) ≡ forward C pc (run 0 C) (pos x []) (drop i qs)) where
+-- The chain of cases, as a loop goes along it.
+module _ (C : List ℕ) (p c e a : ℕ) where
+  pub chaseEnd : isCase C p c ≡ false → chase C p c e a ≡ e
+  unfolding chase
+  chaseEnd h = go a
+    where
+      go : (b : ℕ) → chase C p c e b ≡ e
+      go zero = ap (λ t. pick t c e) h
+      go (suc b) = ap (λ t. pick t (chase C c (getD C (suc c) 0) e b) e) h
+
+  pub chaseHere : isCase C p c ≡ true → a ≡ 0 → chase C p c e a ≡ c
+  unfolding chase
+  chaseHere h q = ap (chase C p c e) q ∙ ap (λ t. pick t c e) h
+
+  pub chaseOn : isCase C p c ≡ true → (b : ℕ) → a ≡ suc b → chase C p c e a ≡ chase C c (getD C (c + 1) 0) e b
+  unfolding chase
+  chaseOn h b q =
+      let o : suc c ≡ c + 1 = omega arith in
+      ap (chase C p c e) q ∙ ap (λ t. pick t (chase C c (getD C (suc c) 0) e b) e) h ∙ ap (λ k. chase C c (getD C k 0) e b) o
+
+-- Control goes from pc to y, which is x.
+module _ (C qs : List ℕ) (pc i x y : ℕ) (hx : x ≡ y) (to : base C pc (drop i qs) ≡ forward C pc (run 0 C) (pos y []) (drop i qs)) where
+  eq : base C pc (drop i qs) ≡ forward C pc (run 0 C) (pos x []) (drop i qs)
+  eq = to ∙ ap (λ t. forward C pc (run 0 C) (pos t []) (drop i qs)) (sym hx)
+
   pub lOn : (e n : ℕ) → pc < x → pc < length C → Turned C qs pc i true e false n x i
   unfolding asks
   lOn e n h l =
