@@ -1,4 +1,4 @@
--- The run of the code is what the statement does, for every tree whose finally blocks find room.
+-- The forward machine's run of the code is what the statement does, for every tree whose finally blocks find room.
 use Prim.Native.Nat.{ℕ, zero, suc, _+_, _≤_, _<_}
 use mathlib.Core.Path.{_≡_, refl, sym, _∙_, ap, subst}
 use mathlib.Core.Bool.{Bool, true, false, not, _||_, _&&_, true≢false}
@@ -13,7 +13,8 @@ use Rattle.completion.specs.Tree.{Lab, near, named, Stmt, Stmts, Cases, Leaf, s
 use Rattle.completion.specs.Sem.{Entry, plain, asked, Out, Comp, normal, breaks, continues, returns, throws, spent, out, more, ask, goOn, andThen, catching, finally, finallyIf, unbreak, turn, turns, rounds, loops, pick, isYes, isNormal, isThrow, isSpent, loopContinues, noBreak, noLabel, exec, execs, execFrom, entry, count, defaultAt, compOf}
 use Rattle.completion.specs.Route.{endOf}
 use Rattle.flat.specs.Code.{Stat, at, ended, placeOf, depthOf, goto, caseTo, next, inTry, inLoop, first, link, through, size, sizes, sizeCases, place, code, codes, codeCases, top, ends, unit, Room, RoomAll, RoomCases}
-use Rattle.flat.specs.Machine.{Res, res, pre, Instr, NONE, LIST, LEAVE, ASK, SELECT, OPEN, END, CASE, Frame, open′, pend, Pos, pos, isZero, unwind, isCase, chase, askNow, behind, forward, endAs, decode, fetch, step, run, base}
+use Rattle.flat.specs.Machine.{Res, res, pre, Instr, NONE, LIST, LEAVE, ASK, SELECT, OPEN, END, CASE, Frame, open′, pend, Pos, pos, isZero, unwind, isCase, chase, endAs, decode, fetch}
+use Rattle.flat.specs.Forward.{askNow, behind, forward, step, run}
 use Rattle.flat.specs.Steps.{runStep, runPos, resume}
 use Rattle.completion.specs.Rest.{Shrinks, execRest}
 use Rattle.flat.specs.Size.{codeLength, codesLength, codeCasesLength, sizePos}

@@ -37,7 +37,8 @@ pub turned : codeRoute (unit (one (if3 2 (leaf 3 simple) (leaf 4 simple)))) (1 �
 unfolding run runs fetch unwind chase unit code size place asks
 turned = refl
 
--- No code, no instruction, and a jump back to none: 5. An OPEN finds no room in the base machine.
+-- No code, no instruction, and a jump to what is pending where nothing is: 5. A ring ends once more instructions have passed than the code has
+-- numbers. An OPEN finds no room in the base machine.
 pub empty : codeRoute [] (1 ∷ []) ≡ gives [] 5 0
 unfolding run runs fetch asks
 empty = refl
@@ -46,7 +47,11 @@ pub zeros : codeRoute (0 ∷ 0 ∷ 0 ∷ []) (1 ∷ []) ≡ gives [] 5 0
 unfolding run runs fetch asks
 zeros = refl
 
-pub ring : codeRoute (1 ∷ 8 ∷ 2 ∷ 0 ∷ 0 ∷ []) (1 ∷ []) ≡ gives (8 ∷ []) 5 0
+pub below : codeRoute (1 ∷ 8 ∷ 2 ∷ 0 ∷ 0 ∷ []) (1 ∷ []) ≡ gives (8 ∷ []) 5 0
+unfolding run runs fetch unwind asks
+below = refl
+
+pub ring : codeRoute (1 ∷ 8 ∷ 1 ∷ 9 ∷ 2 ∷ 2 ∷ 0 ∷ []) (1 ∷ []) ≡ gives (8 ∷ 9 ∷ 9 ∷ 9 ∷ []) 5 0
 unfolding run runs fetch unwind asks
 ring = refl
 

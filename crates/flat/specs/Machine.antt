@@ -1,5 +1,6 @@
 -- The machine: the run of a flat code over a list of answers. It is defined for every list of numbers as code, and ends with 0, 1, 2 or 3, or with
--- 5 at what the code of a unit never comes to. Control goes forward, or back to an ASK, which takes an answer.
+-- 5 at what the code of a unit never comes to: no instruction, an END that says no such number, more instructions without an answer than the code
+-- has numbers, or pending ends that run below none or above their room.
 use Prim.Native.Nat.{ℕ, zero, suc, _+_, _*_, _-_}
 use mathlib.Core.Bool.{Bool, true, false, _&&_}
 use mathlib.Core.List.{List, [], _∷_, _++_}
@@ -78,59 +79,53 @@ unfoldable pub chase : List ℕ → ℕ → ℕ → ℕ → ℕ → ℕ
 chase C p c e zero = pick (isCase C p c) c e
 chase C p c e (suc a) = pick (isCase C p c) (chase C c (getD C (suc c) 0) e a) e
 
--- An ASK is taken; anything else ends the run with 5.
-abbrev pub askNow : Instr → (ℕ → List Frame → List ℕ → Res) → List Frame → List ℕ → Res
-askNow NONE k K qs = res [] 5 qs
-askNow (LIST n) k K qs = res [] 5 qs
-askNow (LEAVE t d) k K qs = res [] 5 qs
-askNow (ASK n y z) k K [] = res [] 3 []
-askNow (ASK n y z) k K (a ∷ qs) = pre (asked n ∷ []) (k (pick (isYes a) y z) K qs)
-askNow (SELECT n c e) k K qs = res [] 5 qs
-askNow (OPEN f) k K qs = res [] 5 qs
-askNow (END e) k K qs = res [] 5 qs
-askNow (CASE c t d) k K qs = res [] 5 qs
-
--- What stands at a place to go back to. The place 0, for what is pending where nothing is, is none.
-abbrev pub behind : List ℕ → ℕ → Instr
-behind C t = pick (isZero t) NONE (fetch C t)
-
--- Control goes forward, or back to an ASK, which is then taken.
-abbrev pub forward : List ℕ → ℕ → (ℕ → List Frame → List ℕ → Res) → Pos → List ℕ → Res
-forward C pc k p qs = pick (ltb pc (p .pc)) (k (p .pc) (p .stack) qs) (askNow (behind C (p .pc)) k (p .stack) qs)
-
 -- An END can say 0, 1 and 2.
 abbrev pub endAs : ℕ → ℕ
 endAs e = pick (ltb e 3) e 5
 
--- One instruction; k goes on. At most lim ends are pending.
-abbrev pub step : ℕ → List ℕ → (ℕ → List Frame → List ℕ → Res) → Instr → ℕ → List Frame → List ℕ → Res
-step lim C k NONE pc K qs = res [] 5 qs
-step lim C k (LIST n) pc K qs = pre (plain n ∷ []) (k (pc + 2) K qs)
-step lim C k (LEAVE t d) pc K qs = forward C pc k (unwind K t d) qs
-step lim C k (ASK n y z) pc K qs = askNow (ASK n y z) k K qs
-step lim C k (SELECT n c e) pc K [] = res [] 3 []
-step lim C k (SELECT n c e) pc K (a ∷ qs) = pre (asked n ∷ []) (k (chase C pc c e a) K qs)
-step lim C k (OPEN f) pc K qs = pick (ltb (length K) lim) (k (pc + 2) (open′ f ∷ K) qs) (res [] 5 qs)
-step lim C k (END e) pc K qs = res [] (endAs e) qs
-step lim C k (CASE c t d) pc K qs = forward C pc k (unwind K t d) qs
+-- One more instruction passes without an answer, if one of b is left.
+abbrev pub pass : ℕ → (ℕ → Res) → List ℕ → Res
+pass zero k qs = res [] 5 qs
+pass (suc b) k qs = k b
 
--- The second number bounds the steps.
-unfoldable pub runs : ℕ → ℕ → List ℕ → ℕ → List Frame → List ℕ → Res
-runs lim zero C pc K qs = res [] 5 qs
-runs lim (suc f) C pc K qs = step lim C (runs lim f C) (fetch C pc) pc K qs
+-- Control goes on at p. The place 0 is what is pending where nothing is.
+abbrev pub jump : (ℕ → ℕ → List Frame → List ℕ → Res) → ℕ → Pos → List ℕ → Res
+jump k b p qs = pick (isZero (p .pc)) (res [] 5 qs) (pass b (λ r. k r (p .pc) (p .stack) qs) qs)
 
--- What is left of a run at most, in steps: the bound is never met (Steps.runStep, Steps.runEnough).
+-- One instruction; k goes on. At most lim ends are pending, and b instructions more may pass before the next answer.
+abbrev pub step : ℕ → List ℕ → (ℕ → ℕ → List Frame → List ℕ → Res) → Instr → ℕ → ℕ → List Frame → List ℕ → Res
+step lim C k NONE b pc K qs = res [] 5 qs
+step lim C k (LIST n) b pc K qs = pass b (λ r. pre (plain n ∷ []) (k r (pc + 2) K qs)) qs
+step lim C k (LEAVE t d) b pc K qs = jump k b (unwind K t d) qs
+step lim C k (ASK n y z) b pc K [] = res [] 3 []
+step lim C k (ASK n y z) b pc K (a ∷ qs) = pre (asked n ∷ []) (k (length C) (pick (isYes a) y z) K qs)
+step lim C k (SELECT n c e) b pc K [] = res [] 3 []
+step lim C k (SELECT n c e) b pc K (a ∷ qs) = pre (asked n ∷ []) (k (length C) (chase C pc c e a) K qs)
+step lim C k (OPEN f) b pc K qs = pick (ltb (length K) lim) (pass b (λ r. k r (pc + 2) (open′ f ∷ K) qs) qs) (res [] 5 qs)
+step lim C k (END e) b pc K qs = res [] (endAs e) qs
+step lim C k (CASE c t d) b pc K qs = jump k b (unwind K t d) qs
+
+-- The second number bounds the steps. It is never met (Runs.runStep).
+unfoldable pub runs : ℕ → ℕ → List ℕ → ℕ → ℕ → List Frame → List ℕ → Res
+runs lim zero C b pc K qs = res [] 5 qs
+runs lim (suc f) C b pc K qs = step lim C (runs lim f C) (fetch C pc) b pc K qs
+
+-- What is left of a run at most, in steps.
 abbrev pub measure : List ℕ → ℕ → List ℕ → ℕ
-measure C pc qs = length qs * suc (length C) + (length C - pc)
+measure C b qs = length qs * suc (length C) + b
 
--- The run from pc on, with room for lim pending ends, K of them pending.
-unfoldable pub run : ℕ → List ℕ → ℕ → List Frame → List ℕ → Res
-run lim C pc K qs = runs lim (suc (measure C pc qs)) C pc K qs
+-- The run from pc on, with room for lim pending ends, K of them pending, and for b instructions before the next answer.
+unfoldable pub run : ℕ → List ℕ → ℕ → ℕ → List Frame → List ℕ → Res
+run lim C b pc K qs = runs lim (suc (measure C b qs)) C b pc K qs
 
 -- The base machine has room for no pending end: an OPEN ends it with 5, and the depth of a LEAVE or CASE says nothing.
-abbrev pub base : List ℕ → ℕ → List ℕ → Res
-base C pc qs = run 0 C pc [] qs
+abbrev pub base : List ℕ → ℕ → ℕ → List ℕ → Res
+base C b pc qs = run 0 C b pc [] qs
+
+-- The whole run of a code.
+abbrev pub started : List ℕ → List ℕ → Res
+started C qs = base C (length C) 0 qs
 
 -- The route that the base machine gives for a list of numbers as code: "A run reads the code and the answers, never the tables."
 abbrev pub codeRoute : List ℕ → List ℕ → Route
-codeRoute C qs = routeOf (base C 0 qs .nodes) (base C 0 qs .end)
+codeRoute C qs = routeOf (started C qs .nodes) (started C qs .end)

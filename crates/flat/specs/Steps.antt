@@ -1,4 +1,4 @@
--- The machine's laws: it goes from step to step, for every list of numbers as code, and its bound on the steps is never met.
+-- The forward machine goes from step to step, for every list of numbers as code: its bound on the steps is never met.
 use Prim.Native.Nat.{ℕ, zero, suc, _+_, _*_, _-_, _≤_, _<_}
 use mathlib.Core.Path.{_≡_, refl, sym, _∙_, ap, subst}
 use mathlib.Core.Bool.{Bool, true, false, _&&_, true≢false}
@@ -11,14 +11,15 @@ use native.Mathlib.Decide.{decLt}
 use mathlib.Core.Logic.{_≢_, _⊎_, inl, inr}
 use Rattle.completion.specs.Sem.{Entry, plain, asked, pick, isYes}
 use Rattle.flat.specs.Code.{Stat, at, ended}
-use Rattle.flat.specs.Machine.{Res, res, pre, Instr, NONE, LIST, LEAVE, ASK, SELECT, OPEN, END, CASE, decode, fetch, Frame, open′, pend, Pos, pos, unwind, isCase, chase, askNow, behind, forward, endAs, step, runs, measure, run}
+use Rattle.flat.specs.Machine.{Res, res, pre, Instr, NONE, LIST, LEAVE, ASK, SELECT, OPEN, END, CASE, decode, fetch, Frame, open′, pend, Pos, pos, unwind, isCase, chase, endAs}
+use Rattle.flat.specs.Forward.{askNow, behind, forward, step, runs, measure, run}
 
 -- Past the code stands no instruction.
 pub past : (C : List ℕ) (pc : ℕ) → length C ≤ pc → fetch C pc ≡ NONE
 unfolding fetch
 past C pc h = ap (λ x. decode x (getD C (suc pc) 0) (getD C (suc (suc pc)) 0) (getD C (suc (suc (suc pc))) 0)) (List·getD-eq-default C 0 h)
 
-abbrev isNone : Instr → Bool
+abbrev pub isNone : Instr → Bool
 isNone NONE = true
 isNone (LIST n) = false
 isNone (LEAVE t d) = false
@@ -28,7 +29,7 @@ isNone (OPEN f) = false
 isNone (END e) = false
 isNone (CASE c t d) = false
 
-inside : (C : List ℕ) (pc : ℕ) → isNone (fetch C pc) ≡ false → pc < length C
+pub inside : (C : List ℕ) (pc : ℕ) → isNone (fetch C pc) ≡ false → pc < length C
 inside C pc h = go (decLt pc (length C))
   where
     go : Dec (pc < length C) → pc < length C
@@ -93,63 +94,9 @@ runStep lim C pc K qs =
       (λ pc′ K′ qs′ h. same lim (measure C pc qs) (suc (measure C pc′ qs′)) C pc′ K′ qs′ h (omega arith))
       (fetch C pc) refl
 
--- Any budget above the measure serves.
-pub runEnough : (lim f : ℕ) (C : List ℕ) (pc : ℕ) (K : List Frame) (qs : List ℕ) → measure C pc qs < f → runs lim f C pc K qs ≡ run lim C pc K qs
-unfolding run
-runEnough lim f C pc K qs h = same lim f (suc (measure C pc qs)) C pc K qs h (omega arith)
-
 abbrev pub runPos : ℕ → List ℕ → Pos → List ℕ → Res
 runPos lim C p qs = run lim C (p .pc) (p .stack) qs
 
 unfoldable pub resume : ℕ → List ℕ → Stat → List Frame → List ℕ → Res
 resume lim C (at t d) K qs = runPos lim C (unwind K t d) qs
 resume lim C (ended e) K qs = res [] e qs
-
--- Every run ends with 0, 1, 2, 3 or 5.
-abbrev pub Ends : ℕ → Type 0
-Ends e = (e ≤ 3) ⊎ (e ≡ 5)
-
-module _ (lim : ℕ) (C : List ℕ) (k : ℕ → List Frame → List ℕ → Res) (ih : (pc : ℕ) (K : List Frame) (qs : List ℕ) → Ends (k pc K qs .end)) where
-  askEnds : (i : Instr) (K : List Frame) (qs : List ℕ) → Ends (askNow i k K qs .end)
-  askEnds NONE K qs = inr refl
-  askEnds (LIST n) K qs = inr refl
-  askEnds (LEAVE t d) K qs = inr refl
-  askEnds (ASK n y z) K [] = inl (omega arith)
-  askEnds (ASK n y z) K (a ∷ qs) = ih (pick (isYes a) y z) K qs
-  askEnds (SELECT n c e) K qs = inr refl
-  askEnds (OPEN f) K qs = inr refl
-  askEnds (END e) K qs = inr refl
-  askEnds (CASE c t d) K qs = inr refl
-
-  pickEnds : (b : Bool) (r r′ : Res) → Ends (r .end) → Ends (r′ .end) → Ends (pick b r r′ .end)
-  pickEnds true r r′ p q = p
-  pickEnds false r r′ p q = q
-
-  forwardEnds : (pc : ℕ) (p : Pos) (qs : List ℕ) → Ends (forward C pc k p qs .end)
-  forwardEnds pc p qs =
-      pickEnds (ltb pc (p .pc)) (k (p .pc) (p .stack) qs) (askNow (behind C (p .pc)) k (p .stack) qs) (ih (p .pc) (p .stack) qs)
-        (askEnds (behind C (p .pc)) (p .stack) qs)
-
-  stepEnds : (i : Instr) (pc : ℕ) (K : List Frame) (qs : List ℕ) → Ends (step lim C k i pc K qs .end)
-  stepEnds NONE pc K qs = inr refl
-  stepEnds (LIST n) pc K qs = ih (pc + 2) K qs
-  stepEnds (LEAVE t d) pc K qs = forwardEnds pc (unwind K t d) qs
-  stepEnds (ASK n y z) pc K qs = askEnds (ASK n y z) K qs
-  stepEnds (SELECT n c e) pc K [] = inl (omega arith)
-  stepEnds (SELECT n c e) pc K (a ∷ qs) = ih (chase C pc c e a) K qs
-  stepEnds (OPEN f) pc K qs = pickEnds (ltb (length K) lim) (k (pc + 2) (open′ f ∷ K) qs) (res [] 5 qs) (ih (pc + 2) (open′ f ∷ K) qs) (inr refl)
-  stepEnds (END e) pc K qs = go (ltb e 3) refl
-    where
-      go : (b : Bool) → ltb e 3 ≡ b → Ends (pick b e 5)
-      go true h = let p : e < 3 = ltb-true e 3 h in inl (omega arith)
-      go false h = inr refl
-  stepEnds (CASE c t d) pc K qs = forwardEnds pc (unwind K t d) qs
-
-runsEnds : (lim f : ℕ) (C : List ℕ) (pc : ℕ) (K : List Frame) (qs : List ℕ) → Ends (runs lim f C pc K qs .end)
-unfolding runs
-runsEnds lim zero C pc K qs = inr refl
-runsEnds lim (suc f) C pc K qs = stepEnds lim C (runs lim f C) (λ pc′ K′ qs′. runsEnds lim f C pc′ K′ qs′) (fetch C pc) pc K qs
-
-pub runEnds : (lim : ℕ) (C : List ℕ) (pc : ℕ) (K : List Frame) (qs : List ℕ) → Ends (run lim C pc K qs .end)
-unfolding run
-runEnds lim C pc K qs = runsEnds lim (suc (measure C pc qs)) C pc K qs
