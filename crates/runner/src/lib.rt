@@ -1,14 +1,11 @@
 // The base machine: it runs a unit's code, or any other list of numbers, over a list of answers.
 // What it lists goes to a slice that the caller lends, as far as that goes; with an empty slice it only counts.
 ghost use mathlib.Core.Path.{_≡_};
-ghost use mathlib.Core.Bool.{false};
-ghost use mathlib.Core.List.{[]};
-ghost use Prim.Native.Nat.{ℕ, _+_, _<_, _≤_};
+ghost use mathlib.Core.List.{List, []};
+ghost use Prim.Native.Nat.{ℕ, _+_, _<_};
 ghost use lib.ListN.{getD, drop, length, set};
-ghost use Rattle.completion.specs.Sem.{pick};
-ghost use Rattle.flat.specs.Machine.{pos, isCase, chase, askNow, fetch, forward, endAs, base, codeRoute};
-ghost use Rattle.flat.specs.Machine.{run as runFrom};
-ghost use Rattle.runner.specs.Ran.{saturated, laid, next};
+ghost use Rattle.flat.specs.Machine.{pos, isCase, chase, endAs, jump, base, codeRoute, run as runs};
+ghost use Rattle.runner.specs.Ran.{saturated, next, laid};
 ghost use Rattle.runner.specs.Turn.{Turned};
 
 // What a run comes to: its end, how many nodes it lists, and how many answers it takes.
@@ -18,15 +15,18 @@ pub struct Ran {
     pub taken: u64,
 }
 
-// What an instruction comes to. on: the run goes on at pc, with the answers from at, and lists the node where lists says so;
-// else it has ended with end.
-struct Step {
-    on: bool,
-    end: u32,
-    lists: bool,
-    node: u32,
+// Where a run stands: at pc, with the answers from at, and room for so many instructions before the next answer.
+struct Place {
     pc: usize,
     at: usize,
+    room: usize,
+}
+
+// What an instruction comes to: the run is over, or goes on, with a node listed or not.
+enum Step {
+    Over(u32),
+    On(Place),
+    Listed(u32, Place),
 }
 
 fn wide(x: u32) -> usize
@@ -82,71 +82,85 @@ fn end_as(e: u32) -> u32
     5
 }
 
-// The ASK at t is taken, on the way from any pc.
-fn asked(code: &[u32], answers: &[u32], t: usize, i: usize) -> Step
-    requires { ⌜ t < length (now code) ⌝ }
-    requires { ⌜ getD (now code) t 0 ≡ 3 ⌝ }
-    ensures { λ r. ⌜ ((pc : ℕ) → base (now (code .entry)) pc (drop i (now (answers .entry))) ≡ askNow (fetch (now (code .entry)) t) (runFrom 0 (now (code .entry))) [] (drop i (now (answers .entry))) → Turned (now (code .entry)) (now (answers .entry)) pc i (r .on) (r .end) (r .lists) (r .node) (r .pc) (r .at)) ⌝ }
+// Control goes to x.
+fn left(p: Place, x: u32) -> Step
+    ensures { λ r. ⌜ ((C qs : List ℕ) → base C (p .room) (p .pc) (drop (p .at) qs) ≡ jump (runs 0 C) (p .room) (pos x []) (drop (p .at) qs) → Turned C qs p r) ⌝ }
 {
-    if i < answers.len() {
-        let n = word(code, t + 1);
-        if answers[i] == 0 {
-            let z = word(code, t + 3);
-            return Step { on: true, end: 0, lists: true, node: n, pc: wide(z), at: i + 1 };
-        }
-        let y = word(code, t + 2);
-        return Step { on: true, end: 0, lists: true, node: n, pc: wide(y), at: i + 1 };
+    if x == 0 {
+        return Step::Over(5);
     }
-    Step { on: false, end: 3, lists: false, node: 0, pc: t, at: i }
+    if p.room == 0 {
+        return Step::Over(5);
+    }
+    Step::On(Place { pc: wide(x), at: p.at, room: p.room - 1 })
+}
+
+// The ASK at pc is taken.
+fn asked(code: &[u32], answers: &[u32], p: Place) -> Step
+    requires { ⌜ p .pc < length (now code) ⌝ }
+    requires { ⌜ getD (now code) (p .pc) 0 ≡ 3 ⌝ }
+    ensures { λ r. ⌜ Turned (now (code .entry)) (now (answers .entry)) p r ⌝ }
+{
+    let at = p.at;
+    if at < answers.len() {
+        let n = word(code, p.pc + 1);
+        if answers[at] == 0 {
+            let z = word(code, p.pc + 3);
+            return Step::Listed(n, Place { pc: wide(z), at: at + 1, room: code.len() });
+        }
+        let y = word(code, p.pc + 2);
+        return Step::Listed(n, Place { pc: wide(y), at: at + 1, room: code.len() });
+    }
+    Step::Over(3)
 }
 
 // The SELECT at pc is taken.
-fn selected(code: &[u32], answers: &[u32], pc: usize, i: usize) -> Step
-    requires { ⌜ pc < length (now code) ⌝ }
-    requires { ⌜ getD (now code) pc 0 ≡ 4 ⌝ }
-    ensures { λ r. ⌜ Turned (now (code .entry)) (now (answers .entry)) pc i (r .on) (r .end) (r .lists) (r .node) (r .pc) (r .at) ⌝ }
+fn selected(code: &[u32], answers: &[u32], p: Place) -> Step
+    requires { ⌜ p .pc < length (now code) ⌝ }
+    requires { ⌜ getD (now code) (p .pc) 0 ≡ 4 ⌝ }
+    ensures { λ r. ⌜ Turned (now (code .entry)) (now (answers .entry)) p r ⌝ }
 {
-    if i < answers.len() {
-        let n = word(code, pc + 1);
-        let c = word(code, pc + 2);
-        let e = word(code, pc + 3);
-        let t = chased(code, pc, c, e, answers[i]);
-        return Step { on: true, end: 0, lists: true, node: n, pc: wide(t), at: i + 1 };
+    let at = p.at;
+    if at < answers.len() {
+        let n = word(code, p.pc + 1);
+        let c = word(code, p.pc + 2);
+        let e = word(code, p.pc + 3);
+        let t = chased(code, p.pc, c, e, answers[at]);
+        return Step::Listed(n, Place { pc: wide(t), at: at + 1, room: code.len() });
     }
-    Step { on: false, end: 3, lists: false, node: 0, pc: pc, at: i }
+    Step::Over(3)
 }
 
-// Control goes from pc to x: forward, or back to an ASK, which is then taken.
-fn left(code: &[u32], answers: &[u32], pc: usize, x: u32, i: usize) -> Step
-    requires { ⌜ pc < length (now code) ⌝ }
-    ensures { λ r. ⌜ (base (now (code .entry)) pc (drop i (now (answers .entry))) ≡ forward (now (code .entry)) pc (runFrom 0 (now (code .entry))) (pos x []) (drop i (now (answers .entry))) → Turned (now (code .entry)) (now (answers .entry)) pc i (r .on) (r .end) (r .lists) (r .node) (r .pc) (r .at)) ⌝ }
+// The LIST at pc lists n.
+fn listed(code: &[u32], p: Place, n: u32) -> Step
+    requires { ⌜ p .pc < length (now code) ⌝ }
+    requires { ⌜ getD (now code) (p .pc) 0 ≡ 1 ⌝ }
+    requires { ⌜ n ≡ getD (now code) (p .pc + 1) 0 ⌝ }
+    ensures { λ r. ⌜ ((qs : List ℕ) → Turned (now (code .entry)) qs p r) ⌝ }
 {
-    let t = wide(x);
-    if pc < t {
-        return Step { on: true, end: 0, lists: false, node: 0, pc: t, at: i };
+    if p.room == 0 {
+        return Step::Over(5);
     }
-    if 0 < t {
-        if word(code, t) == 3 {
-            return asked(code, answers, t, i);
-        }
-    }
-    Step { on: false, end: 5, lists: false, node: 0, pc: pc, at: i }
+    Step::Listed(n, Place { pc: p.pc + 2, at: p.at, room: p.room - 1 })
 }
 
-// One instruction.
-fn turn(code: &[u32], answers: &[u32], pc: usize, i: usize) -> Step
-    requires { ⌜ pc < length (now code) ⌝ }
-    ensures { λ r. ⌜ Turned (now (code .entry)) (now (answers .entry)) pc i (r .on) (r .end) (r .lists) (r .node) (r .pc) (r .at) ⌝ }
+// One instruction. An OPEN, and what is no instruction, ends the run.
+fn turn(code: &[u32], answers: &[u32], p: Place) -> Step
+    ensures { λ r. ⌜ Turned (now (code .entry)) (now (answers .entry)) p r ⌝ }
 {
+    let pc = p.pc;
+    if code.len() <= pc {
+        return Step::Over(5);
+    }
     let x = word(code, pc + 1);
     match word(code, pc) {
-        1 => Step { on: true, end: 0, lists: true, node: x, pc: pc + 2, at: i },
-        2 => left(code, answers, pc, x, i),
-        3 => asked(code, answers, pc, i),
-        4 => selected(code, answers, pc, i),
-        6 => Step { on: false, end: end_as(x), lists: false, node: 0, pc: pc, at: i },
-        7 => left(code, answers, pc, word(code, pc + 2), i),
-        _ => Step { on: false, end: 5, lists: false, node: 0, pc: pc, at: i },
+        1 => listed(code, p, x),
+        2 => left(p, x),
+        3 => asked(code, answers, p),
+        4 => selected(code, answers, p),
+        6 => Step::Over(end_as(x)),
+        7 => left(p, word(code, pc + 2)),
+        _ => Step::Over(5),
     }
 }
 
@@ -169,18 +183,6 @@ fn store(out: &mut [u32], k: u64, node: u32)
     }
 }
 
-// Where lists says so, the node becomes entry k. Gives how many entries there are then.
-fn list(out: &mut [u32], k: u64, lists: bool, node: u32) -> u64
-    ensures { λ r. ⌜ r ≡ pick lists (next k) k ⌝ }
-    ensures { λ _. ⌜ now (out .exit) ≡ pick lists (set (now (out .entry)) k node) (now (out .entry)) ⌝ }
-{
-    if !lists {
-        return k;
-    }
-    store(out, k, node);
-    next(k)
-}
-
 // Runs the code. The node of entry k goes to out[k] where out goes that far; the count of the entries saturates.
 pub fn run(code: &[u32], answers: &[u32], out: &mut [u32]) -> Ran
     ensures end { λ r. ⌜ r .end ≡ codeRoute (now (code .entry)) (now (answers .entry)) .end ⌝ }
@@ -188,17 +190,22 @@ pub fn run(code: &[u32], answers: &[u32], out: &mut [u32]) -> Ran
     ensures taken { λ r. ⌜ r .taken ≡ codeRoute (now (code .entry)) (now (answers .entry)) .taken ⌝ }
     ensures list { λ _. ⌜ now (out .exit) ≡ laid (codeRoute (now (code .entry)) (now (answers .entry)) .list) (now (out .entry)) ⌝ }
 {
-    let mut pc = 0;
-    let mut at = 0;
+    let mut p = Place { pc: 0, at: 0, room: code.len() };
     let mut entries = 0;
-    while pc < code.len() {
-        let s = turn(code, answers, pc, at);
-        if !s.on {
-            return Ran { end: s.end, entries: entries, taken: at as u64 };
+    loop {
+        let s = turn(code, answers, p);
+        match s {
+            Step::Over(end) => {
+                return Ran { end: end, entries: entries, taken: p.at as u64 };
+            }
+            Step::On(q) => {
+                p = q;
+            }
+            Step::Listed(n, q) => {
+                store(out, entries, n);
+                entries = next(entries);
+                p = q;
+            }
         }
-        entries = list(out, entries, s.lists, s.node);
-        pc = s.pc;
-        at = s.at;
     }
-    Ran { end: 5, entries: entries, taken: at as u64 }
 }
