@@ -3,7 +3,7 @@ use Prim.Native.Nat.{ℕ}
 use mathlib.Core.Path.{_≡_, refl}
 use mathlib.Core.Bool.{true, false}
 use mathlib.Core.List.{List, [], _∷_}
-use Rattle.completion.specs.Tree.{near, named, Stmt, Stmts, simple, brk, con, ret, thr, leaf, if1, if2, if3, withs, block, label, loop, switch, tryC, tryF, nil, cons, none, case}
+use Rattle.completion.specs.Tree.{near, named, Stmt, Stmts, simple, brk, con, ret, thr, leaf, if1, if2, if3, block, label, loop, switch, tryF, nil, cons, none, case}
 use Rattle.completion.specs.Sem.{exec, turns, rounds}
 use Rattle.completion.specs.Route.{Route, asks, route}
 
@@ -37,7 +37,7 @@ row3 = refl
 abbrev pub mixed : Stmts
 mixed =
     two (loop 1 false true (block (two (switch 2 (case false (one (leaf 3 (brk near))) (case true (one (leaf 4 simple)) none))) (leaf 5 simple))))
-      (label 9 (loop 6 true false (if3 7 (leaf 8 simple) (leaf 9 (brk (named 9))))))
+    (label 9 (loop 6 true false (if3 7 (leaf 8 simple) (leaf 9 (brk (named 9))))))
 
 pub mixed1 : route mixed (0 ∷ 1 ∷ 8 ∷ 0 ∷ 0 ∷ 0 ∷ 0 ∷ 1 ∷ 4 ∷ []) ≡ gives (2 ∷ 3 ∷ 5 ∷ 1 ∷ 2 ∷ 4 ∷ 5 ∷ 1 ∷ 6 ∷ 7 ∷ 8 ∷ 6 ∷ 7 ∷ 9 ∷ []) 0 8
 unfolding exec turns rounds asks

@@ -1,11 +1,11 @@
 -- The loop's law: the bound on the turns is never met.
-use Prim.Native.Nat.{ℕ, zero, suc, _+_, _≤_, _<_}
-use mathlib.Core.Path.{_≡_, refl, sym, _∙_, ap}
+use Prim.Native.Nat.{ℕ, zero, suc, _≤_, _<_}
+use mathlib.Core.Path.{_≡_, refl, ap}
 use mathlib.Core.Bool.{Bool, true, false, not, _||_}
-use mathlib.Core.List.{List, [], _∷_, _++_}
+use mathlib.Core.List.{List, [], _∷_}
 use lib.ListN.{length}
 use native.Mathlib.Omega.{arith}
-use Rattle.completion.specs.Sem.{Out, out, more, asked, Comp, ask, goOn, turn, turns, rounds, isYes, loopContinues}
+use Rattle.completion.specs.Sem.{Out, more, asked, ask, goOn, turn, turns, rounds, isYes, loopContinues}
 use Rattle.completion.specs.Rest.{Shrinks}
 
 askCong : (n : ℕ) (qs : List ℕ) (k k′ : ℕ → List ℕ → Out) → ((a : ℕ) (r : List ℕ) → length r < length qs → k a r ≡ k′ a r) → ask n qs k ≡ ask n qs k′
@@ -30,8 +30,8 @@ module _ (n : ℕ) (test : Bool) (ls : List ℕ) (body : List ℕ → Out) (less
   turnsSame (suc f) zero (a ∷ qs) p q = absurd (omega arith)
   turnsSame (suc f) (suc g) qs p q =
       askCong n qs (λ a r. turn ls (isYes a || not test) (body r) (turns n test ls body f) r) (λ a r. turn ls (isYes a || not test) (body r) (turns n test ls body g) r)
-        (λ a r h. turnCong ls (isYes a || not test) (body r) (turns n test ls body f) (turns n test ls body g) r
-          (turnsSame f g (body r .rest) (omega (arith, less r)) (omega (arith, less r))))
+      (λ a r h. turnCong ls (isYes a || not test) (body r) (turns n test ls body f) (turns n test ls body g) r
+      (turnsSame f g (body r .rest) (omega (arith, less r)) (omega (arith, less r))))
 
   -- A loop takes an answer and, unless that says no, runs its body and goes on with itself.
   pub roundsLaw : (qs : List ℕ)
@@ -40,5 +40,5 @@ module _ (n : ℕ) (test : Bool) (ls : List ℕ) (body : List ℕ → Out) (less
   roundsLaw [] = refl
   roundsLaw (a ∷ qs) =
       ap (more (asked n ∷ []))
-        (turnCong ls (isYes a || not test) (body qs) (turns n test ls body (length qs)) (rounds n test ls body) qs
-          (turnsSame (length qs) (length (body qs .rest)) (body qs .rest) (less qs) (omega arith)))
+      (turnCong ls (isYes a || not test) (body qs) (turns n test ls body (length qs)) (rounds n test ls body) qs
+      (turnsSame (length qs) (length (body qs .rest)) (body qs .rest) (less qs) (omega arith)))

@@ -1,13 +1,12 @@
 -- A route is cut behind each entry that takes an answer: no part has a node twice.
-use Prim.Native.Nat.{ℕ, zero, suc, _+_, _≤_, _<_}
-use mathlib.Core.Path.{_≡_, refl, sym, _∙_, ap, subst}
+use Prim.Native.Nat.{ℕ, zero, suc}
+use mathlib.Core.Path.{_≡_, refl, subst}
 use mathlib.Core.Bool.{Bool, true, false, not, _||_}
 use mathlib.Core.List.{List, [], _∷_, _++_}
 use mathlib.Core.Logic.{_⊎_, inl, inr}
 use lib.ListN.{length}
-use native.Mathlib.Omega.{arith}
-use Rattle.completion.specs.Tree.{Lab, near, named, Stmt, Stmts, Cases, Leaf, simple, brk, con, ret, thr, leaf, if1, if2, if3, withs, block, label, loop, switch, tryC, tryF, nil, cons, none, case}
-use Rattle.completion.specs.Sem.{Entry, plain, asked, Out, Comp, normal, spent, out, more, ask, goOn, andThen, unbreak, turn, turns, rounds, loops, pick, isYes, isNormal, isThrow, isSpent, finallyIf, loopContinues, exec, execs, execFrom, entry}
+use Rattle.completion.specs.Tree.{Stmt, Stmts, Cases, leaf, if1, if2, if3, withs, block, label, loop, switch, tryC, tryF, nil, cons, none, case}
+use Rattle.completion.specs.Sem.{Entry, plain, asked, Out, normal, out, ask, goOn, unbreak, turn, turns, rounds, loops, pick, isYes, isNormal, isThrow, isSpent, finallyIf, loopContinues, exec, execs, execFrom, entry}
 use Rattle.completion.specs.Route.{Mem, Once, onto, parts, AllOnce, nodesOf, nodesOfAll, nodesOfCases}
 
 memLeft : (x : ℕ) (a b : List ℕ) → Mem x a → Mem x (a ++ b)
@@ -80,18 +79,20 @@ nothing = record { fresh = λ seen h. tt; seens = λ seen x a. inr a }
 
 joined : (E P E′ P′ : List ℕ) (a b : List Entry) → Within E P a → Within E′ P′ b → ((x : ℕ) → Mem x P → Mem x E′ → ⊥) → Within (E ++ E′) (P ++ P′) (a ++ b)
 joined E P E′ P′ a b u v h =
-    record
-      { fresh = λ seen k. freshAppend seen a b (u .fresh seen (λ x m. k x (memLeft x E E′ m)))
-          (v .fresh (after seen a) (λ x m s. not-both seen x m (k x (memRight x E E′ m)) (u .seens seen x s)))
-      ; seens = λ seen x s. go seen x (v .seens (after seen a) x (afterAppend seen a b x s))
-      }
+    record {
+      fresh = λ seen k. freshAppend seen a b (u .fresh seen (λ x m. k x (memLeft x E E′ m)))
+          (v .fresh (after seen a) (λ x m s. not-both seen x m (k x (memRight x E E′ m)) (u .seens seen x s)));
+      seens = λ seen x s. go seen x (v .seens (after seen a) x (afterAppend seen a b x s));
+    }
   where
     not-both : (seen : ℕ → Type 0) (x : ℕ) → Mem x E′ → (seen x → ⊥) → Mem x P ⊎ seen x → ⊥
     not-both seen x m k (inl p) = h x p m
     not-both seen x m k (inr s) = k s
+
     more′ : (seen : ℕ → Type 0) (x : ℕ) → Mem x P ⊎ seen x → Mem x (P ++ P′) ⊎ seen x
     more′ seen x (inl p) = inl (memLeft x P P′ p)
     more′ seen x (inr s) = inr s
+
     go : (seen : ℕ → Type 0) (x : ℕ) → Mem x P′ ⊎ after seen a x → Mem x (P ++ P′) ⊎ seen x
     go seen x (inl p) = inl (memRight x P P′ p)
     go seen x (inr s) = more′ seen x (u .seens seen x s)
@@ -139,11 +140,12 @@ module _ (n : ℕ) (test : Bool) (ls : List ℕ) (body : List ℕ → Out) (B : 
       → Within (n ∷ B) (n ∷ B) (goOn b o k .nodes)
   bodyWithin b o k u v =
       weaken (B ++ (n ∷ [])) (n ∷ B) (B ++ (n ∷ B)) (n ∷ B) (goOn b o k .nodes) (λ x m. swap x (memSplit x B (n ∷ []) m)) (λ x m. both x (memSplit x B (n ∷ B) m))
-        (goOnWithin B B (n ∷ []) (n ∷ B) b o k u v notIn)
+      (goOnWithin B B (n ∷ []) (n ∷ B) b o k u v notIn)
     where
       swap : (x : ℕ) → Mem x B ⊎ Mem x (n ∷ []) → Mem x (n ∷ B)
       swap x (inl m) = inr m
       swap x (inr (inl e)) = inl e
+
       both : (x : ℕ) → Mem x B ⊎ Mem x (n ∷ B) → Mem x (n ∷ B)
       both x (inl m) = inr m
       both x (inr m) = m
@@ -157,7 +159,7 @@ module _ (n : ℕ) (test : Bool) (ls : List ℕ) (body : List ℕ → Out) (B : 
   turnsWithin zero qs = weaken [] (n ∷ []) [] (n ∷ B) [] (λ x m. absurd m) (λ x m. absurd m) nothing
   turnsWithin (suc f) qs =
       weaken (n ∷ []) (n ∷ []) (n ∷ n ∷ B) (n ∷ B) (ask n qs (λ a r. turn ls (isYes a || not test) (body r) (turns n test ls body f) r) .nodes) (λ x m. m) dup
-        (askWithin n (n ∷ B) (n ∷ B) qs (λ a r. turn ls (isYes a || not test) (body r) (turns n test ls body f) r) (λ a r. go (isYes a || not test) r (turnsWithin f)))
+      (askWithin n (n ∷ B) (n ∷ B) qs (λ a r. turn ls (isYes a || not test) (body r) (turns n test ls body f) r) (λ a r. go (isYes a || not test) r (turnsWithin f)))
     where
       go : (b : Bool) (r : List ℕ) → ((u : List ℕ) → Within (n ∷ []) (n ∷ B) (turns n test ls body f u .nodes))
           → Within (n ∷ B) (n ∷ B) (turn ls b (body r) (turns n test ls body f) r .nodes)
@@ -174,24 +176,25 @@ single n P es w = weaken (n ∷ []) (n ∷ P) (n ∷ P) (n ∷ P) es (λ x m. me
 
 mutual
   unfolding exec nodesOf
+
   execWithin : (s : Stmt) (ls : List ℕ) → Once (nodesOf s) → (qs : List ℕ) → Within (nodesOf s) (nodesOf s) (exec s ls qs .nodes)
   execWithin (leaf n l) ls h qs = oneOf n
   execWithin (if1 n s) ls h qs =
       single n (nodesOf s) (ask n qs (λ a r. pick (isYes a) (exec s [] r) (out [] normal r)) .nodes)
-        (askWithin n (nodesOf s) (nodesOf s) qs (λ a r. pick (isYes a) (exec s [] r) (out [] normal r)) (λ a r. go (isYes a) r (execWithin s [] (h .1) r)))
+      (askWithin n (nodesOf s) (nodesOf s) qs (λ a r. pick (isYes a) (exec s [] r) (out [] normal r)) (λ a r. go (isYes a) r (execWithin s [] (h .1) r)))
     where
       go : (b : Bool) (r : List ℕ) → Within (nodesOf s) (nodesOf s) (exec s [] r .nodes) → Within (nodesOf s) (nodesOf s) (pick b (exec s [] r) (out [] normal r) .nodes)
       go true r w = w
       go false r w = weaken [] (nodesOf s) [] (nodesOf s) [] (λ x m. absurd m) (λ x m. absurd m) nothing
   execWithin (if2 n s t) ls h qs =
       single n (nodesOf s ++ nodesOf t) (ask n qs (λ a r. pick (isYes a) (exec s [] r) (exec t [] r)) .nodes)
-        (askWithin n (nodesOf s ++ nodesOf t) (nodesOf s ++ nodesOf t) qs (λ a r. pick (isYes a) (exec s [] r) (exec t [] r))
-          (λ a r. pickWithin (nodesOf s) (nodesOf s) (nodesOf t) (nodesOf t) (isYes a) (exec s [] r) (exec t [] r)
-            (execWithin s [] (onceLeft (nodesOf s) (nodesOf t) (h .1)) r) (execWithin t [] (onceRight (nodesOf s) (nodesOf t) (h .1)) r)))
+      (askWithin n (nodesOf s ++ nodesOf t) (nodesOf s ++ nodesOf t) qs (λ a r. pick (isYes a) (exec s [] r) (exec t [] r))
+      (λ a r. pickWithin (nodesOf s) (nodesOf s) (nodesOf t) (nodesOf t) (isYes a) (exec s [] r) (exec t [] r)
+      (execWithin s [] (onceLeft (nodesOf s) (nodesOf t) (h .1)) r) (execWithin t [] (onceRight (nodesOf s) (nodesOf t) (h .1)) r)))
   execWithin (if3 n t s) ls h qs =
       single n (nodesOf t ++ nodesOf s) (ask n qs (λ a r. pick (isYes a) (exec s [] r) (exec t [] r)) .nodes)
-        (askWithin n (nodesOf t ++ nodesOf s) (nodesOf t ++ nodesOf s) qs (λ a r. pick (isYes a) (exec s [] r) (exec t [] r))
-          (λ a r. go (isYes a) r (execWithin t [] (onceLeft (nodesOf t) (nodesOf s) (h .1)) r) (execWithin s [] (onceRight (nodesOf t) (nodesOf s) (h .1)) r)))
+      (askWithin n (nodesOf t ++ nodesOf s) (nodesOf t ++ nodesOf s) qs (λ a r. pick (isYes a) (exec s [] r) (exec t [] r))
+      (λ a r. go (isYes a) r (execWithin t [] (onceLeft (nodesOf t) (nodesOf s) (h .1)) r) (execWithin s [] (onceRight (nodesOf t) (nodesOf s) (h .1)) r)))
     where
       go : (b : Bool) (r : List ℕ) → Within (nodesOf t) (nodesOf t) (exec t [] r .nodes) → Within (nodesOf s) (nodesOf s) (exec s [] r .nodes)
           → Within (nodesOf t ++ nodesOf s) (nodesOf t ++ nodesOf s) (pick b (exec s [] r) (exec t [] r) .nodes)
@@ -204,30 +207,30 @@ mutual
   execWithin (loop n before test s) ls h qs = loopsWithin n test ls (λ r. exec s [] r) (nodesOf s) (h .0) (λ r. execWithin s [] (h .1) r) before qs
   execWithin (switch n cs) ls h qs =
       single n (nodesOfCases cs) (ask n qs (λ a r. unbreak (execFrom cs (entry a cs) r)) .nodes)
-        (askWithin n (nodesOfCases cs) (nodesOfCases cs) qs (λ a r. unbreak (execFrom cs (entry a cs) r)) (λ a r. execFromWithin cs (h .1) (entry a cs) r))
+      (askWithin n (nodesOfCases cs) (nodesOfCases cs) qs (λ a r. unbreak (execFrom cs (entry a cs) r)) (λ a r. execFromWithin cs (h .1) (entry a cs) r))
   execWithin (tryC b c) ls h qs =
       goOnWithin (nodesOf b) (nodesOf b) (nodesOf c) (nodesOf c) (isThrow (exec b [] qs .comp)) (exec b [] qs) (λ r. exec c [] r)
-        (execWithin b [] (onceLeft (nodesOf b) (nodesOf c) h) qs) (λ r. execWithin c [] (onceRight (nodesOf b) (nodesOf c) h) r) (onceApart (nodesOf b) (nodesOf c) h)
+      (execWithin b [] (onceLeft (nodesOf b) (nodesOf c) h) qs) (λ r. execWithin c [] (onceRight (nodesOf b) (nodesOf c) h) r) (onceApart (nodesOf b) (nodesOf c) h)
   execWithin (tryF b c) ls h qs =
       finallyWithin (nodesOf b) (nodesOf b) (nodesOf c) (nodesOf c) (isSpent (exec b [] qs .comp)) (exec b [] qs) (λ r. exec c [] r)
-        (execWithin b [] (onceLeft (nodesOf b) (nodesOf c) h) qs) (λ r. execWithin c [] (onceRight (nodesOf b) (nodesOf c) h) r) (onceApart (nodesOf b) (nodesOf c) h)
+      (execWithin b [] (onceLeft (nodesOf b) (nodesOf c) h) qs) (λ r. execWithin c [] (onceRight (nodesOf b) (nodesOf c) h) r) (onceApart (nodesOf b) (nodesOf c) h)
 
   execsWithin : (ss : Stmts) → Once (nodesOfAll ss) → (qs : List ℕ) → Within (nodesOfAll ss) (nodesOfAll ss) (execs ss qs .nodes)
   execsWithin nil h qs = nothing
   execsWithin (cons s ss) h qs =
       goOnWithin (nodesOf s) (nodesOf s) (nodesOfAll ss) (nodesOfAll ss) (isNormal (exec s [] qs .comp)) (exec s [] qs) (λ r. execs ss r)
-        (execWithin s [] (onceLeft (nodesOf s) (nodesOfAll ss) h) qs) (λ r. execsWithin ss (onceRight (nodesOf s) (nodesOfAll ss) h) r) (onceApart (nodesOf s) (nodesOfAll ss) h)
+      (execWithin s [] (onceLeft (nodesOf s) (nodesOfAll ss) h) qs) (λ r. execsWithin ss (onceRight (nodesOf s) (nodesOfAll ss) h) r) (onceApart (nodesOf s) (nodesOfAll ss) h)
 
   execFromWithin : (cs : Cases) → Once (nodesOfCases cs) → (i : ℕ) (qs : List ℕ) → Within (nodesOfCases cs) (nodesOfCases cs) (execFrom cs i qs .nodes)
   execFromWithin none h i qs = nothing
   execFromWithin (case d ss cs) h zero qs =
       goOnWithin (nodesOfAll ss) (nodesOfAll ss) (nodesOfCases cs) (nodesOfCases cs) (isNormal (execs ss qs .comp)) (execs ss qs) (λ r. execFrom cs zero r)
-        (execsWithin ss (onceLeft (nodesOfAll ss) (nodesOfCases cs) h) qs) (λ r. execFromWithin cs (onceRight (nodesOfAll ss) (nodesOfCases cs) h) zero r)
-        (onceApart (nodesOfAll ss) (nodesOfCases cs) h)
+      (execsWithin ss (onceLeft (nodesOfAll ss) (nodesOfCases cs) h) qs) (λ r. execFromWithin cs (onceRight (nodesOfAll ss) (nodesOfCases cs) h) zero r)
+      (onceApart (nodesOfAll ss) (nodesOfCases cs) h)
   execFromWithin (case d ss cs) h (suc i) qs =
       weaken (nodesOfCases cs) (nodesOfAll ss ++ nodesOfCases cs) (nodesOfCases cs) (nodesOfAll ss ++ nodesOfCases cs) (execFrom cs i qs .nodes)
-        (λ x m. memRight x (nodesOfAll ss) (nodesOfCases cs) m) (λ x m. memRight x (nodesOfAll ss) (nodesOfCases cs) m)
-        (execFromWithin cs (onceRight (nodesOfAll ss) (nodesOfCases cs) h) i qs)
+      (λ x m. memRight x (nodesOfAll ss) (nodesOfCases cs) m) (λ x m. memRight x (nodesOfAll ss) (nodesOfCases cs) m)
+      (execFromWithin cs (onceRight (nodesOfAll ss) (nodesOfCases cs) h) i qs)
 
 -- The first part holds nothing that was seen before, and each part holds no node twice.
 abbrev FirstNot : (ℕ → Type 0) → List (List ℕ) → Type 0
@@ -242,6 +245,7 @@ freshParts seen (plain n ∷ es) h = go (parts es) (freshParts (λ x. (x ≡ n) 
     first : (p : List ℕ) → ((x : ℕ) → Mem x p → (x ≡ n) ⊎ seen x → ⊥) → (x : ℕ) → Mem x (n ∷ p) → seen x → ⊥
     first p u x (inl e) s = h .0 (subst seen e s)
     first p u x (inr m) s = u x m (inr s)
+
     go : (ps : List (List ℕ)) → FirstNot (λ x. (x ≡ n) ⊎ seen x) ps × AllOnce ps → FirstNot seen (onto n ps) × AllOnce (onto n ps)
     go [] u = (first [] (λ x m s. m), (((λ m. m), tt), tt))
     go (p ∷ ps) u = (first p (u .0), (((λ m. u .0 n m (inl refl)), u .1 .0), u .1 .1))

@@ -1,12 +1,11 @@
 -- No statement makes the answers more: what is left is at most what was there.
-use Prim.Native.Nat.{ℕ, zero, suc, _+_, _≤_, _<_}
-use mathlib.Core.Path.{_≡_, refl, sym, _∙_, ap}
+use Prim.Native.Nat.{ℕ, zero, suc, _≤_}
 use mathlib.Core.Bool.{Bool, true, false, not, _||_}
-use mathlib.Core.List.{List, [], _∷_, _++_}
+use mathlib.Core.List.{List, [], _∷_}
 use lib.ListN.{length}
 use native.Mathlib.Omega.{arith}
-use Rattle.completion.specs.Tree.{Lab, near, named, Stmt, Stmts, Cases, Leaf, simple, brk, con, ret, thr, leaf, if1, if2, if3, withs, block, label, loop, switch, tryC, tryF, nil, cons, none, case}
-use Rattle.completion.specs.Sem.{Entry, Out, Comp, normal, out, ask, goOn, andThen, turn, turns, rounds, loops, pick, isYes, isNormal, isThrow, isSpent, finallyIf, loopContinues, exec, execs, execFrom, entry}
+use Rattle.completion.specs.Tree.{Stmt, Stmts, Cases, leaf, if1, if2, if3, withs, block, label, loop, switch, tryC, tryF, nil, cons, none, case}
+use Rattle.completion.specs.Sem.{Out, normal, out, ask, goOn, turn, turns, rounds, loops, pick, isYes, isNormal, isThrow, isSpent, finallyIf, loopContinues, exec, execs, execFrom, entry}
 
 abbrev pub Shrinks : (List ℕ → Out) → Type 0
 Shrinks k = (r : List ℕ) → length (k r .rest) ≤ length r
@@ -33,7 +32,7 @@ unfolding turns
 turnsRest n test ls body h zero qs = omega arith
 turnsRest n test ls body h (suc f) qs =
     askRest n qs (λ a r. turn ls (isYes a || not test) (body r) (turns n test ls body f) r)
-      (λ a r. turnRest ls (isYes a || not test) (body r) (turns n test ls body f) r (h r) (turnsRest n test ls body h f))
+    (λ a r. turnRest ls (isYes a || not test) (body r) (turns n test ls body f) r (h r) (turnsRest n test ls body h f))
 
 roundsRest : (n : ℕ) (test : Bool) (ls : List ℕ) (body : List ℕ → Out) → Shrinks body → Shrinks (rounds n test ls body)
 unfolding rounds
@@ -49,17 +48,18 @@ pickRest false o p qs h k = k
 
 mutual
   unfolding exec
+
   pub execRest : (s : Stmt) (ls : List ℕ) → Shrinks (exec s ls)
   execRest (leaf n l) ls qs = omega arith
   execRest (if1 n s) ls qs =
       askRest n qs (λ a r. pick (isYes a) (exec s [] r) (out [] normal r))
-        (λ a r. pickRest (isYes a) (exec s [] r) (out [] normal r) r (execRest s [] r) (omega arith))
+      (λ a r. pickRest (isYes a) (exec s [] r) (out [] normal r) r (execRest s [] r) (omega arith))
   execRest (if2 n s t) ls qs =
       askRest n qs (λ a r. pick (isYes a) (exec s [] r) (exec t [] r))
-        (λ a r. pickRest (isYes a) (exec s [] r) (exec t [] r) r (execRest s [] r) (execRest t [] r))
+      (λ a r. pickRest (isYes a) (exec s [] r) (exec t [] r) r (execRest s [] r) (execRest t [] r))
   execRest (if3 n t s) ls qs =
       askRest n qs (λ a r. pick (isYes a) (exec s [] r) (exec t [] r))
-        (λ a r. pickRest (isYes a) (exec s [] r) (exec t [] r) r (execRest s [] r) (execRest t [] r))
+      (λ a r. pickRest (isYes a) (exec s [] r) (exec t [] r) r (execRest s [] r) (execRest t [] r))
   execRest (withs n s) ls qs = execRest s [] qs
   execRest (block ss) ls qs = execsRest ss qs
   execRest (label l s) ls qs = execRest s (l ∷ ls) qs

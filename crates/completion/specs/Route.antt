@@ -1,12 +1,12 @@
 -- The route of a unit: the list of its nodes, its end and the answers that it takes. And what is said of routes: their parts, and the targets
 -- of break and continue.
-use Prim.Native.Nat.{ℕ, zero, suc, _+_}
+use Prim.Native.Nat.{ℕ, zero, suc}
 use mathlib.Core.Path.{_≡_}
 use mathlib.Core.Bool.{Bool, true, false, _||_}
 use mathlib.Core.List.{List, [], _∷_, _++_, map}
 use mathlib.Core.Logic.{_⊎_}
 use lib.Dec.{eqb}
-use Rattle.completion.specs.Tree.{Lab, near, named, Stmt, Stmts, Cases, Leaf, leaf, if1, if2, if3, withs, block, label, loop, switch, tryC, tryF, nil, cons, none, case}
+use Rattle.completion.specs.Tree.{near, named, Stmt, Stmts, Cases, leaf, if1, if2, if3, withs, block, label, loop, switch, tryC, tryF, nil, cons, none, case}
 use Rattle.completion.specs.Sem.{Entry, plain, asked, Comp, normal, breaks, continues, returns, throws, spent, pick, noBreak, noLabel, loopContinues, compOf, execs}
 
 -- "Ends: 0 fell through, 1 returned, 2 thrown, 3 answers spent". A unit in which a break or a continue has no target is refused (9), and

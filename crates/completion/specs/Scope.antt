@@ -1,13 +1,13 @@
 -- Where every break and every continue has its target, a unit ends with 0, 1, 2 or 3.
-use Prim.Native.Nat.{ℕ, zero, suc, _+_, _≤_, _<_}
-use mathlib.Core.Path.{_≡_, refl, sym, _∙_, ap}
+use Prim.Native.Nat.{ℕ, zero, suc, _≤_}
+use mathlib.Core.Path.{_≡_, refl, sym}
 use mathlib.Core.Bool.{Bool, true, false, not, _||_, true≢false}
-use mathlib.Core.List.{List, [], _∷_, _++_}
+use mathlib.Core.List.{List, [], _∷_}
 use lib.ListN.{length}
 use lib.Dec.{eqb}
 use native.Mathlib.Omega.{arith}
-use Rattle.completion.specs.Tree.{Lab, near, named, Stmt, Stmts, Cases, Leaf, simple, brk, con, ret, thr, leaf, if1, if2, if3, withs, block, label, loop, switch, tryC, tryF, nil, cons, none, case}
-use Rattle.completion.specs.Sem.{Entry, plain, asked, Out, Comp, normal, breaks, continues, returns, throws, spent, out, ask, goOn, andThen, unbreak, unlabel, noBreak, noLabel, turn, turns, rounds, loops, pick, isYes, isNormal, isThrow, isSpent, finallyIf, loopContinues, exec, execs, execFrom, entry, compOf}
+use Rattle.completion.specs.Tree.{near, named, Stmt, Stmts, Cases, leaf, if1, if2, if3, withs, block, label, loop, switch, tryC, tryF, nil, cons, none, case}
+use Rattle.completion.specs.Sem.{Out, Comp, normal, breaks, continues, returns, throws, spent, out, ask, goOn, unbreak, noBreak, noLabel, turn, turns, rounds, loops, pick, isYes, isNormal, isThrow, isSpent, finallyIf, loopContinues, exec, execs, execFrom, entry}
 use Rattle.completion.specs.Route.{endOf, topScope, loopScope, labelScope, Scoped, ScopedAll, ScopedCases}
 
 pub record Base (σ : Comp → Bool) : Type 0 where
@@ -73,7 +73,7 @@ module _ (σ : Comp → Bool) (g : Base σ) (n : ℕ) (test : Bool) (ls : List �
   turnsIn zero qs = g .stopped
   turnsIn (suc f) qs =
       askIn (λ c. σ (noBreak c)) n qs (λ a r. turn ls (isYes a || not test) (body r) (turns n test ls body f) r) (baseBreak σ g)
-        (λ a r. go (isYes a || not test) r (turnsIn f))
+      (λ a r. go (isYes a || not test) r (turnsIn f))
     where
       go : (b : Bool) (r : List ℕ) → ((u : List ℕ) → In (λ c. σ (noBreak c)) (turns n test ls body f u))
           → In (λ c. σ (noBreak c)) (turn ls b (body r) (turns n test ls body f) r)
@@ -87,17 +87,18 @@ module _ (σ : Comp → Bool) (g : Base σ) (n : ℕ) (test : Bool) (ls : List �
 
 mutual
   unfolding exec
+
   pub scoped : (s : Stmt) (ls : List ℕ) (σ : Comp → Bool) → Base σ → Scoped s ls σ → (qs : List ℕ) → In σ (exec s ls qs)
   scoped (leaf n l) ls σ g h qs = h
   scoped (if1 n s) ls σ g h qs =
       askIn σ n qs (λ a r. pick (isYes a) (exec s [] r) (out [] normal r)) g
-        (λ a r. pickIn σ (isYes a) (exec s [] r) (out [] normal r) (scoped s [] σ g h r) (g .falls))
+      (λ a r. pickIn σ (isYes a) (exec s [] r) (out [] normal r) (scoped s [] σ g h r) (g .falls))
   scoped (if2 n s t) ls σ g h qs =
       askIn σ n qs (λ a r. pick (isYes a) (exec s [] r) (exec t [] r)) g
-        (λ a r. pickIn σ (isYes a) (exec s [] r) (exec t [] r) (scoped s [] σ g (h .0) r) (scoped t [] σ g (h .1) r))
+      (λ a r. pickIn σ (isYes a) (exec s [] r) (exec t [] r) (scoped s [] σ g (h .0) r) (scoped t [] σ g (h .1) r))
   scoped (if3 n t s) ls σ g h qs =
       askIn σ n qs (λ a r. pick (isYes a) (exec s [] r) (exec t [] r)) g
-        (λ a r. pickIn σ (isYes a) (exec s [] r) (exec t [] r) (scoped s [] σ g (h .1) r) (scoped t [] σ g (h .0) r))
+      (λ a r. pickIn σ (isYes a) (exec s [] r) (exec t [] r) (scoped s [] σ g (h .1) r) (scoped t [] σ g (h .0) r))
   scoped (withs n s) ls σ g h qs = scoped s [] σ g h qs
   scoped (block ss) ls σ g h qs = scopeds ss σ g h qs
   scoped (label l s) ls σ g h qs = labelIn l σ (exec s (l ∷ ls) qs .comp) (scoped s (l ∷ ls) (labelScope l σ) (baseLabel l σ g) h qs)

@@ -1,6 +1,6 @@
 -- What a statement does with a list of answers, by the completion rules of ECMA-262 (6.2.4 and 14). Document 01, "Routes": "A unit runs its
 -- statements by ECMA-262's completion rules". Values are left out, so UpdateEmpty says nothing here.
-use Prim.Native.Nat.{ℕ, zero, suc, _+_}
+use Prim.Native.Nat.{ℕ, zero, suc}
 use mathlib.Core.Bool.{Bool, true, false, not, _||_}
 use mathlib.Core.List.{List, [], _∷_, _++_}
 use lib.ListN.{length}

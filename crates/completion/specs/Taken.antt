@@ -1,13 +1,13 @@
 -- The answers taken are as many as the entries that take one; what is left is the list without them.
-use Prim.Native.Nat.{ℕ, zero, suc, _+_, _≤_, _<_}
+use Prim.Native.Nat.{ℕ, zero, suc, _+_}
 use mathlib.Core.Path.{_≡_, refl, sym, _∙_, ap}
 use mathlib.Core.Bool.{Bool, true, false, not, _||_}
 use mathlib.Core.List.{List, [], _∷_, _++_}
 use lib.ListN.{length, drop}
 use lib.Seq.{drop-drop}
 use native.Mathlib.Omega.{arith}
-use Rattle.completion.specs.Tree.{Lab, near, named, Stmt, Stmts, Cases, Leaf, simple, brk, con, ret, thr, leaf, if1, if2, if3, withs, block, label, loop, switch, tryC, tryF, nil, cons, none, case}
-use Rattle.completion.specs.Sem.{Entry, plain, asked, Out, Comp, normal, out, ask, goOn, andThen, unbreak, turn, turns, rounds, loops, pick, isYes, isNormal, isThrow, isSpent, finallyIf, loopContinues, exec, execs, execFrom, entry}
+use Rattle.completion.specs.Tree.{Stmt, Stmts, Cases, leaf, if1, if2, if3, withs, block, label, loop, switch, tryC, tryF, nil, cons, none, case}
+use Rattle.completion.specs.Sem.{Entry, plain, asked, Out, normal, out, ask, goOn, unbreak, turn, turns, rounds, loops, pick, isYes, isNormal, isThrow, isSpent, finallyIf, loopContinues, exec, execs, execFrom, entry}
 use Rattle.completion.specs.Route.{asks}
 
 pub asksAppend : (a b : List Entry) → asks (a ++ b) ≡ asks a + asks b
@@ -49,7 +49,7 @@ unfolding turns asks
 turnsTakes n test ls body h zero qs = refl
 turnsTakes n test ls body h (suc f) qs =
     askTakes n qs (λ a r. turn ls (isYes a || not test) (body r) (turns n test ls body f) r)
-      (λ a r. turnTakes ls (isYes a || not test) (body r) (turns n test ls body f) r (h r) (turnsTakes n test ls body h f))
+    (λ a r. turnTakes ls (isYes a || not test) (body r) (turns n test ls body f) r (h r) (turnsTakes n test ls body h f))
 
 roundsTakes : (n : ℕ) (test : Bool) (ls : List ℕ) (body : List ℕ → Out) → Taking body → Taking (rounds n test ls body)
 unfolding rounds
@@ -65,17 +65,18 @@ pickTakes false o p qs h k = k
 
 mutual
   unfolding exec asks
+
   pub execTakes : (s : Stmt) (ls : List ℕ) → Taking (exec s ls)
   execTakes (leaf n l) ls qs = refl
   execTakes (if1 n s) ls qs =
       askTakes n qs (λ a r. pick (isYes a) (exec s [] r) (out [] normal r))
-        (λ a r. pickTakes (isYes a) (exec s [] r) (out [] normal r) r (execTakes s [] r) refl)
+      (λ a r. pickTakes (isYes a) (exec s [] r) (out [] normal r) r (execTakes s [] r) refl)
   execTakes (if2 n s t) ls qs =
       askTakes n qs (λ a r. pick (isYes a) (exec s [] r) (exec t [] r))
-        (λ a r. pickTakes (isYes a) (exec s [] r) (exec t [] r) r (execTakes s [] r) (execTakes t [] r))
+      (λ a r. pickTakes (isYes a) (exec s [] r) (exec t [] r) r (execTakes s [] r) (execTakes t [] r))
   execTakes (if3 n t s) ls qs =
       askTakes n qs (λ a r. pick (isYes a) (exec s [] r) (exec t [] r))
-        (λ a r. pickTakes (isYes a) (exec s [] r) (exec t [] r) r (execTakes s [] r) (execTakes t [] r))
+      (λ a r. pickTakes (isYes a) (exec s [] r) (exec t [] r) r (execTakes s [] r) (execTakes t [] r))
   execTakes (withs n s) ls qs = execTakes s [] qs
   execTakes (block ss) ls qs = execsTakes ss qs
   execTakes (label l s) ls qs = execTakes s (l ∷ ls) qs

@@ -1,19 +1,19 @@
 -- What is proved of units and their code, in one place: for every tree without try and every list of answers, the base machine's run of the
 -- unit's code is the unit's route by the completion rules.
-use Prim.Native.Nat.{ℕ, _+_, _*_, _≤_}
-use mathlib.Core.Path.{_≡_, refl, sym, _∙_, ap}
+use Prim.Native.Nat.{ℕ, _*_, _≤_}
+use mathlib.Core.Path.{_≡_, sym, _∙_, ap}
 use mathlib.Core.List.{List, [], _∷_}
 use mathlib.Core.Logic.{_≢_}
 use lib.ListN.{length, drop}
 use native.Mathlib.Omega.{arith}
 use Rattle.completion.specs.Tree.{Stmts, NoTryAll}
 use Rattle.completion.specs.Sem.{Comp, normal, breaks, continues, returns, throws, spent, execs}
-use Rattle.completion.specs.Route.{endOf, Route, routeOf, route, asks, ScopedAll, topScope, Once, nodesOfAll, parts, AllOnce}
+use Rattle.completion.specs.Route.{endOf, routeOf, route, ScopedAll, topScope, Once, nodesOfAll, parts, AllOnce}
 use Rattle.completion.specs.Taken.{execsTakes}
 use Rattle.completion.specs.Scope.{scopedEnd}
 use Rattle.completion.specs.Parts.{partsOnce}
 use Rattle.flat.specs.Code.{unit, sizes, RoomAll}
-use Rattle.flat.specs.Machine.{Res, run, started, codeRoute}
+use Rattle.flat.specs.Machine.{run, started, codeRoute}
 use Rattle.flat.specs.Meet.{meet}
 use Rattle.flat.specs.Correct.{result, unitCorrect}
 use Rattle.flat.specs.Room.{noTryRoom, roomEnough}
@@ -53,14 +53,14 @@ baseCorrect ss h qs = unitRuns 0 ss (noTryRoom ss h) qs
 -- THE THEOREM
 pub claims : (ss : Stmts) → NoTryAll ss → (qs : List ℕ) → Claims ss qs
 claims ss h qs =
-    record
-      { same = ap (λ r. routeOf (r .nodes) (r .end)) (baseCorrect ss h qs)
-      ; left = ap (λ r. r .rest) (baseCorrect ss h qs) ∙ sym (execsTakes ss qs)
-      ; ends = λ s. scopedEnd ss s qs
-      ; once = λ d. rw (baseCorrect ss h qs) (partsOnce ss d qs)
-      ; long = lengthSum ss
-      ; small = omega (arith, lengthSum ss, totalSmall (sUnit ∷ shapesAll ss))
-      }
+    record {
+      same = ap (λ r. routeOf (r .nodes) (r .end)) (baseCorrect ss h qs);
+      left = ap (λ r. r .rest) (baseCorrect ss h qs) ∙ sym (execsTakes ss qs);
+      ends = λ s. scopedEnd ss s qs;
+      once = λ d. rw (baseCorrect ss h qs) (partsOnce ss d qs);
+      long = lengthSum ss;
+      small = omega (arith, lengthSum ss, totalSmall (sUnit ∷ shapesAll ss));
+    }
 
 -- With try: a machine with room enough runs every unit.
 pub everyUnit : (ss : Stmts) (lim : ℕ) → sizes ss ≤ lim → (qs : List ℕ) → run lim (unit ss) (length (unit ss)) 0 [] qs ≡ result (execs ss qs)

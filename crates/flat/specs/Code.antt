@@ -9,7 +9,6 @@
 --   6 END e              ends the run with e
 --   7 CASE c t d         jumps as LEAVE t d does; the next case stands at c (0: none)
 use Prim.Native.Nat.{ℕ, zero, suc, _+_}
-use mathlib.Core.Bool.{Bool, true, false}
 use mathlib.Core.List.{List, [], _∷_, _++_}
 use Rattle.completion.specs.Tree.{Stmt, Stmts, Cases, leaf, if1, if2, if3, withs, block, label, loop, switch, tryC, tryF, nil, cons, none, case}
 use Rattle.completion.specs.Sem.{Comp, normal, breaks, continues, returns, throws, spent, pick, loopContinues, noBreak, noLabel, defaultAt, compOf}
@@ -125,7 +124,7 @@ unfoldable mutual
   codeCases none o δ ρ = []
   codeCases (case d ss cs) o δ ρ =
       caseTo (link cs (o + 4 + sizes ss)) (first ss (o + 4) δ (next ρ (through cs (o + 4 + sizes ss) δ ρ)))
-        ++ (codes ss (o + 4) δ (next ρ (through cs (o + 4 + sizes ss) δ ρ)) ++ codeCases cs (o + 4 + sizes ss) δ ρ)
+      ++ (codes ss (o + 4) δ (next ρ (through cs (o + 4 + sizes ss) δ ρ)) ++ codeCases cs (o + 4 + sizes ss) δ ρ)
 
 -- Behind a unit's statements stand the four ends, in the order 0, 1, 2, 5. A break or a continue that has no target ends it with 5.
 abbrev pub top : ℕ → Comp → Stat

@@ -9,15 +9,15 @@ use borrow.Author.Tests.{eq-eqb, ltb-true, ltb-false, lt-ltb, le-ltb}
 use mathlib.Core.Logic.{_⊎_, inl, inr}
 use native.Mathlib.Omega.{arith}
 use native.Mathlib.Nat.{add-zero}
-use Rattle.completion.specs.Tree.{Lab, near, named, Stmt, Stmts, Cases, Leaf, simple, brk, con, ret, thr, leaf, if1, if2, if3, withs, block, label, loop, switch, tryC, tryF, nil, cons, none, case}
-use Rattle.completion.specs.Sem.{Entry, plain, asked, Out, Comp, normal, breaks, continues, returns, throws, spent, out, more, ask, goOn, andThen, catching, finally, finallyIf, unbreak, turn, turns, rounds, loops, pick, isYes, isNormal, isThrow, isSpent, loopContinues, noBreak, noLabel, exec, execs, execFrom, entry, count, defaultAt, compOf}
+use Rattle.completion.specs.Tree.{near, named, Stmt, Stmts, Cases, Leaf, simple, brk, con, ret, thr, leaf, if1, if2, if3, withs, block, label, loop, switch, tryC, tryF, nil, cons, none, case}
+use Rattle.completion.specs.Sem.{Entry, plain, asked, Out, Comp, normal, breaks, continues, returns, throws, spent, out, more, ask, goOn, andThen, catching, finally, finallyIf, unbreak, turn, turns, rounds, loops, pick, isYes, isNormal, isSpent, loopContinues, noBreak, noLabel, exec, execs, execFrom, entry, count, defaultAt, compOf}
 use Rattle.completion.specs.Route.{endOf}
-use Rattle.flat.specs.Code.{Stat, at, ended, placeOf, depthOf, goto, caseTo, next, inTry, inLoop, first, link, through, size, sizes, sizeCases, place, code, codes, codeCases, top, ends, unit, Room, RoomAll, RoomCases}
-use Rattle.flat.specs.Machine.{Res, res, pre, Instr, NONE, LIST, LEAVE, ASK, SELECT, OPEN, END, CASE, Frame, open′, pend, Pos, pos, isZero, unwind, isCase, chase, endAs, decode, fetch}
+use Rattle.flat.specs.Code.{Stat, at, ended, goto, caseTo, next, inTry, inLoop, first, link, through, size, sizes, sizeCases, place, code, codes, codeCases, top, ends, unit, Room, RoomAll, RoomCases}
+use Rattle.flat.specs.Machine.{Res, res, pre, Instr, LIST, LEAVE, ASK, SELECT, OPEN, END, CASE, Frame, open′, pend, Pos, pos, isZero, unwind, isCase, chase, endAs, decode, fetch}
 use Rattle.flat.specs.Forward.{askNow, behind, forward, step, run}
 use Rattle.flat.specs.Steps.{runStep, runPos, resume}
 use Rattle.completion.specs.Rest.{Shrinks, execRest}
-use Rattle.flat.specs.Size.{codeLength, codesLength, codeCasesLength, sizePos}
+use Rattle.flat.specs.Size.{codeLength, codesLength, sizePos}
 
 -- The code C has l at the place o.
 abbrev pub Has : List ℕ → ℕ → List ℕ → Type 0
@@ -53,7 +53,7 @@ unwindHere [] t d z h = refl
 unwindHere (open′ f ∷ K) t d z h = ap (λ b. pick b (pos t (open′ f ∷ K)) (pos f (pend t d ∷ K))) (lt-ltb (length K) d (omega arith))
 unwindHere (pend u v ∷ K) t d z h =
     ap (λ b. pick b (pick (isZero t) (unwind K u v) (pos t (pend u v ∷ K))) (unwind K t d)) (lt-ltb (length K) d (omega arith))
-      ∙ ap (λ b. pick b (unwind K u v) (pos t (pend u v ∷ K))) (isZeroNot t z)
+    ∙ ap (λ b. pick b (unwind K u v) (pos t (pend u v ∷ K))) (isZeroNot t z)
 
 unwindBack : (K : List Frame) (u v d : ℕ) → suc (length K) ≡ d → unwind (pend u v ∷ K) 0 d ≡ unwind K u v
 unfolding unwind
@@ -218,7 +218,7 @@ module _ (lim : ℕ) (C : List ℕ) where
       go true = refl
       go false =
           ap (λ i. askNow i (run lim C) (p .stack) qs) (behindIs (p .pc) z ∙ h .3)
-            ∙ sym (runAt (p .pc) (ASK (h .0) (h .1) (h .2)) (h .3) (p .stack) qs)
+          ∙ sym (runAt (p .pc) (ASK (h .0) (h .1) (h .2)) (h .3) (p .stack) qs)
 
   onList : (o n : ℕ) (l : List ℕ) → Has C o (1 ∷ n ∷ l) → (K : List Frame) (qs : List ℕ) → run lim C o K qs ≡ pre (plain n ∷ []) (run lim C (o + 2) K qs)
   onList o n l h K qs = runAt o (LIST n) (fetches o 1 n _ _ (h .0) (h .1 .0) refl refl) K qs
@@ -226,7 +226,7 @@ module _ (lim : ℕ) (C : List ℕ) where
   onOpen : (o f : ℕ) (l : List ℕ) → Has C o (5 ∷ f ∷ l) → (K : List Frame) → length K < lim → (qs : List ℕ) → run lim C o K qs ≡ run lim C (o + 2) (open′ f ∷ K) qs
   onOpen o f l h K p qs =
       runAt o (OPEN f) (fetches o 5 f _ _ (h .0) (h .1 .0) refl refl) K qs
-        ∙ ap (λ b. pick b (run lim C (o + 2) (open′ f ∷ K) qs) (res [] 5 qs)) (lt-ltb (length K) lim p)
+      ∙ ap (λ b. pick b (run lim C (o + 2) (open′ f ∷ K) qs) (res [] 5 qs)) (lt-ltb (length K) lim p)
 
   onEnd : (o e : ℕ) (l : List ℕ) → Has C o (6 ∷ e ∷ l) → (K : List Frame) (qs : List ℕ) → run lim C o K qs ≡ res [] (endAs e) qs
   onEnd o e l h K qs = runAt o (END e) (fetches o 6 e _ _ (h .0) (h .1 .0) refl refl) K qs
@@ -313,7 +313,7 @@ module _ (lim : ℕ) (C : List ℕ) where
     onTurns zero (a ∷ qs) p = absurd (omega arith)
     onTurns (suc f) qs p =
         onAsk m n b (pick test e b) l h (λ c. ρ (noBreak c)) K stop qs (λ a r. turn ls (isYes a || not test) (body r) (turns n test ls body f) r)
-          (λ a r q. go (isYes a) test r (onTurn ρ K ls m δ (turns n test ls body f) (body r) z deep (onTurns f (body r .rest) (omega (arith, less r)))))
+        (λ a r q. go (isYes a) test r (onTurn ρ K ls m δ (turns n test ls body f) (body r) z deep (onTurns f (body r .rest) (omega (arith, less r)))))
       where
         go : (x y : Bool) (r : List ℕ)
             → fin (inLoop ls m δ ρ) K (body r) ≡ fin (λ c. ρ (noBreak c)) K (goOn (loopContinues ls (body r .comp)) (body r) (turns n test ls body f))
@@ -358,8 +358,8 @@ module _ (lim : ℕ) (C : List ℕ) where
       unfolding resume fin
       onVia (at t d) p r =
           ap (λ x. runPos lim C x r) (unwindOpen K f t d (omega (arith, g .depth, p .1)))
-            ∙ ok t d p r
-            ∙ ap (pre (k r .nodes)) (onClose t d (k r .rest) (k r .comp))
+          ∙ ok t d p r
+          ∙ ap (pre (k r .nodes)) (onClose t d (k r .rest) (k r .comp))
       onVia (ended x) p r = absurd p
 
       pickEnv : (b : Bool) (c c′ : Comp) → pick b (ρ c) (ρ c′) ≡ ρ (pick b c c′)
@@ -373,7 +373,8 @@ module _ (lim : ℕ) (C : List ℕ) where
           all : (c : Comp) → isSpent c ≡ false → pre (o .nodes) (resume lim C (ρ c) (open′ f ∷ K) (o .rest)) ≡ fin ρ K (finallyIf false (out (o .nodes) c (o .rest)) k)
           all c p =
               ap (pre (o .nodes)) (onVia (ρ c) (g .lands c p) (o .rest) ∙ ap (λ s. pre (k (o .rest) .nodes) (resume lim C s K (k (o .rest) .rest))) (pickEnv (isNormal (k (o .rest) .comp)) c (k (o .rest) .comp)))
-                ∙ finMore ρ K (o .nodes) (out (k (o .rest) .nodes) (pick (isNormal (k (o .rest) .comp)) c (k (o .rest) .comp)) (k (o .rest) .rest))
+              ∙ finMore ρ K (o .nodes) (out (k (o .rest) .nodes) (pick (isNormal (k (o .rest) .comp)) c (k (o .rest) .comp)) (k (o .rest) .rest))
+
           go : (c : Comp) → fin ρ (open′ f ∷ K) (out (o .nodes) c (o .rest)) ≡ fin ρ K (finally (out (o .nodes) c (o .rest)) k)
           go normal = all normal refl
           go (breaks l) = all (breaks l) refl
@@ -414,11 +415,11 @@ module _ (lim : ℕ) (C : List ℕ) where
   chaseIs (case d ss cs) p o δ ρ z h e zero = caseHere p o e o z (h .0)
   chaseIs (case d ss cs) p o δ ρ z h e (suc a) =
       caseHere p o e (chase C o (getD C (suc o) 0) e a) z (h .0)
-        ∙ ap (λ x. chase C o x e a) (h .1 .0)
-        ∙ chaseIs cs o (o + 4 + sizes ss) δ ρ (omega arith)
-            (hasRight C (o + 4) (codes ss (o + 4) δ ρ′) (codeCases cs (o + 4 + sizes ss) δ ρ) (o + 4 + sizes ss)
-              (omega (arith, codesLength ss (o + 4) δ ρ′))
-              (hasMove C (suc (suc (suc (suc o)))) (o + 4) (codes ss (o + 4) δ ρ′ ++ codeCases cs (o + 4 + sizes ss) δ ρ) (omega arith) (h .1 .1 .1 .1))) e a
+      ∙ ap (λ x. chase C o x e a) (h .1 .0)
+      ∙ chaseIs cs o (o + 4 + sizes ss) δ ρ (omega arith)
+      (hasRight C (o + 4) (codes ss (o + 4) δ ρ′) (codeCases cs (o + 4 + sizes ss) δ ρ) (o + 4 + sizes ss)
+      (omega (arith, codesLength ss (o + 4) δ ρ′))
+      (hasMove C (suc (suc (suc (suc o)))) (o + 4) (codes ss (o + 4) δ ρ′ ++ codeCases cs (o + 4 + sizes ss) δ ρ) (omega arith) (h .1 .1 .1 .1))) e a
     where
       ρ′ : Comp → Stat
       ρ′ = next ρ (through cs (o + 4 + sizes ss) δ ρ)
@@ -450,9 +451,9 @@ module _ (lim : ℕ) (C : List ℕ) where
   unfolding fin
   onLeaf δ o n c ρ z h K g qs =
       onList o n (goto (ρ c)) h K qs
-        ∙ ap (pre (plain n ∷ []))
-            (onGoto (o + 2) δ (ρ c) (hasMove C (suc (suc o)) (o + 2) (goto (ρ c)) (omega arith) (h .1 .1)) K
-              (landsLess (suc (o + 2)) (o + 5) δ K (ρ c) (omega arith) (g .lands c z)) qs)
+      ∙ ap (pre (plain n ∷ []))
+      (onGoto (o + 2) δ (ρ c) (hasMove C (suc (suc o)) (o + 2) (goto (ρ c)) (omega arith) (h .1 .1)) K
+      (landsLess (suc (o + 2)) (o + 5) δ K (ρ c) (omega arith) (g .lands c z)) qs)
 
   onSeq : (δ o ka kb : ℕ) (ρ : Comp → Stat) (x : Stat) (a b : List ℕ) (S T : List ℕ → Out) → length a ≡ ka
       → Runs δ o ka a (next ρ x) S
@@ -461,7 +462,7 @@ module _ (lim : ℕ) (C : List ℕ) where
       → Runs δ o (ka + kb) (a ++ b) ρ (λ qs. andThen (S qs) T)
   onSeq δ o ka kb ρ x a b S T e sa lx sb h K g qs =
       sa (hasLeft C o a b h) K (goodNext δ K ρ (o + ka + kb) (o + ka) x (omega arith) (lx K g′) g′) qs
-        ∙ onThen ρ K x T (sb (hasRight C o a b (o + ka) (omega arith) h) K g′) (S qs)
+      ∙ onThen ρ K x T (sb (hasRight C o a b (o + ka) (omega arith) h) K g′) (S qs)
     where
       g′ : Good δ K ρ (o + ka + kb)
       g′ = goodMove δ K ρ (o + (ka + kb)) (o + ka + kb) (omega arith) g
@@ -475,29 +476,34 @@ module _ (lim : ℕ) (C : List ℕ) where
     where
       g′ : Good δ K ρ (o + 7 + ka)
       g′ = goodMove δ K ρ (o + (7 + ka)) (o + 7 + ka) (omega arith) g
+
       go : (x : Bool) (r : List ℕ) → run lim C (pick x (o + 7) (o + 4)) K r ≡ fin ρ K (pick x (S r) (out [] normal r))
       go true r = sa (hasBehind (suc (suc (suc (suc o)))) (o + 7) (ρ normal) a (omega arith) (h .1 .1 .1 .1)) K g′ r
       go false r =
           onGoto (o + 4) δ (ρ normal) (hasGoto (suc (suc (suc (suc o)))) (o + 4) (ρ normal) a (omega arith) (h .1 .1 .1 .1)) K
-            (landsLess (suc (o + 4)) (o + 7 + ka) δ K (ρ normal) (omega arith) (g′ .lands normal refl)) r
+          (landsLess (suc (o + 4)) (o + 7 + ka) δ K (ρ normal) (omega arith) (g′ .lands normal refl)) r
 
   -- An If with an alternate: f says that the held statement stands first.
   onIf2 : (δ o n ka kb : ℕ) (f : Bool) (ρ : Comp → Stat) (a b : List ℕ) (S T : List ℕ → Out) → length a ≡ ka
       → Runs δ (o + 7) ka a ρ S → Runs δ (o + 7 + ka) kb b ρ T
       → Runs δ o (7 + ka + kb) (3 ∷ n ∷ pick f (o + 7) (o + 7 + ka) ∷ pick f (o + 7 + ka) (o + 7) ∷ goto (ρ normal) ++ (a ++ b)) ρ
-          (λ qs. ask n qs (λ x r. pick (isYes x) (pick f (S r) (T r)) (pick f (T r) (S r))))
+      (λ qs. ask n qs (λ x r. pick (isYes x) (pick f (S r) (T r)) (pick f (T r) (S r))))
   onIf2 δ o n ka kb f ρ a b S T e sa sb h K g qs =
       onAsk o n (pick f (o + 7) (o + 7 + ka)) (pick f (o + 7 + ka) (o + 7)) (goto (ρ normal) ++ (a ++ b)) h ρ K (g .stops) qs
-        (λ x r. pick (isYes x) (pick f (S r) (T r)) (pick f (T r) (S r))) (λ x r q. go (isYes x) f r)
+      (λ x r. pick (isYes x) (pick f (S r) (T r)) (pick f (T r) (S r))) (λ x r q. go (isYes x) f r)
     where
       g′ : Good δ K ρ (o + 7 + ka + kb)
       g′ = goodMove δ K ρ (o + (7 + ka + kb)) (o + 7 + ka + kb) (omega arith) g
+
       ha : Has C (o + 7) (a ++ b)
       ha = hasBehind (suc (suc (suc (suc o)))) (o + 7) (ρ normal) (a ++ b) (omega arith) (h .1 .1 .1 .1)
+
       left : (r : List ℕ) → run lim C (o + 7) K r ≡ fin ρ K (S r)
       left r = sa (hasLeft C (o + 7) a b ha) K (goodLess δ K ρ (o + 7 + ka + kb) (o + 7 + ka) (omega arith) g′) r
+
       right : (r : List ℕ) → run lim C (o + 7 + ka) K r ≡ fin ρ K (T r)
       right r = sb (hasRight C (o + 7) a b (o + 7 + ka) (omega arith) ha) K g′ r
+
       go : (x y : Bool) (r : List ℕ) → run lim C (pick x (pick y (o + 7) (o + 7 + ka)) (pick y (o + 7 + ka) (o + 7))) K r ≡ fin ρ K (pick x (pick y (S r) (T r)) (pick y (T r) (S r)))
       go true true r = left r
       go true false r = right r
@@ -510,7 +516,7 @@ module _ (lim : ℕ) (C : List ℕ) where
       → Runs δ o (3 + k) (goto x ++ a) ρ S
   onBlock δ o k ρ x a S lx sa h K g qs =
       onGoto o δ x (hasLeft C o (goto x) a h) K (landsLess (suc o) (o + 3) δ K x (omega arith) (lx K g′)) qs
-        ∙ sa (hasBehind o (o + 3) x a refl h) K g′ qs
+      ∙ sa (hasBehind o (o + 3) x a refl h) K g′ qs
     where
       g′ : Good δ K ρ (o + 3 + k)
       g′ = goodMove δ K ρ (o + (3 + k)) (o + 3 + k) (omega arith) g
@@ -518,26 +524,29 @@ module _ (lim : ℕ) (C : List ℕ) where
   onLoop : (δ o n ka : ℕ) (before test : Bool) (ls : List ℕ) (ρ : Comp → Stat) (a : List ℕ) (S : List ℕ → Out) → Shrinks S
       → Runs δ (o + 10) ka a (inLoop ls (o + 3) δ ρ) S
       → Runs δ o (10 + ka)
-          (2 ∷ pick before (o + 3) (o + 10) ∷ δ ∷ 3 ∷ n ∷ (o + 10) ∷ pick test (o + 7) (o + 10) ∷ goto (ρ normal) ++ a) ρ (λ qs. unbreak (loops before n test ls S qs))
+      (2 ∷ pick before (o + 3) (o + 10) ∷ δ ∷ 3 ∷ n ∷ (o + 10) ∷ pick test (o + 7) (o + 10) ∷ goto (ρ normal) ++ a) ρ (λ qs. unbreak (loops before n test ls S qs))
   unfolding fin
   onLoop δ o n ka before test ls ρ a S less sa h K g qs =
       onLeave o (pick before (o + 3) (o + 10)) δ (3 ∷ n ∷ (o + 10) ∷ pick test (o + 7) (o + 10) ∷ goto (ρ normal) ++ a) h K (go before) qs
-        ∙ resumeHere (pick before (o + 3) (o + 10)) δ K (pos′ before) (g .depth) qs
-        ∙ onLoops ρ K ls (o + 3) (o + 10) (o + 7) n δ test S (goto (ρ normal) ++ a) hb (omega arith) (g .stops) (g .depth)
-            (onGoto (o + 7) δ (ρ normal) (hasGoto (suc (suc (suc (suc (o + 3))))) (o + 7) (ρ normal) a (omega arith) (hb .1 .1 .1 .1)) K
-              (landsLess (suc (o + 7)) (o + 10 + ka) δ K (ρ normal) (omega arith) (g′ .lands normal refl)))
-            less
-            (sa (hasBehind (suc (suc (suc (suc (o + 3))))) (o + 10) (ρ normal) a (omega arith) (hb .1 .1 .1 .1)) K
-              (goodLoop δ K ρ ls (o + 10 + ka) (o + 3) (omega arith) (n, o + 10, pick test (o + 7) (o + 10), asking (o + 3) n (o + 10) (pick test (o + 7) (o + 10)) (goto (ρ normal) ++ a) hb) g′))
-            before qs
+      ∙ resumeHere (pick before (o + 3) (o + 10)) δ K (pos′ before) (g .depth) qs
+      ∙ onLoops ρ K ls (o + 3) (o + 10) (o + 7) n δ test S (goto (ρ normal) ++ a) hb (omega arith) (g .stops) (g .depth)
+      (onGoto (o + 7) δ (ρ normal) (hasGoto (suc (suc (suc (suc (o + 3))))) (o + 7) (ρ normal) a (omega arith) (hb .1 .1 .1 .1)) K
+      (landsLess (suc (o + 7)) (o + 10 + ka) δ K (ρ normal) (omega arith) (g′ .lands normal refl)))
+      less
+      (sa (hasBehind (suc (suc (suc (suc (o + 3))))) (o + 10) (ρ normal) a (omega arith) (hb .1 .1 .1 .1)) K
+      (goodLoop δ K ρ ls (o + 10 + ka) (o + 3) (omega arith) (n, o + 10, pick test (o + 7) (o + 10), asking (o + 3) n (o + 10) (pick test (o + 7) (o + 10)) (goto (ρ normal) ++ a) hb) g′))
+      before qs
     where
       g′ : Good δ K ρ (o + 10 + ka)
       g′ = goodMove δ K ρ (o + (10 + ka)) (o + 10 + ka) (omega arith) g
+
       hb : Has C (o + 3) (3 ∷ n ∷ (o + 10) ∷ pick test (o + 7) (o + 10) ∷ goto (ρ normal) ++ a)
       hb = hasMove C (suc (suc (suc o))) (o + 3) (3 ∷ n ∷ (o + 10) ∷ pick test (o + 7) (o + 10) ∷ goto (ρ normal) ++ a) (omega arith) (h .1 .1 .1)
+
       pos′ : (x : Bool) → 0 < pick x (o + 3) (o + 10)
       pos′ true = omega arith
       pos′ false = omega arith
+
       go : (x : Bool) → Fwd (suc o) (unwind K (pick x (o + 3) (o + 10)) δ .pc)
       go true = rw (unwindHere K (o + 3) δ (omega arith) (g .depth)) (inl (omega arith))
       go false = rw (unwindHere K (o + 10) δ (omega arith) (g .depth)) (inl (omega arith))
@@ -545,21 +554,22 @@ module _ (lim : ℕ) (C : List ℕ) where
   onSwitch : (δ o n kb : ℕ) (cs : Cases) (ρ : Comp → Stat) (b : List ℕ)
       → ((e a : ℕ) → Has C (o + 7) b → chase C o (link cs (o + 7)) e a ≡ place cs (o + 7) e a)
       → (Has C (o + 7) b → (K : List Frame) → Good δ K (λ c. ρ (noBreak c)) (o + 7 + kb) → (z : ℕ) → ((r : List ℕ) → run lim C z K r ≡ resume lim C (ρ normal) K r)
-        → (i : ℕ) (qs : List ℕ) → run lim C (place cs (o + 7) z i) K qs ≡ fin (λ c. ρ (noBreak c)) K (execFrom cs i qs))
+      → (i : ℕ) (qs : List ℕ) → run lim C (place cs (o + 7) z i) K qs ≡ fin (λ c. ρ (noBreak c)) K (execFrom cs i qs))
       → Runs δ o (7 + kb) (4 ∷ n ∷ link cs (o + 7) ∷ place cs (o + 7) (o + 4) (defaultAt cs) ∷ goto (ρ normal) ++ b) ρ
-          (λ qs. ask n qs (λ a r. unbreak (execFrom cs (entry a cs) r)))
+      (λ qs. ask n qs (λ a r. unbreak (execFrom cs (entry a cs) r)))
   unfolding fin
   onSwitch δ o n kb cs ρ b ch sb h K g qs =
       onSelect o n (link cs (o + 7)) (place cs (o + 7) (o + 4) (defaultAt cs)) (goto (ρ normal) ++ b) h ρ K (g .stops) qs
-        (λ a r. unbreak (execFrom cs (entry a cs) r))
-        (λ a r. ap (λ x. run lim C x K r) (ch (place cs (o + 7) (o + 4) (defaultAt cs)) a hb ∙ choice cs (o + 7) (place cs (o + 7) (o + 4) (defaultAt cs)) (o + 4) a refl)
-          ∙ sb hb K (goodBreak δ K ρ (o + 7 + kb) g′) (o + 4)
-              (onGoto (o + 4) δ (ρ normal) (hasGoto (suc (suc (suc (suc o)))) (o + 4) (ρ normal) b (omega arith) (h .1 .1 .1 .1)) K
-                (landsLess (suc (o + 4)) (o + 7 + kb) δ K (ρ normal) (omega arith) (g′ .lands normal refl)))
-              (entry a cs) r)
+      (λ a r. unbreak (execFrom cs (entry a cs) r))
+      (λ a r. ap (λ x. run lim C x K r) (ch (place cs (o + 7) (o + 4) (defaultAt cs)) a hb ∙ choice cs (o + 7) (place cs (o + 7) (o + 4) (defaultAt cs)) (o + 4) a refl)
+      ∙ sb hb K (goodBreak δ K ρ (o + 7 + kb) g′) (o + 4)
+      (onGoto (o + 4) δ (ρ normal) (hasGoto (suc (suc (suc (suc o)))) (o + 4) (ρ normal) b (omega arith) (h .1 .1 .1 .1)) K
+      (landsLess (suc (o + 4)) (o + 7 + kb) δ K (ρ normal) (omega arith) (g′ .lands normal refl)))
+      (entry a cs) r)
     where
       g′ : Good δ K ρ (o + 7 + kb)
       g′ = goodMove δ K ρ (o + (7 + kb)) (o + 7 + kb) (omega arith) g
+
       hb : Has C (o + 7) b
       hb = hasBehind (suc (suc (suc (suc o)))) (o + 7) (ρ normal) b (omega arith) (h .1 .1 .1 .1)
 
@@ -568,7 +578,7 @@ module _ (lim : ℕ) (C : List ℕ) where
       → Runs δ o (ka + kb) (a ++ b) ρ (λ qs. catching (S qs) T)
   onTryC δ o ka kb ρ a b S T e z sa sb h K g qs =
       sa (hasLeft C o a b h) K (goodTry δ K ρ (o + ka + kb) (o + ka) (omega arith) (omega arith) g′) qs
-        ∙ onCatch ρ K (o + ka) δ T (omega arith) (g .depth) (sb (hasRight C o a b (o + ka) (omega arith) h) K g′) (S qs)
+      ∙ onCatch ρ K (o + ka) δ T (omega arith) (g .depth) (sb (hasRight C o a b (o + ka) (omega arith) h) K g′) (S qs)
     where
       g′ : Good δ K ρ (o + ka + kb)
       g′ = goodMove δ K ρ (o + (ka + kb)) (o + ka + kb) (omega arith) g
@@ -578,12 +588,13 @@ module _ (lim : ℕ) (C : List ℕ) where
       → Runs δ o (2 + ka + kb) (5 ∷ (o + 2 + ka) ∷ a ++ b) ρ (λ qs. finally (S qs) T)
   onTryF δ o ka kb ρ a b S T e d sa sb h K g qs =
       onOpen o (o + 2 + ka) (a ++ b) h K (omega (arith, g .depth)) qs
-        ∙ sa (hasLeft C (o + 2) a b ha) (open′ (o + 2 + ka) ∷ K) (goodOpen δ K ρ (o + 2 + ka + kb) (o + 2 + ka) g′) qs
-        ∙ onOut ρ K δ (o + 2 + ka + kb) g′ (o + 2 + ka) T
-            (λ t d l r. sb (hasRight C (o + 2) a b (o + 2 + ka) (omega arith) ha) (pend t d ∷ K) (goodPend δ K ρ (o + 2 + ka + kb) t d l g′) r) (S qs)
+      ∙ sa (hasLeft C (o + 2) a b ha) (open′ (o + 2 + ka) ∷ K) (goodOpen δ K ρ (o + 2 + ka + kb) (o + 2 + ka) g′) qs
+      ∙ onOut ρ K δ (o + 2 + ka + kb) g′ (o + 2 + ka) T
+      (λ t d l r. sb (hasRight C (o + 2) a b (o + 2 + ka) (omega arith) ha) (pend t d ∷ K) (goodPend δ K ρ (o + 2 + ka + kb) t d l g′) r) (S qs)
     where
       g′ : Good δ K ρ (o + 2 + ka + kb)
       g′ = goodMove δ K ρ (o + (2 + ka + kb)) (o + 2 + ka + kb) (omega arith) g
+
       ha : Has C (o + 2) (a ++ b)
       ha = hasMove C (suc (suc o)) (o + 2) (a ++ b) (omega arith) (h .1 .1)
 
@@ -603,11 +614,12 @@ module _ (lim : ℕ) (C : List ℕ) where
       → (qs : List ℕ) → run lim C o K qs ≡ fin ρ K (andThen (S qs) T)
   onCase δ o ka kb l ρ x y a b S T K e h g ly lx sa sb qs =
       onCaseTo o δ l x (a ++ b) h K (landsLess (suc o) (o + 4) δ K x (omega arith) (lx g′)) qs
-        ∙ sa (hasLeft C (o + 4) a b hb) g′ qs
-        ∙ onThen ρ K y T (sb (hasRight C (o + 4) a b (o + 4 + ka) (omega arith) hb)) (S qs)
+      ∙ sa (hasLeft C (o + 4) a b hb) g′ qs
+      ∙ onThen ρ K y T (sb (hasRight C (o + 4) a b (o + 4 + ka) (omega arith) hb)) (S qs)
     where
       g′ : Good δ K (next ρ y) (o + 4 + ka)
       g′ = goodNext δ K ρ (o + 4 + ka + kb) (o + 4 + ka) y (omega arith) ly g
+
       hb : Has C (o + 4) (a ++ b)
       hb = hasMove C (suc (suc (suc (suc o)))) (o + 4) (a ++ b) (omega arith) (h .1 .1 .1 .1)
 
@@ -620,52 +632,53 @@ module _ (lim : ℕ) (C : List ℕ) where
 
   mutual
     unfolding code size exec place fin
+
     pub correct : (s : Stmt) (ls : List ℕ) (o δ r : ℕ) (ρ : Comp → Stat) → δ + r ≤ lim → Room s r → Runs δ o (size s) (code s ls o δ ρ) ρ (exec s ls)
     correct (leaf n l) ls o δ r ρ m w h K g qs = onLeaf δ o n (compOf l) ρ (leafNot l) h K g qs
     correct (if1 n s) ls o δ r ρ m w h K g qs =
         onIf1 δ o n (size s) ρ (code s [] (o + 7) δ ρ) (λ u. exec s [] u) (λ h′ K′ g′ u. correct s [] (o + 7) δ r ρ m w h′ K′ g′ u) h K g qs
     correct (if2 n s t) ls o δ r ρ m w h K g qs =
         onIf2 δ o n (size s) (size t) true ρ (code s [] (o + 7) δ ρ) (code t [] (o + 7 + size s) δ ρ) (λ u. exec s [] u) (λ u. exec t [] u) (codeLength s [] _ _ _)
-          (λ h′ K′ g′ u. correct s [] (o + 7) δ r ρ m (w .0) h′ K′ g′ u) (λ h′ K′ g′ u. correct t [] (o + 7 + size s) δ r ρ m (w .1) h′ K′ g′ u) h K g qs
+        (λ h′ K′ g′ u. correct s [] (o + 7) δ r ρ m (w .0) h′ K′ g′ u) (λ h′ K′ g′ u. correct t [] (o + 7 + size s) δ r ρ m (w .1) h′ K′ g′ u) h K g qs
     correct (if3 n t s) ls o δ r ρ m w h K g qs =
         onIf2 δ o n (size t) (size s) false ρ (code t [] (o + 7) δ ρ) (code s [] (o + 7 + size t) δ ρ) (λ u. exec t [] u) (λ u. exec s [] u) (codeLength t [] _ _ _)
-          (λ h′ K′ g′ u. correct t [] (o + 7) δ r ρ m (w .0) h′ K′ g′ u) (λ h′ K′ g′ u. correct s [] (o + 7 + size t) δ r ρ m (w .1) h′ K′ g′ u) h K g qs
+        (λ h′ K′ g′ u. correct t [] (o + 7) δ r ρ m (w .0) h′ K′ g′ u) (λ h′ K′ g′ u. correct s [] (o + 7 + size t) δ r ρ m (w .1) h′ K′ g′ u) h K g qs
     correct (withs n s) ls o δ r ρ m w h K g qs =
         onList o n (code s [] (o + 2) δ ρ) h K qs
-          ∙ ap (pre (plain n ∷ []))
-              (correct s [] (o + 2) δ r ρ m w (hasMove C (suc (suc o)) (o + 2) (code s [] (o + 2) δ ρ) (omega arith) (h .1 .1)) K
-                (goodMove δ K ρ (o + (2 + size s)) (o + 2 + size s) (omega arith) g) qs)
+        ∙ ap (pre (plain n ∷ []))
+        (correct s [] (o + 2) δ r ρ m w (hasMove C (suc (suc o)) (o + 2) (code s [] (o + 2) δ ρ) (omega arith) (h .1 .1)) K
+        (goodMove δ K ρ (o + (2 + size s)) (o + 2 + size s) (omega arith) g) qs)
     correct (block ss) ls o δ r ρ m w h K g qs =
         onBlock δ o (sizes ss) ρ (first ss (o + 3) δ ρ) (codes ss (o + 3) δ ρ) (λ u. execs ss u)
-          (λ K′ g′. firstLands ss (o + 3) δ (o + 3 + sizes ss) ρ K′ (omega arith) (omega arith) g′)
-          (λ h′ K′ g′ u. corrects ss (o + 3) δ r ρ m w (omega arith) h′ K′ g′ u) h K g qs
+        (λ K′ g′. firstLands ss (o + 3) δ (o + 3 + sizes ss) ρ K′ (omega arith) (omega arith) g′)
+        (λ h′ K′ g′ u. corrects ss (o + 3) δ r ρ m w (omega arith) h′ K′ g′ u) h K g qs
     correct (label l s) ls o δ r ρ m w h K g qs = correct s (l ∷ ls) o δ r (λ c. ρ (noLabel l c)) m w h K (goodLabel δ K ρ (o + size s) l g) qs
     correct (loop n before test s) ls o δ r ρ m w h K g qs =
         onLoop δ o n (size s) before test ls ρ (code s [] (o + 10) δ (inLoop ls (o + 3) δ ρ)) (λ u. exec s [] u) (execRest s [])
-          (λ h′ K′ g′ u. correct s [] (o + 10) δ r (inLoop ls (o + 3) δ ρ) m w h′ K′ g′ u) h K g qs
+        (λ h′ K′ g′ u. correct s [] (o + 10) δ r (inLoop ls (o + 3) δ ρ) m w h′ K′ g′ u) h K g qs
     correct (switch n cs) ls o δ r ρ m w h K g qs =
         onSwitch δ o n (sizeCases cs) cs ρ (codeCases cs (o + 7) δ (λ c. ρ (noBreak c)))
-          (λ e a h′. chaseIs cs o (o + 7) δ (λ c. ρ (noBreak c)) (omega arith) h′ e a)
-          (λ h′ K′ g′ z f i u. correctFrom cs (o + 7) δ r (λ c. ρ (noBreak c)) m w (omega arith) h′ K′ g′ z f i u) h K g qs
+        (λ e a h′. chaseIs cs o (o + 7) δ (λ c. ρ (noBreak c)) (omega arith) h′ e a)
+        (λ h′ K′ g′ z f i u. correctFrom cs (o + 7) δ r (λ c. ρ (noBreak c)) m w (omega arith) h′ K′ g′ z f i u) h K g qs
     correct (tryC b c) ls o δ r ρ m w h K g qs =
         onTryC δ o (size b) (size c) ρ (code b [] o δ (inTry ρ (o + size b) δ)) (code c [] (o + size b) δ ρ) (λ u. exec b [] u) (λ u. exec c [] u)
-          (codeLength b [] _ _ _) (sizePos b) (λ h′ K′ g′ u. correct b [] o δ r (inTry ρ (o + size b) δ) m (w .0) h′ K′ g′ u)
-          (λ h′ K′ g′ u. correct c [] (o + size b) δ r ρ m (w .1) h′ K′ g′ u) h K g qs
+        (codeLength b [] _ _ _) (sizePos b) (λ h′ K′ g′ u. correct b [] o δ r (inTry ρ (o + size b) δ) m (w .0) h′ K′ g′ u)
+        (λ h′ K′ g′ u. correct c [] (o + size b) δ r ρ m (w .1) h′ K′ g′ u) h K g qs
     correct (tryF b f) ls o δ zero ρ m w h K g qs = absurd w
     correct (tryF b f) ls o δ (suc r) ρ m w h K g qs =
         onTryF δ o (size b) (size f) ρ (code b [] (o + 2) (suc δ) ρ) (code f [] (o + 2 + size b) (suc δ) (next ρ (at 0 (suc δ)))) (λ u. exec b [] u) (λ u. exec f [] u)
-          (codeLength b [] _ _ _) (omega arith) (λ h′ K′ g′ u. correct b [] (o + 2) (suc δ) r ρ (omega arith) (w .0) h′ K′ g′ u)
-          (λ h′ K′ g′ u. correct f [] (o + 2 + size b) (suc δ) r (next ρ (at 0 (suc δ))) (omega arith) (w .1) h′ K′ g′ u) h K g qs
+        (codeLength b [] _ _ _) (omega arith) (λ h′ K′ g′ u. correct b [] (o + 2) (suc δ) r ρ (omega arith) (w .0) h′ K′ g′ u)
+        (λ h′ K′ g′ u. correct f [] (o + 2 + size b) (suc δ) r (next ρ (at 0 (suc δ))) (omega arith) (w .1) h′ K′ g′ u) h K g qs
 
     pub corrects : (ss : Stmts) (o δ r : ℕ) (ρ : Comp → Stat) → δ + r ≤ lim → RoomAll ss r → 0 < o → Has C o (codes ss o δ ρ) → (K : List Frame) → Good δ K ρ (o + sizes ss)
         → (qs : List ℕ) → resume lim C (first ss o δ ρ) K qs ≡ fin ρ K (execs ss qs)
     corrects nil o δ r ρ m w z h K g qs = refl
     corrects (cons s ss) o δ r ρ m w z h K g qs =
         resumeHere o δ K z (g .depth) qs
-          ∙ onSeq δ o (size s) (sizes ss) ρ (first ss (o + size s) δ ρ) (code s [] o δ (next ρ (first ss (o + size s) δ ρ))) (codes ss (o + size s) δ ρ) (λ u. exec s [] u) (λ u. execs ss u)
-              (codeLength s [] _ _ _) (λ h′ K′ g′ u. correct s [] o δ r (next ρ (first ss (o + size s) δ ρ)) m (w .0) h′ K′ g′ u)
-              (λ K′ g′. firstLands ss (o + size s) δ (o + size s + sizes ss) ρ K′ (omega arith) (omega arith) g′)
-              (λ h′ K′ g′ u. corrects ss (o + size s) δ r ρ m (w .1) (omega arith) h′ K′ g′ u) h K g qs
+        ∙ onSeq δ o (size s) (sizes ss) ρ (first ss (o + size s) δ ρ) (code s [] o δ (next ρ (first ss (o + size s) δ ρ))) (codes ss (o + size s) δ ρ) (λ u. exec s [] u) (λ u. execs ss u)
+        (codeLength s [] _ _ _) (λ h′ K′ g′ u. correct s [] o δ r (next ρ (first ss (o + size s) δ ρ)) m (w .0) h′ K′ g′ u)
+        (λ K′ g′. firstLands ss (o + size s) δ (o + size s + sizes ss) ρ K′ (omega arith) (omega arith) g′)
+        (λ h′ K′ g′ u. corrects ss (o + size s) δ r ρ m (w .1) (omega arith) h′ K′ g′ u) h K g qs
 
     -- At z stands a goto to where the cases end.
     pub correctFrom : (cs : Cases) (o δ r : ℕ) (ρ : Comp → Stat) → δ + r ≤ lim → RoomCases cs r → 0 < o → Has C o (codeCases cs o δ ρ) → (K : List Frame) → Good δ K ρ (o + sizeCases cs)
@@ -673,21 +686,21 @@ module _ (lim : ℕ) (C : List ℕ) where
     correctFrom none o δ r ρ m w p h K g z f i qs = f qs
     correctFrom (case d ss cs) o δ r ρ m w p h K g z f zero qs =
         onCase δ o (sizes ss) (sizeCases cs) (link cs (o + 4 + sizes ss)) ρ (first ss (o + 4) δ (next ρ (through cs (o + 4 + sizes ss) δ ρ))) (through cs (o + 4 + sizes ss) δ ρ)
-          (codes ss (o + 4) δ (next ρ (through cs (o + 4 + sizes ss) δ ρ))) (codeCases cs (o + 4 + sizes ss) δ ρ) (λ u. execs ss u) (λ u. execFrom cs zero u) K
-          (codesLength ss _ _ _) h (goodMove δ K ρ (o + (4 + sizes ss + sizeCases cs)) (o + 4 + sizes ss + sizeCases cs) (omega arith) g)
-          (throughLands cs (o + 4 + sizes ss) δ (o + 4 + sizes ss + sizeCases cs) ρ K (omega arith) (omega arith)
-            (goodMove δ K ρ (o + (4 + sizes ss + sizeCases cs)) (o + 4 + sizes ss + sizeCases cs) (omega arith) g))
-          (λ g′. firstLands ss (o + 4) δ (o + 4 + sizes ss) (next ρ (through cs (o + 4 + sizes ss) δ ρ)) K (omega arith) (omega arith) g′)
-          (λ h′ g′ u. corrects ss (o + 4) δ r (next ρ (through cs (o + 4 + sizes ss) δ ρ)) m (w .0) (omega arith) h′ K g′ u)
-          (λ h′ u. onThrough cs (o + 4 + sizes ss) δ z ρ K (omega arith) (g .depth)
-            (λ v. correctFrom cs (o + 4 + sizes ss) δ r ρ m (w .1) (omega arith) h′ K (goodMove δ K ρ (o + (4 + sizes ss + sizeCases cs)) (o + 4 + sizes ss + sizeCases cs) (omega arith) g) z f zero v) u) qs
+        (codes ss (o + 4) δ (next ρ (through cs (o + 4 + sizes ss) δ ρ))) (codeCases cs (o + 4 + sizes ss) δ ρ) (λ u. execs ss u) (λ u. execFrom cs zero u) K
+        (codesLength ss _ _ _) h (goodMove δ K ρ (o + (4 + sizes ss + sizeCases cs)) (o + 4 + sizes ss + sizeCases cs) (omega arith) g)
+        (throughLands cs (o + 4 + sizes ss) δ (o + 4 + sizes ss + sizeCases cs) ρ K (omega arith) (omega arith)
+        (goodMove δ K ρ (o + (4 + sizes ss + sizeCases cs)) (o + 4 + sizes ss + sizeCases cs) (omega arith) g))
+        (λ g′. firstLands ss (o + 4) δ (o + 4 + sizes ss) (next ρ (through cs (o + 4 + sizes ss) δ ρ)) K (omega arith) (omega arith) g′)
+        (λ h′ g′ u. corrects ss (o + 4) δ r (next ρ (through cs (o + 4 + sizes ss) δ ρ)) m (w .0) (omega arith) h′ K g′ u)
+        (λ h′ u. onThrough cs (o + 4 + sizes ss) δ z ρ K (omega arith) (g .depth)
+        (λ v. correctFrom cs (o + 4 + sizes ss) δ r ρ m (w .1) (omega arith) h′ K (goodMove δ K ρ (o + (4 + sizes ss + sizeCases cs)) (o + 4 + sizes ss + sizeCases cs) (omega arith) g) z f zero v) u) qs
     correctFrom (case d ss cs) o δ r ρ m w p h K g z f (suc i) qs =
         correctFrom cs (o + 4 + sizes ss) δ r ρ m (w .1) (omega arith)
-          (hasRight C (o + 4) (codes ss (o + 4) δ (next ρ (through cs (o + 4 + sizes ss) δ ρ))) (codeCases cs (o + 4 + sizes ss) δ ρ) (o + 4 + sizes ss)
-            (omega (arith, codesLength ss (o + 4) δ (next ρ (through cs (o + 4 + sizes ss) δ ρ))))
-            (hasMove C (suc (suc (suc (suc o)))) (o + 4)
-              (codes ss (o + 4) δ (next ρ (through cs (o + 4 + sizes ss) δ ρ)) ++ codeCases cs (o + 4 + sizes ss) δ ρ) (omega arith) (h .1 .1 .1 .1)))
-          K (goodMove δ K ρ (o + (4 + sizes ss + sizeCases cs)) (o + 4 + sizes ss + sizeCases cs) (omega arith) g) z f i qs
+        (hasRight C (o + 4) (codes ss (o + 4) δ (next ρ (through cs (o + 4 + sizes ss) δ ρ))) (codeCases cs (o + 4 + sizes ss) δ ρ) (o + 4 + sizes ss)
+        (omega (arith, codesLength ss (o + 4) δ (next ρ (through cs (o + 4 + sizes ss) δ ρ))))
+        (hasMove C (suc (suc (suc (suc o)))) (o + 4)
+        (codes ss (o + 4) δ (next ρ (through cs (o + 4 + sizes ss) δ ρ)) ++ codeCases cs (o + 4 + sizes ss) δ ρ) (omega arith) (h .1 .1 .1 .1)))
+        K (goodMove δ K ρ (o + (4 + sizes ss + sizeCases cs)) (o + 4 + sizes ss + sizeCases cs) (omega arith) g) z f i qs
 
 -- What a unit comes to.
 abbrev pub result : Out → Res
@@ -712,10 +725,13 @@ atEnd lim C m h o = ap (pre (o .nodes)) (go (o .comp)) ∙ ap (λ l. res l (endO
   where
     one : Has C (m + 2) (6 ∷ 1 ∷ 6 ∷ 2 ∷ 6 ∷ 5 ∷ [])
     one = hasMove C (suc (suc m)) (m + 2) (6 ∷ 1 ∷ 6 ∷ 2 ∷ 6 ∷ 5 ∷ []) (omega arith) (h .1 .1)
+
     two : Has C (m + 4) (6 ∷ 2 ∷ 6 ∷ 5 ∷ [])
     two = hasMove C (suc (suc (m + 2))) (m + 4) (6 ∷ 2 ∷ 6 ∷ 5 ∷ []) (omega arith) (one .1 .1)
+
     four : Has C (m + 6) (6 ∷ 5 ∷ [])
     four = hasMove C (suc (suc (m + 4))) (m + 6) (6 ∷ 5 ∷ []) (omega arith) (two .1 .1)
+
     go : (c : Comp) → resume lim C (top m c) [] (o .rest) ≡ res [] (endOf c) (o .rest)
     go normal = onEnd lim C m 0 (6 ∷ 1 ∷ 6 ∷ 2 ∷ 6 ∷ 5 ∷ []) h [] (o .rest)
     go (breaks l) = onEnd lim C (m + 6) 5 [] four [] (o .rest)
@@ -731,18 +747,18 @@ unfolding code size exec fin
 fromStart lim C nil ρ w h g f qs = f qs
 fromStart lim C (cons s ss) ρ w h g f qs =
     onSeq lim C 0 0 (size s) (sizes ss) ρ (first ss (0 + size s) 0 ρ) (code s [] 0 0 (next ρ (first ss (0 + size s) 0 ρ))) (codes ss (0 + size s) 0 ρ) (λ u. exec s [] u) (λ u. execs ss u)
-      (codeLength s [] _ _ _) (λ h′ K′ g′ u. correct lim C s [] 0 0 lim (next ρ (first ss (0 + size s) 0 ρ)) (omega arith) (w .0) h′ K′ g′ u)
-      (λ K′ g′. firstLands lim C ss (0 + size s) 0 (0 + size s + sizes ss) ρ K′ (omega (arith, sizePos s)) (omega arith) g′)
-      (λ h′ K′ g′ u. corrects lim C ss (0 + size s) 0 lim ρ (omega arith) (w .1) (omega (arith, sizePos s)) h′ K′ g′ u) h [] (goodMove lim C 0 [] ρ (size s + sizes ss) (0 + (size s + sizes ss)) (omega arith) g) qs
+    (codeLength s [] _ _ _) (λ h′ K′ g′ u. correct lim C s [] 0 0 lim (next ρ (first ss (0 + size s) 0 ρ)) (omega arith) (w .0) h′ K′ g′ u)
+    (λ K′ g′. firstLands lim C ss (0 + size s) 0 (0 + size s + sizes ss) ρ K′ (omega (arith, sizePos s)) (omega arith) g′)
+    (λ h′ K′ g′ u. corrects lim C ss (0 + size s) 0 lim ρ (omega arith) (w .1) (omega (arith, sizePos s)) h′ K′ g′ u) h [] (goodMove lim C 0 [] ρ (size s + sizes ss) (0 + (size s + sizes ss)) (omega arith) g) qs
 
 -- For every unit and every list of answers: the run of its code is what the unit does.
 pub unitCorrect : (lim : ℕ) (ss : Stmts) → RoomAll ss lim → (qs : List ℕ) → run lim (unit ss) 0 [] qs ≡ result (execs ss qs)
 unfolding unit resume unwind
 unitCorrect lim ss w qs =
     fromStart lim (unit ss) ss (top (sizes ss)) w (hasLeft (unit ss) 0 (codes ss 0 0 (top (sizes ss))) ends (hasSelf (unit ss))) (topGood lim (unit ss) (sizes ss) (sizes ss) refl) (λ u. refl) qs
-      ∙ atEnd lim (unit ss) (sizes ss)
-          (hasRight (unit ss) 0 (codes ss 0 0 (top (sizes ss))) ends (sizes ss) (omega (arith, codesLength ss 0 0 (top (sizes ss)))) (hasSelf (unit ss)))
-          (execs ss qs)
+    ∙ atEnd lim (unit ss) (sizes ss)
+    (hasRight (unit ss) 0 (codes ss 0 0 (top (sizes ss))) ends (sizes ss) (omega (arith, codesLength ss 0 0 (top (sizes ss)))) (hasSelf (unit ss)))
+    (execs ss qs)
 
 pub unitLength : (ss : Stmts) → length (unit ss) ≡ sizes ss + 8
 unfolding unit

@@ -1,8 +1,7 @@
 -- Codes run by the base machine: document 01's unit, an If whose alternate stands first, and lists of numbers that are no unit's code.
-use Prim.Native.Nat.{ℕ}
 use mathlib.Core.Path.{_≡_, refl}
-use mathlib.Core.List.{List, [], _∷_}
-use Rattle.completion.specs.Tree.{simple, leaf, if3, nil, cons}
+use mathlib.Core.List.{[], _∷_}
+use Rattle.completion.specs.Tree.{simple, leaf, if3}
 use Rattle.completion.specs.Route.{asks}
 use Rattle.completion.specs.Examples.{one, gives, row}
 use Rattle.flat.specs.Code.{code, size, place, unit}
@@ -11,12 +10,12 @@ use Rattle.flat.specs.Machine.{run, runs, fetch, unwind, chase, codeRout
 -- while, its Block, switch, case, continue, x, and the ends.
 pub rowCode : unit row
     ≡ (2 ∷ 3 ∷ 0 ∷ 3 ∷ 1 ∷ 10 ∷ 7 ∷ 2 ∷ 34 ∷ 0
-      ∷ 2 ∷ 13 ∷ 0
-      ∷ 4 ∷ 2 ∷ 20 ∷ 17 ∷ 2 ∷ 29 ∷ 0
-      ∷ 7 ∷ 0 ∷ 24 ∷ 0
-      ∷ 1 ∷ 3 ∷ 2 ∷ 3 ∷ 0
-      ∷ 1 ∷ 4 ∷ 2 ∷ 3 ∷ 0
-      ∷ 6 ∷ 0 ∷ 6 ∷ 1 ∷ 6 ∷ 2 ∷ 6 ∷ 5 ∷ [])
+    ∷ 2 ∷ 13 ∷ 0
+    ∷ 4 ∷ 2 ∷ 20 ∷ 17 ∷ 2 ∷ 29 ∷ 0
+    ∷ 7 ∷ 0 ∷ 24 ∷ 0
+    ∷ 1 ∷ 3 ∷ 2 ∷ 3 ∷ 0
+    ∷ 1 ∷ 4 ∷ 2 ∷ 3 ∷ 0
+    ∷ 6 ∷ 0 ∷ 6 ∷ 1 ∷ 6 ∷ 2 ∷ 6 ∷ 5 ∷ [])
 unfolding unit code size place
 rowCode = refl
 

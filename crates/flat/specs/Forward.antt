@@ -1,7 +1,6 @@
 -- A machine that goes forward, or back to an ASK, which it takes at once, and gives up with 6 at any other way back: a device of the proof. Whatever
 -- it runs without giving up, the machine of Machine.antt runs alike (Meet.antt).
 use Prim.Native.Nat.{ℕ, zero, suc, _+_, _*_, _-_}
-use mathlib.Core.Bool.{Bool, true, false}
 use mathlib.Core.List.{List, [], _∷_}
 use lib.ListN.{length}
 use lib.Dec.{ltb}

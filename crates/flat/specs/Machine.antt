@@ -1,7 +1,7 @@
 -- The machine: the run of a flat code over a list of answers. It is defined for every list of numbers as code, and ends with 0, 1, 2 or 3, or with
 -- 5 at what the code of a unit never comes to: no instruction, an END that says no such number, more instructions without an answer than the code
 -- has numbers, or pending ends that run below none or above their room.
-use Prim.Native.Nat.{ℕ, zero, suc, _+_, _*_, _-_}
+use Prim.Native.Nat.{ℕ, zero, suc, _+_, _*_}
 use mathlib.Core.Bool.{Bool, true, false, _&&_}
 use mathlib.Core.List.{List, [], _∷_, _++_}
 use lib.ListN.{length, getD}

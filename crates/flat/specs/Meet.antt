@@ -1,6 +1,6 @@
 -- Whatever the forward machine runs without giving up, the machine runs alike: control goes forward between answers, so that the instructions that
 -- pass are fewer than the code's numbers.
-use Prim.Native.Nat.{ℕ, zero, suc, _+_, _*_, _-_, _≤_, _<_}
+use Prim.Native.Nat.{ℕ, zero, suc, _+_, _-_, _≤_, _<_}
 use mathlib.Core.Path.{_≡_, refl, sym, _∙_, ap}
 use mathlib.Core.Bool.{Bool, true, false}
 use mathlib.Core.List.{List, [], _∷_}
@@ -10,10 +10,10 @@ use lib.Dec.{ltb}
 use borrow.Author.Tests.{ltb-true}
 use native.Mathlib.Omega.{arith}
 use Rattle.completion.specs.Sem.{plain, asked, pick, isYes}
-use Rattle.flat.specs.Machine.{Res, res, pre, Instr, NONE, LIST, LEAVE, ASK, SELECT, OPEN, END, CASE, fetch, Frame, open′, Pos, isZero, unwind, chase, endAs, pass, jump, step, run}
-use Rattle.flat.specs.Runs.{runStep}
+use Rattle.flat.specs.Machine.{Res, res, pre, Instr, NONE, LIST, LEAVE, ASK, SELECT, OPEN, END, CASE, fetch, Frame, open′, Pos, isZero, unwind, chase, pass, jump, step, run}
+use Rattle.flat.specs.Runs.{isNone, inside, runStep}
 use Rattle.flat.specs.Forward.{askNow, behind, forward, measure, step as stepF, run as runF}
-use Rattle.flat.specs.Steps.{isNone, inside, runStep as runStepF}
+use Rattle.flat.specs.Steps.{runStep as runStepF}
 
 -- The forward machine has not given up.
 abbrev Kept : Res → Type 0
@@ -21,7 +21,7 @@ Kept r = r .end ≢ 6
 
 module _ (lim : ℕ) (C : List ℕ) (pc : ℕ) (qs : List ℕ)
     (ih : (b′ pc′ : ℕ) (K′ : List Frame) (qs′ : List ℕ) → measure C pc′ qs′ < measure C pc qs → length C - pc′ ≤ b′ → Kept (runF lim C pc′ K′ qs′)
-      → run lim C b′ pc′ K′ qs′ ≡ runF lim C pc′ K′ qs′) where
+    → run lim C b′ pc′ K′ qs′ ≡ runF lim C pc′ K′ qs′) where
   -- One instruction passes.
   passes : (b : ℕ) → length C - pc ≤ b → pc < length C → (g : ℕ → Res) (z : Res) → ((r : ℕ) → length C - pc ≤ suc r → g r ≡ z) → pass b g qs ≡ z
   passes zero h l g z f = absurd (omega arith)
@@ -33,7 +33,7 @@ module _ (lim : ℕ) (C : List ℕ) (pc : ℕ) (qs : List ℕ)
     where
       go : (u : List ℕ)
           → ((b′ pc′ : ℕ) (K′ : List Frame) (qs′ : List ℕ) → measure C pc′ qs′ < measure C pc u → length C - pc′ ≤ b′ → Kept (runF lim C pc′ K′ qs′)
-            → run lim C b′ pc′ K′ qs′ ≡ runF lim C pc′ K′ qs′)
+          → run lim C b′ pc′ K′ qs′ ≡ runF lim C pc′ K′ qs′)
           → Kept (askNow (ASK n y z) (runF lim C) K u) → step lim C (run lim C) (ASK n y z) b t K u ≡ askNow (ASK n y z) (runF lim C) K u
       go [] f v = refl
       go (a ∷ u) f v = ap (pre (asked n ∷ [])) (f (length C) (pick (isYes a) y z) K u (omega arith) (omega arith) v)
@@ -60,12 +60,15 @@ module _ (lim : ℕ) (C : List ℕ) (pc : ℕ) (qs : List ℕ)
     where
       out : ℕ → Res
       out r = run lim C r (p .pc) (p .stack) qs
+
       back : Res
       back = askNow (behind C (p .pc)) (runF lim C) (p .stack) qs
+
       -- The place is not 0.
       some : (t : ℕ) (r : Res) → pc < t → pick (isZero t) (res [] 5 qs) r ≡ r
       some zero r q = absurd (omega arith)
       some (suc t) r q = refl
+
       go : (x : Bool) → ltb pc (p .pc) ≡ x → Kept (pick x (runF lim C (p .pc) (p .stack) qs) back) → jump (run lim C) b p qs ≡ pick x (runF lim C (p .pc) (p .stack) qs) back
       go true e v =
           let q : pc < p .pc = ltb-true pc (p .pc) e in
@@ -82,14 +85,14 @@ module _ (lim : ℕ) (C : List ℕ) (pc : ℕ) (qs : List ℕ)
   steps b h K (LIST n) e w =
       let l : pc < length C = inside C pc (ap isNone e) in
       passes b h l (λ r. pre (plain n ∷ []) (run lim C r (pc + 2) K qs)) (pre (plain n ∷ []) (runF lim C (pc + 2) K qs))
-        (λ r m. ap (pre (plain n ∷ [])) (ih r (pc + 2) K qs (omega arith) (omega arith) w))
+      (λ r m. ap (pre (plain n ∷ [])) (ih r (pc + 2) K qs (omega arith) (omega arith) w))
   steps b h K (LEAVE t d) e w = jumps b h (inside C pc (ap isNone e)) (unwind K t d) w
   steps b h K (ASK n y z) e w = sym (runStep lim C b pc K qs ∙ ap (λ i. step lim C (run lim C) i b pc K qs) e) ∙ takes b pc n y z K e w
   steps b h K (SELECT n c d) e w = go qs ih w
     where
       go : (u : List ℕ)
           → ((b′ pc′ : ℕ) (K′ : List Frame) (qs′ : List ℕ) → measure C pc′ qs′ < measure C pc u → length C - pc′ ≤ b′ → Kept (runF lim C pc′ K′ qs′)
-            → run lim C b′ pc′ K′ qs′ ≡ runF lim C pc′ K′ qs′)
+          → run lim C b′ pc′ K′ qs′ ≡ runF lim C pc′ K′ qs′)
           → Kept (stepF lim C (runF lim C) (SELECT n c d) pc K u) → step lim C (run lim C) (SELECT n c d) b pc K u ≡ stepF lim C (runF lim C) (SELECT n c d) pc K u
       go [] f v = refl
       go (a ∷ u) f v = ap (pre (asked n ∷ [])) (f (length C) (chase C pc c d a) K u (omega arith) (omega arith) v)
@@ -97,11 +100,12 @@ module _ (lim : ℕ) (C : List ℕ) (pc : ℕ) (qs : List ℕ)
     where
       l : pc < length C
       l = inside C pc (ap isNone e)
+
       go : (x : Bool) → Kept (pick x (runF lim C (pc + 2) (open′ f ∷ K) qs) (res [] 5 qs))
           → pick x (pass b (λ r. run lim C r (pc + 2) (open′ f ∷ K) qs) qs) (res [] 5 qs) ≡ pick x (runF lim C (pc + 2) (open′ f ∷ K) qs) (res [] 5 qs)
       go true v =
           passes b h l (λ r. run lim C r (pc + 2) (open′ f ∷ K) qs) (runF lim C (pc + 2) (open′ f ∷ K) qs)
-            (λ r m. ih r (pc + 2) (open′ f ∷ K) qs (omega (arith, l)) (omega (arith, l)) v)
+          (λ r m. ih r (pc + 2) (open′ f ∷ K) qs (omega (arith, l)) (omega (arith, l)) v)
       go false v = refl
   steps b h K (END x) e w = refl
   steps b h K (CASE c t d) e w = jumps b h (inside C pc (ap isNone e)) (unwind K t d) w
@@ -111,8 +115,8 @@ meets : (lim f : ℕ) (C : List ℕ) (b pc : ℕ) (K : List Frame) (qs : List �
 meets lim zero C b pc K qs m h w = absurd (omega arith)
 meets lim (suc f) C b pc K qs m h w =
     runStep lim C b pc K qs
-      ∙ steps lim C pc qs (λ b′ pc′ K′ qs′ l h′ w′. meets lim f C b′ pc′ K′ qs′ (omega arith) h′ w′) b h K (fetch C pc) refl (λ e. w (ap (λ r. r .end) (runStepF lim C pc K qs) ∙ e))
-      ∙ sym (runStepF lim C pc K qs)
+    ∙ steps lim C pc qs (λ b′ pc′ K′ qs′ l h′ w′. meets lim f C b′ pc′ K′ qs′ (omega arith) h′ w′) b h K (fetch C pc) refl (λ e. w (ap (λ r. r .end) (runStepF lim C pc K qs) ∙ e))
+    ∙ sym (runStepF lim C pc K qs)
 
 pub meet : (lim : ℕ) (C : List ℕ) (qs : List ℕ) → runF lim C 0 [] qs .end ≢ 6 → run lim C (length C) 0 [] qs ≡ runF lim C 0 [] qs
 meet lim C qs w = meets lim (suc (measure C 0 qs)) C (length C) 0 [] qs (omega arith) (omega arith) w

@@ -1,5 +1,5 @@
 -- Room for pending ends: a tree without try needs none, and every tree finds room somewhere.
-use Prim.Native.Nat.{ℕ, zero, suc, _+_, _≤_}
+use Prim.Native.Nat.{ℕ, zero, suc, _≤_}
 use native.Mathlib.Omega.{arith}
 use Rattle.completion.specs.Tree.{Stmt, Stmts, Cases, leaf, if1, if2, if3, withs, block, label, loop, switch, tryC, tryF, nil, cons, none, case, NoTry, NoTryAll, NoTryCases}
 use Rattle.flat.specs.Code.{size, sizes, sizeCases, Room, RoomAll, RoomCases}
@@ -28,6 +28,7 @@ mutual
 
 mutual
   unfolding size
+
   enoughOne : (s : Stmt) (r : ℕ) → size s ≤ r → Room s r
   enoughOne (leaf n l) r h = tt
   enoughOne (if1 n s) r h = enoughOne s r (omega arith)

@@ -1,19 +1,19 @@
 -- The length of the code is the sum of the nodes' numbers, whatever the place and the targets.
-use Prim.Native.Nat.{ℕ, zero, suc, _+_, _≤_, _<_}
-use mathlib.Core.Path.{_≡_, refl, sym, _∙_, ap}
-use mathlib.Core.Bool.{Bool, true, false, not, _||_}
-use mathlib.Core.List.{List, [], _∷_, _++_}
+use Prim.Native.Nat.{ℕ, suc, _+_, _<_}
+use mathlib.Core.Path.{_≡_, refl}
+use mathlib.Core.List.{List, [], _∷_}
 use lib.ListN.{length, length-append}
 use native.Mathlib.Omega.{arith}
-use Rattle.completion.specs.Tree.{Lab, near, named, Stmt, Stmts, Cases, Leaf, simple, brk, con, ret, thr, leaf, if1, if2, if3, withs, block, label, loop, switch, tryC, tryF, nil, cons, none, case}
-use Rattle.completion.specs.Sem.{Comp, normal, breaks, continues, returns, throws, spent, count, noLabel, noBreak, pick, compOf}
-use Rattle.flat.specs.Code.{Stat, at, ended, goto, caseTo, next, inLoop, inTry, size, sizes, sizeCases, place, first, link, through, code, codes, codeCases}
+use Rattle.completion.specs.Tree.{Stmt, Stmts, Cases, leaf, if1, if2, if3, withs, block, label, loop, switch, tryC, tryF, nil, cons, none, case}
+use Rattle.completion.specs.Sem.{Comp, noLabel, noBreak}
+use Rattle.flat.specs.Code.{Stat, at, goto, next, inLoop, inTry, size, sizes, sizeCases, first, through, code, codes, codeCases}
 
 pub gotoLength : (s : Stat) → length (goto s) ≡ 3
 gotoLength s = refl
 
 mutual
   unfolding code size
+
   pub codeLength : (s : Stmt) (ls : List ℕ) (o δ : ℕ) (ρ : Comp → Stat) → length (code s ls o δ ρ) ≡ size s
   codeLength (leaf n l) ls o δ ρ = refl
   codeLength (if1 n s) ls o δ ρ = simp length-append (omega (arith, codeLength s [] (o + 7) δ ρ))
@@ -40,6 +40,7 @@ mutual
 -- Every statement has some code.
 mutual
   unfolding size
+
   pub sizePos : (s : Stmt) → 0 < size s
   sizePos (leaf n l) = omega arith
   sizePos (if1 n s) = omega arith

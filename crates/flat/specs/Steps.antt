@@ -1,40 +1,17 @@
 -- The forward machine goes from step to step, for every list of numbers as code: its bound on the steps is never met.
-use Prim.Native.Nat.{ℕ, zero, suc, _+_, _*_, _-_, _≤_, _<_}
-use mathlib.Core.Path.{_≡_, refl, sym, _∙_, ap, subst}
-use mathlib.Core.Bool.{Bool, true, false, _&&_, true≢false}
-use mathlib.Core.List.{List, [], _∷_, _++_}
-use lib.ListN.{length, getD, List·getD-eq-default}
-use lib.Dec.{eqb, ltb}
+use Prim.Native.Nat.{ℕ, zero, suc, _+_, _<_}
+use mathlib.Core.Path.{_≡_, refl, ap}
+use mathlib.Core.Bool.{Bool, true, false}
+use mathlib.Core.List.{List, [], _∷_}
+use lib.ListN.{length}
+use lib.Dec.{ltb}
 use borrow.Author.Tests.{ltb-true}
 use native.Mathlib.Omega.{arith}
-use native.Mathlib.Decide.{decLt}
-use mathlib.Core.Logic.{_≢_, _⊎_, inl, inr}
-use Rattle.completion.specs.Sem.{Entry, plain, asked, pick, isYes}
+use Rattle.completion.specs.Sem.{plain, asked, pick}
 use Rattle.flat.specs.Code.{Stat, at, ended}
-use Rattle.flat.specs.Machine.{Res, res, pre, Instr, NONE, LIST, LEAVE, ASK, SELECT, OPEN, END, CASE, decode, fetch, Frame, open′, pend, Pos, pos, unwind, isCase, chase, endAs}
+use Rattle.flat.specs.Machine.{Res, res, pre, Instr, NONE, LIST, LEAVE, ASK, SELECT, OPEN, END, CASE, fetch, Frame, open′, Pos, unwind}
+use Rattle.flat.specs.Runs.{isNone, inside}
 use Rattle.flat.specs.Forward.{askNow, behind, forward, step, runs, measure, run}
-
--- Past the code stands no instruction.
-pub past : (C : List ℕ) (pc : ℕ) → length C ≤ pc → fetch C pc ≡ NONE
-unfolding fetch
-past C pc h = ap (λ x. decode x (getD C (suc pc) 0) (getD C (suc (suc pc)) 0) (getD C (suc (suc (suc pc))) 0)) (List·getD-eq-default C 0 h)
-
-abbrev pub isNone : Instr → Bool
-isNone NONE = true
-isNone (LIST n) = false
-isNone (LEAVE t d) = false
-isNone (ASK n y z) = false
-isNone (SELECT n m d) = false
-isNone (OPEN f) = false
-isNone (END e) = false
-isNone (CASE c t d) = false
-
-pub inside : (C : List ℕ) (pc : ℕ) → isNone (fetch C pc) ≡ false → pc < length C
-inside C pc h = go (decLt pc (length C))
-  where
-    go : Dec (pc < length C) → pc < length C
-    go (yes p) = p
-    go (no p) = absurd (true≢false (sym (ap isNone (past C pc (omega arith))) ∙ h))
 
 module _ (C : List ℕ) (k k′ : ℕ → List Frame → List ℕ → Res) (pc : ℕ) (qs : List ℕ)
     (ih : (pc′ : ℕ) (K′ : List Frame) (qs′ : List ℕ) → measure C pc′ qs′ < measure C pc qs → k pc′ K′ qs′ ≡ k′ pc′ K′ qs′) where
@@ -91,8 +68,8 @@ pub runStep : (lim : ℕ) (C : List ℕ) (pc : ℕ) (K : List Frame) (qs : List 
 unfolding run runs
 runStep lim C pc K qs =
     stepCong lim C (runs lim (measure C pc qs) C) (run lim C) pc K qs
-      (λ pc′ K′ qs′ h. same lim (measure C pc qs) (suc (measure C pc′ qs′)) C pc′ K′ qs′ h (omega arith))
-      (fetch C pc) refl
+    (λ pc′ K′ qs′ h. same lim (measure C pc qs) (suc (measure C pc′ qs′)) C pc′ K′ qs′ h (omega arith))
+    (fetch C pc) refl
 
 abbrev pub runPos : ℕ → List ℕ → Pos → List ℕ → Res
 runPos lim C p qs = run lim C (p .pc) (p .stack) qs

@@ -1,5 +1,5 @@
 -- The length of a unit's code is the sum of its nodes' numbers.
-use Prim.Native.Nat.{ℕ, _+_, _*_, _≤_}
+use Prim.Native.Nat.{_+_, _*_, _≤_}
 use mathlib.Core.Path.{_≡_, refl}
 use mathlib.Core.List.{List, [], _∷_, _++_}
 use lib.ListN.{length}
@@ -16,6 +16,7 @@ totalAppend (k ∷ a) b = omega (arith, totalAppend a b)
 
 mutual
   unfolding size shapes total
+
   pub sizeSum : (s : Stmt) → size s ≡ total (shapes s)
   sizeSum (leaf n l) = refl
   sizeSum (if1 n s) = omega (arith, sizeSum s)

@@ -1,5 +1,5 @@
 -- What the loop over the instructions keeps: the entries so far are counted and laid over the slice, and the rest of the run is still to come.
-use Prim.Native.Nat.{ℕ, zero, suc, _+_, _≤_, _<_, min}
+use Prim.Native.Nat.{ℕ, suc, _≤_, _<_}
 use mathlib.Core.Path.{_≡_, refl, sym, _∙_, ap}
 use mathlib.Core.List.{List, [], _∷_, _++_, map, map-append, append-assoc, append-nil}
 use lib.ListN.{length, getD, drop, take, set, length-append, drop-of-length-le}
@@ -9,7 +9,7 @@ use native.Mathlib.Decide.{decLt}
 use Rattle.completion.specs.Sem.{Entry}
 use Rattle.completion.specs.Route.{asks, nodeOf}
 use Rattle.completion.specs.Taken.{asksAppend}
-use Rattle.flat.specs.Machine.{Res, res, pre, run, base, started, codeRoute}
+use Rattle.flat.specs.Machine.{res, pre, base, started, codeRoute}
 use Rattle.runner.specs.Ran.{most, saturated, next, laid}
 use Rattle.runner.specs.Turn.{Going, Turned}
 use Rattle.runner.specs.declared.Place.{Place}
@@ -35,24 +35,25 @@ laidMore l f x m = go (decLt (length l) (length f))
   where
     more : length (l ++ x ∷ []) ≡ suc (length l)
     more = simp length-append (omega arith)
+
     go : Dec (length l < length f) → set (laid l f) (saturated (length l)) x ≡ laid (l ++ x ∷ []) f
     go (yes h) =
         let k : saturated (length l) ≡ length l = omega arith in
         let g : length (l ++ x ∷ []) ≤ length f = omega (arith, more) in
         ap (λ j. set (laid l f) j x) k
-          ∙ ap (λ d. set d (length l) x) (laidIn l f (omega arith) ∙ ap (λ d. l ++ d) (drop-cons f (length l) 0 h))
-          ∙ set-at l (getD f (length l) 0) (drop (suc (length l)) f) x (length l) refl
-          ∙ sym (append-snoc l x (drop (suc (length l)) f))
-          ∙ ap (λ j. l ++ (x ∷ []) ++ drop j f) (sym more)
-          ∙ sym (laidIn (l ++ x ∷ []) f g)
+        ∙ ap (λ d. set d (length l) x) (laidIn l f (omega arith) ∙ ap (λ d. l ++ d) (drop-cons f (length l) 0 h))
+        ∙ set-at l (getD f (length l) 0) (drop (suc (length l)) f) x (length l) refl
+        ∙ sym (append-snoc l x (drop (suc (length l)) f))
+        ∙ ap (λ j. l ++ (x ∷ []) ++ drop j f) (sym more)
+        ∙ sym (laidIn (l ++ x ∷ []) f g)
     go (no h) =
         let b : length f ≤ length l = omega arith in
         let g : length f ≤ length (l ++ x ∷ []) = omega (arith, more) in
         let w : length (laid l f) ≡ length f = ap length (laidOut l f b) ∙ length-take-le (length f) l b in
         set-out (laid l f) (saturated (length l)) x (omega arith)
-          ∙ laidOut l f b
-          ∙ sym (take-append-le (length f) l (x ∷ []) b)
-          ∙ sym (laidOut (l ++ x ∷ []) f g)
+        ∙ laidOut l f b
+        ∙ sym (take-append-le (length f) l (x ∷ []) b)
+        ∙ sym (laidOut (l ++ x ∷ []) f g)
 
 -- After the entries so far the run stands at p; n of them are counted.
 pub record Kept (C qs f₀ f : List ℕ) (p : Place) (n : ℕ) : Type 0 where
@@ -91,13 +92,13 @@ module _ (C qs f₀ f : List ℕ) (p : Place) (n : ℕ) (k : Kept C qs f₀ f p 
 -- An instruction that lists nothing.
 pub keptOn : (C qs f₀ f : List ℕ) (p : Place) (n : ℕ) → Kept C qs f₀ f p n → (q : Place) → Going C qs p [] q → Kept C qs f₀ f q n
 keptOn C qs f₀ f p n k q g =
-    record
-      { shown = k .shown ++ g .shown
-      ; runs = runsOn C qs f₀ f p n k [] q g
-      ; takes = takesOn C qs f₀ f p n k [] q g
-      ; counts = k .counts ∙ ap (λ d. saturated (length d)) (sym nodes)
-      ; wrote = k .wrote ∙ ap (λ d. laid d f₀) (sym nodes)
-      }
+    record {
+      shown = k .shown ++ g .shown;
+      runs = runsOn C qs f₀ f p n k [] q g;
+      takes = takesOn C qs f₀ f p n k [] q g;
+      counts = k .counts ∙ ap (λ d. saturated (length d)) (sym nodes);
+      wrote = k .wrote ∙ ap (λ d. laid d f₀) (sym nodes);
+    }
   where
     nodes : map nodeOf (k .shown ++ g .shown) ≡ map nodeOf (k .shown)
     nodes = nodesOn C qs f₀ f p n k [] q g ∙ append-nil (map nodeOf (k .shown))
@@ -106,13 +107,13 @@ keptOn C qs f₀ f p n k q g =
 pub keptMore : (C qs f₀ f : List ℕ) (p : Place) (n : ℕ) → length f₀ ≤ most → Kept C qs f₀ f p n → (x : ℕ) (q : Place) → Going C qs p (x ∷ []) q
     → Kept C qs f₀ (set f n x) q (next n)
 keptMore C qs f₀ f p n m k x q g =
-    record
-      { shown = k .shown ++ g .shown
-      ; runs = runsOn C qs f₀ f p n k (x ∷ []) q g
-      ; takes = takesOn C qs f₀ f p n k (x ∷ []) q g
-      ; counts = countOn f₀ f n (map nodeOf (k .shown)) m (k .counts) (k .wrote) x ∙ ap (λ d. saturated (length d)) (sym nodes)
-      ; wrote = wroteOn f₀ f n (map nodeOf (k .shown)) m (k .counts) (k .wrote) x ∙ ap (λ d. laid d f₀) (sym nodes)
-      }
+    record {
+      shown = k .shown ++ g .shown;
+      runs = runsOn C qs f₀ f p n k (x ∷ []) q g;
+      takes = takesOn C qs f₀ f p n k (x ∷ []) q g;
+      counts = countOn f₀ f n (map nodeOf (k .shown)) m (k .counts) (k .wrote) x ∙ ap (λ d. saturated (length d)) (sym nodes);
+      wrote = wroteOn f₀ f n (map nodeOf (k .shown)) m (k .counts) (k .wrote) x ∙ ap (λ d. laid d f₀) (sym nodes);
+    }
   where
     nodes : map nodeOf (k .shown ++ g .shown) ≡ map nodeOf (k .shown) ++ x ∷ []
     nodes = nodesOn C qs f₀ f p n k (x ∷ []) q g
@@ -126,14 +127,15 @@ pub record Told (C qs f₀ f : List ℕ) (e n i : ℕ) : Type 0 where
 
 pub keptStop : (C qs f₀ f : List ℕ) (p : Place) (n e : ℕ) → Kept C qs f₀ f p n → Turned C qs p (Over e) → Told C qs f₀ f e n (p .at)
 keptStop C qs f₀ f p n e k h =
-    record
-      { end = sym (ap (λ r. r .end) all)
-      ; entries = k .counts ∙ ap (λ d. saturated (length (map nodeOf d))) (sym nodes)
-      ; taken = sym (k .takes) ∙ ap asks (sym nodes)
-      ; list = k .wrote ∙ ap (λ d. laid (map nodeOf d) f₀) (sym nodes)
-      }
+    record {
+      end = sym (ap (λ r. r .end) all);
+      entries = k .counts ∙ ap (λ d. saturated (length (map nodeOf d))) (sym nodes);
+      taken = sym (k .takes) ∙ ap asks (sym nodes);
+      list = k .wrote ∙ ap (λ d. laid (map nodeOf d) f₀) (sym nodes);
+    }
   where
     all : started C qs ≡ res (k .shown ++ []) e (drop (p .at) qs)
     all = k .runs ∙ ap (pre (k .shown)) h
+
     nodes : started C qs .nodes ≡ k .shown
     nodes = ap (λ r. r .nodes) all ∙ append-nil (k .shown)

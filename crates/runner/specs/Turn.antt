@@ -1,17 +1,16 @@
 -- One instruction of the base machine, as the runner takes it.
-use Prim.Native.Nat.{ℕ, zero, suc, _+_, _*_, _-_, _≤_, _<_}
+use Prim.Native.Nat.{ℕ, zero, suc, _+_, _-_, _≤_, _<_}
 use mathlib.Core.Path.{_≡_, refl, sym, _∙_, ap}
 use mathlib.Core.Logic.{_≢_}
-use mathlib.Core.Bool.{Bool, true, false}
-use mathlib.Core.List.{List, [], _∷_, _++_, map}
+use mathlib.Core.Bool.{true, false}
+use mathlib.Core.List.{List, [], _∷_, map}
 use lib.ListN.{length, getD, drop, drop-of-length-le}
 use lib.Seq.{drop-cons}
 use native.Mathlib.Omega.{arith}
 use Rattle.completion.specs.Sem.{Entry, plain, asked, pick, isYes}
 use Rattle.completion.specs.Route.{asks, nodeOf}
-use Rattle.flat.specs.Machine.{Res, res, pre, Instr, NONE, LIST, LEAVE, ASK, SELECT, OPEN, END, CASE, decode, fetch, pos, isZero, unwind, isCase, chase, endAs, pass, jump, step, measure, run, base}
-use Rattle.flat.specs.Runs.{runStep}
-use Rattle.flat.specs.Steps.{past}
+use Rattle.flat.specs.Machine.{Res, res, pre, ASK, SELECT, decode, fetch, pos, unwind, isCase, chase, endAs, pass, jump, step, measure, run, base}
+use Rattle.flat.specs.Runs.{past, runStep}
 use Rattle.runner.specs.declared.Place.{Place}
 use Rattle.runner.specs.declared.Step.{Step}
 use Rattle.runner.specs.declared.Step.the-variants.{Over, On, Listed}
@@ -92,8 +91,13 @@ module _ (C qs : List ℕ) (p : Place) (op x : ℕ) (hop : op ≡ getD C (p .pc)
   pub wList : op ≡ 1 → p .room ≢ 0 → Turned C qs p (Listed x (record { pc = p .pc + 2; at = p .at; room = p .room - 1 }))
   unfolding asks
   wList h n =
-      record { less = omega arith; shown = plain x ∷ []; nodes = refl; takes = omega arith;
-        runs = byOp 1 h (drop (p .at) qs) ∙ passed (p .room) (λ b. pre (plain x ∷ []) (base C b (p .pc + 2) (drop (p .at) qs))) (drop (p .at) qs) n }
+      record {
+        less = omega arith;
+        shown = plain x ∷ [];
+        nodes = refl;
+        takes = omega arith;
+        runs = byOp 1 h (drop (p .at) qs) ∙ passed (p .room) (λ b. pre (plain x ∷ []) (base C b (p .pc + 2) (drop (p .at) qs))) (drop (p .at) qs) n;
+      }
 
   pub wFull : op ≡ 1 → p .room ≡ 0 → Turned C qs p (Over 5)
   wFull h n = byOp 1 h (drop (p .at) qs) ∙ stuck (p .room) (λ b. pre (plain x ∷ []) (base C b (p .pc + 2) (drop (p .at) qs))) (drop (p .at) qs) n
@@ -144,8 +148,13 @@ module _ (C qs : List ℕ) (p : Place) (x : ℕ) (to : base C (p .room) (p .pc) 
   pub jOn : x ≢ 0 → p .room ≢ 0 → (t : ℕ) → t ≡ x → Turned C qs p (On (record { pc = t; at = p .at; room = p .room - 1 }))
   unfolding asks
   jOn h n t e =
-      record { less = omega arith; shown = []; nodes = refl; takes = omega arith;
-        runs = some h ∙ passed (p .room) (λ b. base C b x (drop (p .at) qs)) (drop (p .at) qs) n ∙ ap (λ k. base C (p .room - 1) k (drop (p .at) qs)) (sym e) }
+      record {
+        less = omega arith;
+        shown = [];
+        nodes = refl;
+        takes = omega arith;
+        runs = some h ∙ passed (p .room) (λ b. base C b x (drop (p .at) qs)) (drop (p .at) qs) n ∙ ap (λ k. base C (p .room - 1) k (drop (p .at) qs)) (sym e);
+      }
 
 -- The answers from i on.
 module _ (qs : List ℕ) (i : ℕ) where
@@ -187,8 +196,8 @@ module _ (C qs : List ℕ) (p : Place) (op : getD C (p .pc) 0 ≡ 3) where
   pub wAskNone : length qs ≤ p .at → Turned C qs p (Over 3)
   wAskNone h =
       asks′ (getD C (p .pc + 1) 0) (getD C (p .pc + 2) 0) (getD C (p .pc + 3) 0) refl refl refl
-        ∙ ap (λ r. step 0 C (run 0 C) (ASK (getD C (p .pc + 1) 0) (getD C (p .pc + 2) 0) (getD C (p .pc + 3) 0)) (p .room) (p .pc) [] r) (noMore qs (p .at) h)
-        ∙ ap (λ r. res [] 3 r) (sym (noMore qs (p .at) h))
+      ∙ ap (λ r. step 0 C (run 0 C) (ASK (getD C (p .pc + 1) 0) (getD C (p .pc + 2) 0) (getD C (p .pc + 3) 0)) (p .room) (p .pc) [] r) (noMore qs (p .at) h)
+      ∙ ap (λ r. res [] 3 r) (sym (noMore qs (p .at) h))
 
   taken : (n y z : ℕ) → n ≡ getD C (p .pc + 1) 0 → y ≡ getD C (p .pc + 2) 0 → z ≡ getD C (p .pc + 3) 0 → p .at < length qs
       → base C (p .room) (p .pc) (drop (p .at) qs) ≡ pre (asked n ∷ []) (base C (length C) (pick (isYes (getD qs (p .at) 0)) y z) (drop (p .at + 1) qs))
@@ -198,28 +207,28 @@ module _ (C qs : List ℕ) (p : Place) (op : getD C (p .pc) 0 ≡ 3) where
       → Turned C qs p (Listed n (record { pc = y; at = p .at + 1; room = length C }))
   wAskYes n y hn hy h a =
       took C qs p n y h
-        (taken n y (getD C (p .pc + 3) 0) hn hy refl h
-          ∙ ap (λ b. pre (asked n ∷ []) (base C (length C) (pick b y (getD C (p .pc + 3) 0)) (drop (p .at + 1) qs))) (yesOf (getD qs (p .at) 0) a))
+      (taken n y (getD C (p .pc + 3) 0) hn hy refl h
+      ∙ ap (λ b. pre (asked n ∷ []) (base C (length C) (pick b y (getD C (p .pc + 3) 0)) (drop (p .at + 1) qs))) (yesOf (getD qs (p .at) 0) a))
 
   pub wAskNo : (n z : ℕ) → n ≡ getD C (p .pc + 1) 0 → z ≡ getD C (p .pc + 3) 0 → p .at < length qs → getD qs (p .at) 0 ≡ 0
       → Turned C qs p (Listed n (record { pc = z; at = p .at + 1; room = length C }))
   wAskNo n z hn hz h a =
       took C qs p n z h
-        (taken n (getD C (p .pc + 2) 0) z hn refl hz h
-          ∙ ap (λ b. pre (asked n ∷ []) (base C (length C) (pick b (getD C (p .pc + 2) 0) z) (drop (p .at + 1) qs))) (noOf (getD qs (p .at) 0) a))
+      (taken n (getD C (p .pc + 2) 0) z hn refl hz h
+      ∙ ap (λ b. pre (asked n ∷ []) (base C (length C) (pick b (getD C (p .pc + 2) 0) z) (drop (p .at + 1) qs))) (noOf (getD qs (p .at) 0) a))
 
 -- The SELECT at pc is taken.
 module _ (C qs : List ℕ) (p : Place) (op : getD C (p .pc) 0 ≡ 4) where
   pub wSelNone : length qs ≤ p .at → Turned C qs p (Over 3)
   wSelNone h =
       stepped C (p .room) (p .pc) 4 (getD C (p .pc + 1) 0) (getD C (p .pc + 2) 0) (getD C (p .pc + 3) 0) (sym op) refl refl refl (drop (p .at) qs)
-        ∙ ap (λ r. step 0 C (run 0 C) (SELECT (getD C (p .pc + 1) 0) (getD C (p .pc + 2) 0) (getD C (p .pc + 3) 0)) (p .room) (p .pc) [] r) (noMore qs (p .at) h)
-        ∙ ap (λ r. res [] 3 r) (sym (noMore qs (p .at) h))
+      ∙ ap (λ r. step 0 C (run 0 C) (SELECT (getD C (p .pc + 1) 0) (getD C (p .pc + 2) 0) (getD C (p .pc + 3) 0)) (p .room) (p .pc) [] r) (noMore qs (p .at) h)
+      ∙ ap (λ r. res [] 3 r) (sym (noMore qs (p .at) h))
 
   pub wSel : (n c d t : ℕ) → n ≡ getD C (p .pc + 1) 0 → c ≡ getD C (p .pc + 2) 0 → d ≡ getD C (p .pc + 3) 0 → t ≡ chase C (p .pc) c d (getD qs (p .at) 0)
       → p .at < length qs → Turned C qs p (Listed n (record { pc = t; at = p .at + 1; room = length C }))
   wSel n c d t hn hc hd ht h =
       took C qs p n t h
-        (stepped C (p .room) (p .pc) 4 n c d (sym op) hn hc hd (drop (p .at) qs)
-          ∙ ap (λ r. step 0 C (run 0 C) (SELECT n c d) (p .room) (p .pc) [] r) (dropped qs (p .at) h)
-          ∙ ap (λ k. pre (asked n ∷ []) (base C (length C) k (drop (p .at + 1) qs))) (sym ht))
+      (stepped C (p .room) (p .pc) 4 n c d (sym op) hn hc hd (drop (p .at) qs)
+      ∙ ap (λ r. step 0 C (run 0 C) (SELECT n c d) (p .room) (p .pc) [] r) (dropped qs (p .at) h)
+      ∙ ap (λ k. pre (asked n ∷ []) (base C (length C) k (drop (p .at + 1) qs))) (sym ht))

@@ -92,7 +92,11 @@ fn left(p: Place, x: u32) -> Step
     if p.room == 0 {
         return Step::Over(5);
     }
-    Step::On(Place { pc: wide(x), at: p.at, room: p.room - 1 })
+    Step::On(Place {
+        pc: wide(x),
+        at: p.at,
+        room: p.room - 1,
+    })
 }
 
 // The ASK at pc is taken.
@@ -106,10 +110,24 @@ fn asked(code: &[u32], answers: &[u32], p: Place) -> Step
         let n = word(code, p.pc + 1);
         if answers[at] == 0 {
             let z = word(code, p.pc + 3);
-            return Step::Listed(n, Place { pc: wide(z), at: at + 1, room: code.len() });
+            return Step::Listed(
+                n,
+                Place {
+                    pc: wide(z),
+                    at: at + 1,
+                    room: code.len(),
+                },
+            );
         }
         let y = word(code, p.pc + 2);
-        return Step::Listed(n, Place { pc: wide(y), at: at + 1, room: code.len() });
+        return Step::Listed(
+            n,
+            Place {
+                pc: wide(y),
+                at: at + 1,
+                room: code.len(),
+            },
+        );
     }
     Step::Over(3)
 }
@@ -126,7 +144,14 @@ fn selected(code: &[u32], answers: &[u32], p: Place) -> Step
         let c = word(code, p.pc + 2);
         let e = word(code, p.pc + 3);
         let t = chased(code, p.pc, c, e, answers[at]);
-        return Step::Listed(n, Place { pc: wide(t), at: at + 1, room: code.len() });
+        return Step::Listed(
+            n,
+            Place {
+                pc: wide(t),
+                at: at + 1,
+                room: code.len(),
+            },
+        );
     }
     Step::Over(3)
 }
@@ -141,7 +166,14 @@ fn listed(code: &[u32], p: Place, n: u32) -> Step
     if p.room == 0 {
         return Step::Over(5);
     }
-    Step::Listed(n, Place { pc: p.pc + 2, at: p.at, room: p.room - 1 })
+    Step::Listed(
+        n,
+        Place {
+            pc: p.pc + 2,
+            at: p.at,
+            room: p.room - 1,
+        },
+    )
 }
 
 // One instruction. An OPEN, and what is no instruction, ends the run.
@@ -190,13 +222,21 @@ pub fn run(code: &[u32], answers: &[u32], out: &mut [u32]) -> Ran
     ensures taken { λ r. ⌜ r .taken ≡ codeRoute (now (code .entry)) (now (answers .entry)) .taken ⌝ }
     ensures list { λ _. ⌜ now (out .exit) ≡ laid (codeRoute (now (code .entry)) (now (answers .entry)) .list) (now (out .entry)) ⌝ }
 {
-    let mut p = Place { pc: 0, at: 0, room: code.len() };
+    let mut p = Place {
+        pc: 0,
+        at: 0,
+        room: code.len(),
+    };
     let mut entries = 0;
     loop {
         let s = turn(code, answers, p);
         match s {
             Step::Over(end) => {
-                return Ran { end: end, entries: entries, taken: p.at as u64 };
+                return Ran {
+                    end: end,
+                    entries: entries,
+                    taken: p.at as u64,
+                };
             }
             Step::On(q) => {
                 p = q;

@@ -1,5 +1,4 @@
 use Rattle.runner.specs.Turn.{wAskNo, wAskYes, wAskNone}
-use native.Mathlib.Omega.{arith}
 use mathlib.Core.Path.{_∙_}
 use borrow.Author.Needs.{needs}
 use Rattle.runner.proofs.asked.Statement.{statement}

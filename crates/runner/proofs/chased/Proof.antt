@@ -1,8 +1,8 @@
 use Rattle.runner.specs.Turn.{chaseEnd, chaseHere, chaseOn}
 use Rattle.flat.specs.Machine.{chase}
 use native.Mathlib.Omega.{arith}
-use mathlib.Core.Path.{_≡_, sym, _∙_, ap}
-use Prim.Native.Nat.{suc, _+_, _-_, _<_}
+use mathlib.Core.Path.{_≡_, sym, _∙_}
+use Prim.Native.Nat.{_-_, _<_}
 use borrow.Author.Needs.{needs}
 use Rattle.runner.proofs.chased.Statement.{statement}
 use Rattle.runner.proofs.chased.Tie as tie
@@ -28,7 +28,7 @@ is-case-requires c κs = search needs
 
 -- src/lib.rt:67:13
 returns : tie.Need-returns Inv-loop μ-loop
-returns c = 
+returns c =
     let a = c .before .before .before .before .before .args in
     let l = c .before .before .before .loop in
     sym (chaseHere (a .code .now) (l .from) (l .to) (a .e) (l .left) (sym (c .before .before .is-case .ensures) ∙ c .before .if1 .taken) (omega arith)) ∙ l .inv .1
@@ -55,7 +55,7 @@ loop-less c = search needs
 
 -- src/lib.rt:65:5
 loop-again : tie.Need-loop-again Inv-loop μ-loop
-loop-again c = 
+loop-again c =
     let a = c .before .before .before .before .before .before .before .args in
     let l = c .before .before .before .before .before .loop in
     let b = chaseOn (a .code .now) (l .from) (l .to) (a .e) (l .left) (sym (c .before .before .before .before .is-case .ensures) ∙ c .before .before .before .if1 .taken) (l .left - 1) (omega arith) in
@@ -63,7 +63,7 @@ loop-again c =
 
 -- src/lib.rt:59:1
 returns-2 : tie.Need-returns-2 Inv-loop μ-loop
-returns-2 c = 
+returns-2 c =
     let a = c .before .before .before .before .args in
     let l = c .before .before .loop in
     sym (chaseEnd (a .code .now) (l .from) (l .to) (a .e) (l .left) (sym (c .before .is-case .ensures) ∙ c .if1 .left)) ∙ l .inv .1

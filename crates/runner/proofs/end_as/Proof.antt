@@ -2,7 +2,6 @@ use Rattle.completion.specs.Sem.{pick}
 use native.Mathlib.Omega.{arith}
 use borrow.Author.Tests.{lt-ltb, le-ltb}
 use mathlib.Core.Path.{sym, ap}
-use borrow.Author.Needs.{needs}
 use Rattle.runner.proofs.end_as.Statement.{statement}
 use Rattle.runner.proofs.end_as.Tie as tie
 use Rattle.runner.proofs.end_as.Reads as reads

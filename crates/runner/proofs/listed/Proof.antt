@@ -1,6 +1,5 @@
 use Rattle.runner.specs.Turn.{wFull, wList}
 use mathlib.Core.Path.{sym, refl}
-use native.Mathlib.Omega.{arith}
 use borrow.Author.Needs.{needs}
 use Rattle.runner.proofs.listed.Statement.{statement}
 use Rattle.runner.proofs.listed.Tie as tie

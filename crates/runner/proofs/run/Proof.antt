@@ -1,9 +1,9 @@
 use Rattle.runner.specs.Kept.{Kept, keptFirst, keptOn, keptMore, keptStop}
-use Rattle.runner.specs.Turn.{Turned, Going}
+use Rattle.runner.specs.Turn.{Turned}
 use Rattle.flat.specs.Machine.{measure}
 use lib.ListN.{length, drop}
 use native.Mathlib.Omega.{arith}
-use mathlib.Core.Path.{_≡_, sym, _∙_, refl, subst}
+use mathlib.Core.Path.{_≡_, refl, subst}
 use borrow.Author.Needs.{needs}
 use Rattle.runner.proofs.run.Statement.{statement}
 use Rattle.runner.proofs.run.Tie as tie
@@ -37,11 +37,11 @@ same-length c = search needs
 
 -- src/lib.rt:199:17
 returns : tie.Need-returns Inv-loop μ-loop
-returns c = 
+returns c =
     let a = c .before .before .before .before .before .before .before .before .args in
     let l = c .before .before .before .before .loop in
     let t = keptStop (a .code .now) (a .answers .now) (a .out .now) (l .out) (l .p) (l .entries) (c .before .s .given .0 .0) (l .inv .1)
-          (subst (λ r. Turned (a .code .now) (a .answers .now) (l .p) r) (c .before .s .given .1) (c .before .before .before .turn .ensures)) in
+    (subst (λ r. Turned (a .code .now) (a .answers .now) (l .p) r) (c .before .s .given .1) (c .before .before .before .turn .ensures)) in
     (t .end, (t .entries, (t .taken, t .list)))
 
 -- src/lib.rt:201:22
@@ -50,19 +50,20 @@ enum-known-s-2 c = search needs
 
 -- src/lib.rt:195:5
 loop-less : tie.Need-loop-less Inv-loop μ-loop
-loop-less c = 
+loop-less c =
     let a = c .before .before .before .before .before .before .before .before .args in
     let l = c .before .before .before .before .loop in
     subst (λ r. Turned (a .code .now) (a .answers .now) (l .p) r) (c .before .s2 .given .1) (c .before .before .before .turn .ensures) .less
 
 -- src/lib.rt:195:5
 loop-again : tie.Need-loop-again Inv-loop μ-loop
-loop-again c = 
+loop-again c =
     let a = c .before .before .before .before .before .before .before .before .args in
-    let l = c .before .before .before .before .loop in
-    (search needs,
+    let l = c .before .before .before .before .loop in (
+      search needs,
       keptOn (a .code .now) (a .answers .now) (a .out .now) (l .out) (l .p) (l .entries) (l .inv .1) (c .before .s2 .given .0 .0)
-        (subst (λ r. Turned (a .code .now) (a .answers .now) (l .p) r) (c .before .s2 .given .1) (c .before .before .before .turn .ensures)))
+          (subst (λ r. Turned (a .code .now) (a .answers .now) (l .p) r) (c .before .s2 .given .1) (c .before .before .before .turn .ensures)),
+    )
 
 -- src/lib.rt:204:26
 enum-known-s-3 : tie.Need-enum-known-s-3 Inv-loop μ-loop
@@ -78,20 +79,21 @@ next-requires c κs = search needs
 
 -- src/lib.rt:195:5
 loop-less-2 : tie.Need-loop-less-2 Inv-loop μ-loop
-loop-less-2 c = 
+loop-less-2 c =
     let a = c .before .before .before .before .before .before .before .before .before .before .before .before .before .args in
     let l = c .before .before .before .before .before .before .before .before .before .loop in
     subst (λ r. Turned (a .code .now) (a .answers .now) (l .p) r) (c .before .before .before .before .before .before .s3 .given .1) (c .before .before .before .before .before .before .before .before .turn .ensures) .less
 
 -- src/lib.rt:195:5
 loop-again-2 : tie.Need-loop-again-2 Inv-loop μ-loop
-loop-again-2 c = 
+loop-again-2 c =
     let a = c .before .before .before .before .before .before .before .before .before .before .before .before .before .args in
-    let l = c .before .before .before .before .before .before .before .before .before .loop in
-    (search needs,
+    let l = c .before .before .before .before .before .before .before .before .before .loop in (
+      search needs,
       rw (c .before .before .before .store .ensures, c .next .ensures)
-        (keptMore (a .code .now) (a .answers .now) (a .out .now) (l .out) (l .p) (l .entries) (omega (arith, c .before .before .before .before .before .before .before .before .before .before .before .before .before .good .1 .1 .0 .0)) (l .inv .1) (c .before .before .before .before .before .before .s3 .given .0 .0) (c .before .before .before .before .before .before .s3 .given .0 .1 .0)
-          (subst (λ r. Turned (a .code .now) (a .answers .now) (l .p) r) (c .before .before .before .before .before .before .s3 .given .1) (c .before .before .before .before .before .before .before .before .turn .ensures))))
+          (keptMore (a .code .now) (a .answers .now) (a .out .now) (l .out) (l .p) (l .entries) (omega (arith, c .before .before .before .before .before .before .before .before .before .before .before .before .before .good .1 .1 .0 .0)) (l .inv .1) (c .before .before .before .before .before .before .s3 .given .0 .0) (c .before .before .before .before .before .before .s3 .given .0 .1 .0)
+          (subst (λ r. Turned (a .code .now) (a .answers .now) (l .p) r) (c .before .before .before .before .before .before .s3 .given .1) (c .before .before .before .before .before .before .before .before .turn .ensures))),
+    )
 
 pub run-spec : {M : Type 1} → statement M
 run-spec =

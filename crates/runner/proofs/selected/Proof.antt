@@ -1,5 +1,4 @@
 use Rattle.runner.specs.Turn.{wSel, wSelNone}
-use native.Mathlib.Omega.{arith}
 use mathlib.Core.Path.{_∙_}
 use borrow.Author.Needs.{needs}
 use Rattle.runner.proofs.selected.Statement.{statement}
@@ -57,7 +56,7 @@ add-t14 c = search needs
 -- src/lib.rt:129:9
 returns : tie.Need-returns
 returns c = wSel (c .before .before .before .before .before .before .before .before .before .before .before .before .args .code .now) (c .before .before .before .before .before .before .before .before .before .before .before .before .args .answers .now) (c .before .before .before .before .before .before .before .before .before .before .before .before .args .p) (c .before .before .before .before .before .before .before .before .before .before .before .before .pre .1) (c .before .before .before .before .before .before .before .word .result) (c .before .before .before .before .before .word2 .result) (c .before .before .before .word3 .result) (c .wide .result)
-      (c .before .before .before .before .before .before .before .word .ensures) (c .before .before .before .before .before .word2 .ensures) (c .before .before .before .word3 .ensures) (c .wide .ensures ∙ c .before .chased .ensures) (c .before .before .before .before .before .before .before .before .before .if1 .taken)
+    (c .before .before .before .before .before .before .before .word .ensures) (c .before .before .before .before .before .word2 .ensures) (c .before .before .before .word3 .ensures) (c .wide .ensures ∙ c .before .chased .ensures) (c .before .before .before .before .before .before .before .before .before .if1 .taken)
 
 -- src/lib.rt:118:1
 returns-2 : tie.Need-returns-2

@@ -1,5 +1,4 @@
 use Rattle.runner.specs.Turn.{wPast, wEnd, wLeave, wCase, wNone}
-use native.Mathlib.Omega.{arith}
 use borrow.Author.Needs.{needs}
 use Rattle.runner.proofs.turn.Statement.{statement}
 use Rattle.runner.proofs.turn.Tie as tie
@@ -67,7 +66,7 @@ returns-2 c = c .listed .ensures (c .before .before .before .before .before .bef
 -- src/lib.rt:148:1
 returns-3 : tie.Need-returns-3
 returns-3 c = c .left .ensures (c .before .before .before .before .before .before .before .args .code .now) (c .before .before .before .before .before .before .before .args .answers .now)
-      (wLeave (c .before .before .before .before .before .before .before .args .code .now) (c .before .before .before .before .before .before .before .args .answers .now) (c .before .before .before .before .before .before .before .args .p) (c .before .before .word2 .result) (c .before .before .before .word .result) (c .before .before .word2 .ensures) (c .before .before .before .word .ensures) (c .before .match .keys2))
+    (wLeave (c .before .before .before .before .before .before .before .args .code .now) (c .before .before .before .before .before .before .before .args .answers .now) (c .before .before .before .before .before .before .before .args .p) (c .before .before .word2 .result) (c .before .before .before .word .result) (c .before .before .word2 .ensures) (c .before .before .before .word .ensures) (c .before .match .keys2))
 
 -- src/lib.rt:148:1
 returns-4 : tie.Need-returns-4
@@ -84,14 +83,14 @@ returns-6 c = wEnd (c .before .before .before .before .before .before .before .a
 -- src/lib.rt:148:1
 returns-7 : tie.Need-returns-7
 returns-7 c = c .left2 .ensures (c .before .before .before .before .before .before .before .before .args .code .now) (c .before .before .before .before .before .before .before .before .args .answers .now)
-      (wCase (c .before .before .before .before .before .before .before .before .args .code .now) (c .before .before .before .before .before .before .before .before .args .answers .now) (c .before .before .before .before .before .before .before .before .args .p) (c .before .before .before .word2 .result) (c .before .before .before .before .word .result) (c .before .before .before .word2 .ensures) (c .before .before .before .before .word .ensures) (c .before .word3 .result) (c .before .word3 .ensures) (c .before .before .match .keys6))
+    (wCase (c .before .before .before .before .before .before .before .before .args .code .now) (c .before .before .before .before .before .before .before .before .args .answers .now) (c .before .before .before .before .before .before .before .before .args .p) (c .before .before .before .word2 .result) (c .before .before .before .before .word .result) (c .before .before .before .word2 .ensures) (c .before .before .before .before .word .ensures) (c .before .word3 .result) (c .before .word3 .ensures) (c .before .before .match .keys6))
 
 -- src/lib.rt:148:1
 returns-8 : tie.Need-returns-8
-returns-8 c = 
+returns-8 c =
     let n = c .match .rest in
     wNone (c .before .before .before .before .before .before .args .code .now) (c .before .before .before .before .before .before .args .answers .now) (c .before .before .before .before .before .before .args .p) (c .before .word2 .result) (c .before .before .word .result) (c .before .word2 .ensures) (c .before .before .word .ensures)
-      (n .0 .0 .0 .0 .0 .1) (n .0 .0 .0 .0 .1) (n .0 .0 .0 .1) (n .0 .0 .1) (n .0 .1) (n .1)
+    (n .0 .0 .0 .0 .0 .1) (n .0 .0 .0 .0 .1) (n .0 .0 .0 .1) (n .0 .0 .1) (n .0 .1) (n .1)
 
 pub turn-spec : {M : Type 1} → statement M
 turn-spec =

@@ -22,7 +22,7 @@ returns c = search needs
 
 -- src/lib.rt:39:1
 returns-2 : tie.Need-returns-2
-returns-2 c = 
+returns-2 c =
     let h : length (c .before .args .code .now) ≤ c .before .args .i = omega arith in
     sym (List·getD-eq-default (c .before .args .code .now) 0 h)
 
