@@ -1,0 +1,9 @@
+pub mod Tree
+pub mod Sem
+pub mod Route
+pub mod Rest
+pub mod Laws
+pub mod Taken
+pub mod Scope
+pub mod Parts
+pub mod Examples

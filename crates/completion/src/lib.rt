@@ -1,0 +1,1 @@
+// Specs only: the statement tree of a unit, and what it does by the completion rules of ECMA-262.
