@@ -2,7 +2,7 @@
 use Prim.Native.Nat.{ℕ, zero, suc, _+_, _-_, _*_, _≤_, _<_}
 use mathlib.Core.Path.{_≡_, refl, ap, sym, subst, _∙_}
 use mathlib.Core.List.{List, [], _∷_, _++_, foldl, flatMap}
-use mathlib.Core.Bool.{Bool, true, false, cond, _&&_, _||_}
+use mathlib.Core.Bool.{Bool, true, false, cond, not, xor, _&&_, _||_}
 use mathlib.Core.Logic.{⊎-elim}
 use native.Mathlib.Omega.{arith}
 use borrow.Author.Tests.{eq-eqb, ne-eqb, eqb-true, ltb-true, lt-ltb, le-ltb}
@@ -23,7 +23,7 @@ use Rattle.classes.specs.Elements.{elementName, isSetter, privates}
 use Rattle.classes.specs.ElementsLaws.{isPrivateElement, isPrivateNamed, privates-scan, private-out, named-same}
 use Rattle.gather.specs.Gather.{flat-turn, flat-end, flat-none, flat-keep, flat-same, listed-cond}
 use Rattle.duplicates.specs.declared.Place.{Place}
-use Rattle.duplicates.specs.Duplicates.{nowhere, here, step, lastOf, sideOf, isEarlier, previousOn, orElse, previousOf, duplicateAt, duplicatesIn, duplicateElements}
+use Rattle.duplicates.specs.Duplicates.{nowhere, here, step, lastOf, sideOf, isEarlier, previousOn, orElse, previousOf, isDuplicate, redeclaration, duplicateBy, duplicateAt, duplicatesIn, duplicateElements}
 
 -- the two places after node d, which is one of the nodes before an element with this name
 unfoldable pub see : List ℕ → List ℕ → ℕ → List ℕ → List Place → ℕ → List Place
@@ -54,6 +54,16 @@ side-two ns e = go (isSetter ns e)
     go true = omega arith
     go false = omega arith
 
+pub differ-true : (b : Bool) → not b ≡ xor true b
+unfolding xor
+differ-true true = refl
+differ-true false = refl
+
+pub differ-false : (b : Bool) → b ≡ xor false b
+unfolding xor
+differ-false true = refl
+differ-false false = refl
+
 -- what is last passes the test
 last-by : (q : ℕ → Bool) (l : List ℕ) (p : Place) → (p .there ≡ true → q (p .element .0) ≡ true) → foldl (step q) p l .there ≡ true → q (foldl (step q) p l .element .0) ≡ true
 last-by q [] p h e = h e
@@ -79,9 +89,11 @@ last-cut : (q r : ℕ → Bool) (e n : ℕ) → e ≤ n → ((d : ℕ) → d < e
     → (g i : ℕ) (p : Place) → n ≤ i + g → foldl (step q) p (upto i n) ≡ foldl (step r) p (upto i e)
 last-cut q r e n h x y zero i p hg = rw (upto-nil i n (omega arith), upto-nil i e (omega arith))
 last-cut q r e n h x y (suc g) i p hg =
-    ⊎-elim (λ (l : i < e). rw (upto-cons i n (omega arith), upto-cons i e l, ← x i l) (last-cut q r e n h x y g (i + 1) (step q p i) (omega arith)))
+    ⊎-elim (λ (l : i < e). rw (upto-cons i n (omega arith), upto-cons i e l)
+    (last-cut q r e n h x y g (i + 1) (step q p i) (omega arith) ∙ ap (λ (b : Bool). foldl (step r) (cond b (here i) p) (upto (i + 1) e)) (x i l)))
     (λ (l : e ≤ i).
-    ⊎-elim (λ (m : i < n). rw (upto-cons i n m, y i l) (last-cut q r e n h x y g (i + 1) p (omega arith) ∙ rw (upto-nil (i + 1) e (omega arith), upto-nil i e l)))
+    ⊎-elim (λ (m : i < n). rw (upto-cons i n m)
+    (ap (λ (b : Bool). foldl (step q) (cond b (here i) p) (upto (i + 1) n)) (y i l) ∙ last-cut q r e n h x y g (i + 1) p (omega arith) ∙ rw (upto-nil (i + 1) e (omega arith), upto-nil i e l)))
     (λ (m : n ≤ i). rw (upto-nil i n m, upto-nil i e l)) (lt-or-ge i n)) (lt-or-ge i e)
 
 -- two places filled by one scan are the two that a scan for each side gives
@@ -156,6 +168,20 @@ module _ (ns names : List ℕ) (c e : ℕ) where
       go true x z = on-before ns names c e h (sideOf ns e) x
       go false x z = on-before ns names c e h (1 - sideOf ns e) z
 
+-- what an element raises, by the place to go by
+module _ (ns : List ℕ) (e : ℕ) (p : Place) where
+  pub by-hit : p .there ≡ true → isDuplicate ns (p .element .0) e ≡ true → duplicateBy ns e p ≡ redeclaration ns (p .element .0) e
+  unfolding duplicateBy
+  by-hit x y = rw (x, y)
+
+  pub by-fine : p .there ≡ true → isDuplicate ns (p .element .0) e ≡ false → duplicateBy ns e p ≡ Clear
+  unfolding duplicateBy
+  by-fine x y = rw (x, y)
+
+  pub by-none : p .there ≡ false → duplicateBy ns e p ≡ Clear
+  unfolding duplicateBy
+  by-none x = rw x
+
 -- what node i raises as a private element of class c, and the findings of class c from node i on
 unfoldable pub raisedAt : List ℕ → List ℕ → ℕ → ℕ → Raised
 raisedAt ns names c i = cond (isPrivateElement ns c i) (duplicateAt ns names c i) Clear
@@ -198,6 +224,14 @@ module _ (ns names : List ℕ) where
   pub all-start : classesFrom ns names 0 ≡ duplicateElements ns names
   unfolding classesFrom duplicateElements classAt classesOf
   all-start = sym (flat-keep (duplicatesIn ns names) (isClassBody ns) (upto 0 (count ns)))
+
+  pub class-here : (i : ℕ) → isClassBody ns i ≡ true → classAt ns names i ≡ duplicatesIn ns names i
+  unfolding classAt
+  class-here i e = rw e
+
+  pub class-other : (i : ℕ) → isClassBody ns i ≡ false → classAt ns names i ≡ []
+  unfolding classAt
+  class-other i e = rw e
 
   pub all-turn : (i : ℕ) → i < count ns → classesFrom ns names i ≡ classAt ns names i ++ classesFrom ns names (i + 1)
   unfolding classesFrom

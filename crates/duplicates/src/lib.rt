@@ -74,7 +74,8 @@ fn previous_of(nodes: &[u32], names: &[u8], c: ClassId, e: ElementId) -> [Place;
     }; 2];
     let mut i = c.0 + 1;
     while i < e.0 {
-        previous = see(nodes, names, c, name, previous, ElementId(i));
+        let seen = see(nodes, names, c, name, previous, ElementId(i));
+        previous = seen;
         i += 1;
     }
     previous
