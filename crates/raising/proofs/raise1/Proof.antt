@@ -1,0 +1,21 @@
+use borrow.Author.Needs.{needs}
+use Rattle.raising.proofs.raise1.Statement.{statement}
+use Rattle.raising.proofs.raise1.Tie as tie
+use Rattle.raising.proofs.raise1.Reads as reads
+use Rattle.raising.proofs.raise1.Lts as lts
+use Rattle.diagnostics.proofs.raise.Reads as raise-reads
+
+-- src/lib.rt:14:5
+raise-requires : tie.Need-raise-requires
+raise-requires c κs = search needs
+
+-- src/lib.rt:9:1
+same-length : tie.Need-same-length
+same-length c = search needs
+
+-- src/lib.rt:9:1
+returns : tie.Need-returns
+returns c = search needs
+
+pub raise1-spec : {M : Type 1} → statement M
+raise1-spec = tie.close (tie.spec raise-requires same-length returns)
