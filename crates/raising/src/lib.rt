@@ -7,7 +7,7 @@ use diagnostics::Raised;
 
 // Raises one, two or three results of checks, in their order.
 pub fn raise1(findings: &mut [u32], at: usize, a: Raised) -> usize
-    requires { ⌜ at ≤ 900000000000 ⌝ }
+    requires { ⌜ at ≤ 950000000000 ⌝ }
     ensures { λ w. ⌜ Raises (now (findings .entry)) (now (findings .exit)) at w (listed a) ⌝ }
     ensures { λ w. ⌜ w ≤ at + 7 ⌝ }
 {
@@ -15,7 +15,7 @@ pub fn raise1(findings: &mut [u32], at: usize, a: Raised) -> usize
 }
 
 pub fn raise2(findings: &mut [u32], at: usize, a: Raised, b: Raised) -> usize
-    requires { ⌜ at ≤ 900000000000 ⌝ }
+    requires { ⌜ at ≤ 950000000000 ⌝ }
     ensures { λ w. ⌜ Raises (now (findings .entry)) (now (findings .exit)) at w (listed a ++ listed b) ⌝ }
     ensures { λ w. ⌜ w ≤ at + 14 ⌝ }
 {

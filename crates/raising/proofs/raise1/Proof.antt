@@ -1,3 +1,5 @@
+use Rattle.raising.specs.Raises.{listed-small}
+use native.Mathlib.Omega.{arith}
 use borrow.Author.Needs.{needs}
 use Rattle.raising.proofs.raise1.Statement.{statement}
 use Rattle.raising.proofs.raise1.Tie as tie
@@ -15,7 +17,7 @@ same-length c = search needs
 
 -- src/lib.rt:9:1
 returns : tie.Need-returns
-returns c = search needs
+returns c = (record { place = c .before .before .raise .ensures .0; slice = c .before .before .raise .ensures .1 }, omega (arith, listed-small (c .before .before .before .before .before .args .a), c .before .before .raise .ensures .0))
 
 pub raise1-spec : {M : Type 1} → statement M
 raise1-spec = tie.close (tie.spec raise-requires same-length returns)

@@ -1,3 +1,7 @@
+use Rattle.raising.specs.Raises.{listed-small, raises-then}
+use Rattle.diagnostics.specs.Finding.{listed}
+use mathlib.Core.List.{_++_}
+use native.Mathlib.Omega.{arith}
 use borrow.Author.Needs.{needs}
 use Rattle.raising.proofs.raise3.Statement.{statement}
 use Rattle.raising.proofs.raise3.Tie as tie
@@ -12,7 +16,7 @@ raise-requires c κs = search needs
 
 -- src/lib.rt:32:5
 raise2-requires : tie.Need-raise2-requires
-raise2-requires c κs = search needs
+raise2-requires c κs = omega (arith, listed-small (c .before .before .before .before .before .before .args .a), c .before .before .before .raise .ensures .0)
 
 -- src/lib.rt:26:1
 same-length : tie.Need-same-length
@@ -20,7 +24,7 @@ same-length c = search needs
 
 -- src/lib.rt:26:1
 returns : tie.Need-returns
-returns c = search needs
+returns c = (raises-then _ _ _ _ _ _ (listed (c .before .before .before .before .before .before .before .before .before .args .a)) (listed (c .before .before .before .before .before .before .before .before .before .args .b) ++ listed (c .before .before .before .before .before .before .before .before .before .args .c)) (record { place = c .before .before .before .before .before .before .raise .ensures .0; slice = c .before .before .before .before .before .before .raise .ensures .1 }) (c .before .before .raise2 .ensures .0), omega (arith, listed-small (c .before .before .before .before .before .before .before .before .before .args .a), c .before .before .before .before .before .before .raise .ensures .0, c .before .before .raise2 .ensures .1))
 
 pub raise3-spec : {M : Type 1} → statement M
 raise3-spec = tie.close (tie.spec raise-requires raise2-requires same-length returns)
