@@ -123,7 +123,6 @@ parent-in ns t i l =
     ⊎-elim (λ (q : 0 ≡ i). subst (λ (x : ℕ). parentOf ns x < count ns) q (let z = t .top in omega arith))
     (λ (h : 0 < i). let z = t .falls i h l in omega arith) (eq-or-lt-of-le (omega arith))
 
-
 -- the first node that passes a test, as a loop meets it
 module _ (q : ℕ → Bool) (i n : ℕ) where
   pub node-on : i < n → q i ≡ false → firstNode q i n ≡ firstNode q (i + 1) n

@@ -14,7 +14,15 @@ use tables::kinds;
 use tables::roles;
 
 // Whether node i is a child of p with a kind from low to high and a role from first to last.
-pub fn is_child(nodes: &[u32], p: NodeId, low: u32, high: u32, first: u32, last: u32, i: NodeId) -> bool
+pub fn is_child(
+    nodes: &[u32],
+    p: NodeId,
+    low: u32,
+    high: u32,
+    first: u32,
+    last: u32,
+    i: NodeId,
+) -> bool
     requires { ⌜ i .0 < count (now nodes) ⌝ }
     ensures { λ r. ⌜ r ≡ isChild (now (nodes .entry)) (p .0) low high first last (i .0) ⌝ }
 {
@@ -29,7 +37,15 @@ pub fn is_child(nodes: &[u32], p: NodeId, low: u32, high: u32, first: u32, last:
 }
 
 // The first such child of p from `from` on: reads the nodes below p, and one more.
-pub fn next_child(nodes: &[u32], p: NodeId, low: u32, high: u32, first: u32, last: u32, from: u32) -> Found
+pub fn next_child(
+    nodes: &[u32],
+    p: NodeId,
+    low: u32,
+    high: u32,
+    first: u32,
+    last: u32,
+    from: u32,
+) -> Found
     requires { ⌜ Tree (now nodes) ⌝ }
     requires { ⌜ p .0 < from ⌝ }
     requires { ⌜ from ≤ count (now nodes) ⌝ }
@@ -97,7 +113,14 @@ pub fn label_of(nodes: &[u32], n: NodeId) -> Found
     ensures { λ r. ⌜ r ≡ labelOf (now (nodes .entry)) (n .0) ⌝ }
     ensures { λ r. ⌜ below (now (nodes .entry)) r ⌝ }
 {
-    first_child(nodes, n, kinds::LABEL_IDENTIFIER, kinds::LABEL_IDENTIFIER, roles::LABEL, roles::LABEL)
+    first_child(
+        nodes,
+        n,
+        kinds::LABEL_IDENTIFIER,
+        kinds::LABEL_IDENTIFIER,
+        roles::LABEL,
+        roles::LABEL,
+    )
 }
 
 // The key of an element or a property.

@@ -2,23 +2,22 @@
 use Prim.Native.Nat.{ℕ, zero, suc, _+_, _≤_, _<_}
 use mathlib.Core.Path.{_≡_, refl, ap, sym, _∙_}
 use mathlib.Core.List.{List, [], _∷_}
-use mathlib.Core.Bool.{Bool, true, false, cond, not, _&&_, _||_}
+use mathlib.Core.Bool.{Bool, true, false, cond, not, _||_}
 use mathlib.Core.Logic.{⊎-elim}
 use native.Mathlib.Omega.{arith}
-use borrow.Author.Tests.{eq-eqb, ne-eqb, le-leb, eqb-true, eqb-false, ltb-false, not-false}
-use lib.Dec.{eqb, ltb, leb}
+use borrow.Author.Tests.{eq-eqb, ne-eqb, eqb-true, eqb-false, ltb-false, not-false}
+use lib.Dec.{eqb, ltb}
 use lib.ListN.{length}
-use Rattle.common.specs.Tests.{within}
 use Rattle.common.specs.Upto.{upto, upto-nil, upto-cons}
-use Rattle.common.specs.Bools.{or-first, or-second, or3, or4}
+use Rattle.common.specs.Bools.{or-first, or-second, or3, or4, in-range}
 use Rattle.walk.specs.Preorder.{no-child}
-use Rattle.tables.specs.Table.{kindOf, parentOf, flagsOf, count, hasFlag}
+use Rattle.tables.specs.Table.{kindOf, parentOf, count}
 use Rattle.tables.specs.Facts.{Tree}
 use Rattle.tables.specs.Kinds as k
 use Rattle.tables.specs.Roles as r
 use Rattle.places.specs.declared.Place.the-variants.{Nowhere}
 use Rattle.places.specs.First.{first, first-none, le-or-lt}
-use Rattle.children.specs.Children.{keep, isChild, howMany}
+use Rattle.children.specs.Children.{keep, howMany}
 use Rattle.children.specs.ChildrenLaws.{child-other}
 use Rattle.counts.specs.Counts.{withRole, withKind, labels, isDefault, defaults, wrongBody, wrongAlternate, wrongDefault, wrongTry, wrongClause, wrongLabel, wrongFunction, wrongClass, wrongValue, wrongElement, wrongStatement, wrongPart, wrongHome, wrongCountAt}
 
@@ -80,9 +79,6 @@ pub record Counted (ns : List ℕ) : Type 0 where
 
 one-of : (n : ℕ) → not (eqb n 1) ≡ false → n ≡ 1
 one-of n e = eqb-true n 1 (not-false (eqb n 1) e)
-
-in-range : (a lo hi : ℕ) → lo ≤ a → a ≤ hi → within a lo hi ≡ true
-in-range a lo hi p q = rw (le-leb lo a p, le-leb a hi q)
 
 module _ (ns : List ℕ) (e : first (wrongCountAt ns) 0 (count ns) ≡ Nowhere) (i : ℕ) (l : i < count ns) where
   groups : (wrongStatement ns i ≡ false) × (wrongPart ns i ≡ false) × (wrongHome ns i ≡ false)

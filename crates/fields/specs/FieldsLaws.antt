@@ -10,7 +10,7 @@ use lib.ListN.{length}
 use Rattle.common.specs.Bools.{or3, or4, or5}
 use Rattle.common.specs.Upto.{and-left, and-right}
 use Rattle.tables.specs.Table.{kindOf, roleOf, flagsOf, extraOf, spanStartOf, spanEndOf, nameStartOf, nameLenOf, count, countScopes, Some}
-use Rattle.tables.specs.Facts.{Named}
+use Rattle.tables.specs.Facts.{Named, Sourced}
 use Rattle.places.specs.declared.Place.the-variants.{Nowhere}
 use Rattle.places.specs.First.{first, first-none}
 use Rattle.fields.specs.Fields.{wrongTable, wrongSizes, listedFlags, listedExtra, unlistedAt, strayAt}
@@ -87,11 +87,6 @@ listed-of ns e = record {
     sum : (i : ℕ) → i < count ns → listedFlags (flagsOf ns i) ≡ true
     sum i l = not-false (listedFlags (flagsOf ns i)) (fine i l .2)
 
--- what is known where every span lies within the source
-pub record Inside (ns source : List ℕ) : Type 0 where
-  pub span : (i : ℕ) → i < count ns → spanStartOf ns i ≤ spanEndOf ns i
-  pub end : (i : ℕ) → i < count ns → spanEndOf ns i ≤ length source
-
 module _ (ns source names : List ℕ) (e : first (strayAt ns source names) 0 (count ns) ≡ Nowhere) where
   fine : (i : ℕ) → i < count ns →
       (ltb (spanEndOf ns i) (spanStartOf ns i) ≡ false) × (ltb (length source) (spanEndOf ns i) ≡ false) × (ltb (length names) (nameStartOf ns i + nameLenOf ns i) ≡ false)
@@ -100,10 +95,10 @@ module _ (ns source names : List ℕ) (e : first (strayAt ns source names) 0 (co
       or3 (ltb (spanEndOf ns i) (spanStartOf ns i)) (ltb (length source) (spanEndOf ns i)) (ltb (length names) (nameStartOf ns i + nameLenOf ns i))
       (first-none (strayAt ns source names) (count ns) 0 e i (omega arith) l)
 
-  pub inside-of : Inside ns source
-  inside-of = record {
+  pub sourced-of : Sourced ns source
+  sourced-of = record {
     span = λ i l. ltb-false (spanEndOf ns i) (spanStartOf ns i) (fine i l .0);
-    end = λ i l. ltb-false (length source) (spanEndOf ns i) (fine i l .1);
+    inside = λ i l. ltb-false (length source) (spanEndOf ns i) (fine i l .1);
   }
 
   pub named-of : Named ns names

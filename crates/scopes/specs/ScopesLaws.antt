@@ -16,7 +16,7 @@ use Rattle.walk.specs.Above.{above-up, above-root}
 use Rattle.walk.specs.On.{on, on-cases, on-le, on-trans, on-linear}
 use Rattle.walk.specs.Preorder.{lt-or-ge}
 use Rattle.tables.specs.Table.{kindOf, parentOf, scopeOf, extraOf, count, countScopes, scopeParentOf, scopeFlagsOf, scopeNodeOf, Some}
-use Rattle.tables.specs.Facts.{Tree, Chained}
+use Rattle.tables.specs.Facts.{Tree, Chained, Scoped}
 use Rattle.places.specs.declared.Place.the-variants.{Nowhere}
 use Rattle.places.specs.First.{first, first-none}
 use Rattle.scopes.specs.Scopes.{brokenAt, chainOn, misscopedAt}
@@ -127,12 +127,6 @@ chained-of ss s e = record {
 
     fine : (k : ℕ) → k < countScopes ss → (ltb 31 (scopeFlagsOf ss k) || rest k) ≡ false
     fine k l = first-none (brokenAt ss) (countScopes ss) 0 e k (omega arith) l
-
--- what is known where the scope of no node is missing or does not fit it
-pub record Scoped (ns ss : List ℕ) : Type 0 where
-  pub scope : (i : ℕ) → i < count ns → scopeOf ns i < countScopes ss
-  pub own : (i : ℕ) → i < count ns → kindOf ns i ≡ 26 → extraOf ns i < countScopes ss
-  pub chain : (i : ℕ) → i < count ns → (t : ℕ) → on (scopeParentOf ss) t (scopeOf ns i) ≡ true → on (parentOf ns) (scopeNodeOf ss t) i ≡ true
 
 module _ (ns ss : List ℕ) (c : Chained ss) where
   chain-by : (f s t i : ℕ) → s ≤ f → s < countScopes ss → chainOn ns ss s i ≡ true → on (scopeParentOf ss) t s ≡ true → on (parentOf ns) (scopeNodeOf ss t) i ≡ true

@@ -1,16 +1,16 @@
 -- What is known where no child is misplaced.
 use Prim.Native.Nat.{ℕ, _≤_, _<_}
-use mathlib.Core.Path.{_≡_, refl, ap, sym, subst, _∙_}
+use mathlib.Core.Path.{_≡_, ap, sym, subst, _∙_}
 use mathlib.Core.List.{List}
-use mathlib.Core.Bool.{Bool, true, false, not, _&&_, _||_}
+use mathlib.Core.Bool.{true, false, _&&_, _||_}
 use mathlib.Core.Logic.{_⊎_, inl, inr, ⊎-elim}
 use native.Mathlib.Nat.{eq-or-lt-of-le}
 use native.Mathlib.Omega.{arith}
-use borrow.Author.Tests.{eq-eqb, ne-eqb, lt-ltb, le-leb, eqb-true, leb-true, not-false}
-use lib.Dec.{eqb, ltb, leb}
+use borrow.Author.Tests.{eq-eqb, lt-ltb, eqb-true}
+use lib.Dec.{eqb}
 use Rattle.common.specs.Tests.{within}
 use Rattle.common.specs.Upto.{and-left, and-right}
-use Rattle.common.specs.Bools.{never, or3, or4, or5}
+use Rattle.common.specs.Bools.{never, or3, or4, or5, either, but, in-range, range-of}
 use Rattle.tables.specs.Table.{kindOf, roleOf, parentOf, count}
 use Rattle.tables.specs.Facts.{Tree}
 use Rattle.tables.specs.Kinds as k
@@ -19,26 +19,11 @@ use Rattle.places.specs.declared.Place.the-variants.{Nowhere}
 use Rattle.places.specs.First.{first, first-none}
 use Rattle.standing.specs.Standing.{isStatement, mayBeStatement, isHolder, isHeld, strayStatement, strayHeld, strayAlternate, strayInSwitch, strayCase, tryPart, strayInTry, strayClause, strayInClause, strayFunctionBody, strayClassBody, strayElement, strayValue, misplacedStatement, misplacedPart, misplacedElement, misplaced, misplacedChildAt}
 
--- where "a but not b" says false, b follows from a
-pub but : (a b : Bool) → (a && not b) ≡ false → a ≡ true → b ≡ true
-but true b e q = not-false b e
-but false b e q = never (sym q)
-
-pub either : (a b : Bool) → (a || b) ≡ true → (a ≡ true) ⊎ (b ≡ true)
-either true b e = inl refl
-either false b e = inr e
-
-pub both : (a b c d : ℕ) → (eqb a b && eqb c d) ≡ true → (a ≡ b) × (c ≡ d)
+both : (a b c d : ℕ) → (eqb a b && eqb c d) ≡ true → (a ≡ b) × (c ≡ d)
 both a b c d e = (eqb-true a b (and-left (eqb a b) (eqb c d) e), eqb-true c d (and-right (eqb a b) (eqb c d) e))
 
-pub pair : (a b c d : ℕ) → a ≡ b → c ≡ d → (eqb a b && eqb c d) ≡ true
+pair : (a b c d : ℕ) → a ≡ b → c ≡ d → (eqb a b && eqb c d) ≡ true
 pair a b c d p q = rw (eq-eqb a b p, eq-eqb c d q)
-
-pub in-range : (a lo hi : ℕ) → lo ≤ a → a ≤ hi → within a lo hi ≡ true
-in-range a lo hi p q = rw (le-leb lo a p, le-leb a hi q)
-
-pub range-of : (a lo hi : ℕ) → within a lo hi ≡ true → (lo ≤ a) × (a ≤ hi)
-range-of a lo hi e = (leb-true lo a (and-left (leb lo a) (leb a hi) e), leb-true a hi (and-right (leb lo a) (leb a hi) e))
 
 -- a child of a kind and a role that is not misplaced under a parent of kind `above`
 module _ (kind role above : ℕ) (e : misplaced kind role above ≡ false) where

@@ -2,10 +2,12 @@
 use Prim.Native.Nat.{ℕ, _+_, _≤_, _<_}
 use mathlib.Core.Path.{_≡_}
 use mathlib.Core.List.{List}
+use mathlib.Core.Bool.{true}
 use lib.ListN.{length}
 use Rattle.walk.specs.Above.{Falls}
+use Rattle.walk.specs.On.{on}
 use Rattle.walk.specs.Preorder.{Preorder}
-use Rattle.tables.specs.Table.{count, kindOf, parentOf, depthOf, nameStartOf, nameLenOf, countScopes, scopeParentOf, scopeFlagsOf}
+use Rattle.tables.specs.Table.{count, kindOf, parentOf, depthOf, scopeOf, extraOf, spanStartOf, spanEndOf, nameStartOf, nameLenOf, countScopes, scopeParentOf, scopeFlagsOf, scopeNodeOf}
 
 -- what is known where no node is out of place
 pub record Tree (ns : List ℕ) : Type 0 where
@@ -30,3 +32,26 @@ pub record Chained (ss : List ℕ) : Type 0 where
 pub record Named (ns names : List ℕ) : Type 0 where
   pub inside : (i : ℕ) → i < count ns → nameStartOf ns i + nameLenOf ns i ≤ length names
 
+-- what is known where the scope of no node is missing or does not fit it
+pub record Scoped (ns ss : List ℕ) : Type 0 where
+  pub scope : (i : ℕ) → i < count ns → scopeOf ns i < countScopes ss
+  pub own : (i : ℕ) → i < count ns → kindOf ns i ≡ 26 → extraOf ns i < countScopes ss
+  pub chain : (i : ℕ) → i < count ns → (t : ℕ) → on (scopeParentOf ss) t (scopeOf ns i) ≡ true → on (parentOf ns) (scopeNodeOf ss t) i ≡ true
+
+-- every span ends where it starts or later, within the largest source
+pub record Spanned (ns : List ℕ) : Type 0 where
+  pub span : (i : ℕ) → i < count ns → spanStartOf ns i ≤ spanEndOf ns i
+  pub small : (i : ℕ) → i < count ns → spanEndOf ns i ≤ 1048576
+
+-- every span lies within the source
+pub record Sourced (ns source : List ℕ) : Type 0 where
+  pub span : (i : ℕ) → i < count ns → spanStartOf ns i ≤ spanEndOf ns i
+  pub inside : (i : ℕ) → i < count ns → spanEndOf ns i ≤ length source
+
+-- nodes with their scopes, spans and names
+pub record Input (ns ss names : List ℕ) : Type 0 where
+  pub tree : Tree ns
+  pub chained : Chained ss
+  pub scoped : Scoped ns ss
+  pub spanned : Spanned ns
+  pub named : Named ns names

@@ -5,8 +5,8 @@ ghost use lib.Dec.{ltb};
 ghost use Rattle.tables.specs.Table.{count, kindOf, parentOf, roleOf, spanStartOf, spanEndOf, nameStartOf, nameLenOf, scopeOf, flagsOf, extraOf, countScopes, scopeParentOf, scopeFlagsOf, scopeNodeOf, Some, hasFlag};
 
 pub mod extras;
-pub mod node_flag;
 pub mod kinds;
+pub mod node_flag;
 pub mod roles;
 pub mod scope_flag;
 

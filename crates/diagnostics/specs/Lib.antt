@@ -1,0 +1,4 @@
+pub mod Codes
+pub mod Contexts
+pub mod Finding
+pub mod FindingLaws

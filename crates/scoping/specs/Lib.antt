@@ -1,0 +1,2 @@
+pub mod Scoping
+pub mod ScopingLaws
