@@ -167,7 +167,7 @@ pub fn element_name<'a>(nodes: &[u32], names: &'a [u8], e: ElementId) -> &'a [u8
 }
 
 // Whether an element's key has a name.
-fn has_name(nodes: &[u32], e: ElementId) -> bool
+pub fn has_name(nodes: &[u32], e: ElementId) -> bool
     requires { ⌜ Tree (now nodes) ⌝ }
     requires { ⌜ e .0 < count (now nodes) ⌝ }
     ensures { λ r. ⌜ r ≡ hasName (now (nodes .entry)) (e .0) ⌝ }
