@@ -127,14 +127,14 @@ module _ (ns names : List ℕ) (n : ℕ) (s s1 s2 : List ℕ) (w w1 w2 : ℕ)
     (e1 : w1 ≡ w + 7 * length (privateUndeclared ns names n)) (x1 : s1 ≡ sink s w (privateUndeclared ns names n))
     (e2 : w2 ≡ w1 + 7 * length (listed (requireClassName ns n))) (x2 : s2 ≡ sink s1 w1 (listed (requireClassName ns n)))
   where
-  pub check-place : w2 + 7 * length (listed (secondConstructor ns n)) ≡ w + 7 * length (checkClass ns names n)
-  unfolding checkClass
-  check-place =
-      let a = length-append (privateUndeclared ns names n) (listed (requireClassName ns n) ++ listed (secondConstructor ns n)) in
-      let b = length-append (listed (requireClassName ns n)) (listed (secondConstructor ns n)) in
-      omega arith
+    pub check-place : w2 + 7 * length (listed (secondConstructor ns n)) ≡ w + 7 * length (checkClass ns names n)
+    unfolding checkClass
+    check-place =
+        let a = length-append (privateUndeclared ns names n) (listed (requireClassName ns n) ++ listed (secondConstructor ns n)) in
+        let b = length-append (listed (requireClassName ns n)) (listed (secondConstructor ns n)) in
+        omega arith
 
-  pub check-sink : sink s2 w2 (listed (secondConstructor ns n)) ≡ sink s w (checkClass ns names n)
-  unfolding checkClass
-  check-sink =
-      rw (sink-append s w (privateUndeclared ns names n) (listed (requireClassName ns n) ++ listed (secondConstructor ns n)), ← x1, ← e1, sink-append s1 w1 (listed (requireClassName ns n)) (listed (secondConstructor ns n)), ← x2, ← e2)
+    pub check-sink : sink s2 w2 (listed (secondConstructor ns n)) ≡ sink s w (checkClass ns names n)
+    unfolding checkClass
+    check-sink =
+        rw (sink-append s w (privateUndeclared ns names n) (listed (requireClassName ns n) ++ listed (secondConstructor ns n)), ← x1, ← e1, sink-append s1 w1 (listed (requireClassName ns n)) (listed (secondConstructor ns n)), ← x2, ← e2)

@@ -43,7 +43,11 @@ fn is_reference(nodes: &[u32], m: NodeId) -> bool
 {
     let k = tables::kind(nodes, m);
     if k == kinds::PRIVATE_IDENTIFIER {
-        return within(ancestry::parent_kind(nodes, m), kinds::OTHER_MEMBER, kinds::PRIVATE_IN);
+        return within(
+            ancestry::parent_kind(nodes, m),
+            kinds::OTHER_MEMBER,
+            kinds::PRIVATE_IN,
+        );
     }
     false
 }
@@ -92,7 +96,14 @@ fn raised_at(nodes: &[u32], names: &[u8], n: NodeId, c: ClassId, m: NodeId) -> R
 }
 
 // What the private references of class c raise at node n.
-fn undeclared_in(nodes: &[u32], names: &[u8], n: NodeId, c: ClassId, findings: &mut [u32], at: usize) -> usize
+fn undeclared_in(
+    nodes: &[u32],
+    names: &[u8],
+    n: NodeId,
+    c: ClassId,
+    findings: &mut [u32],
+    at: usize,
+) -> usize
     requires { ⌜ Tree (now nodes) ⌝ }
     requires { ⌜ Named (now nodes) (now names) ⌝ }
     requires { ⌜ c .0 < count (now nodes) ⌝ }
@@ -115,7 +126,13 @@ fn undeclared_in(nodes: &[u32], names: &[u8], n: NodeId, c: ClassId, findings: &
 }
 
 // Private names of the class that is current at node n which it and the classes around it do not declare.
-fn check_private_identifier(nodes: &[u32], names: &[u8], n: NodeId, findings: &mut [u32], at: usize) -> usize
+fn check_private_identifier(
+    nodes: &[u32],
+    names: &[u8],
+    n: NodeId,
+    findings: &mut [u32],
+    at: usize,
+) -> usize
     requires { ⌜ Tree (now nodes) ⌝ }
     requires { ⌜ Named (now nodes) (now names) ⌝ }
     requires { ⌜ n .0 < count (now nodes) ⌝ }
@@ -164,7 +181,13 @@ fn require_class_name(nodes: &[u32], n: NodeId) -> Raised
             return Raised::Clear;
         }
         let start = tables::span_start(nodes, n);
-        return diagnostics::error(codes::REQUIRE_CLASS_NAME, n, start, start + 5, contexts::NONE);
+        return diagnostics::error(
+            codes::REQUIRE_CLASS_NAME,
+            n,
+            start,
+            start + 5,
+            contexts::NONE,
+        );
     }
     Raised::Clear
 }
