@@ -125,7 +125,11 @@ pub fn is_definition(nodes: &[u32], e: ElementId) -> bool
     requires { ⌜ e .0 < count (now nodes) ⌝ }
     ensures { λ r. ⌜ r ≡ isDefinition (now (nodes .entry)) (e .0) ⌝ }
 {
-    within(tables::kind(nodes, NodeId(e.0)), kinds::METHOD_DEFINITION, kinds::ACCESSOR_PROPERTY)
+    within(
+        tables::kind(nodes, NodeId(e.0)),
+        kinds::METHOD_DEFINITION,
+        kinds::ACCESSOR_PROPERTY,
+    )
 }
 
 // The span of a part that was looked for.
@@ -167,7 +171,7 @@ pub fn element_name<'a>(nodes: &[u32], names: &'a [u8], e: ElementId) -> &'a [u8
 }
 
 // Whether an element's key has a name.
-fn has_name(nodes: &[u32], e: ElementId) -> bool
+pub fn has_name(nodes: &[u32], e: ElementId) -> bool
     requires { ⌜ Tree (now nodes) ⌝ }
     requires { ⌜ e .0 < count (now nodes) ⌝ }
     ensures { λ r. ⌜ r ≡ hasName (now (nodes .entry)) (e .0) ⌝ }

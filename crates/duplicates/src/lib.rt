@@ -41,7 +41,14 @@ fn side(nodes: &[u32], e: ElementId) -> usize
 }
 
 // The two places of a name after node d.
-fn see(nodes: &[u32], names: &[u8], c: ClassId, name: &[u8], previous: [Place; 2], d: ElementId) -> [Place; 2]
+fn see(
+    nodes: &[u32],
+    names: &[u8],
+    c: ClassId,
+    name: &[u8],
+    previous: [Place; 2],
+    d: ElementId,
+) -> [Place; 2]
     requires { ⌜ Tree (now nodes) ⌝ }
     requires { ⌜ Named (now nodes) (now names) ⌝ }
     requires { ⌜ d .0 < count (now nodes) ⌝ }
@@ -120,7 +127,10 @@ fn is_duplicate(nodes: &[u32], d: ElementId, e: ElementId) -> bool
         if is_setter_or_getter(nodes, d) {
             let x = tables::extra(nodes, NodeId(e.0));
             let y = tables::extra(nodes, NodeId(d.0));
-            return or(x == y, differ(classes::is_static(nodes, e), classes::is_static(nodes, d)));
+            return or(
+                x == y,
+                differ(classes::is_static(nodes, e), classes::is_static(nodes, d)),
+            );
         }
         return true;
     }
@@ -222,7 +232,12 @@ fn duplicates_at(nodes: &[u32], names: &[u8], i: NodeId, findings: &mut [u32], a
 }
 
 // The findings of all classes, in the order of their bodies.
-pub fn check_duplicate_class_elements(nodes: &[u32], names: &[u8], findings: &mut [u32], at: usize) -> usize
+pub fn check_duplicate_class_elements(
+    nodes: &[u32],
+    names: &[u8],
+    findings: &mut [u32],
+    at: usize,
+) -> usize
     requires { ⌜ Tree (now nodes) ⌝ }
     requires { ⌜ Named (now nodes) (now names) ⌝ }
     requires { ⌜ at ≤ 900000000000 ⌝ }

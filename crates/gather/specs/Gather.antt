@@ -102,3 +102,20 @@ module _ (q : ℕ → Bool) (n : ℕ) where
 
   pub kept-none : (i : ℕ) → firstNode q i n ≡ Nothing → keep q (upto i n) ≡ []
   kept-none i e = kept-none-by n i (omega arith) e
+
+  from-by : (g i a : ℕ) → n ≤ i + g → firstNode q i n ≡ At (record { 0 = a }) → i ≤ a
+  from-by zero i a hg e = let s : At (record { 0 = a }) ≡ Nothing = sym e ∙ node-end q i n (omega arith) in let z : _≡_ {A = ℕ} 0 1 = cc in absurd (omega arith)
+  from-by (suc g) i a hg e =
+      ⊎-elim (λ (h : i < n). go h (q i) refl (λ x. from-by g (i + 1) a (omega arith) (sym (node-on q i n h x) ∙ e)))
+      (λ (h : n ≤ i). let s : At (record { 0 = a }) ≡ Nothing = sym e ∙ node-end q i n h in let z : _≡_ {A = ℕ} 0 1 = cc in absurd (omega arith)) (lt-or-ge i n)
+    where
+      go : i < n → (b : Bool) → q i ≡ b → (q i ≡ false → i + 1 ≤ a) → i ≤ a
+      go h true x r =
+          let s : At (record { 0 = i }) ≡ At (record { 0 = a }) = sym (node-stop q i n h x) ∙ e in
+          let u : i ≡ a = ap number s in
+          omega arith
+      go h false x r = let l = r x in omega arith
+
+  -- what is found is not before where the search begins
+  pub found-from : (i a : ℕ) → firstNode q i n ≡ At (record { 0 = a }) → i ≤ a
+  found-from i a e = from-by n i a (omega arith) e
