@@ -6,9 +6,9 @@ ghost use Rattle.tables.specs.Table.{count};
 ghost use Rattle.tables.specs.Facts.{Input, Sourced};
 ghost use Rattle.raising.specs.Raises.{Raises};
 ghost use Rattle.checker.specs.Findings.{nameFindings, loopFindings, jumpFindings, literalFindings, expressionFindings, findingsAt, findingsOf};
-use raising::raise1;
-use raising::raise2;
-use raising::raise3;
+use raising::raise_one;
+use raising::raise_two;
+use raising::raise_three;
 use tables::NodeId;
 use tables::kinds;
 
@@ -32,18 +32,18 @@ fn check_names(
     if k == kinds::BINDING_IDENTIFIER {
         let a = identifiers::check_identifier(source_type, nodes, scopes, names, n);
         let b = identifiers::check_binding_identifier(source_type, nodes, scopes, names, n);
-        return raise2(findings, at, a, b);
+        return raise_two(findings, at, a, b);
     }
     if k == kinds::IDENTIFIER_REFERENCE {
         let d = identifiers::check_identifier(source_type, nodes, scopes, names, n);
         let e = identifiers::check_identifier_reference(source_type, nodes, scopes, names, n);
-        return raise2(findings, at, d, e);
+        return raise_two(findings, at, d, e);
     }
     if k == kinds::LABEL_IDENTIFIER {
         let f = identifiers::check_identifier(source_type, nodes, scopes, names, n);
-        return raise1(findings, at, f);
+        return raise_one(findings, at, f);
     }
-    raise1(findings, at, class_checks::check_private_identifier_outside_class(nodes, n))
+    raise_one(findings, at, class_checks::check_private_identifier_outside_class(nodes, n))
 }
 
 // Loops, With and If.
@@ -58,25 +58,25 @@ fn check_loops(nodes: &[u32], scopes: &[u32], names: &[u8], n: NodeId, findings:
     if k == kinds::WITH {
         let a = statements::check_body(nodes, scopes, n);
         let b = statements::check_with_statement(nodes, scopes, n);
-        return raise2(findings, at, a, b);
+        return raise_two(findings, at, a, b);
     }
     if k == kinds::IF {
         let c = statements::check_consequent(nodes, scopes, n);
         let d = statements::check_alternate(nodes, scopes, n);
-        return raise2(findings, at, c, d);
+        return raise_two(findings, at, c, d);
     }
     if k == kinds::FOR_IN {
         let e = statements::check_body(nodes, scopes, n);
         let f = statements::check_for_statement_left(nodes, scopes, n, true);
-        return raise2(findings, at, e, f);
+        return raise_two(findings, at, e, f);
     }
     if k == kinds::FOR_OF {
         let g = statements::check_body(nodes, scopes, n);
         let h = statements::check_for_of_statement(nodes, scopes, n);
         let i = statements::check_for_statement_left(nodes, scopes, n, false);
-        return raise3(findings, at, g, h, i);
+        return raise_three(findings, at, g, h, i);
     }
-    raise1(findings, at, statements::check_body(nodes, scopes, n))
+    raise_one(findings, at, statements::check_body(nodes, scopes, n))
 }
 
 // Labels, jumps and declarations.
@@ -99,18 +99,18 @@ fn check_jumps(
     if k == kinds::LABELED {
         let a = jumps::check_labeled_statement(nodes, names, n);
         let b = statements::check_function_declaration_in_labeled_statement(nodes, scopes, n);
-        return raise2(findings, at, a, b);
+        return raise_two(findings, at, a, b);
     }
     if k == kinds::BREAK {
-        return raise1(findings, at, jumps::check_break_statement(nodes, names, n));
+        return raise_one(findings, at, jumps::check_break_statement(nodes, names, n));
     }
     if k == kinds::CONTINUE {
-        return raise1(findings, at, jumps::check_continue_statement(nodes, names, n));
+        return raise_one(findings, at, jumps::check_continue_statement(nodes, names, n));
     }
     if k == kinds::VARIABLE_DECLARATION {
         let c = statements::check_using(source_type, nodes, scopes, n);
         let d = statements::check_await_using(nodes, scopes, n);
-        return raise2(findings, at, c, d);
+        return raise_two(findings, at, c, d);
     }
     at
 }
@@ -134,16 +134,16 @@ fn check_literals(
 {
     let k = tables::kind(nodes, n);
     if k == kinds::NUMERIC_LITERAL {
-        return raise1(findings, at, literals::check_number_literal(nodes, scopes, source, n));
+        return raise_one(findings, at, literals::check_number_literal(nodes, scopes, source, n));
     }
     if k == kinds::STRING_LITERAL {
-        return raise1(findings, at, literals::check_string_literal(nodes, scopes, source, n));
+        return raise_one(findings, at, literals::check_string_literal(nodes, scopes, source, n));
     }
     if k == kinds::DIRECTIVE {
-        return raise1(findings, at, identifiers::check_directive(nodes, scopes, names, n));
+        return raise_one(findings, at, identifiers::check_directive(nodes, scopes, names, n));
     }
     if k == kinds::SUPER {
-        return raise1(findings, at, super_search::check_super(nodes, scopes, n));
+        return raise_one(findings, at, super_search::check_super(nodes, scopes, n));
     }
     at
 }
@@ -164,13 +164,13 @@ fn check_expressions(nodes: &[u32], scopes: &[u32], names: &[u8], n: NodeId, fin
         return expressions::check_object_expression(nodes, names, n, findings, at);
     }
     if k == kinds::UNARY {
-        return raise1(findings, at, expressions::check_unary_expression(nodes, scopes, n));
+        return raise_one(findings, at, expressions::check_unary_expression(nodes, scopes, n));
     }
     if k == kinds::AWAIT {
         return expressions::check_await_expression(nodes, scopes, n, findings, at);
     }
     if k == kinds::YIELD {
-        return raise1(findings, at, expressions::check_yield_expression(nodes, n));
+        return raise_one(findings, at, expressions::check_yield_expression(nodes, n));
     }
     at
 }

@@ -6,7 +6,7 @@ ghost use Rattle.raising.specs.Raises.{Raises};
 use diagnostics::Raised;
 
 // Raises one, two or three results of checks, in their order.
-pub fn raise1(findings: &mut [u32], at: usize, a: Raised) -> usize
+pub fn raise_one(findings: &mut [u32], at: usize, a: Raised) -> usize
     requires { ⌜ at ≤ 950000000000 ⌝ }
     ensures { λ w. ⌜ Raises (now (findings .entry)) (now (findings .exit)) at w (listed a) ⌝ }
     ensures { λ w. ⌜ w ≤ at + 7 ⌝ }
@@ -14,7 +14,7 @@ pub fn raise1(findings: &mut [u32], at: usize, a: Raised) -> usize
     diagnostics::raise(findings, at, a)
 }
 
-pub fn raise2(findings: &mut [u32], at: usize, a: Raised, b: Raised) -> usize
+pub fn raise_two(findings: &mut [u32], at: usize, a: Raised, b: Raised) -> usize
     requires { ⌜ at ≤ 950000000000 ⌝ }
     ensures { λ w. ⌜ Raises (now (findings .entry)) (now (findings .exit)) at w (listed a ++ listed b) ⌝ }
     ensures { λ w. ⌜ w ≤ at + 14 ⌝ }
@@ -23,11 +23,11 @@ pub fn raise2(findings: &mut [u32], at: usize, a: Raised, b: Raised) -> usize
     diagnostics::raise(findings, next, b)
 }
 
-pub fn raise3(findings: &mut [u32], at: usize, a: Raised, b: Raised, c: Raised) -> usize
+pub fn raise_three(findings: &mut [u32], at: usize, a: Raised, b: Raised, c: Raised) -> usize
     requires { ⌜ at ≤ 900000000000 ⌝ }
     ensures { λ w. ⌜ Raises (now (findings .entry)) (now (findings .exit)) at w (listed a ++ (listed b ++ listed c)) ⌝ }
     ensures { λ w. ⌜ w ≤ at + 21 ⌝ }
 {
     let next = diagnostics::raise(findings, at, a);
-    raise2(findings, next, b, c)
+    raise_two(findings, next, b, c)
 }
