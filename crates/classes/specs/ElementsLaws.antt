@@ -20,43 +20,40 @@ use Rattle.classes.specs.Classes.{bodyAbove, outerClasses}
 use Rattle.classes.specs.ClassesLaws.{outer-at, outer-none}
 use Rattle.classes.specs.Elements.{elementName, isPrivate, isDefinition, enters, elements, privates, hasPrivate, isDeclared}
 
--- node e is a private element of class c
+-- node e is a definition in the body of class c with a private key
+unfoldable pub isPrivateDefinition : List ℕ → ℕ → ℕ → Bool
+isPrivateDefinition ns c e = eqb (parentOf ns e) c && (isPrivate ns e && isDefinition ns e)
+
+-- .. a private element of class c
 unfoldable pub isPrivateElement : List ℕ → ℕ → ℕ → Bool
-isPrivateElement ns c e = eqb (parentOf ns e) c && (isPrivate ns e && (isDefinition ns e && enters ns e))
+isPrivateElement ns c e = isPrivateDefinition ns c e && enters ns e
 
--- .. of this name; the tests in the order that costs least
+-- .. of this name
 unfoldable pub isPrivateNamed : List ℕ → List ℕ → ℕ → List ℕ → ℕ → Bool
-isPrivateNamed ns names c name e = eqb (parentOf ns e) c && (isPrivate ns e && (isDefinition ns e && (same (elementName ns names e) name && enters ns e)))
+isPrivateNamed ns names c name e = isPrivateDefinition ns c e && (same (elementName ns names e) name && enters ns e)
 
-order4 : (a b c d : Bool) → (((a && b) && c) && d) ≡ (a && (d && (b && c)))
-order4 false b c d = refl
-order4 true b c true = go b c
+-- the tests in the order that costs least
+order : (a b c d : Bool) → (((a && b) && c) && d) ≡ ((a && (d && b)) && c)
+order false b c d = refl
+order true b c true = go b c
   where
     go : (b c : Bool) → ((b && c) && true) ≡ (b && c)
     go false c = refl
     go true true = refl
     go true false = refl
-order4 true b c false = go b c
+order true b c false = go b c
   where
     go : (b c : Bool) → ((b && c) && false) ≡ false
     go false c = refl
     go true true = refl
     go true false = refl
 
-pub order5 : (a b c d s : Bool) → ((a && (b && (c && d))) && s) ≡ (a && (b && (c && (s && d))))
-order5 false b c d s = refl
-order5 true false c d s = refl
-order5 true true false d s = refl
-order5 true true true d true = go d
-  where
-    go : (d : Bool) → (d && true) ≡ d
-    go true = refl
-    go false = refl
-order5 true true true d false = go d
-  where
-    go : (d : Bool) → (d && false) ≡ false
-    go true = refl
-    go false = refl
+swap : (a b c : Bool) → ((a && b) && c) ≡ (a && (c && b))
+swap false b c = refl
+swap true true true = refl
+swap true true false = refl
+swap true false true = refl
+swap true false false = refl
 
 -- what is kept depends on the test's answers alone
 pub keep-same : (p q : ℕ → Bool) → ((i : ℕ) → p i ≡ q i) → (l : List ℕ) → keep p l ≡ keep q l
@@ -79,15 +76,15 @@ any-same p q h (i ∷ l) = rw (h i, any-same p q h l)
 
 -- the private elements, as a scan meets them
 pub privates-scan : (ns : List ℕ) (c : ℕ) → privates ns c ≡ keep (isPrivateElement ns c) (upto (c + 1) (count ns))
-unfolding privates elements children isPrivateElement
+unfolding privates elements children isPrivateElement isPrivateDefinition
 privates-scan ns c =
     ap (λ (l : List ℕ). keep (isPrivate ns) (keep (enters ns) l)) (keep-keep _ _ (upto (c + 1) (count ns)))
     ∙ ap (keep (isPrivate ns)) (keep-keep _ _ (upto (c + 1) (count ns)))
     ∙ keep-keep _ _ (upto (c + 1) (count ns))
-    ∙ keep-same _ _ (λ e. order4 (eqb (parentOf ns e) c) (isDefinition ns e) (enters ns e) (isPrivate ns e)) (upto (c + 1) (count ns))
+    ∙ keep-same _ _ (λ e. order (eqb (parentOf ns e) c) (isDefinition ns e) (enters ns e) (isPrivate ns e)) (upto (c + 1) (count ns))
 
 pub private-other : (ns : List ℕ) (c e : ℕ) → (parentOf ns e ≡ c → ⊥) → isPrivateElement ns c e ≡ false
-unfolding isPrivateElement
+unfolding isPrivateElement isPrivateDefinition
 private-other ns c e n = rw (ne-eqb (parentOf ns e) c n)
 
 -- past the nodes below c there is none
@@ -97,7 +94,7 @@ private-out ns t c i j h u x y = private-other ns c j (λ e. no-child (parentOf 
 -- a private element and its name
 pub named-same : (ns names : List ℕ) (c : ℕ) (name : List ℕ) (e : ℕ) → (isPrivateElement ns c e && same (elementName ns names e) name) ≡ isPrivateNamed ns names c name e
 unfolding isPrivateElement isPrivateNamed
-named-same ns names c name e = order5 (eqb (parentOf ns e) c) (isPrivate ns e) (isDefinition ns e) (enters ns e) (same (elementName ns names e) name)
+named-same ns names c name e = swap (isPrivateDefinition ns c e) (enters ns e) (same (elementName ns names e) name)
 
 -- the search for a private element of a name, from node i on
 module _ (ns names : List ℕ) (c : ℕ) (name : List ℕ) where

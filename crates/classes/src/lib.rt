@@ -7,7 +7,7 @@ ghost use Rattle.children.specs.ChildrenLaws.{below};
 ghost use Rattle.classes.specs.Classes.{classAt, currentClass, parentClass};
 ghost use Rattle.classes.specs.ClassesLaws.{inTable, before};
 ghost use Rattle.classes.specs.Elements.{spanAt, elementName, elementSpan, isStatic, isPrivate, isMethodOf, isGetter, isSetter, isConstructor, isDefinition, hasName, hasBody, enters, hasPrivate, isDeclared};
-ghost use Rattle.classes.specs.ElementsLaws.{isPrivateElement, isPrivateNamed};
+ghost use Rattle.classes.specs.ElementsLaws.{isPrivateDefinition, isPrivateElement, isPrivateNamed};
 use ancestry::nearest;
 use common::and;
 use common::within;
@@ -216,46 +216,44 @@ pub fn enters(nodes: &[u32], e: ElementId) -> bool
     has_name(nodes, e)
 }
 
-// Whether a node is a private element of a class.
+// Whether a node is a definition in the body of class c with a private key.
+fn is_private_definition(nodes: &[u32], c: ClassId, e: ElementId) -> bool
+    requires { ⌜ e .0 < count (now nodes) ⌝ }
+    ensures { λ r. ⌜ r ≡ isPrivateDefinition (now (nodes .entry)) (c .0) (e .0) ⌝ }
+{
+    let p = tables::parent(nodes, NodeId(e.0));
+    if p.0 == c.0 {
+        return and(is_private(nodes, e), is_definition(nodes, e));
+    }
+    false
+}
+
+// Whether a node is a private element of class c.
 pub fn is_private_element(nodes: &[u32], c: ClassId, e: ElementId) -> bool
     requires { ⌜ Tree (now nodes) ⌝ }
     requires { ⌜ e .0 < count (now nodes) ⌝ }
     ensures { λ r. ⌜ r ≡ isPrivateElement (now (nodes .entry)) (c .0) (e .0) ⌝ }
 {
-    let p = tables::parent(nodes, NodeId(e.0));
-    if p.0 != c.0 {
-        return false;
+    if is_private_definition(nodes, c, e) {
+        return enters(nodes, e);
     }
-    if !is_private(nodes, e) {
-        return false;
-    }
-    if !is_definition(nodes, e) {
-        return false;
-    }
-    enters(nodes, e)
+    false
 }
 
-// Whether a node is a private element of a class with this name.
+// Whether a node is a private element of class c with this name: whether it enters is asked last, since that costs most.
 pub fn is_private_named(nodes: &[u32], names: &[u8], c: ClassId, name: &[u8], e: ElementId) -> bool
     requires { ⌜ Tree (now nodes) ⌝ }
     requires { ⌜ Named (now nodes) (now names) ⌝ }
     requires { ⌜ e .0 < count (now nodes) ⌝ }
     ensures { λ r. ⌜ r ≡ isPrivateNamed (now (nodes .entry)) (now (names .entry)) (c .0) (now (name .entry)) (e .0) ⌝ }
 {
-    let p = tables::parent(nodes, NodeId(e.0));
-    if p.0 != c.0 {
+    if is_private_definition(nodes, c, e) {
+        if names::same(element_name(nodes, names, e), name) {
+            return enters(nodes, e);
+        }
         return false;
     }
-    if !is_private(nodes, e) {
-        return false;
-    }
-    if !is_definition(nodes, e) {
-        return false;
-    }
-    if !names::same(element_name(nodes, names, e), name) {
-        return false;
-    }
-    enters(nodes, e)
+    false
 }
 
 // Whether a class has a private element of this name.
