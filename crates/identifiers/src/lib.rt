@@ -99,7 +99,13 @@ fn is_strict_word(nodes: &[u32], names: &[u8], n: NodeId) -> bool
 }
 
 // A reserved word is no name.
-pub fn check_identifier(source_type: u32, nodes: &[u32], scopes: &[u32], names: &[u8], n: NodeId) -> Raised
+pub fn check_identifier(
+    source_type: u32,
+    nodes: &[u32],
+    scopes: &[u32],
+    names: &[u8],
+    n: NodeId,
+) -> Raised
     requires { ⌜ Input (now nodes) (now scopes) (now names) ⌝ }
     requires { ⌜ n .0 < count (now nodes) ⌝ }
     ensures { λ r. ⌜ r ≡ checkIdentifier «source_type» (now (nodes .entry)) (now (scopes .entry)) (now (names .entry)) (n .0) ⌝ }
@@ -163,7 +169,13 @@ fn let_declared(nodes: &[u32], n: NodeId) -> Raised
 }
 
 // What a binding may not be called.
-pub fn check_binding_identifier(source_type: u32, nodes: &[u32], scopes: &[u32], names: &[u8], n: NodeId) -> Raised
+pub fn check_binding_identifier(
+    source_type: u32,
+    nodes: &[u32],
+    scopes: &[u32],
+    names: &[u8],
+    n: NodeId,
+) -> Raised
     requires { ⌜ Input (now nodes) (now scopes) (now names) ⌝ }
     requires { ⌜ n .0 < count (now nodes) ⌝ }
     ensures { λ r. ⌜ r ≡ checkBindingIdentifier «source_type» (now (nodes .entry)) (now (scopes .entry)) (now (names .entry)) (n .0) ⌝ }
@@ -236,7 +248,13 @@ fn is_invalid_target(nodes: &[u32], scopes: &[u32], names: &[u8], n: NodeId) -> 
 }
 
 // Where `eval` and `arguments` may not be written to, and `arguments` not be named.
-pub fn check_identifier_reference(source_type: u32, nodes: &[u32], scopes: &[u32], names: &[u8], n: NodeId) -> Raised
+pub fn check_identifier_reference(
+    source_type: u32,
+    nodes: &[u32],
+    scopes: &[u32],
+    names: &[u8],
+    n: NodeId,
+) -> Raised
     requires { ⌜ Input (now nodes) (now scopes) (now names) ⌝ }
     requires { ⌜ n .0 < count (now nodes) ⌝ }
     ensures { λ r. ⌜ r ≡ checkIdentifierReference «source_type» (now (nodes .entry)) (now (scopes .entry)) (now (names .entry)) (n .0) ⌝ }
@@ -270,10 +288,7 @@ fn is_not_simple(nodes: &[u32], f: NodeId) -> bool
     requires { ⌜ f .0 < count (now nodes) ⌝ }
     ensures { λ r. ⌜ r ≡ isNotSimple (now (nodes .entry)) (f .0) ⌝ }
 {
-    let simple = tables::has_flag(
-        tables::flags(nodes, f),
-        node_flag::SIMPLE_PARAMETERS,
-    );
+    let simple = tables::has_flag(tables::flags(nodes, f), node_flag::SIMPLE_PARAMETERS);
     and(
         within(tables::kind(nodes, f), kinds::FUNCTION, kinds::ARROW),
         !simple,

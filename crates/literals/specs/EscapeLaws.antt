@@ -2,7 +2,7 @@
 use Prim.Native.Nat.{ℕ, zero, suc, _+_, _≤_, _<_}
 use mathlib.Core.Path.{_≡_, refl, _∙_}
 use mathlib.Core.List.{List, [], _∷_}
-use mathlib.Core.Bool.{Bool, true, false, cond, _&&_}
+use mathlib.Core.Bool.{Bool, true, false, _&&_}
 use borrow.Author.Tests.{eq-eqb, ne-eqb}
 use lib.Dec.{eqb}
 use lib.ListN.{length, getD, drop, length-drop}
@@ -12,7 +12,7 @@ use native.Mathlib.Omega.{arith}
 use Rattle.literals.specs.Escapes.{backslash, digitNext, isDigit, isFine, escapeOf, orElse, badEscape}
 use Rattle.literals.specs.Literals.{leadingZero}
 use Rattle.literals.specs.declared.Escape.{Escape}
-use Rattle.literals.specs.declared.Escape.the-variants.{LegacyOctal, NonOctalDecimal, Fine}
+use Rattle.literals.specs.declared.Escape.the-variants.{Fine}
 
 nothing-left : (i : ℕ) (l : List ℕ) → length l ≤ i → drop i l ≡ []
 nothing-left zero [] h = refl

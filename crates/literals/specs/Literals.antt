@@ -13,7 +13,7 @@ use Rattle.diagnostics.specs.Contexts as context
 use Rattle.diagnostics.specs.declared.Raised.{Raised}
 use Rattle.diagnostics.specs.declared.Raised.the-variants.{Clear}
 use Rattle.scoping.specs.Scoping.{isStrict}
-use Rattle.literals.specs.Escapes.{isDigit, digitNext, badEscape}
+use Rattle.literals.specs.Escapes.{digitNext, badEscape}
 use Rattle.literals.specs.declared.Escape.{Escape}
 use Rattle.literals.specs.declared.Escape.the-variants.{LegacyOctal, NonOctalDecimal, Fine}
 

@@ -1,5 +1,4 @@
 use Rattle.identifiers.specs.Identifiers.{checkBindingIdentifier}
-use borrow.Author.Tests.{eq-eqb, ne-eqb, not-true, not-false}
 use borrow.Author.Needs.{needs}
 use Rattle.identifiers.proofs.check_binding_identifier.Statement.{statement}
 use Rattle.identifiers.proofs.check_binding_identifier.Tie as tie

@@ -1,5 +1,5 @@
 use Rattle.identifiers.specs.Identifiers.{checkDirective}
-use borrow.Author.Tests.{eq-eqb, ne-eqb, not-true, not-false}
+use borrow.Author.Tests.{not-true, not-false}
 use borrow.Author.Needs.{needs}
 use Rattle.identifiers.proofs.check_directive.Statement.{statement}
 use Rattle.identifiers.proofs.check_directive.Tie as tie

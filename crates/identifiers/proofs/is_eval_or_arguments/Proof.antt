@@ -1,4 +1,3 @@
-use borrow.Author.Tests.{eq-eqb, ne-eqb, not-true, not-false}
 use borrow.Author.Needs.{needs}
 use Rattle.identifiers.proofs.is_eval_or_arguments.Statement.{statement}
 use Rattle.identifiers.proofs.is_eval_or_arguments.Tie as tie

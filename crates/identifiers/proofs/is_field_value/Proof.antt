@@ -1,5 +1,5 @@
 use Rattle.identifiers.specs.Identifiers.{isFieldValue}
-use borrow.Author.Tests.{eq-eqb, ne-eqb, not-true, not-false}
+use borrow.Author.Tests.{eq-eqb, ne-eqb}
 use borrow.Author.Needs.{needs}
 use Rattle.identifiers.proofs.is_field_value.Statement.{statement}
 use Rattle.identifiers.proofs.is_field_value.Tie as tie

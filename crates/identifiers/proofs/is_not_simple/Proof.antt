@@ -1,4 +1,3 @@
-use borrow.Author.Tests.{eq-eqb, ne-eqb, not-true, not-false}
 use borrow.Author.Needs.{needs}
 use Rattle.identifiers.proofs.is_not_simple.Statement.{statement}
 use Rattle.identifiers.proofs.is_not_simple.Tie as tie

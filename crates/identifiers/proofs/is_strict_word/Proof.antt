@@ -1,5 +1,4 @@
 use Rattle.identifiers.specs.Identifiers.{isStrictWord}
-use borrow.Author.Tests.{eq-eqb, ne-eqb, not-true, not-false}
 use borrow.Author.Needs.{needs}
 use Rattle.identifiers.proofs.is_strict_word.Statement.{statement}
 use Rattle.identifiers.proofs.is_strict_word.Tie as tie

@@ -1,4 +1,4 @@
-use borrow.Author.Tests.{eq-eqb, ne-eqb, not-true, not-false}
+use borrow.Author.Tests.{eq-eqb, ne-eqb}
 use borrow.Author.Needs.{needs}
 use Rattle.identifiers.proofs.let_bound.Statement.{statement}
 use Rattle.identifiers.proofs.let_bound.Tie as tie

@@ -1,5 +1,4 @@
 use Rattle.identifiers.specs.Identifiers.{strictContext}
-use borrow.Author.Tests.{eq-eqb, ne-eqb, not-true, not-false}
 use borrow.Author.Needs.{needs}
 use Rattle.identifiers.proofs.strict_context.Statement.{statement}
 use Rattle.identifiers.proofs.strict_context.Tie as tie
