@@ -102,7 +102,6 @@ module _ (q : ℕ → Bool) (n : ℕ) where
 
   pub kept-none : (i : ℕ) → firstNode q i n ≡ Nothing → keep q (upto i n) ≡ []
   kept-none i e = kept-none-by n i (omega arith) e
-<<<<<<< HEAD
 
   from-by : (g i a : ℕ) → n ≤ i + g → firstNode q i n ≡ At (record { 0 = a }) → i ≤ a
   from-by zero i a hg e = let s : At (record { 0 = a }) ≡ Nothing = sym e ∙ node-end q i n (omega arith) in let z : _≡_ {A = ℕ} 0 1 = cc in absurd (omega arith)
@@ -120,5 +119,3 @@ module _ (q : ℕ → Bool) (n : ℕ) where
   -- what is found is not before where the search begins
   pub found-from : (i a : ℕ) → firstNode q i n ≡ At (record { 0 = a }) → i ≤ a
   found-from i a e = from-by n i a (omega arith) e
-=======
->>>>>>> idents
