@@ -1,7 +1,7 @@
 -- What is checked at a private name and at a Class: `check_private_identifier_outside_class`, `check_private_identifier` and `check_class`.
 use Prim.Native.Nat.{ℕ, _+_}
 use mathlib.Core.List.{List, [], _∷_, _++_, flatMap}
-use mathlib.Core.Bool.{Bool, true, false, cond, not, _&&_}
+use mathlib.Core.Bool.{Bool, false, cond, not, _&&_}
 use lib.Dec.{eqb}
 use Rattle.common.specs.Upto.{upto}
 use Rattle.common.specs.Tests.{within}

@@ -1,11 +1,10 @@
 -- Laws of the checks at a Class: references and constructors as scans of the nodes after a ClassBody meet them.
-use Prim.Native.Nat.{ℕ, zero, suc, _+_, _*_, _≤_, _<_}
-use mathlib.Core.Path.{_≡_, refl, ap, sym, subst, _∙_}
+use Prim.Native.Nat.{ℕ, _+_, _*_, _≤_, _<_}
+use mathlib.Core.Path.{_≡_, refl, ap, sym, _∙_}
 use mathlib.Core.List.{List, [], _∷_, _++_, flatMap}
-use mathlib.Core.Bool.{Bool, true, false, cond, not, _&&_}
-use mathlib.Core.Logic.{⊎-elim}
+use mathlib.Core.Bool.{Bool, true, false, cond, _&&_}
 use native.Mathlib.Omega.{arith}
-use borrow.Author.Tests.{eq-eqb, ne-eqb, eqb-true, eqb-false}
+use borrow.Author.Tests.{ne-eqb, eqb-true}
 use lib.Dec.{eqb}
 use lib.ListN.{length, length-append}
 use Rattle.common.specs.Upto.{upto, and-left, and-right}
@@ -21,7 +20,7 @@ use Rattle.children.specs.Children.{keep, children, firstNode}
 use Rattle.children.specs.ChildrenLaws.{keep-keep, no-node}
 use Rattle.diagnostics.specs.declared.Finding.{Finding}
 use Rattle.diagnostics.specs.declared.Raised.{Raised}
-use Rattle.diagnostics.specs.declared.Raised.the-variants.{Error, Clear}
+use Rattle.diagnostics.specs.declared.Raised.the-variants.{Clear}
 use Rattle.diagnostics.specs.Finding.{listed, sink}
 use Rattle.diagnostics.specs.FindingLaws.{sink-append}
 use Rattle.classes.specs.declared.Current.{Current}

@@ -10,7 +10,6 @@ ghost use Rattle.class_checks.specs.ClassChecks.{privateOutside, isRefer
 ghost use Rattle.class_checks.specs.ClassChecksLaws.{isReferenceOf, raisedAt, isConstructorOf, nextConstructor};
 use classes::Current;
 use classes::Span;
-use common::and;
 use common::within;
 use diagnostics::Finding;
 use diagnostics::Raised;

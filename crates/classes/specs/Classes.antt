@@ -1,5 +1,5 @@
 -- Classes: ClassTable and ClassTableBuilder (class/table.rs, class/builder.rs). A class has the number of its ClassBody, since it is declared when that is entered.
-use Prim.Native.Nat.{ℕ}
+use Prim.Native.Nat.{ℕ, _<_}
 use mathlib.Core.List.{List}
 use mathlib.Core.Bool.{Bool, cond}
 use lib.Dec.{eqb}
@@ -44,3 +44,13 @@ outerClasses ns c = keep (isClassBody ns) (ancestors ns c)
 -- all classes, in the order in which they are declared: `iter_enumerated`
 unfoldable pub classesOf : List ℕ → List ℕ
 classesOf ns = keep (isClassBody ns) (upto 0 (count ns))
+
+-- the class is in the table
+abbrev pub inTable : List ℕ → Current → Type 0
+inTable ns (Class c) = c .0 < count ns
+inTable ns Outside = Unit {0}
+
+-- the class is before node n
+abbrev pub before : ℕ → Current → Type 0
+before n (Class c) = c .0 < n
+before n Outside = Unit {0}

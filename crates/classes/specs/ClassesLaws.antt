@@ -1,13 +1,13 @@
 -- Laws of classes: where a class lies, and the classes around it one step at a time.
-use Prim.Native.Nat.{ℕ, zero, suc, _+_, _≤_, _<_}
+use Prim.Native.Nat.{ℕ, zero, suc, _≤_, _<_}
 use mathlib.Core.Path.{_≡_, refl, ap, sym, subst, _∙_}
 use mathlib.Core.List.{List, [], _∷_}
-use mathlib.Core.Bool.{Bool, true, false, cond, _&&_}
+use mathlib.Core.Bool.{Bool, true, false}
 use mathlib.Core.Logic.{⊎-elim}
 use native.Mathlib.Nat.{eq-or-lt-of-le}
 use native.Mathlib.Omega.{arith}
-use borrow.Author.Tests.{eq-eqb, ne-eqb, eqb-true, eqb-false, le-leb, lt-leb}
-use lib.Dec.{eqb, leb}
+use borrow.Author.Tests.{eq-eqb, ne-eqb, le-leb, lt-leb}
+use lib.Dec.{eqb}
 use Rattle.common.specs.Tests.{within}
 use Rattle.walk.specs.Above.{above-up, above-root}
 use Rattle.walk.specs.On.{on, on-self, on-step}
@@ -23,17 +23,7 @@ use Rattle.ancestry.specs.Ancestry.{nearestOf}
 use Rattle.ancestry.specs.AncestryLaws.{nearest-stop, nearest-on, nearest-root}
 use Rattle.classes.specs.declared.Current.{Current}
 use Rattle.classes.specs.declared.Current.the-variants.{Class, Outside}
-use Rattle.classes.specs.Classes.{classAt, bodyAbove, isClassBody, outerClasses}
-
--- the class is in the table
-abbrev pub inTable : List ℕ → Current → Type 0
-inTable ns (Class c) = c .0 < count ns
-inTable ns Outside = Unit {0}
-
--- the class is before node n
-abbrev pub before : ℕ → Current → Type 0
-before n (Class c) = c .0 < n
-before n Outside = Unit {0}
+use Rattle.classes.specs.Classes.{classAt, bodyAbove, isClassBody, outerClasses, inTable, before}
 
 pub in-table : (ns : List ℕ) (f : Found) → below ns f → inTable ns (classAt f)
 in-table ns (At m) h = h

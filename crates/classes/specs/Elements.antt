@@ -1,11 +1,11 @@
 -- The elements of a class: `Element` and `ClassTableBuilder::declare_class_body`. An element has the number of its node.
 use Prim.Native.Nat.{ℕ}
 use mathlib.Core.List.{List, [], _∷_}
-use mathlib.Core.Bool.{Bool, true, false, not, _&&_, _||_}
+use mathlib.Core.Bool.{Bool, false, not, _&&_}
 use lib.Dec.{eqb}
 use Rattle.common.specs.Upto.{any}
 use Rattle.common.specs.Tests.{within}
-use Rattle.tables.specs.Table.{kindOf, spanStartOf, spanEndOf, flagsOf, extraOf, nameLenOf, hasFlag}
+use Rattle.tables.specs.Table.{kindOf, parentOf, spanStartOf, spanEndOf, flagsOf, extraOf, nameLenOf, hasFlag}
 use Rattle.tables.specs.Kinds as k
 use Rattle.tables.specs.Extras as extra
 use Rattle.tables.specs.NodeFlag as flag
@@ -96,3 +96,15 @@ hasPrivate ns names c name = any (λ e. same (elementName ns names e) name) (pri
 -- class c or a class around it has
 unfoldable pub isDeclared : List ℕ → List ℕ → ℕ → List ℕ → Bool
 isDeclared ns names c name = any (λ d. hasPrivate ns names d name) (c ∷ outerClasses ns c)
+
+-- The same as tests of a node: e is a definition in the body of class c with a private key
+unfoldable pub isPrivateDefinition : List ℕ → ℕ → ℕ → Bool
+isPrivateDefinition ns c e = eqb (parentOf ns e) c && (isPrivate ns e && isDefinition ns e)
+
+-- .. it is a private element of class c
+unfoldable pub isPrivateElement : List ℕ → ℕ → ℕ → Bool
+isPrivateElement ns c e = isPrivateDefinition ns c e && enters ns e
+
+-- .. it is one of this name
+unfoldable pub isPrivateNamed : List ℕ → List ℕ → ℕ → List ℕ → ℕ → Bool
+isPrivateNamed ns names c name e = isPrivateDefinition ns c e && (same (elementName ns names e) name && enters ns e)

@@ -1,36 +1,23 @@
 -- Laws of elements: those of a class as a scan of the nodes after its ClassBody meets them.
 use Prim.Native.Nat.{ℕ, zero, suc, _+_, _≤_, _<_}
 use mathlib.Core.Path.{_≡_, refl, ap, sym, _∙_}
-use mathlib.Core.List.{List, [], _∷_, foldr}
-use mathlib.Core.Bool.{Bool, true, false, cond, not, _&&_, _||_}
+use mathlib.Core.List.{List, [], _∷_}
+use mathlib.Core.Bool.{Bool, true, false, cond, _&&_, _||_}
 use mathlib.Core.Logic.{⊎-elim}
 use native.Mathlib.Omega.{arith}
 use borrow.Author.Tests.{ne-eqb}
 use lib.Dec.{eqb}
 use Rattle.common.specs.Upto.{upto, any, fold-turn, fold-end}
 use Rattle.walk.specs.Preorder.{no-child, lt-or-ge}
-use Rattle.tables.specs.Table.{count, kindOf, parentOf}
+use Rattle.tables.specs.Table.{count, parentOf}
 use Rattle.tables.specs.Facts.{Tree}
-use Rattle.tables.specs.declared.Found.{Found}
 use Rattle.tables.specs.declared.Found.the-variants.{At, Nothing}
 use Rattle.names.specs.Name.{same}
 use Rattle.children.specs.Children.{keep, children}
 use Rattle.children.specs.ChildrenLaws.{keep-keep}
-use Rattle.classes.specs.Classes.{bodyAbove, outerClasses}
+use Rattle.classes.specs.Classes.{bodyAbove}
 use Rattle.classes.specs.ClassesLaws.{outer-at, outer-none}
-use Rattle.classes.specs.Elements.{elementName, isPrivate, isDefinition, enters, elements, privates, hasPrivate, isDeclared}
-
--- node e is a definition in the body of class c with a private key
-unfoldable pub isPrivateDefinition : List ℕ → ℕ → ℕ → Bool
-isPrivateDefinition ns c e = eqb (parentOf ns e) c && (isPrivate ns e && isDefinition ns e)
-
--- .. a private element of class c
-unfoldable pub isPrivateElement : List ℕ → ℕ → ℕ → Bool
-isPrivateElement ns c e = isPrivateDefinition ns c e && enters ns e
-
--- .. of this name
-unfoldable pub isPrivateNamed : List ℕ → List ℕ → ℕ → List ℕ → ℕ → Bool
-isPrivateNamed ns names c name e = isPrivateDefinition ns c e && (same (elementName ns names e) name && enters ns e)
+use Rattle.classes.specs.Elements.{elementName, isPrivate, isDefinition, enters, elements, privates, hasPrivate, isDeclared, isPrivateDefinition, isPrivateElement, isPrivateNamed}
 
 -- the tests in the order that costs least
 order : (a b c d : Bool) → (((a && b) && c) && d) ≡ ((a && (d && b)) && c)

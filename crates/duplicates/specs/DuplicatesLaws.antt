@@ -1,26 +1,26 @@
 -- Laws of duplicate elements: the two places of a name as a scan of the earlier nodes fills them, and the findings as scans meet them.
-use Prim.Native.Nat.{ℕ, zero, suc, _+_, _-_, _*_, _≤_, _<_}
-use mathlib.Core.Path.{_≡_, refl, ap, sym, subst, _∙_}
+use Prim.Native.Nat.{ℕ, zero, suc, _+_, _-_, _≤_, _<_}
+use mathlib.Core.Path.{_≡_, refl, ap, sym, _∙_}
 use mathlib.Core.List.{List, [], _∷_, _++_, foldl, flatMap}
-use mathlib.Core.Bool.{Bool, true, false, cond, not, xor, _&&_, _||_}
+use mathlib.Core.Bool.{Bool, true, false, cond, not, xor, _&&_}
 use mathlib.Core.Logic.{⊎-elim}
 use native.Mathlib.Omega.{arith}
-use borrow.Author.Tests.{eq-eqb, ne-eqb, eqb-true, ltb-true, lt-ltb, le-ltb}
+use borrow.Author.Tests.{ltb-true, lt-ltb, le-ltb}
 use lib.Dec.{eqb, ltb}
-use lib.ListN.{length, getD, set}
-use Rattle.common.specs.Upto.{upto, upto-nil, upto-cons, and-left, and-right}
+use lib.ListN.{getD, set}
+use Rattle.common.specs.Upto.{upto, upto-nil, upto-cons, and-left}
 use Rattle.walk.specs.Preorder.{lt-or-ge}
-use Rattle.tables.specs.Table.{count, kindOf, parentOf}
+use Rattle.tables.specs.Table.{count, parentOf}
 use Rattle.tables.specs.Facts.{Tree}
 use Rattle.names.specs.Name.{same}
 use Rattle.children.specs.Children.{keep}
 use Rattle.diagnostics.specs.declared.Finding.{Finding}
 use Rattle.diagnostics.specs.declared.Raised.{Raised}
-use Rattle.diagnostics.specs.declared.Raised.the-variants.{Error, Clear}
+use Rattle.diagnostics.specs.declared.Raised.the-variants.{Clear}
 use Rattle.diagnostics.specs.Finding.{listed}
 use Rattle.classes.specs.Classes.{classesOf, isClassBody}
-use Rattle.classes.specs.Elements.{elementName, isSetter, privates}
-use Rattle.classes.specs.ElementsLaws.{isPrivateElement, isPrivateNamed, privates-scan, private-out, named-same}
+use Rattle.classes.specs.Elements.{elementName, isSetter, privates, isPrivateElement, isPrivateNamed}
+use Rattle.classes.specs.ElementsLaws.{privates-scan, private-out, named-same}
 use Rattle.gather.specs.Gather.{flat-turn, flat-end, flat-none, flat-keep, flat-same, listed-cond}
 use Rattle.duplicates.specs.declared.Place.{Place}
 use Rattle.duplicates.specs.Duplicates.{nowhere, here, step, lastOf, sideOf, isEarlier, previousOn, orElse, previousOf, isDuplicate, redeclaration, duplicateBy, duplicateAt, duplicatesIn, duplicateElements}

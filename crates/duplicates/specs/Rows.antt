@@ -1,7 +1,7 @@
 -- Document 01's rows: a private getter and setter of one name, both static or both not, and one of them static.
 use Prim.Native.Nat.{ℕ, _+_, _<_}
 use mathlib.Core.Path.{_≡_, refl, ap, _∙_}
-use mathlib.Core.List.{List, [], _∷_, _++_, flatMap}
+use mathlib.Core.List.{List, [], _∷_, flatMap}
 use mathlib.Core.Bool.{Bool, true, false, cond, xor}
 use native.Mathlib.Omega.{arith}
 use Rattle.common.specs.Upto.{upto, upto-nil, upto-cons}

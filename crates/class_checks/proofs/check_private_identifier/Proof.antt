@@ -1,4 +1,4 @@
-use Prim.Native.Nat.{ℕ, _+_, _*_}
+use Prim.Native.Nat.{_+_, _*_}
 use mathlib.Core.List.{List, []}
 use mathlib.Core.Path.{_≡_, sym, ap, subst, _∙_}
 use native.Mathlib.Omega.{arith}
@@ -7,7 +7,7 @@ use Rattle.diagnostics.specs.FindingLaws.{sink-nil}
 use Rattle.diagnostics.specs.Finding.{sink}
 use Rattle.diagnostics.specs.declared.Finding.{Finding}
 use Rattle.classes.specs.declared.Current.{Current}
-use Rattle.classes.specs.ClassesLaws.{inTable}
+use Rattle.classes.specs.Classes.{inTable}
 use Rattle.class_checks.specs.ClassChecks.{undeclaredBy, undeclaredIn, privateUndeclared}
 use borrow.Author.Needs.{needs}
 use Rattle.class_checks.proofs.check_private_identifier.Statement.{statement}

@@ -1,4 +1,4 @@
-use mathlib.Core.Path.{_≡_, sym, ap, _∙_}
+use mathlib.Core.Path.{sym, ap, _∙_}
 use Rattle.class_checks.specs.ClassChecks.{outsideBy}
 use borrow.Author.Needs.{needs}
 use Rattle.class_checks.proofs.check_private_identifier_outside_class.Statement.{statement}

@@ -1,4 +1,4 @@
-use mathlib.Core.Path.{_≡_, sym, ap, _∙_}
+use mathlib.Core.Path.{sym, ap, _∙_}
 use Rattle.ancestry.specs.AncestryLaws.{isAt}
 use borrow.Author.Needs.{needs}
 use Rattle.class_checks.proofs.has_id.Statement.{statement}

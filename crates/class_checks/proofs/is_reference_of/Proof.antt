@@ -1,4 +1,4 @@
-use mathlib.Core.Path.{_≡_, sym, ap, _∙_}
+use mathlib.Core.Path.{sym, ap, _∙_}
 use Rattle.class_checks.specs.ClassChecksLaws.{isReferenceOf}
 use Rattle.class_checks.specs.ClassChecks.{isClass}
 use borrow.Author.Needs.{needs}

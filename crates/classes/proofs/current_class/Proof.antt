@@ -1,8 +1,8 @@
-use borrow.Author.Tests.{eq-eqb, ne-eqb}
-use mathlib.Core.Path.{_≡_, sym, ap, subst, _∙_}
+use borrow.Author.Tests.{ne-eqb}
+use mathlib.Core.Path.{sym, subst}
 use Rattle.classes.specs.declared.Current.{Current}
-use Rattle.classes.specs.ClassesLaws.{inTable, in-table}
-use Rattle.classes.specs.Classes.{classAt, currentClass}
+use Rattle.classes.specs.Classes.{inTable, currentClass}
+use Rattle.classes.specs.ClassesLaws.{in-table}
 use borrow.Author.Needs.{needs}
 use Rattle.classes.proofs.current_class.Statement.{statement}
 use Rattle.classes.proofs.current_class.Tie as tie

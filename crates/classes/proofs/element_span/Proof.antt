@@ -1,4 +1,4 @@
-use mathlib.Core.Path.{_≡_, sym, ap, subst, _∙_}
+use mathlib.Core.Path.{ap, _∙_}
 use Rattle.classes.specs.Elements.{spanAt, elementSpan}
 use borrow.Author.Needs.{needs}
 use Rattle.classes.proofs.element_span.Statement.{statement}

@@ -1,4 +1,4 @@
-use mathlib.Core.Path.{_≡_, sym, ap, subst, _∙_}
+use mathlib.Core.Path.{sym, ap, subst, _∙_}
 use Rattle.tables.specs.declared.Found.{Found}
 use Rattle.children.specs.ChildrenLaws.{below}
 use Rattle.ancestry.specs.AncestryLaws.{isAt}

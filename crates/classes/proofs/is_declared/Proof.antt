@@ -4,8 +4,8 @@ use native.Mathlib.Omega.{arith}
 use Rattle.tables.specs.Table.{count}
 use Rattle.classes.specs.declared.Current.{Current}
 use Rattle.classes.specs.Elements.{isDeclared}
-use Rattle.classes.specs.Classes.{bodyAbove}
-use Rattle.classes.specs.ClassesLaws.{before, class-found, class-none}
+use Rattle.classes.specs.Classes.{bodyAbove, before}
+use Rattle.classes.specs.ClassesLaws.{class-found, class-none}
 use Rattle.classes.specs.ElementsLaws.{declared-here, declared-outer, declared-none}
 use borrow.Author.Needs.{needs}
 use Rattle.classes.proofs.is_declared.Statement.{statement}

@@ -1,4 +1,3 @@
-use borrow.Author.Tests.{eq-eqb, ne-eqb}
 use borrow.Author.Needs.{needs}
 use Rattle.classes.proofs.is_method_of.Statement.{statement}
 use Rattle.classes.proofs.is_method_of.Tie as tie

@@ -1,5 +1,5 @@
 use borrow.Author.Tests.{eq-eqb, ne-eqb}
-use Rattle.classes.specs.ElementsLaws.{isPrivateDefinition}
+use Rattle.classes.specs.Elements.{isPrivateDefinition}
 use borrow.Author.Needs.{needs}
 use Rattle.classes.proofs.is_private_definition.Statement.{statement}
 use Rattle.classes.proofs.is_private_definition.Tie as tie

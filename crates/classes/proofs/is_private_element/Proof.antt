@@ -1,4 +1,4 @@
-use Rattle.classes.specs.ElementsLaws.{isPrivateElement}
+use Rattle.classes.specs.Elements.{isPrivateElement}
 use borrow.Author.Needs.{needs}
 use Rattle.classes.proofs.is_private_element.Statement.{statement}
 use Rattle.classes.proofs.is_private_element.Tie as tie

@@ -1,4 +1,4 @@
-use Rattle.classes.specs.ElementsLaws.{isPrivateNamed}
+use Rattle.classes.specs.Elements.{isPrivateNamed}
 use borrow.Author.Needs.{needs}
 use Rattle.classes.proofs.is_private_named.Statement.{statement}
 use Rattle.classes.proofs.is_private_named.Tie as tie

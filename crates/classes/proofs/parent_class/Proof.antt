@@ -1,7 +1,7 @@
-use mathlib.Core.Path.{_≡_, sym, ap, subst, _∙_}
+use mathlib.Core.Path.{sym, ap, subst, _∙_}
 use Rattle.classes.specs.declared.Current.{Current}
-use Rattle.classes.specs.ClassesLaws.{before, above-before}
-use Rattle.classes.specs.Classes.{classAt, bodyAbove}
+use Rattle.classes.specs.Classes.{before, classAt}
+use Rattle.classes.specs.ClassesLaws.{above-before}
 use borrow.Author.Needs.{needs}
 use Rattle.classes.proofs.parent_class.Statement.{statement}
 use Rattle.classes.proofs.parent_class.Tie as tie

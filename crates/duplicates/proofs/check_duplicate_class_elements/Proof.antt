@@ -1,5 +1,5 @@
-use Prim.Native.Nat.{ℕ, _+_, _*_, _≤_, _<_, _-_}
-use mathlib.Core.List.{List, _++_, []}
+use Prim.Native.Nat.{_+_, _*_, _≤_, _-_}
+use mathlib.Core.List.{_++_, []}
 use mathlib.Core.Path.{_≡_, sym, ap, _∙_}
 use native.Mathlib.Omega.{arith}
 use borrow.Author.Tests.{ltb-true, ltb-false}
@@ -7,7 +7,6 @@ use lib.ListN.{length}
 use Rattle.tables.specs.Table.{count}
 use Rattle.diagnostics.specs.FindingLaws.{sink-nil, sink-length}
 use Rattle.diagnostics.specs.Finding.{sink}
-use Rattle.diagnostics.specs.declared.Finding.{Finding}
 use Rattle.gather.specs.Gather.{piece-place, piece-sink}
 use Rattle.duplicates.specs.DuplicatesLaws.{classAt, classesFrom, all-start, all-turn, all-end}
 use Rattle.duplicates.specs.Duplicates.{duplicateElements}

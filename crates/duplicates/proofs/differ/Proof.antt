@@ -1,6 +1,4 @@
 use Rattle.duplicates.specs.DuplicatesLaws.{differ-true, differ-false}
-use mathlib.Core.Bool.{xor}
-use borrow.Author.Needs.{needs}
 use Rattle.duplicates.proofs.differ.Statement.{statement}
 use Rattle.duplicates.proofs.differ.Tie as tie
 use Rattle.duplicates.proofs.differ.Reads as reads

@@ -1,5 +1,5 @@
-use Prim.Native.Nat.{ℕ, _+_, _*_, _≤_, _<_, _-_}
-use mathlib.Core.List.{List, _++_, []}
+use Prim.Native.Nat.{_+_, _*_, _≤_, _<_, _-_}
+use mathlib.Core.List.{_++_, []}
 use mathlib.Core.Path.{_≡_, sym, ap, _∙_}
 use native.Mathlib.Omega.{arith}
 use borrow.Author.Tests.{ltb-true, ltb-false}
@@ -8,9 +8,8 @@ use Rattle.tables.specs.Table.{count}
 use Rattle.diagnostics.specs.FindingLaws.{sink-nil, sink-length}
 use Rattle.diagnostics.specs.Finding.{listed, sink}
 use Rattle.diagnostics.specs.declared.Raised.{Raised}
-use Rattle.diagnostics.specs.declared.Finding.{Finding}
 use Rattle.gather.specs.Gather.{listed-one, piece-place, piece-sink}
-use Rattle.duplicates.specs.DuplicatesLaws.{raisedAt, duplicatesFrom, from-start, from-turn, from-end, from-out}
+use Rattle.duplicates.specs.DuplicatesLaws.{duplicatesFrom, from-start, from-turn, from-end, from-out}
 use Rattle.duplicates.specs.Duplicates.{duplicatesIn}
 use borrow.Author.Needs.{needs}
 use Rattle.duplicates.proofs.duplicates_in.Statement.{statement}

@@ -1,4 +1,3 @@
-use Rattle.duplicates.specs.DuplicatesLaws.{prevOf}
 use borrow.Author.Needs.{needs}
 use Rattle.duplicates.proofs.prev_element.Statement.{statement}
 use Rattle.duplicates.proofs.prev_element.Tie as tie

@@ -1,11 +1,10 @@
-use Prim.Native.Nat.{_≤_, _<_, _-_}
+use Prim.Native.Nat.{_≤_, _-_}
 use mathlib.Core.List.{_∷_, []}
-use mathlib.Core.Path.{_≡_, sym, _∙_}
+use mathlib.Core.Path.{_≡_}
 use native.Mathlib.Omega.{arith}
-use Rattle.tables.specs.Table.{count}
 use Rattle.classes.specs.Elements.{elementName}
 use Rattle.duplicates.specs.DuplicatesLaws.{scan, scan-turn, scan-end, scan-places}
-use Rattle.duplicates.specs.Duplicates.{previousOn, nowhere}
+use Rattle.duplicates.specs.Duplicates.{previousOn}
 use borrow.Author.Needs.{needs}
 use Rattle.duplicates.proofs.previous_of.Statement.{statement}
 use Rattle.duplicates.proofs.previous_of.Tie as tie

@@ -1,5 +1,4 @@
 use Rattle.duplicates.specs.DuplicatesLaws.{see}
-use Rattle.duplicates.specs.Duplicates.{sideOf}
 use borrow.Author.Needs.{needs}
 use Rattle.duplicates.proofs.see.Statement.{statement}
 use Rattle.duplicates.proofs.see.Tie as tie
