@@ -1,3 +1,6 @@
+use Rattle.tables.specs.Table.{count}
+use Prim.Native.Nat.{_<_}
+use native.Mathlib.Omega.{arith}
 use Rattle.tables.specs.declared.Found.{Found}
 use Rattle.children.specs.ChildrenLaws.{below}
 use mathlib.Core.Path.{subst}
@@ -34,7 +37,9 @@ returns-2 c = search needs
 
 -- src/lib.rt:61:5
 error-between-requires : tie.Need-error-between-requires
-error-between-requires c κs = (subst (λ (x : Found). below (c .before .before .before .before .before .before .before .args .nodes .now) x) (c .before .before .before .before .a .given .1) (c .before .before .before .before .before .before .before .pre .0), subst (λ (x : Found). below (c .before .before .before .before .before .before .before .args .nodes .now) x) (c .before .b .given .1) (c .before .before .before .before .before .before .before .pre .1))
+error-between-requires c κs = let x : c .before .before .before .before .a .given .0 .0 .0 < count (c .before .before .before .before .before .before .before .args .nodes .now) = subst (λ (x : Found). below (c .before .before .before .before .before .before .before .args .nodes .now) x) (c .before .before .before .before .a .given .1) (c .before .before .before .before .before .before .before .pre .0) in
+    let y : c .before .b .given .0 .0 .0 < count (c .before .before .before .before .before .before .before .args .nodes .now) = subst (λ (x : Found). below (c .before .before .before .before .before .before .before .args .nodes .now) x) (c .before .b .given .1) (c .before .before .before .before .before .before .before .pre .1) in
+    (omega arith, omega arith)
 
 -- src/lib.rt:50:1
 returns-3 : tie.Need-returns-3
