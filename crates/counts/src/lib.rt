@@ -38,7 +38,14 @@ fn labels(nodes: &[u32], n: NodeId) -> u32
     requires { ⌜ n .0 < count (now nodes) ⌝ }
     ensures { λ r. ⌜ r ≡ labels (now (nodes .entry)) (n .0) ⌝ }
 {
-    how_many(nodes, n, kinds::LABEL_IDENTIFIER, kinds::LABEL_IDENTIFIER, roles::LABEL, roles::LABEL)
+    how_many(
+        nodes,
+        n,
+        kinds::LABEL_IDENTIFIER,
+        kinds::LABEL_IDENTIFIER,
+        roles::LABEL,
+        roles::LABEL,
+    )
 }
 
 // Whether c is a `default` of the Switch p.
@@ -47,7 +54,15 @@ fn is_default(nodes: &[u32], p: NodeId, c: NodeId) -> bool
     ensures { λ r. ⌜ r ≡ isDefault (now (nodes .entry)) (p .0) (c .0) ⌝ }
 {
     and(
-        is_child(nodes, p, kinds::SWITCH_CASE, kinds::SWITCH_CASE, roles::HELD, roles::HELD, c),
+        is_child(
+            nodes,
+            p,
+            kinds::SWITCH_CASE,
+            kinds::SWITCH_CASE,
+            roles::HELD,
+            roles::HELD,
+            c,
+        ),
         tables::has_flag(tables::flags(nodes, c), node_flag::DEFAULT),
     )
 }
@@ -113,7 +128,14 @@ fn wrong_try(nodes: &[u32], n: NodeId) -> bool
         let block = with_role(nodes, n, roles::HELD);
         let clause = with_role(nodes, n, roles::ALTERNATE);
         let last = with_role(nodes, n, roles::FINALLY);
-        let either = how_many(nodes, n, 0, kinds::ANYTHING_ELSE, roles::ALTERNATE, roles::FINALLY);
+        let either = how_many(
+            nodes,
+            n,
+            0,
+            kinds::ANYTHING_ELSE,
+            roles::ALTERNATE,
+            roles::FINALLY,
+        );
         return or(block != 1, or(1 < clause, or(1 < last, either == 0)));
     }
     false
@@ -184,7 +206,11 @@ fn wrong_element(nodes: &[u32], n: NodeId) -> bool
     requires { ⌜ n .0 < count (now nodes) ⌝ }
     ensures { λ r. ⌜ r ≡ wrongElement (now (nodes .entry)) (n .0) ⌝ }
 {
-    if within(tables::kind(nodes, n), kinds::METHOD_DEFINITION, kinds::ACCESSOR_PROPERTY) {
+    if within(
+        tables::kind(nodes, n),
+        kinds::METHOD_DEFINITION,
+        kinds::ACCESSOR_PROPERTY,
+    ) {
         return or(with_role(nodes, n, roles::KEY) != 1, wrong_value(nodes, n));
     }
     false
@@ -195,7 +221,10 @@ fn wrong_statement(nodes: &[u32], n: NodeId) -> bool
     requires { ⌜ n .0 < count (now nodes) ⌝ }
     ensures { λ r. ⌜ r ≡ wrongStatement (now (nodes .entry)) (n .0) ⌝ }
 {
-    or(wrong_body(nodes, n), or(wrong_alternate(nodes, n), wrong_label(nodes, n)))
+    or(
+        wrong_body(nodes, n),
+        or(wrong_alternate(nodes, n), wrong_label(nodes, n)),
+    )
 }
 
 fn wrong_part(nodes: &[u32], n: NodeId) -> bool
@@ -203,7 +232,10 @@ fn wrong_part(nodes: &[u32], n: NodeId) -> bool
     requires { ⌜ n .0 < count (now nodes) ⌝ }
     ensures { λ r. ⌜ r ≡ wrongPart (now (nodes .entry)) (n .0) ⌝ }
 {
-    or(wrong_default(nodes, n), or(wrong_try(nodes, n), wrong_clause(nodes, n)))
+    or(
+        wrong_default(nodes, n),
+        or(wrong_try(nodes, n), wrong_clause(nodes, n)),
+    )
 }
 
 fn wrong_home(nodes: &[u32], n: NodeId) -> bool
@@ -211,7 +243,10 @@ fn wrong_home(nodes: &[u32], n: NodeId) -> bool
     requires { ⌜ n .0 < count (now nodes) ⌝ }
     ensures { λ r. ⌜ r ≡ wrongHome (now (nodes .entry)) (n .0) ⌝ }
 {
-    or(wrong_function(nodes, n), or(wrong_class(nodes, n), wrong_element(nodes, n)))
+    or(
+        wrong_function(nodes, n),
+        or(wrong_class(nodes, n), wrong_element(nodes, n)),
+    )
 }
 
 pub fn wrong_count_at(nodes: &[u32], n: NodeId) -> bool
@@ -219,7 +254,10 @@ pub fn wrong_count_at(nodes: &[u32], n: NodeId) -> bool
     requires { ⌜ n .0 < count (now nodes) ⌝ }
     ensures { λ r. ⌜ r ≡ wrongCountAt (now (nodes .entry)) (n .0) ⌝ }
 {
-    or(wrong_statement(nodes, n), or(wrong_part(nodes, n), wrong_home(nodes, n)))
+    or(
+        wrong_statement(nodes, n),
+        or(wrong_part(nodes, n), wrong_home(nodes, n)),
+    )
 }
 
 // The lowest node with a wrong number of children.

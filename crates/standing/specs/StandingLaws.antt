@@ -101,57 +101,57 @@ module _ (kind role above : ℕ) (e : misplaced kind role above ≡ false) where
   method-holds p q = eqb-true kind 1 (but (eqb above 28 && eqb role 1) (eqb kind 1) (elements .3) (pair above 28 role 1 p q))
 
 -- the kind of a node's parent
-abbrev pub above : List ℕ → ℕ → ℕ
-above ns i = kindOf ns (parentOf ns i)
+abbrev pub parentKind : List ℕ → ℕ → ℕ
+parentKind ns i = kindOf ns (parentOf ns i)
 
 -- what is known where no child is misplaced
 pub record Placed (ns : List ℕ) : Type 0 where
-  pub stands : (i : ℕ) → i < count ns → isStatement (kindOf ns i) ≡ true → (r.Held ≤ roleOf ns i) × (roleOf ns i ≤ r.Finally) × (isHolder (above ns i) ≡ true)
-  pub held : (i : ℕ) → 0 < i → i < count ns → r.Held ≤ roleOf ns i → roleOf ns i ≤ r.Finally → isHolder (above ns i) ≡ true
-      → (isStatement (kindOf ns i) ≡ true) ⊎ ((mayBeStatement (kindOf ns i) ≡ true) ⊎ ((kindOf ns i ≡ k.CatchClause) × (above ns i ≡ k.Try)))
-  pub alternate : (i : ℕ) → 0 < i → i < count ns → r.Alternate ≤ roleOf ns i → roleOf ns i ≤ r.Finally → (above ns i ≡ k.Try) ⊎ ((above ns i ≡ k.If) × (roleOf ns i ≡ r.Alternate))
-  pub inSwitch : (i : ℕ) → i < count ns → above ns i ≡ k.Switch → roleOf ns i ≡ r.Held → kindOf ns i ≡ k.SwitchCase
-  pub switchCase : (i : ℕ) → i < count ns → kindOf ns i ≡ k.SwitchCase → (above ns i ≡ k.Switch) × (roleOf ns i ≡ r.Held)
-  pub inTry : (i : ℕ) → i < count ns → above ns i ≡ k.Try → r.Held ≤ roleOf ns i → roleOf ns i ≤ r.Finally → kindOf ns i ≡ tryPart (roleOf ns i)
-  pub clause : (i : ℕ) → i < count ns → kindOf ns i ≡ k.CatchClause → (above ns i ≡ k.Try) × (roleOf ns i ≡ r.Alternate)
-  pub inClause : (i : ℕ) → i < count ns → above ns i ≡ k.CatchClause → roleOf ns i ≡ r.Held → kindOf ns i ≡ k.Block
-  pub functionBody : (i : ℕ) → i < count ns → kindOf ns i ≡ k.FunctionBody → (k.Function ≤ above ns i) × (above ns i ≤ k.Arrow)
-  pub classBody : (i : ℕ) → i < count ns → kindOf ns i ≡ k.ClassBody → above ns i ≡ k.Class
-  pub element : (i : ℕ) → i < count ns → k.MethodDefinition ≤ kindOf ns i → kindOf ns i ≤ k.AccessorProperty → above ns i ≡ k.ClassBody
-  pub staticBlock : (i : ℕ) → i < count ns → kindOf ns i ≡ k.StaticBlock → above ns i ≡ k.ClassBody
-  pub methodValue : (i : ℕ) → i < count ns → above ns i ≡ k.MethodDefinition → roleOf ns i ≡ r.Value → kindOf ns i ≡ k.Function
+  pub stands : (i : ℕ) → i < count ns → isStatement (kindOf ns i) ≡ true → (r.Held ≤ roleOf ns i) × (roleOf ns i ≤ r.Finally) × (isHolder (parentKind ns i) ≡ true)
+  pub held : (i : ℕ) → 0 < i → i < count ns → r.Held ≤ roleOf ns i → roleOf ns i ≤ r.Finally → isHolder (parentKind ns i) ≡ true
+      → (isStatement (kindOf ns i) ≡ true) ⊎ ((mayBeStatement (kindOf ns i) ≡ true) ⊎ ((kindOf ns i ≡ k.CatchClause) × (parentKind ns i ≡ k.Try)))
+  pub alternate : (i : ℕ) → 0 < i → i < count ns → r.Alternate ≤ roleOf ns i → roleOf ns i ≤ r.Finally → (parentKind ns i ≡ k.Try) ⊎ ((parentKind ns i ≡ k.If) × (roleOf ns i ≡ r.Alternate))
+  pub inSwitch : (i : ℕ) → i < count ns → parentKind ns i ≡ k.Switch → roleOf ns i ≡ r.Held → kindOf ns i ≡ k.SwitchCase
+  pub switchCase : (i : ℕ) → i < count ns → kindOf ns i ≡ k.SwitchCase → (parentKind ns i ≡ k.Switch) × (roleOf ns i ≡ r.Held)
+  pub inTry : (i : ℕ) → i < count ns → parentKind ns i ≡ k.Try → r.Held ≤ roleOf ns i → roleOf ns i ≤ r.Finally → kindOf ns i ≡ tryPart (roleOf ns i)
+  pub clause : (i : ℕ) → i < count ns → kindOf ns i ≡ k.CatchClause → (parentKind ns i ≡ k.Try) × (roleOf ns i ≡ r.Alternate)
+  pub inClause : (i : ℕ) → i < count ns → parentKind ns i ≡ k.CatchClause → roleOf ns i ≡ r.Held → kindOf ns i ≡ k.Block
+  pub functionBody : (i : ℕ) → i < count ns → kindOf ns i ≡ k.FunctionBody → (k.Function ≤ parentKind ns i) × (parentKind ns i ≤ k.Arrow)
+  pub classBody : (i : ℕ) → i < count ns → kindOf ns i ≡ k.ClassBody → parentKind ns i ≡ k.Class
+  pub element : (i : ℕ) → i < count ns → k.MethodDefinition ≤ kindOf ns i → kindOf ns i ≤ k.AccessorProperty → parentKind ns i ≡ k.ClassBody
+  pub staticBlock : (i : ℕ) → i < count ns → kindOf ns i ≡ k.StaticBlock → parentKind ns i ≡ k.ClassBody
+  pub methodValue : (i : ℕ) → i < count ns → parentKind ns i ≡ k.MethodDefinition → roleOf ns i ≡ r.Value → kindOf ns i ≡ k.Function
 
 -- node 0 is a Program, under no other kind
 module _ (ns : List ℕ) (t : Tree ns) where
   no-program : (i : ℕ) → (kindOf ns i ≡ 0 → ⊥) → 0 < i
   no-program i n = ⊎-elim (λ (q : 0 ≡ i). absurd (n (subst (λ (x : ℕ). kindOf ns x ≡ 0) q (t .root)))) (λ (h : 0 < i). h) (eq-or-lt-of-le (omega arith))
 
-  not-under : (i : ℕ) → (above ns i ≡ 0 → ⊥) → 0 < i
+  not-under : (i : ℕ) → (parentKind ns i ≡ 0 → ⊥) → 0 < i
   not-under i n =
-      ⊎-elim (λ (q : 0 ≡ i). absurd (n (subst (λ (x : ℕ). above ns x ≡ 0) q (ap (kindOf ns) (t .top) ∙ t .root)))) (λ (h : 0 < i). h) (eq-or-lt-of-le (omega arith))
+      ⊎-elim (λ (q : 0 ≡ i). absurd (n (subst (λ (x : ℕ). parentKind ns x ≡ 0) q (ap (kindOf ns) (t .top) ∙ t .root)))) (λ (h : 0 < i). h) (eq-or-lt-of-le (omega arith))
 
   statement-later : (i : ℕ) → isStatement (kindOf ns i) ≡ true → 0 < i
   unfolding isStatement
   statement-later i s = no-program i (λ q. never (sym s ∙ ap isStatement q))
 
   module _ (e : first (misplacedChildAt ns) 0 (count ns) ≡ Nowhere) where
-    fine : (i : ℕ) → i < count ns → 0 < i → misplaced (kindOf ns i) (roleOf ns i) (above ns i) ≡ false
+    fine : (i : ℕ) → i < count ns → 0 < i → misplaced (kindOf ns i) (roleOf ns i) (parentKind ns i) ≡ false
     unfolding misplacedChildAt
     fine i l h = rw (lt-ltb 0 i h) at (first-none (misplacedChildAt ns) (count ns) 0 e i (omega arith) l)
 
     pub placed-of : Placed ns
     placed-of = record {
-      stands = λ i l s. statement-stands (kindOf ns i) (roleOf ns i) (above ns i) (fine i l (statement-later i s)) s;
-      held = λ i h l. held-is (kindOf ns i) (roleOf ns i) (above ns i) (fine i l h);
-      alternate = λ i h l. holds-alternate (kindOf ns i) (roleOf ns i) (above ns i) (fine i l h);
-      inSwitch = λ i l p. switch-holds (kindOf ns i) (roleOf ns i) (above ns i) (fine i l (not-under i (λ q. omega arith))) p;
-      switchCase = λ i l p. case-stands (kindOf ns i) (roleOf ns i) (above ns i) (fine i l (no-program i (λ q. omega arith))) p;
-      inTry = λ i l p. try-holds (kindOf ns i) (roleOf ns i) (above ns i) (fine i l (not-under i (λ q. omega arith))) p;
-      clause = λ i l p. clause-stands (kindOf ns i) (roleOf ns i) (above ns i) (fine i l (no-program i (λ q. omega arith))) p;
-      inClause = λ i l p. clause-holds (kindOf ns i) (roleOf ns i) (above ns i) (fine i l (not-under i (λ q. omega arith))) p;
-      functionBody = λ i l p. function-body-stands (kindOf ns i) (roleOf ns i) (above ns i) (fine i l (no-program i (λ q. omega arith))) p;
-      classBody = λ i l p. class-body-stands (kindOf ns i) (roleOf ns i) (above ns i) (fine i l (no-program i (λ q. omega arith))) p;
-      element = λ i l p q. element-stands (kindOf ns i) (roleOf ns i) (above ns i) (fine i l (no-program i (λ z. omega arith))) (rw (in-range (kindOf ns i) 28 30 p q));
-      staticBlock = λ i l p. element-stands (kindOf ns i) (roleOf ns i) (above ns i) (fine i l (no-program i (λ q. omega arith))) (ap (λ (x : ℕ). within x 28 30 || eqb x 3) p);
-      methodValue = λ i l p. method-holds (kindOf ns i) (roleOf ns i) (above ns i) (fine i l (not-under i (λ q. omega arith))) p;
+      stands = λ i l s. statement-stands (kindOf ns i) (roleOf ns i) (parentKind ns i) (fine i l (statement-later i s)) s;
+      held = λ i h l. held-is (kindOf ns i) (roleOf ns i) (parentKind ns i) (fine i l h);
+      alternate = λ i h l. holds-alternate (kindOf ns i) (roleOf ns i) (parentKind ns i) (fine i l h);
+      inSwitch = λ i l p. switch-holds (kindOf ns i) (roleOf ns i) (parentKind ns i) (fine i l (not-under i (λ q. omega arith))) p;
+      switchCase = λ i l p. case-stands (kindOf ns i) (roleOf ns i) (parentKind ns i) (fine i l (no-program i (λ q. omega arith))) p;
+      inTry = λ i l p. try-holds (kindOf ns i) (roleOf ns i) (parentKind ns i) (fine i l (not-under i (λ q. omega arith))) p;
+      clause = λ i l p. clause-stands (kindOf ns i) (roleOf ns i) (parentKind ns i) (fine i l (no-program i (λ q. omega arith))) p;
+      inClause = λ i l p. clause-holds (kindOf ns i) (roleOf ns i) (parentKind ns i) (fine i l (not-under i (λ q. omega arith))) p;
+      functionBody = λ i l p. function-body-stands (kindOf ns i) (roleOf ns i) (parentKind ns i) (fine i l (no-program i (λ q. omega arith))) p;
+      classBody = λ i l p. class-body-stands (kindOf ns i) (roleOf ns i) (parentKind ns i) (fine i l (no-program i (λ q. omega arith))) p;
+      element = λ i l p q. element-stands (kindOf ns i) (roleOf ns i) (parentKind ns i) (fine i l (no-program i (λ z. omega arith))) (rw (in-range (kindOf ns i) 28 30 p q));
+      staticBlock = λ i l p. element-stands (kindOf ns i) (roleOf ns i) (parentKind ns i) (fine i l (no-program i (λ q. omega arith))) (ap (λ (x : ℕ). within x 28 30 || eqb x 3) p);
+      methodValue = λ i l p. method-holds (kindOf ns i) (roleOf ns i) (parentKind ns i) (fine i l (not-under i (λ q. omega arith))) p;
     }

@@ -63,7 +63,10 @@ fn is_held(role: u32) -> bool
 fn stray_statement(kind: u32, role: u32, above: u32) -> bool
     ensures { λ r. ⌜ r ≡ strayStatement kind role above ⌝ }
 {
-    and(is_statement(kind), not(and(is_held(role), is_holder(above))))
+    and(
+        is_statement(kind),
+        not(and(is_held(role), is_holder(above))),
+    )
 }
 
 fn stray_held(kind: u32, role: u32, above: u32) -> bool
