@@ -95,6 +95,7 @@ fn may_stand(parent: u32, kind: u32, role: u32) -> bool {
         (3, 16 | 17) | (5, 16) => kind == 5,
         (4, 16) => kind == 17,
         (4 | 5, _) => false,
+        (1, 28) => kind == 1,
         // Elsewhere what only stands as a statement, a case or a catch may not be.
         _ => !(5..=22).contains(&kind),
     };
@@ -113,17 +114,17 @@ type Count = (&'static [u32], Option<u32>, Option<u32>, usize, usize);
 const COUNTS: [Count; 13] = [
     (&[6, 7, 8, 9, 10, 11, 12, 13], None, Some(3), 1, 1),
     (&[12], None, Some(4), 0, 1),
-    (&[16], Some(5), Some(3), 1, 1),
-    (&[16], Some(17), Some(4), 0, 1),
-    (&[16], Some(5), Some(5), 0, 1),
-    (&[17], Some(5), Some(3), 1, 1),
+    (&[16], None, Some(3), 1, 1),
+    (&[16], None, Some(4), 0, 1),
+    (&[16], None, Some(5), 0, 1),
+    (&[17], None, Some(3), 1, 1),
     (&[6], Some(33), Some(6), 1, 1),
     (&[18, 19], Some(33), Some(6), 0, 1),
     (&[1, 2], Some(4), None, 0, 1),
     (&[26], Some(27), None, 1, 1),
     (&[28, 29, 30], None, Some(2), 1, 1),
     (&[28, 29, 30], None, Some(1), 0, 1),
-    (&[28], Some(1), Some(1), 1, 1),
+    (&[28], None, Some(1), 1, 1),
 ];
 
 fn shaped(t: &Tables, n: usize) -> bool {
@@ -137,7 +138,7 @@ fn shaped(t: &Tables, n: usize) -> bool {
     });
     let one_default = kind != 14 || count(&|c| field(c, 0) == 15 && field(c, 6) & 4096 != 0) < 2;
     let some_way_out =
-        kind != 16 || count(&|c| (field(c, 0) == 17 && field(c, 2) == 4) || (field(c, 0) == 5 && field(c, 2) == 5)) > 0;
+        kind != 16 || count(&|c| field(c, 2) == 4 || field(c, 2) == 5) > 0;
     let placed = n == 0 || may_stand(field(field(n, 1) as usize, 0), kind, field(n, 2));
     placed && counted && one_default && some_way_out
 }

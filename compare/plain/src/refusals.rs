@@ -182,6 +182,10 @@ fn misplaced_child(t: &Tables, n: usize) -> bool {
     if parent == TRY && held && kind != (if role == ALTERNATE { CATCH_CLAUSE } else { BLOCK }) {
         return true;
     }
+    // "28 one Function as value".
+    if parent == METHOD_DEFINITION && role == VALUE && kind != FUNCTION {
+        return true;
+    }
     // "CatchClause, only there, holds one Block": there, under Try and with role 4; it holds nothing but a Block.
     if (kind == CATCH_CLAUSE && !(parent == TRY && role == ALTERNATE))
         || (parent == CATCH_CLAUSE && held && kind != BLOCK)
@@ -216,21 +220,22 @@ fn wrong_count(t: &Tables, n: usize) -> bool {
         // "at most one with flag 4096".
         SWITCH => count(&|c| t.kind(c) == SWITCH_CASE && t.has(c, IS_DEFAULT)) > 1,
         // "Try holds one Block with role 3, at most one CatchClause with role 4, one Block with role 5, and at least
-        // one of the last two": counted by kind and role both; "at most" goes for the second Block too.
+        // one of the last two": counted by role, as a child of another kind is misplaced; "at most" goes for the second
+        // Block too.
         TRY => {
-            let (catches, finals) = (with_both(CATCH_CLAUSE, ALTERNATE), with_both(BLOCK, FINALLY));
-            with_both(BLOCK, BODY) != 1 || catches > 1 || finals > 1 || catches + finals == 0
+            let (catches, finals) = (with_role(ALTERNATE), with_role(FINALLY));
+            with_role(BODY) != 1 || catches > 1 || finals > 1 || catches + finals == 0
         }
         // "holds one Block": with role 3, since only If and Try hold role 4 or 5.
-        CATCH_CLAUSE => with_both(BLOCK, BODY) != 1,
+        CATCH_CLAUSE => with_role(BODY) != 1,
         // "Break and Continue at most one."
         BREAK | CONTINUE => with_both(LABEL_IDENTIFIER, LABEL) > 1,
         // "at most one each", with any role.
         FUNCTION | ARROW => of_kind(FUNCTION_BODY) > 1,
         // "Class has one ClassBody".
         CLASS => of_kind(CLASS_BODY) != 1,
-        // "28-30 have one key and at most one value, 28 one Function as value."
-        METHOD_DEFINITION => with_role(KEY) != 1 || with_role(VALUE) > 1 || with_both(FUNCTION, VALUE) != 1,
+        // "28-30 have one key and at most one value, 28 one Function as value": a value of another kind is misplaced.
+        METHOD_DEFINITION => with_role(KEY) != 1 || with_role(VALUE) != 1,
         PROPERTY_DEFINITION | ACCESSOR_PROPERTY => with_role(KEY) != 1 || with_role(VALUE) > 1,
         _ => false,
     }

@@ -75,7 +75,7 @@ child-on ns t p k e =
     let w = child-of ns p k .0 e in
     child-in (parentOf ns) (count ns) (t .order) p k k (omega arith) (w .1) (w .2) (omega arith) (omega arith)
 
-keep-keep : (t q : ℕ → Bool) (l : List ℕ) → keep t (keep q l) ≡ keep (λ k. q k && t k) l
+pub keep-keep : (t q : ℕ → Bool) (l : List ℕ) → keep t (keep q l) ≡ keep (λ k. q k && t k) l
 unfolding keep
 keep-keep t q [] = refl
 keep-keep t q (k ∷ l) = go (q k) refl (keep-keep t q l)

@@ -95,7 +95,8 @@ pub fn how_many(nodes: &[u32], p: NodeId, low: u32, high: u32, first: u32, last:
     c
 }
 
-fn tick(b: bool) -> u32
+// One more to count, or none.
+pub fn tick(b: bool) -> u32
     ensures { λ r. ⌜ r ≡ cond b 1 0 ⌝ }
     ensures { λ r. ⌜ r ≤ 1 ⌝ }
 {

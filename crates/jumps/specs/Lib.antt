@@ -1,2 +1,3 @@
 pub mod Jumps
 pub mod JumpsLaws
+pub mod Rows

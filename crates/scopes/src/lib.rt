@@ -1,52 +1,40 @@
 // Refusal 5: the scopes, and the scope of each node.
 ghost use mathlib.Core.Path.{_≡_};
-ghost use mathlib.Core.Bool.{not};
-ghost use Prim.Native.Nat.{_+_, _-_, _<_, _≤_};
+ghost use Prim.Native.Nat.{_<_};
 ghost use lib.ListN.{length};
-ghost use Rattle.tables.specs.Table.{count, parentOf, countScopes, Some};
-ghost use Rattle.walk.specs.Above.{Falls};
-ghost use Rattle.walk.specs.On.{on};
+ghost use Rattle.tables.specs.Table.{count, countScopes, Some};
 ghost use Rattle.places.specs.First.{first};
 ghost use Rattle.tables.specs.Facts.{Tree, Chained};
-ghost use Rattle.scopes.specs.Scopes.{brokenAt, misscopedAt, Meets, Deep};
+ghost use Rattle.scopes.specs.Scopes.{brokenAt, misscopedAt};
+ghost use Rattle.scopes.specs.ScopesLaws.{Meets, Deep};
+use ancestry::is_on_path;
 use common::and;
-use common::or;
 use places::Place;
 use tables::NodeId;
 use tables::ScopeId;
+use tables::kinds;
 
-// Whether a is i or an ancestor of it: at most 512 steps.
-fn on_way(nodes: &[u32], a: u32, i: NodeId) -> bool
-    requires { ⌜ Tree (now nodes) ⌝ }
-    requires { ⌜ i .0 < count (now nodes) ⌝ }
-    ensures { λ r. ⌜ r ≡ on (parentOf (now (nodes .entry))) a (i .0) ⌝ }
-{
-    let mut at = i;
-    while a < at.0 {
-        at = tables::parent(nodes, at);
-    }
-    at.0 == a
-}
+// No node has this number: there are at most 65,535.
+const NO_NODE: u32 = 65535;
 
-// A number that is on the way up from a node just where both a and b are: the deeper of the two, or 65535, which is no node.
+// A number that is on the way up from a node just where both a and b are: the deeper of the two, or none.
 fn meet(nodes: &[u32], a: u32, b: u32) -> u32
     requires { ⌜ Tree (now nodes) ⌝ }
     ensures { λ r. ⌜ Meets (now (nodes .entry)) r a b ⌝ }
 {
-    let size = tables::size(nodes);
-    if size <= a {
-        return 65535;
+    if !tables::is_node(nodes, a) {
+        return NO_NODE;
     }
-    if size <= b {
-        return 65535;
+    if !tables::is_node(nodes, b) {
+        return NO_NODE;
     }
-    if on_way(nodes, a, NodeId(b)) {
+    if is_on_path(nodes, a, NodeId(b)) {
         return b;
     }
-    if on_way(nodes, b, NodeId(a)) {
+    if is_on_path(nodes, b, NodeId(a)) {
         return a;
     }
-    65535
+    NO_NODE
 }
 
 // Whether the record of scope s is broken.
@@ -60,9 +48,9 @@ fn broken_at(scopes: &[u32], s: ScopeId) -> bool
     }
     let p = tables::scope_parent(scopes, s);
     if s.0 == 0 {
-        return p != 0;
+        return p.0 != 0;
     }
-    s.0 <= p
+    s.0 <= p.0
 }
 
 // The lowest scope whose record is broken.
@@ -81,7 +69,7 @@ pub fn broken(scopes: &[u32]) -> Place
     Place::Nowhere
 }
 
-// For each scope the deepest node of its chain, or 65535 where the chain's nodes lie on no one way up.
+// For each scope the deepest node of its chain, or none where the chain's nodes lie on no one way up: so that no chain is walked for each node anew.
 fn deepest(nodes: &[u32], scopes: &[u32], deep: &mut [u32])
     requires { ⌜ Tree (now nodes) ⌝ }
     requires { ⌜ Chained (now scopes) ⌝ }
@@ -89,12 +77,14 @@ fn deepest(nodes: &[u32], scopes: &[u32], deep: &mut [u32])
     ensures { λ r. ⌜ Deep (now (nodes .entry)) (now (scopes .entry)) (now (deep .exit)) (countScopes (now (scopes .entry))) ⌝ }
 {
     let size = tables::scopes_size(scopes);
-    deep[0] = tables::scope_node(scopes, ScopeId(0));
+    let top = tables::scope_node(scopes, ScopeId(0));
+    deep[0] = top.0;
     let mut s: u32 = 1;
     while s < size {
-        let p = tables::scope_parent(scopes, ScopeId(s)) as usize;
+        let p = tables::scope_parent(scopes, ScopeId(s));
         let n = tables::scope_node(scopes, ScopeId(s));
-        let m = meet(nodes, n, deep[p]);
+        let above = p.0 as usize;
+        let m = meet(nodes, n.0, deep[above]);
         let k = s as usize;
         deep[k] = m;
         s += 1;
@@ -112,16 +102,16 @@ fn misscoped_at(nodes: &[u32], scopes: &[u32], deep: &[u32], n: NodeId) -> bool
 {
     let size = tables::scopes_size(scopes);
     let s = tables::scope(nodes, n);
-    if size <= s {
+    if size <= s.0 {
         return true;
     }
     let k = tables::kind(nodes, n);
     let x = tables::extra(nodes, n);
-    if and(k == 26, size <= x) {
+    if and(k == kinds::CLASS, size <= x) {
         return true;
     }
-    let i = s as usize;
-    !on_way(nodes, deep[i], n)
+    let i = s.0 as usize;
+    !is_on_path(nodes, deep[i], n)
 }
 
 // The lowest node whose scope is missing or does not fit it, over the filled array.

@@ -1,0 +1,2 @@
+pub mod ClassChecks
+pub mod ClassChecksLaws

@@ -1,0 +1,6 @@
+pub mod Number
+pub mod Hex
+pub mod Lists
+pub mod Writes
+pub mod NumberLaws
+pub mod HexLaws

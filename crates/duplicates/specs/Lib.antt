@@ -1,0 +1,3 @@
+pub mod Duplicates
+pub mod DuplicatesLaws
+pub mod Rows

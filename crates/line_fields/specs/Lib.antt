@@ -1,0 +1,3 @@
+pub mod Split
+pub mod SplitLaws
+pub mod FieldLaws

@@ -1,0 +1,50 @@
+-- The two lines that `ruleroute` reads behind `rulecheck`'s: "U,unit", and "A" with up to 1,024 answers.
+use Prim.Native.Nat.{ℕ, _+_, _/_}
+use mathlib.Core.Bool.{Bool, cond, _&&_}
+use mathlib.Core.List.{List, []}
+use lib.ListN.{length, getD}
+use Rattle.common.specs.Upto.{all}
+use Rattle.digits.specs.Number.{isNumber}
+use Rattle.line_fields.specs.Split.{linesOf}
+use Rattle.lines.specs.declared.Input.{Input}
+use Rattle.lines.specs.declared.Input.the-variants.{Tables, Unread}
+use Rattle.lines.specs.declared.Route.{Route}
+use Rattle.lines.specs.declared.Route.the-variants.{Asked, Unasked}
+use Rattle.lines.specs.Format.{lettered, rest, numbersOf, isNumbers, fits, Room, readInput}
+
+abbrev pub isU : List ℕ → Bool
+isU l = isNumbers 85 1 l
+
+abbrev pub unitIn : List ℕ → ℕ
+unitIn l = getD (numbersOf (rest l)) 0 0
+
+-- just "A" is no answers
+unfoldable pub isA : ℕ → List ℕ → Bool
+isA room l = lettered 65 l && (all isNumber (rest l) && fits (length (rest l)) 1 room)
+
+-- what is answered, and what stands at the front of the answers' slice
+pub record Asking : Type 0 where
+  pub answer : Route
+  pub answers : List ℕ
+
+abbrev pub unasked : ℕ → Asking
+unasked k = record { answer = Unasked k; answers = [] }
+
+-- the U line follows the J line, a line for each scope and node, and the X line
+abbrev pub before : ℕ → ℕ → ℕ
+before nodes scopes = 2 + scopes / 3 + nodes / 10
+
+unfoldable pub askedBy : ℕ → List (List ℕ) → Input → Asking
+askedBy room ls (Unread k) = unasked k
+askedBy room ls (Tables kind n s x m) =
+    cond (isU (getD ls (before n s) []))
+    (cond (isA room (getD ls (before n s + 1) []))
+    (record {
+      answer = Asked kind n s x m (unitIn (getD ls (before n s) [])) (length (rest (getD ls (before n s + 1) [])));
+      answers = numbersOf (rest (getD ls (before n s + 1) []))
+    })
+    (unasked (before n s + 2)))
+    (unasked (before n s + 1))
+
+abbrev pub readRoute : Room → ℕ → List ℕ → Asking
+readRoute room answers b = askedBy answers (linesOf b) (readInput room b .answer)

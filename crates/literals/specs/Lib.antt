@@ -1,0 +1,4 @@
+pub mod Escapes
+pub mod Literals
+pub mod EscapeLaws
+pub mod Rows

@@ -1,0 +1,64 @@
+use Rattle.print.specs.PrintLaws.{fieldsFor, line-put}
+use lib.ListN.{length, length-set}
+use native.Mathlib.Omega.{arith}
+use mathlib.Core.Path.{_≡_, _∙_, ap, sym, refl, subst}
+use Prim.Native.Nat.{ℕ, _+_, _-_, _*_, _≤_, _<_}
+use borrow.Author.Needs.{needs}
+use Rattle.print.proofs.line.Statement.{statement}
+use Rattle.print.proofs.line.Tie as tie
+use Rattle.print.proofs.line.Reads as reads
+use Rattle.print.proofs.line.Lts as lts
+use Rattle.print.proofs.put_fields.Reads as put-fields-reads
+
+-- src/lib.rt:81:5
+slice-write-out : tie.Need-slice-write-out
+slice-write-out c = search needs
+
+-- src/lib.rt:82:40
+add-put-fields : tie.Need-add-put-fields
+add-put-fields c = search needs
+
+-- src/lib.rt:82:9
+put-fields-requires : tie.Need-put-fields-requires
+put-fields-requires c κs = let p = c .before .before .before .pre in simp length-set (omega arith)
+
+-- src/lib.rt:83:5
+slice-write-out-2 : tie.Need-slice-write-out-2
+slice-write-out-2 c = 
+    let p = c .before .before .before .before .before .before .pre in
+    let e = c .before .before .put-fields .ensures .1 in
+    let k = c .before .before .put-fields .kept .1 .0 in
+    let s = length-set (c .before .before .before .before .before .before .args .out .now) (c .before .before .before .before .before .before .args .w) (c .before .before .before .before .before .before .args .letter) in
+    omega arith
+
+-- src/lib.rt:84:5
+add-result : tie.Need-add-result
+add-result c = search needs
+
+-- src/lib.rt:77:1
+same-length : tie.Need-same-length
+same-length c = simp length-set (c .before .before .put-fields .kept .1 .0 ∙ length-set (c .before .before .before .before .before .before .args .out .now) (c .before .before .before .before .before .before .args .w) (c .before .before .before .before .before .before .args .letter))
+
+-- src/lib.rt:77:1
+returns : tie.Need-returns
+returns c = 
+    let a = c .before .before .before .before .before .before .args in
+    let p = c .before .before .before .before .before .before .pre in
+    let e = c .before .before .put-fields .ensures in
+    let m = e .0 in
+    let b = e .1 in
+    let t = line-put (a .out .now) (a .w) (a .letter) (a .numbers .now) (c .before .before .put-fields .result) (c .before .before .put-fields .last .1 .0) (omega arith) m (e .2) in
+    let k = t .1 in
+    (k, omega arith, t .0)
+
+pub line-spec : {M : Type 1} → statement M
+line-spec =
+    tie.close
+    (tie.spec
+    slice-write-out
+    add-put-fields
+    put-fields-requires
+    slice-write-out-2
+    add-result
+    same-length
+    returns)

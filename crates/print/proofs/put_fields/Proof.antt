@@ -1,0 +1,102 @@
+use Rattle.print.specs.PrintLaws.{put-done}
+use Rattle.print.specs.PrintLaws.{Words, fieldsFor, length-fields, fields-turn, fields-end}
+use Rattle.print.specs.Print.{decimal}
+use Rattle.digits.specs.Writes.{put-start, put-end, wrote-done}
+use Rattle.common.specs.Wrote.{Wrote, put}
+use lib.ListN.{length, take, drop, getD}
+use native.Mathlib.Omega.{arith}
+use mathlib.Core.List.{List, _++_, _∷_}
+use mathlib.Core.Path.{_≡_, _∙_, ap, sym, refl, subst}
+use Prim.Native.Nat.{ℕ, _+_, _-_, _*_, _≤_, _<_}
+use borrow.Author.Needs.{needs}
+use Rattle.print.proofs.put_fields.Statement.{statement}
+use Rattle.print.proofs.put_fields.Tie as tie
+use Rattle.print.proofs.put_fields.Reads as reads
+use Rattle.print.proofs.put_fields.Lts as lts
+use Rattle.print.proofs.put_field.Reads as put-field-reads
+use Rattle.print.proofs.wide.Reads as wide-reads
+
+abbrev Inv-loop : tie.InvT-loop
+Inv-loop numbers out₀ w at₀ i₀ out at i = (i ≤ length numbers) × (at ≤ w + 21 * i) × Wrote out₀ out at (fieldsFor (drop i numbers)) (take w out₀ ++ fieldsFor numbers)
+
+abbrev μ-loop : tie.MeasureT-loop
+μ-loop numbers out₀ w at₀ i₀ out at i = length numbers - i
+
+-- src/lib.rt:69:5
+loop-holds : tie.Need-loop-holds Inv-loop μ-loop
+loop-holds c = 
+    let a = c .before .before .args in
+    let p = c .before .before .pre in
+    let l = length-fields (a .numbers .now) (λ i. omega (arith, c .before .shared-slice-known .given i)) in
+    (omega arith, omega arith, put-start (a .out .now) (a .w) (fieldsFor (a .numbers .now)) (omega arith))
+
+-- src/lib.rt:70:29
+mul-wide : tie.Need-mul-wide Inv-loop μ-loop
+mul-wide c = search needs
+
+-- src/lib.rt:70:29
+shared-slice-read-wide : tie.Need-shared-slice-read-wide Inv-loop μ-loop
+shared-slice-read-wide c = search needs
+
+-- src/lib.rt:70:24
+wide-requires : tie.Need-wide-requires Inv-loop μ-loop
+wide-requires c κs = search needs
+
+-- src/lib.rt:70:9
+put-field-requires : tie.Need-put-field-requires Inv-loop μ-loop
+put-field-requires c κs = search needs
+
+-- src/lib.rt:71:9
+add-i : tie.Need-add-i Inv-loop μ-loop
+add-i c = search needs
+
+-- src/lib.rt:69:5
+loop-less : tie.Need-loop-less Inv-loop μ-loop
+loop-less c = search needs
+
+-- src/lib.rt:69:5
+loop-again : tie.Need-loop-again Inv-loop μ-loop
+loop-again c = 
+    let a = c .before .before .before .before .before .before .before .before .before .before .args in
+    let o = c .before .before .before .before .before .before .before .loop in
+    let v = o .inv in
+    let e = c .before .before .put-field .ensures in
+    let b = e .1 in
+    let m = v .1 in
+    let t = c .before .before .before .before .before .before .loop-test .taken in
+    (omega arith, omega arith, rw (e .2, e .0, c .before .before .before .before .wide .ensures) (fields-turn (a .out .now) (o .out) (o .at) (a .numbers .now) (o .i) _ (v .2) t))
+
+-- src/lib.rt:63:1
+same-length : tie.Need-same-length Inv-loop μ-loop
+same-length c = search needs
+
+-- src/lib.rt:63:1
+returns : tie.Need-returns Inv-loop μ-loop
+returns c = 
+    let a = c .before .before .before .before .args in
+    let o = c .before .loop in
+    let v = o .inv in
+    let p = c .before .before .before .before .pre in
+    let m = v .1 in
+    let t = c .loop-test .left in
+    let l = length-fields (a .numbers .now) (λ i. omega (arith, c .before .before .before .shared-slice-known .given i)) in
+    let d = put-done (a .out .now) (o .out) (a .w) (o .at) (fieldsFor (a .numbers .now)) (omega arith) (fields-end (a .out .now) (o .out) (o .at) (a .numbers .now) (o .i) _ (v .2) t) in
+    let k = d .0 in
+    (k, omega arith, d .1)
+
+pub put-fields-spec : {M : Type 1} → statement M
+put-fields-spec =
+    tie.close
+    (tie.spec
+    Inv-loop
+    μ-loop
+    loop-holds
+    mul-wide
+    shared-slice-read-wide
+    wide-requires
+    put-field-requires
+    add-i
+    loop-less
+    loop-again
+    same-length
+    returns)

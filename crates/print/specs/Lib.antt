@@ -1,0 +1,3 @@
+pub mod Print
+pub mod Example
+pub mod PrintLaws

@@ -1,0 +1,30 @@
+#!/usr/bin/env bash
+# The judges in Rust: their own tests, seeded tables on which they must agree, and rulecheck on lines whose answers the plain version wrote.
+set -u
+cd "$(dirname "$0")/.." || exit 1
+passed=0
+failed=0
+ok() { passed=$((passed + 1)); }
+bad() { failed=$((failed + 1)); echo "FAILED: $1"; }
+
+command -v cargo >/dev/null 2>&1 || { apt-get update -qq && apt-get install -y -qq cargo; } >/dev/null 2>&1
+if ! (cd compare && cargo build --release --offline -q); then
+    echo "0 passed, 1 failed"
+    exit 1
+fi
+if (cd compare && cargo test --release --offline -q >/dev/null 2>&1); then ok; else bad "cargo test in compare"; fi
+if compare/target/release/compare run 20000 2027 | tail -n 1 | grep -qx '20000 cases, 0 differences'; then ok; else bad "compare run 20000 2027"; fi
+
+vectors=$(mktemp -d)
+compare/target/release/compare vectors "$vectors" 400 11 >/dev/null
+seen=0
+for input in "$vectors"/*rulecheck*/*.in "$vectors"/*rulecheck*.in "$vectors"/*.in; do
+    [ -e "$input" ] || continue
+    case "$input" in *route*) continue ;; esac
+    seen=$((seen + 1))
+    if target/bin/rulecheck <"$input" | cmp -s - "${input%.in}.out"; then ok; else bad "$input"; fi
+done
+[ "$seen" -ge 400 ] || bad "only $seen vectors"
+[ "$failed" -gt 0 ] || rm -rf "$vectors"
+echo "$passed passed, $failed failed"
+[ "$failed" -eq 0 ]
