@@ -7,8 +7,8 @@ ghost use Rattle.tables.specs.Facts.{Input, Sourced};
 ghost use Rattle.raising.specs.Raises.{Raises};
 ghost use Rattle.checker.specs.Findings.{nameFindings, loopFindings, jumpFindings, literalFindings, expressionFindings, findingsAt, findingsOf};
 use raising::raise_one;
-use raising::raise_two;
 use raising::raise_three;
+use raising::raise_two;
 use tables::NodeId;
 use tables::kinds;
 
@@ -43,11 +43,22 @@ fn check_names(
         let f = identifiers::check_identifier(source_type, nodes, scopes, names, n);
         return raise_one(findings, at, f);
     }
-    raise_one(findings, at, class_checks::check_private_identifier_outside_class(nodes, n))
+    raise_one(
+        findings,
+        at,
+        class_checks::check_private_identifier_outside_class(nodes, n),
+    )
 }
 
 // Loops, With and If.
-fn check_loops(nodes: &[u32], scopes: &[u32], names: &[u8], n: NodeId, findings: &mut [u32], at: usize) -> usize
+fn check_loops(
+    nodes: &[u32],
+    scopes: &[u32],
+    names: &[u8],
+    n: NodeId,
+    findings: &mut [u32],
+    at: usize,
+) -> usize
     requires { ⌜ Input (now nodes) (now scopes) (now names) ⌝ }
     requires { ⌜ n .0 < count (now nodes) ⌝ }
     requires { ⌜ at ≤ 900000000000 ⌝ }
@@ -105,7 +116,11 @@ fn check_jumps(
         return raise_one(findings, at, jumps::check_break_statement(nodes, names, n));
     }
     if k == kinds::CONTINUE {
-        return raise_one(findings, at, jumps::check_continue_statement(nodes, names, n));
+        return raise_one(
+            findings,
+            at,
+            jumps::check_continue_statement(nodes, names, n),
+        );
     }
     if k == kinds::VARIABLE_DECLARATION {
         let c = statements::check_using(source_type, nodes, scopes, n);
@@ -134,13 +149,25 @@ fn check_literals(
 {
     let k = tables::kind(nodes, n);
     if k == kinds::NUMERIC_LITERAL {
-        return raise_one(findings, at, literals::check_number_literal(nodes, scopes, source, n));
+        return raise_one(
+            findings,
+            at,
+            literals::check_number_literal(nodes, scopes, source, n),
+        );
     }
     if k == kinds::STRING_LITERAL {
-        return raise_one(findings, at, literals::check_string_literal(nodes, scopes, source, n));
+        return raise_one(
+            findings,
+            at,
+            literals::check_string_literal(nodes, scopes, source, n),
+        );
     }
     if k == kinds::DIRECTIVE {
-        return raise_one(findings, at, identifiers::check_directive(nodes, scopes, names, n));
+        return raise_one(
+            findings,
+            at,
+            identifiers::check_directive(nodes, scopes, names, n),
+        );
     }
     if k == kinds::SUPER {
         return raise_one(findings, at, super_search::check_super(nodes, scopes, n));
@@ -149,7 +176,14 @@ fn check_literals(
 }
 
 // The other expressions, and classes.
-fn check_expressions(nodes: &[u32], scopes: &[u32], names: &[u8], n: NodeId, findings: &mut [u32], at: usize) -> usize
+fn check_expressions(
+    nodes: &[u32],
+    scopes: &[u32],
+    names: &[u8],
+    n: NodeId,
+    findings: &mut [u32],
+    at: usize,
+) -> usize
     requires { ⌜ Input (now nodes) (now scopes) (now names) ⌝ }
     requires { ⌜ n .0 < count (now nodes) ⌝ }
     requires { ⌜ at ≤ 900000000000 ⌝ }
@@ -164,7 +198,11 @@ fn check_expressions(nodes: &[u32], scopes: &[u32], names: &[u8], n: NodeId, fin
         return expressions::check_object_expression(nodes, names, n, findings, at);
     }
     if k == kinds::UNARY {
-        return raise_one(findings, at, expressions::check_unary_expression(nodes, scopes, n));
+        return raise_one(
+            findings,
+            at,
+            expressions::check_unary_expression(nodes, scopes, n),
+        );
     }
     if k == kinds::AWAIT {
         return expressions::check_await_expression(nodes, scopes, n, findings, at);
@@ -221,7 +259,16 @@ pub fn check_tree(
     let mut at = duplicates::check_duplicate_class_elements(nodes, names, findings, 0);
     let mut i: u32 = 0;
     while tables::is_node(nodes, i) {
-        at = check_node(source_type, nodes, scopes, source, names, NodeId(i), findings, at);
+        at = check_node(
+            source_type,
+            nodes,
+            scopes,
+            source,
+            names,
+            NodeId(i),
+            findings,
+            at,
+        );
         i += 1;
     }
     at

@@ -42,7 +42,7 @@ put-put f w a b h =
     let t : length (take w f) ≡ w = length-take-le w f (omega arith) in
     let p : length (take w f ++ a) ≡ w + length a = length-append (take w f) a ∙ ap (λ (k : ℕ). k + length a) t in
     let d : drop (w + length a + length b) (take w f ++ a ++ drop (w + length a) f) ≡ drop (w + length a + length b) f =
-        sym (drop-drop (length b) (w + length a) (take w f ++ a ++ drop (w + length a) f)) ∙ ap (drop (length b)) (drop-at (take w f ++ a) (drop (w + length a) f) (w + length a) p) ∙ drop-drop (length b) (w + length a) f in
+    sym (drop-drop (length b) (w + length a) (take w f ++ a ++ drop (w + length a) f)) ∙ ap (drop (length b)) (drop-at (take w f ++ a) (drop (w + length a) f) (w + length a) p) ∙ drop-drop (length b) (w + length a) f in
     let e : w + length (a ++ b) ≡ w + length a + length b = omega (arith, length-append a b) in
     rw (take-at (take w f ++ a) (drop (w + length a) f) (w + length a) p, d, e) (ap (λ (x : List ℕ). x ++ drop (w + length a + length b) f) (append-assoc (take w f) a b))
 

@@ -117,7 +117,10 @@ stopped k ss ns = record { answer = Unread k; nodes = nodesOf 0 ns; scopes = sco
 abbrev pub tables : ℕ → List (List ℕ) → List (List ℕ) → List ℕ → Reading
 tables kind ss ns x = record {
   answer = Tables kind (length (nodesOf 0 ns)) (length (scopesOf ss)) (length (sourceOf x)) (length (namesOf ns));
-  nodes = nodesOf 0 ns; scopes = scopesOf ss; source = sourceOf x; names = namesOf ns
+  nodes = nodesOf 0 ns;
+  scopes = scopesOf ss;
+  source = sourceOf x;
+  names = namesOf ns;
 }
 
 -- how long the lent slices are

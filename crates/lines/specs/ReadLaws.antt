@@ -235,7 +235,6 @@ noding-start n₀ m₀ room count ls h g =
     }
 
 module _ (n₀ n m₀ m : List ℕ) (room count : ℕ) (whole : List (List ℕ)) (i used : ℕ) (ls : List (List ℕ)) (o : Noding n₀ n m₀ m room count whole i used ls) where
-
   more : List (List ℕ)
   more = nodeLines (room - (used + length (nameOf (firstOf ls)))) (count - (i + 1)) (drop 1 ls)
 

@@ -41,7 +41,7 @@ askedBy room ls (Tables kind n s x m) =
     (cond (isA room (getD ls (before n s + 1) []))
     (record {
       answer = Asked kind n s x m (unitIn (getD ls (before n s) [])) (length (rest (getD ls (before n s + 1) [])));
-      answers = numbersOf (rest (getD ls (before n s + 1) []))
+      answers = numbersOf (rest (getD ls (before n s + 1) []));
     })
     (unasked (before n s + 2)))
     (unasked (before n s + 1))

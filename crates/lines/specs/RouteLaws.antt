@@ -111,10 +111,10 @@ asked-two room ls kind n s x m =
   where
     go : (p q : Bool)
         → _≡_ {A = Asking} (cond p (cond q (record { answer = Asked kind n s x m (unitIn (getD ls (before n s) [])) (length (rest (getD ls (before n s + 1) []))); answers = numbersOf (rest (getD ls (before n s + 1) [])) }) (unasked (before n s + 2))) (unasked (before n s + 1)))
-            (record {
-              answer = routeBy kind n s x m (before n s) (cond p (cond q (Both (unitIn (getD ls (before n s) [])) (length (rest (getD ls (before n s + 1) [])))) NoAnswers) NoUnit);
-              answers = cond p (cond q (numbersOf (rest (getD ls (before n s + 1) []))) []) []
-            })
+        (record {
+          answer = routeBy kind n s x m (before n s) (cond p (cond q (Both (unitIn (getD ls (before n s) [])) (length (rest (getD ls (before n s + 1) [])))) NoAnswers) NoUnit);
+          answers = cond p (cond q (numbersOf (rest (getD ls (before n s + 1) []))) []) [];
+        })
     go true true = refl
     go true false = refl
     go false q = refl
@@ -133,10 +133,13 @@ module _ (room : Room) where
     where
       ss : List (List ℕ)
       ss = ssIn room kind nodes scopes ls
+
       ns : List (List ℕ)
       ns = nsIn room kind nodes scopes ls
+
       never : (i : ℕ) → _≡_ {A = Input} (Unread i) (Tables k n s x m) → (n ≤ 10240) × (s ≤ 3072)
       never i e = let z : _≡_ {A = ℕ} 0 1 = cc in absurd (omega arith)
+
       all-read : (t : List ℕ) → tables kind ss ns t .answer ≡ Tables k n s x m → (n ≤ 10240) × (s ≤ 3072)
       all-read t e =
           let p : n ≡ length (nodesOf 0 ns) = cc in
@@ -148,6 +151,7 @@ module _ (room : Room) where
           let bf = b .few in
           let bz = b .size in
           (omega arith, omega arith)
+
       go : (p q r : Bool) → cond p (cond q (cond r (tables kind ss ns (xIn room kind nodes scopes ls)) (stopped (2 + scopes + nodes) ss ns)) (stopped (2 + scopes + length ns) ss ns)) (stopped (2 + length ss) ss []) .answer ≡ Tables k n s x m
           → (n ≤ 10240) × (s ≤ 3072)
       go true true true e = all-read (xIn room kind nodes scopes ls) e

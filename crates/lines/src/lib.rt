@@ -166,12 +166,18 @@ fn read_nodes(b: &[u8], n: usize, nodes: &mut [u32], names: &mut [u8]) -> Named
     while i < n {
         let l = line_fields::line(t);
         if !is_node(l) {
-            return Named { lines: i, bytes: used };
+            return Named {
+                lines: i,
+                bytes: used,
+            };
         }
         let text = name(l);
         let len = text.len();
         if room - used < len {
-            return Named { lines: i, bytes: used };
+            return Named {
+                lines: i,
+                bytes: used,
+            };
         }
         write_node(l, nodes, i * 10, used as u32, len as u32);
         digits::copy(text, names, used);
@@ -180,7 +186,10 @@ fn read_nodes(b: &[u8], n: usize, nodes: &mut [u32], names: &mut [u8]) -> Named
         used += len;
         i += 1;
     }
-    Named { lines: i, bytes: used }
+    Named {
+        lines: i,
+        bytes: used,
+    }
 }
 
 fn is_source(l: &[u8], room: usize) -> bool
@@ -238,7 +247,16 @@ fn read_head(l: &[u8], nodes: usize, scopes: usize) -> Head
 }
 
 // The lines behind the J line.
-fn read_behind(b: &[u8], kind: u32, n: usize, s: usize, nodes: &mut [u32], scopes: &mut [u32], source: &mut [u8], names: &mut [u8]) -> Input
+fn read_behind(
+    b: &[u8],
+    kind: u32,
+    n: usize,
+    s: usize,
+    nodes: &mut [u32],
+    scopes: &mut [u32],
+    source: &mut [u8],
+    names: &mut [u8],
+) -> Input
     requires { ⌜ (n ≤ 1024) × (s ≤ 1024) × (n * 10 ≤ length (now nodes)) × (s * 3 ≤ length (now scopes)) ⌝ }
     ensures { λ r. ⌜ Gives (readBehind (roomOf (now (nodes .entry)) (now (scopes .entry)) (now (source .entry)) (now (names .entry))) kind n s (linesOf (now (b .entry)))) r (now (nodes .entry)) (now (scopes .entry)) (now (source .entry)) (now (names .entry)) (now (nodes .exit)) (now (scopes .exit)) (now (source .exit)) (now (names .exit)) ⌝ }
 {
@@ -268,12 +286,31 @@ fn read_behind(b: &[u8], kind: u32, n: usize, s: usize, nodes: &mut [u32], scope
 }
 
 // All of it. A line that can't be read or is missing gives its number; what the lines before it gave is written.
-pub fn read(input: &[u8], nodes: &mut [u32], scopes: &mut [u32], source: &mut [u8], names: &mut [u8]) -> Input
+pub fn read(
+    input: &[u8],
+    nodes: &mut [u32],
+    scopes: &mut [u32],
+    source: &mut [u8],
+    names: &mut [u8],
+) -> Input
     ensures answer { λ r. ⌜ r ≡ readInput (roomOf (now (nodes .entry)) (now (scopes .entry)) (now (source .entry)) (now (names .entry))) (now (input .entry)) .answer ⌝ }
     ensures tables { λ _. ⌜ Given (readInput (roomOf (now (nodes .entry)) (now (scopes .entry)) (now (source .entry)) (now (names .entry))) (now (input .entry))) (now (nodes .entry)) (now (scopes .entry)) (now (source .entry)) (now (names .entry)) (now (nodes .exit)) (now (scopes .exit)) (now (source .exit)) (now (names .exit)) ⌝ }
 {
     match read_head(line_fields::line(input), nodes.len(), scopes.len()) {
-        Head::Counts { kind, nodes: n, scopes: s } => read_behind(line_fields::after(input), kind, n, s, nodes, scopes, source, names),
+        Head::Counts {
+            kind,
+            nodes: n,
+            scopes: s,
+        } => read_behind(
+            line_fields::after(input),
+            kind,
+            n,
+            s,
+            nodes,
+            scopes,
+            source,
+            names,
+        ),
         Head::NoHead => Input::Unread(1),
     }
 }
@@ -329,13 +366,24 @@ fn read_two(b: &[u8], answers: &mut [u32]) -> Two
 }
 
 // The U and A lines, behind tables that were read.
-fn read_asked(input: &[u8], kind: u32, n: usize, s: usize, x: usize, m: usize, answers: &mut [u32]) -> Route
+fn read_asked(
+    input: &[u8],
+    kind: u32,
+    n: usize,
+    s: usize,
+    x: usize,
+    m: usize,
+    answers: &mut [u32],
+) -> Route
     requires { ⌜ (n ≤ 10240) × (s ≤ 3072) ⌝ }
     ensures { λ r. ⌜ (r ≡ askedBy (length (now (answers .entry))) (linesOf (now (input .entry))) (Tables kind n s x m) .answer) × (now (answers .exit) ≡ front (askedBy (length (now (answers .entry))) (linesOf (now (input .entry))) (Tables kind n s x m) .answers) (now (answers .entry))) ⌝ }
 {
     let k = 2 + s / 3 + n / 10;
     match read_two(line_fields::skip_lines(input, k), answers) {
-        Two::Both { unit, answers: count } => Route::Asked {
+        Two::Both {
+            unit,
+            answers: count,
+        } => Route::Asked {
             kind,
             nodes: n,
             scopes: s,
@@ -350,13 +398,26 @@ fn read_asked(input: &[u8], kind: u32, n: usize, s: usize, x: usize, m: usize, a
 }
 
 // All that ruleroute reads: rulecheck's lines, the unit and the answers.
-pub fn read_route(input: &[u8], nodes: &mut [u32], scopes: &mut [u32], source: &mut [u8], names: &mut [u8], answers: &mut [u32]) -> Route
+pub fn read_route(
+    input: &[u8],
+    nodes: &mut [u32],
+    scopes: &mut [u32],
+    source: &mut [u8],
+    names: &mut [u8],
+    answers: &mut [u32],
+) -> Route
     ensures answer { λ r. ⌜ r ≡ readRoute (roomOf (now (nodes .entry)) (now (scopes .entry)) (now (source .entry)) (now (names .entry))) (length (now (answers .entry))) (now (input .entry)) .answer ⌝ }
     ensures answers { λ _. ⌜ now (answers .exit) ≡ front (readRoute (roomOf (now (nodes .entry)) (now (scopes .entry)) (now (source .entry)) (now (names .entry))) (length (now (answers .entry))) (now (input .entry)) .answers) (now (answers .entry)) ⌝ }
     ensures tables { λ _. ⌜ Given (readInput (roomOf (now (nodes .entry)) (now (scopes .entry)) (now (source .entry)) (now (names .entry))) (now (input .entry))) (now (nodes .entry)) (now (scopes .entry)) (now (source .entry)) (now (names .entry)) (now (nodes .exit)) (now (scopes .exit)) (now (source .exit)) (now (names .exit)) ⌝ }
 {
     match read(input, nodes, scopes, source, names) {
-        Input::Tables { kind, nodes: n, scopes: s, source: x, names: m } => read_asked(input, kind, n, s, x, m, answers),
+        Input::Tables {
+            kind,
+            nodes: n,
+            scopes: s,
+            source: x,
+            names: m,
+        } => read_asked(input, kind, n, s, x, m, answers),
         Input::Unread(k) => Route::Unasked(k),
     }
 }

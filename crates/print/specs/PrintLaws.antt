@@ -74,7 +74,7 @@ module _ (f whole : List ℕ) (at i rest : ℕ) (e : i ≡ at + length (decimal 
       let s : i ≡ suc (i - 1) = omega arith in
       let l : length (take (i - 1) f) ≡ i - 1 = length-take-le (i - 1) f (omega arith) in
       let p : drop (i - 1) (set f (i - 1) d) ≡ d ∷ drop i f =
-          ap (drop (i - 1)) (set-split f (i - 1) d (omega arith)) ∙ drop-at (take (i - 1) f) (d ∷ drop (suc (i - 1)) f) (i - 1) l ∙ ap (λ (j : ℕ). d ∷ drop j f) (sym s) in
+      ap (drop (i - 1)) (set-split f (i - 1) d (omega arith)) ∙ drop-at (take (i - 1) f) (d ∷ drop (suc (i - 1)) f) (i - 1) l ∙ ap (λ (j : ℕ). d ∷ drop j f) (sym s) in
       let q : take at (set f (i - 1) d) ≡ take at f = take-set-le at f (i - 1) d (omega arith) in
       rw (p, q) (behind (take at f) (decimal (rest / 10)) (drop i f) d ∙ ap (λ (x : List ℕ). take at f ++ x ++ drop i f) (sym (decimal-more rest k)) ∙ o)
     where

@@ -77,7 +77,14 @@ fn print_checked(answer: Checked, findings: &[u32]) {
 }
 
 // Checks the tables, with `findings` to write to, and prints the answer.
-fn check_by(kind: u32, nodes: &[u32], scopes: &[u32], source: &[u8], names: &[u8], findings: &mut [u32]) {
+fn check_by(
+    kind: u32,
+    nodes: &[u32],
+    scopes: &[u32],
+    source: &[u8],
+    names: &[u8],
+    findings: &mut [u32],
+) {
     let answer = rules::check(kind, nodes, scopes, source, names, findings);
     print_checked(answer, findings);
 }
@@ -88,7 +95,17 @@ fn check(kind: u32, nodes: &[u32], scopes: &[u32], source: &[u8], names: &[u8]) 
 }
 
 // Checks what was read, which stands at the front of each slice.
-fn check_front(kind: u32, n: usize, s: usize, b: usize, m: usize, nodes: &[u32], scopes: &[u32], source: &[u8], names: &[u8]) {
+fn check_front(
+    kind: u32,
+    n: usize,
+    s: usize,
+    b: usize,
+    m: usize,
+    nodes: &[u32],
+    scopes: &[u32],
+    source: &[u8],
+    names: &[u8],
+) {
     check(
         kind,
         front_numbers(nodes, n),
@@ -99,7 +116,13 @@ fn check_front(kind: u32, n: usize, s: usize, b: usize, m: usize, nodes: &[u32],
 }
 
 // Reads the lines into the slices, and checks what was read.
-fn run_by(input: &[u8], nodes: &mut [u32], scopes: &mut [u32], source: &mut [u8], names: &mut [u8]) {
+fn run_by(
+    input: &[u8],
+    nodes: &mut [u32],
+    scopes: &mut [u32],
+    source: &mut [u8],
+    names: &mut [u8],
+) {
     let read = lines::read(input, nodes, scopes, source, names);
     match read {
         Input::Unread(line) => print_refusal(0, line),

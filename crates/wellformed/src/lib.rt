@@ -28,7 +28,13 @@ fn failing(nodes: &[u32], scopes: &[u32]) -> Place
 }
 
 // The refusal of the input: the lowest number, then the lowest place.
-pub fn refusal(source_type: u32, nodes: &[u32], scopes: &[u32], source: &[u8], names: &[u8]) -> Verdict
+pub fn refusal(
+    source_type: u32,
+    nodes: &[u32],
+    scopes: &[u32],
+    source: &[u8],
+    names: &[u8],
+) -> Verdict
     ensures { λ r. ⌜ r ≡ inputRefusal «source_type» (now (nodes .entry)) (now (scopes .entry)) (now (source .entry)) (now (names .entry)) ⌝ }
 {
     let verdict = input::refusal(source_type, nodes, scopes, source, names);

@@ -29,7 +29,7 @@ abbrev μ-loop : tie.MeasureT-loop
 
 -- src/lib.rt:107:5
 loop-holds : tie.Need-loop-holds Inv-loop μ-loop
-loop-holds c = 
+loop-holds c =
     let p = c .before .before .pre in
     (p .0, refl, p .2, put-start (c .before .before .args .out .now) (c .before .before .args .w) (map valueOf (firsts (c .before .before .args .n) (c .before .before .args .tail .now))) (omega (arith, length-values (c .before .before .args .n) (c .before .before .args .tail .now) (p .0))))
 
@@ -39,7 +39,7 @@ field-requires c κs = search needs
 
 -- src/lib.rt:108:19
 value-requires : tie.Need-value-requires Inv-loop μ-loop
-value-requires c κs = 
+value-requires c κs =
     let i = c .before .before .loop .inv in
     let l = c .before .before .loop .t .now in
     let s : 0 < length l = tail-some l (omega arith) in
@@ -71,7 +71,7 @@ loop-less c = search needs
 
 -- src/lib.rt:107:5
 loop-again : tie.Need-loop-again Inv-loop μ-loop
-loop-again c = 
+loop-again c =
     let i = c .before .before .before .before .loop .inv in
     let l = c .before .before .before .before .loop .t .now in
     let s : 0 < length l = tail-some l (omega arith) in
@@ -86,7 +86,7 @@ same-length c = search needs
 
 -- src/lib.rt:100:1
 returns : tie.Need-returns Inv-loop μ-loop
-returns c = 
+returns c =
     let i = c .before .loop .inv in
     let p = c .before .before .before .before .pre in
     let z : c .before .loop .left ≡ 0 = omega arith in

@@ -48,7 +48,7 @@ is-hex-requires c κs = search needs
 
 -- src/lib.rt:174:9
 returns-3 : tie.Need-returns-3
-returns-3 c = 
+returns-3 c =
     let s = source-is (c .before .before .before .before .before .before .before .before .before .args .room) (c .before .before .before .before .before .before .before .before .before .args .l .now) (cc (not-false (c .before .before .before .before .before .before .before .lettered .result) (c .before .before .before .before .before .before .if1 .left))) (cc) in
     let e : isHex (fieldOf (tailOf (c .before .before .before .before .before .before .before .before .before .args .l .now))) ≡ false = cc (not-true (c .before .is-hex .result) (c .if3 .taken)) in
     sym (s ∙ rw e)
@@ -59,7 +59,7 @@ fits-requires c κs = search needs
 
 -- src/lib.rt:162:1
 returns-4 : tie.Need-returns-4
-returns-4 c = 
+returns-4 c =
     let s = source-is (c .before .before .before .before .before .before .before .before .before .before .args .room) (c .before .before .before .before .before .before .before .before .before .before .args .l .now) (cc (not-false (c .before .before .before .before .before .before .before .before .lettered .result) (c .before .before .before .before .before .before .before .if1 .left))) (cc) in
     let e : isHex (fieldOf (tailOf (c .before .before .before .before .before .before .before .before .before .before .args .l .now))) ≡ true = cc (not-false (c .before .before .is-hex .result) (c .before .if3 .left)) in
     let q : c .before .before .before .field .result .now ≡ fieldOf (tailOf (c .before .before .before .before .before .before .before .before .before .before .args .l .now)) = cc in

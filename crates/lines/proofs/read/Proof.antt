@@ -35,7 +35,7 @@ after-requires c κs = search needs
 
 -- src/lib.rt:255:55
 read-behind-requires : tie.Need-read-behind-requires
-read-behind-requires c κs = 
+read-behind-requires c κs =
     let a = c .before .before .before .before .before .before .before .before .before .before .before .before .before .before .before .args in
     let g = c .before .before .before .before .before .before .kind .given .0 in
     let h : headOf (length (a .nodes .now)) (length (a .scopes .now)) (c .before .before .before .before .before .before .before .before .before .line .result .now) ≡ Counts (g .0) (g .1 .0) (g .1 .1 .0) = sym (c .before .before .before .before .before .before .before .before .read-head .ensures) ∙ c .before .before .before .before .before .before .kind .given .1 in
@@ -64,7 +64,7 @@ same-length-4 c = search needs
 
 -- src/lib.rt:247:1
 returns : tie.Need-returns
-returns c = 
+returns c =
     let a = c .before .before .before .before .before .before .before .before .before .before .before .before .before .before .before .before .before .before .before .before .before .before .before .before .args in
     let g = c .before .before .before .before .before .before .before .before .before .before .before .before .before .before .before .kind .given .0 in
     let room : Room = roomOf (a .nodes .now) (a .scopes .now) (a .source .now) (a .names .now) in
@@ -75,7 +75,7 @@ returns c =
 
 -- src/lib.rt:247:1
 returns-2 : tie.Need-returns-2
-returns-2 c = 
+returns-2 c =
     let a = c .before .before .before .before .before .before .before .before .before .args in
     let room : Room = roomOf (a .nodes .now) (a .scopes .now) (a .source .now) (a .names .now) in
     let j = head-none (length (a .nodes .now)) (length (a .scopes .now)) (firstOf (linesOf (a .input .now))) (ap (headOf (length (a .nodes .now)) (length (a .scopes .now))) (sym (c .before .before .before .line .ensures)) ∙ (sym (c .before .before .read-head .ensures) ∙ c .enum-told .given .1)) in

@@ -61,7 +61,7 @@ same-length c = search needs
 
 -- src/lib.rt:335:1
 returns : tie.Need-returns
-returns c = 
+returns c =
     let a = c .before .before .before .before .before .before .before .before .before .before .args in
     asked-as (length (a .answers .now)) (linesOf (a .input .now)) (a .kind) (a .n) (a .s) (a .x) (a .m) (a .answers .now) (linesOf (c .before .before .before .before .before .before .before .skip-lines .result .now)) (c .before .before .before .before .before .read-two .result) _ _
     (c .before .before .before .before .before .before .before .skip-lines .ensures) (c .before .before .before .before .before .read-two .ensures .0) (c .before .before .before .before .before .read-two .ensures .1) (sym (ap (routeBy (a .kind) (a .n) (a .s) (a .x) (a .m) (before (a .n) (a .s))) (c .before .unit .given .1)))
@@ -72,7 +72,7 @@ same-length-2 c = search needs
 
 -- src/lib.rt:335:1
 returns-2 : tie.Need-returns-2
-returns-2 c = 
+returns-2 c =
     let a = c .before .before .before .before .before .before .before .before .before .args in
     asked-as (length (a .answers .now)) (linesOf (a .input .now)) (a .kind) (a .n) (a .s) (a .x) (a .m) (a .answers .now) (linesOf (c .before .before .before .before .before .before .skip-lines .result .now)) (c .before .before .before .before .read-two .result) _ _
     (c .before .before .before .before .before .before .skip-lines .ensures) (c .before .before .before .before .read-two .ensures .0) (c .before .before .before .before .read-two .ensures .1) (sym (ap (routeBy (a .kind) (a .n) (a .s) (a .x) (a .m) (before (a .n) (a .s))) (c .enum-told .given .1)))
@@ -83,7 +83,7 @@ same-length-3 c = search needs
 
 -- src/lib.rt:335:1
 returns-3 : tie.Need-returns-3
-returns-3 c = 
+returns-3 c =
     let a = c .before .before .before .before .before .before .before .before .before .args in
     asked-as (length (a .answers .now)) (linesOf (a .input .now)) (a .kind) (a .n) (a .s) (a .x) (a .m) (a .answers .now) (linesOf (c .before .before .before .before .before .before .skip-lines .result .now)) (c .before .before .before .before .read-two .result) _ _
     (c .before .before .before .before .before .before .skip-lines .ensures) (c .before .before .before .before .read-two .ensures .0) (c .before .before .before .before .read-two .ensures .1) (sym (ap (routeBy (a .kind) (a .n) (a .s) (a .x) (a .m) (before (a .n) (a .s))) (c .enum-told2 .given .1)))

@@ -27,7 +27,7 @@ read-scopes-requires c κs = search needs
 
 -- src/lib.rt:223:31
 add-t19 : tie.Need-add-t19
-add-t19 c = 
+add-t19 c =
     let z = scopes-sized (c .before .before .before .before .before .before .before .before .before .before .args .s) (linesOf (c .before .before .before .before .before .before .before .before .before .before .args .b .now)) .few in
     let e = c .before .before .before .read-scopes .ensures .0 in
     let p = c .before .before .before .before .before .before .before .before .before .before .pre .1 in
@@ -35,7 +35,7 @@ add-t19 c =
 
 -- src/lib.rt:223:30
 cast-t20 : tie.Need-cast-t20
-cast-t20 c = 
+cast-t20 c =
     let z = scopes-sized (c .before .before .before .before .before .before .before .before .before .before .args .s) (linesOf (c .before .before .before .before .before .before .before .before .before .before .args .b .now)) .few in
     let e = c .before .before .before .read-scopes .ensures .0 in
     let p = c .before .before .before .before .before .before .before .before .before .before .pre .1 in
@@ -47,7 +47,7 @@ same-length c = search needs
 
 -- src/lib.rt:223:9
 returns : tie.Need-returns
-returns c = 
+returns c =
     let a = c .before .before .before .before .before .before .before .before .before .before .args in
     let ls = linesOf (a .b .now) in
     let room : Room = roomOf (a .nodes .now) (a .scopes .now) (a .source .now) (a .names .now) in
@@ -71,7 +71,7 @@ add-t25 c = search needs
 
 -- src/lib.rt:230:31
 add-t26 : tie.Need-add-t26
-add-t26 c = 
+add-t26 c =
     let z = nodes-sized (min 1024 (length (c .before .before .before .before .before .before .before .before .before .before .before .before .before .before .before .before .before .before .before .args .names .now))) (c .before .before .before .before .before .before .before .before .before .before .before .before .before .before .before .before .before .before .before .args .n) 0 (linesOf (c .before .before .before .before .before .before .before .before .skip-lines .result .now)) .few in
     let e = c .before .before .before .before .before .read-nodes .ensures .count in
     let p = c .before .before .before .before .before .before .before .before .before .before .before .before .before .before .before .before .before .before .before .pre .0 in
@@ -80,7 +80,7 @@ add-t26 c =
 
 -- src/lib.rt:230:30
 cast-t27 : tie.Need-cast-t27
-cast-t27 c = 
+cast-t27 c =
     let z = nodes-sized (min 1024 (length (c .before .before .before .before .before .before .before .before .before .before .before .before .before .before .before .before .before .before .before .args .names .now))) (c .before .before .before .before .before .before .before .before .before .before .before .before .before .before .before .before .before .before .before .args .n) 0 (linesOf (c .before .before .before .before .before .before .before .before .skip-lines .result .now)) .few in
     let e = c .before .before .before .before .before .read-nodes .ensures .count in
     let p = c .before .before .before .before .before .before .before .before .before .before .before .before .before .before .before .before .before .before .before .pre .0 in
@@ -101,14 +101,14 @@ same-length-4 c = search needs
 
 -- src/lib.rt:230:9
 returns-2 : tie.Need-returns-2
-returns-2 c = 
+returns-2 c =
     let a = c .before .before .before .before .before .before .before .before .before .before .before .before .before .before .before .before .before .before .before .args in
     let ls = linesOf (a .b .now) in
     let room : Room = roomOf (a .nodes .now) (a .scopes .now) (a .source .now) (a .names .now) in
     let ns = nodeLines (min 1024 (length (a .names .now))) (a .n) (drop (a .s) ls) in
     let e = c .before .before .before .before .before .before .before .before .before .before .before .before .read-scopes .ensures in
     let d : NodesRead ns (a .nodes .now) (a .names .now) (c .before .before .before .before .before .read-nodes .result .lines) (c .before .before .before .before .before .read-nodes .result .bytes) (c .before .before .before .before .before .read-nodes .last .1 .1 .0) (c .before .before .before .before .before .read-nodes .last .1 .1 .1 .0) =
-        subst (λ (ks : List (List ℕ)). NodesRead (nodeLines (min 1024 (length (a .names .now))) (a .n) ks) (a .nodes .now) (a .names .now) (c .before .before .before .before .before .read-nodes .result .lines) (c .before .before .before .before .before .read-nodes .result .bytes) (c .before .before .before .before .before .read-nodes .last .1 .1 .0) (c .before .before .before .before .before .read-nodes .last .1 .1 .1 .0)) (c .before .before .before .before .before .before .before .before .skip-lines .ensures) (c .before .before .before .before .before .read-nodes .ensures) in
+    subst (λ (ks : List (List ℕ)). NodesRead (nodeLines (min 1024 (length (a .names .now))) (a .n) ks) (a .nodes .now) (a .names .now) (c .before .before .before .before .before .read-nodes .result .lines) (c .before .before .before .before .before .read-nodes .result .bytes) (c .before .before .before .before .before .read-nodes .last .1 .1 .0) (c .before .before .before .before .before .read-nodes .last .1 .1 .1 .0)) (c .before .before .before .before .before .before .before .before .skip-lines .ensures) (c .before .before .before .before .before .read-nodes .ensures) in
     gives-stopped (readBehind room (a .kind) (a .n) (a .s) ls) (a .nodes .now) (a .scopes .now) (a .source .now) (a .names .now) (c .before .before .before .before .before .read-nodes .last .1 .1 .0) (c .before .before .before .before .before .before .before .before .before .before .before .before .read-scopes .last .1 .1 .0) (a .source .now) (c .before .before .before .before .before .read-nodes .last .1 .1 .1 .0)
     (scopeLines (a .s) ls) ns (2 + a .s + length ns) (2 + a .s + c .before .before .before .before .before .read-nodes .result .lines)
     (behind-nodes room (a .kind) (a .n) (a .s) ls (sym (e .0) ∙ c .before .before .before .before .before .before .before .before .before .if1 .left) (λ q. c .if2 .taken (d .count ∙ q)))
@@ -152,14 +152,14 @@ same-length-7 c = search needs
 
 -- src/lib.rt:234:9
 returns-3 : tie.Need-returns-3
-returns-3 c = 
+returns-3 c =
     let a = c .before .before .before .before .before .before .before .before .before .before .before .before .before .before .before .before .before .before .before .before .before .before .before .args in
     let ls = linesOf (a .b .now) in
     let room : Room = roomOf (a .nodes .now) (a .scopes .now) (a .source .now) (a .names .now) in
     let ns = nodeLines (min 1024 (length (a .names .now))) (a .n) (drop (a .s) ls) in
     let e = c .before .before .before .before .before .before .before .before .before .before .before .before .before .before .before .before .read-scopes .ensures in
     let d : NodesRead ns (a .nodes .now) (a .names .now) (c .before .before .before .before .before .before .before .before .before .read-nodes .result .lines) (c .before .before .before .before .before .before .before .before .before .read-nodes .result .bytes) (c .before .before .before .before .before .before .before .before .before .read-nodes .last .1 .1 .0) (c .before .before .before .before .before .before .before .before .before .read-nodes .last .1 .1 .1 .0) =
-        subst (λ (ks : List (List ℕ)). NodesRead (nodeLines (min 1024 (length (a .names .now))) (a .n) ks) (a .nodes .now) (a .names .now) (c .before .before .before .before .before .before .before .before .before .read-nodes .result .lines) (c .before .before .before .before .before .before .before .before .before .read-nodes .result .bytes) (c .before .before .before .before .before .before .before .before .before .read-nodes .last .1 .1 .0) (c .before .before .before .before .before .before .before .before .before .read-nodes .last .1 .1 .1 .0)) (c .before .before .before .before .before .before .before .before .before .before .before .before .skip-lines .ensures) (c .before .before .before .before .before .before .before .before .before .read-nodes .ensures) in
+    subst (λ (ks : List (List ℕ)). NodesRead (nodeLines (min 1024 (length (a .names .now))) (a .n) ks) (a .nodes .now) (a .names .now) (c .before .before .before .before .before .before .before .before .before .read-nodes .result .lines) (c .before .before .before .before .before .before .before .before .before .read-nodes .result .bytes) (c .before .before .before .before .before .before .before .before .before .read-nodes .last .1 .1 .0) (c .before .before .before .before .before .before .before .before .before .read-nodes .last .1 .1 .1 .0)) (c .before .before .before .before .before .before .before .before .before .before .before .before .skip-lines .ensures) (c .before .before .before .before .before .before .before .before .before .read-nodes .ensures) in
     let x : c .before .before .line .result .now ≡ xIn room (a .kind) (a .n) (a .s) ls = c .before .before .line .ensures ∙ ap (λ (ks : List (List ℕ)). getD ks 0 []) (c .before .before .before .skip-lines2 .ensures ∙ ap (drop (a .n)) (c .before .before .before .before .before .before .before .before .before .before .before .before .skip-lines .ensures)) in
     gives-stopped (readBehind room (a .kind) (a .n) (a .s) ls) (a .nodes .now) (a .scopes .now) (a .source .now) (a .names .now) (c .before .before .before .before .before .before .before .before .before .read-nodes .last .1 .1 .0) (c .before .before .before .before .before .before .before .before .before .before .before .before .before .before .before .before .read-scopes .last .1 .1 .0) (a .source .now) (c .before .before .before .before .before .before .before .before .before .read-nodes .last .1 .1 .1 .0)
     (scopeLines (a .s) ls) ns (2 + a .s + a .n) (2 + a .s + a .n)
@@ -196,14 +196,14 @@ same-length-11 c = search needs
 
 -- src/lib.rt:217:1
 returns-4 : tie.Need-returns-4
-returns-4 c = 
+returns-4 c =
     let a = c .before .before .before .before .before .before .before .before .before .before .before .before .before .before .before .before .before .before .before .before .before .before .before .before .before .before .before .args in
     let ls = linesOf (a .b .now) in
     let room : Room = roomOf (a .nodes .now) (a .scopes .now) (a .source .now) (a .names .now) in
     let ns = nodeLines (min 1024 (length (a .names .now))) (a .n) (drop (a .s) ls) in
     let e = c .before .before .before .before .before .before .before .before .before .before .before .before .before .before .before .before .before .before .before .before .read-scopes .ensures in
     let d : NodesRead ns (a .nodes .now) (a .names .now) (c .before .before .before .before .before .before .before .before .before .before .before .before .before .read-nodes .result .lines) (c .before .before .before .before .before .before .before .before .before .before .before .before .before .read-nodes .result .bytes) (c .before .before .before .before .before .before .before .before .before .before .before .before .before .read-nodes .last .1 .1 .0) (c .before .before .before .before .before .before .before .before .before .before .before .before .before .read-nodes .last .1 .1 .1 .0) =
-        subst (λ (ks : List (List ℕ)). NodesRead (nodeLines (min 1024 (length (a .names .now))) (a .n) ks) (a .nodes .now) (a .names .now) (c .before .before .before .before .before .before .before .before .before .before .before .before .before .read-nodes .result .lines) (c .before .before .before .before .before .before .before .before .before .before .before .before .before .read-nodes .result .bytes) (c .before .before .before .before .before .before .before .before .before .before .before .before .before .read-nodes .last .1 .1 .0) (c .before .before .before .before .before .before .before .before .before .before .before .before .before .read-nodes .last .1 .1 .1 .0)) (c .before .before .before .before .before .before .before .before .before .before .before .before .before .before .before .before .skip-lines .ensures) (c .before .before .before .before .before .before .before .before .before .before .before .before .before .read-nodes .ensures) in
+    subst (λ (ks : List (List ℕ)). NodesRead (nodeLines (min 1024 (length (a .names .now))) (a .n) ks) (a .nodes .now) (a .names .now) (c .before .before .before .before .before .before .before .before .before .before .before .before .before .read-nodes .result .lines) (c .before .before .before .before .before .before .before .before .before .before .before .before .before .read-nodes .result .bytes) (c .before .before .before .before .before .before .before .before .before .before .before .before .before .read-nodes .last .1 .1 .0) (c .before .before .before .before .before .before .before .before .before .before .before .before .before .read-nodes .last .1 .1 .1 .0)) (c .before .before .before .before .before .before .before .before .before .before .before .before .before .before .before .before .skip-lines .ensures) (c .before .before .before .before .before .before .before .before .before .before .before .before .before .read-nodes .ensures) in
     let x : c .before .before .before .before .before .before .line .result .now ≡ xIn room (a .kind) (a .n) (a .s) ls = c .before .before .before .before .before .before .line .ensures ∙ ap (λ (ks : List (List ℕ)). getD ks 0 []) (c .before .before .before .before .before .before .before .skip-lines2 .ensures ∙ ap (drop (a .n)) (c .before .before .before .before .before .before .before .before .before .before .before .before .before .before .before .before .skip-lines .ensures)) in
     let w = c .before .before .write-source .ensures in
     let ss = scopeLines (a .s) ls in

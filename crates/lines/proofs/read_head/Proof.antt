@@ -41,7 +41,7 @@ slice-aggregate-write-numbers c = search needs
 
 -- src/lib.rt:200:5
 write-numbers-requires : tie.Need-write-numbers-requires
-write-numbers-requires c κs = 
+write-numbers-requires c κs =
     let t = numbers-told 74 3 (c .before .before .before .before .before .args .l .now) (cc (not-false (c .before .before .before .is-numbers .result) (c .before .before .if1 .left))) in
     let n = t .0 in
     rw (c .before .onward .ensures) (omega arith, omega arith, t .1)
@@ -68,7 +68,7 @@ fits-requires c κs = search needs
 
 -- src/lib.rt:204:9
 returns-2 : tie.Need-returns-2
-returns-2 c = 
+returns-2 c =
     let l = c .before .before .before .before .before .before .before .before .before .before .before .args .l .now in
     let s : isNumbers 74 3 l ≡ true = cc (not-false (c .before .before .before .before .before .before .before .before .before .is-numbers .result) (c .before .before .before .before .before .before .before .before .if1 .left)) in
     let v = head-array l s _ _ _ refl (c .before .before .before .before .before .before .before .onward .ensures) (c .before .before .before .before .before .write-numbers .ensures) in
@@ -81,7 +81,7 @@ fits-requires-2 c κs = search needs
 
 -- src/lib.rt:207:9
 returns-3 : tie.Need-returns-3
-returns-3 c = 
+returns-3 c =
     let l = c .before .before .before .before .before .before .before .before .before .before .before .before .before .args .l .now in
     let s : isNumbers 74 3 l ≡ true = cc (not-false (c .before .before .before .before .before .before .before .before .before .before .before .is-numbers .result) (c .before .before .before .before .before .before .before .before .before .before .if1 .left)) in
     let v = head-array l s _ _ _ refl (c .before .before .before .before .before .before .before .before .before .onward .ensures) (c .before .before .before .before .before .before .before .write-numbers .ensures) in
@@ -95,7 +95,7 @@ array-read-t15 c = search needs
 
 -- src/lib.rt:193:1
 returns-4 : tie.Need-returns-4
-returns-4 c = 
+returns-4 c =
     let l = c .before .before .before .before .before .before .before .before .before .before .before .before .before .args .l .now in
     let s : isNumbers 74 3 l ≡ true = cc (not-false (c .before .before .before .before .before .before .before .before .before .before .before .is-numbers .result) (c .before .before .before .before .before .before .before .before .before .before .if1 .left)) in
     let v = head-array l s _ _ _ refl (c .before .before .before .before .before .before .before .before .before .onward .ensures) (c .before .before .before .before .before .before .before .write-numbers .ensures) in

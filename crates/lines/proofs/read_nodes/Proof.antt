@@ -36,7 +36,7 @@ least-requires c κs = search needs
 
 -- src/lib.rt:131:5
 loop-holds : tie.Need-loop-holds Inv-loop μ-loop
-loop-holds c = 
+loop-holds c =
     let a = c .before .before .before .before .args in
     let e = c .least .ensures in
     let m = min-le-right 1024 (length (a .names .now)) in
@@ -60,7 +60,7 @@ same-length-2 c = search needs
 
 -- src/lib.rt:134:13
 returns : tie.Need-returns Inv-loop μ-loop
-returns c = 
+returns c =
     let a = c .before .before .before .before .before .before .before .before .before .args in
     let o = c .before .before .before .before .loop in
     let r = c .before .before .before .before .before .least .result in
@@ -86,7 +86,7 @@ same-length-4 c = search needs
 
 -- src/lib.rt:139:13
 returns-2 : tie.Need-returns-2 Inv-loop μ-loop
-returns-2 c = 
+returns-2 c =
     let a = c .before .before .before .before .before .before .before .before .before .before .before .args in
     let o = c .before .before .before .before .before .before .loop in
     let r = c .before .before .before .before .before .before .before .least .result in
@@ -110,7 +110,7 @@ cast-write-node-2 c = search needs
 
 -- src/lib.rt:141:9
 write-node-requires : tie.Need-write-node-requires Inv-loop μ-loop
-write-node-requires c κs = 
+write-node-requires c κs =
     let a = c .before .before .before .before .before .before .before .before .before .before .before .before .args in
     let o = c .before .before .before .before .before .before .before .loop in
     let r = c .before .before .before .before .before .before .before .before .least .result in
@@ -141,7 +141,7 @@ loop-less c = search needs
 
 -- src/lib.rt:131:5
 loop-again : tie.Need-loop-again Inv-loop μ-loop
-loop-again c = 
+loop-again c =
     let a = c .before .before .before .before .before .before .before .before .before .before .before .before .before .before .before .before .before .before .before .before .args in
     let o = c .before .before .before .before .before .before .before .before .before .before .before .before .before .before .before .loop in
     let r = c .before .before .before .before .before .before .before .before .before .before .before .before .before .before .before .before .least .result in
@@ -164,7 +164,7 @@ same-length-6 c = search needs
 
 -- src/lib.rt:123:1
 returns-3 : tie.Need-returns-3 Inv-loop μ-loop
-returns-3 c = 
+returns-3 c =
     let a = c .before .before .before .before .before .before .args in
     let o = c .before .loop in
     let r = c .before .before .least .result in

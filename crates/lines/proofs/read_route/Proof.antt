@@ -26,7 +26,7 @@ enum-known-kind c = search needs
 
 -- src/lib.rt:359:77
 read-asked-requires : tie.Need-read-asked-requires
-read-asked-requires c κs = 
+read-asked-requires c κs =
     let a = c .before .before .before .before .before .before .before .before .before .before .before .before .before .before .before .before .before .before .before .before .before .before .before .args in
     let g = c .before .before .kind .given .0 in
     let room : Room = roomOf (a .nodes .now) (a .scopes .now) (a .source .now) (a .names .now) in
@@ -58,7 +58,7 @@ same-length-5 c = search needs
 
 -- src/lib.rt:353:1
 returns : tie.Need-returns
-returns c = 
+returns c =
     let a = c .before .before .before .before .before .before .before .before .before .before .before .before .before .before .before .before .before .before .before .before .before .before .before .before .before .before .args in
     let g = c .before .before .before .before .before .kind .given .0 in
     let room : Room = roomOf (a .nodes .now) (a .scopes .now) (a .source .now) (a .names .now) in
@@ -85,7 +85,7 @@ same-length-9 c = search needs
 
 -- src/lib.rt:353:1
 returns-2 : tie.Need-returns-2
-returns-2 c = 
+returns-2 c =
     let a = c .before .before .before .before .before .before .before .before .before .before .before .before .before .before .before .before .before .before .before .before .before .before .args in
     let room : Room = roomOf (a .nodes .now) (a .scopes .now) (a .source .now) (a .names .now) in
     let ls = linesOf (a .input .now) in

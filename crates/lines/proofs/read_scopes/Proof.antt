@@ -50,7 +50,7 @@ same-length c = search needs
 
 -- src/lib.rt:99:13
 returns : tie.Need-returns Inv-loop μ-loop
-returns c = 
+returns c =
     let a = c .before .before .before .before .before .before .before .args in
     let o = c .before .before .before .before .loop in
     scoping-done (a .scopes .now) (o .scopes) (a .n) (scopeLines (a .n) (linesOf (a .b .now))) (o .i) (linesOf (o .t .now)) (o .inv)
@@ -66,7 +66,7 @@ mul-write-numbers c = search needs
 
 -- src/lib.rt:101:9
 write-numbers-requires : tie.Need-write-numbers-requires Inv-loop μ-loop
-write-numbers-requires c κs = 
+write-numbers-requires c κs =
     let a = c .before .before .before .before .before .before .before .before .before .args in
     let o = c .before .before .before .before .before .before .loop in
     let l = c .before .before .before .before .line .result .now in
@@ -90,7 +90,7 @@ loop-less c = search needs
 
 -- src/lib.rt:96:5
 loop-again : tie.Need-loop-again Inv-loop μ-loop
-loop-again c = 
+loop-again c =
     let a = c .before .before .before .before .before .before .before .before .before .before .before .before .before .args in
     let o = c .before .before .before .before .before .before .before .before .before .before .loop in
     let ls = linesOf (o .t .now) in
@@ -98,7 +98,7 @@ loop-again c =
     let s : isS (firstOf ls) ≡ true = cc (not-false (c .before .before .before .before .before .before .before .is-numbers .result) (c .before .before .before .before .before .before .if1 .left)) in
     let t = numbers-told 83 3 (firstOf ls) s in
     let e : c .before .before .before .write-numbers .last .1 .1 .0 ≡ put (o .scopes) (o .i * 3) (map valueOf (rest (firstOf ls))) =
-        c .before .before .before .write-numbers .ensures ∙ rw (c .before .before .before .before .before .onward .ensures, c .before .before .before .before .before .before .before .before .line .ensures) (ap (λ (fs : List (List ℕ)). put (o .scopes) (o .i * 3) (map valueOf fs)) (t .2)) in
+    c .before .before .before .write-numbers .ensures ∙ rw (c .before .before .before .before .before .onward .ensures, c .before .before .before .before .before .before .before .before .line .ensures) (ap (λ (fs : List (List ℕ)). put (o .scopes) (o .i * 3) (map valueOf fs)) (t .2)) in
     subst (λ (x : List ℕ). Scoping (a .scopes .now) x (a .n) whole (o .i + 1) (linesOf (c .after .result .now))) (sym e)
     (subst (λ (ks : List (List ℕ)). Scoping (a .scopes .now) (put (o .scopes) (o .i * 3) (map valueOf (rest (firstOf ls)))) (a .n) whole (o .i + 1) ks) (sym (c .after .ensures))
     (scoping-turn (a .scopes .now) (o .scopes) (a .n) whole (o .i) ls (o .inv) (omega arith) s))
@@ -109,7 +109,7 @@ same-length-2 c = search needs
 
 -- src/lib.rt:90:1
 returns-2 : tie.Need-returns-2 Inv-loop μ-loop
-returns-2 c = 
+returns-2 c =
     let a = c .before .before .before .before .args in
     let o = c .before .loop in
     scoping-done (a .scopes .now) (o .scopes) (a .n) (scopeLines (a .n) (linesOf (a .b .now))) (o .i) (linesOf (o .t .now)) (o .inv)

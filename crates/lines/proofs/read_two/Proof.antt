@@ -47,7 +47,7 @@ is-answers-requires c κs = search needs
 
 -- src/lib.rt:323:9
 returns-2 : tie.Need-returns-2
-returns-2 c = 
+returns-2 c =
     let ls = linesOf (c .before .before .before .before .before .before .before .before .before .args .b .now) in
     let a : c .before .before .line2 .result .now ≡ firstOf (drop 1 ls) = c .before .before .line2 .ensures ∙ ap firstOf (c .before .before .before .after .ensures) in
     two-answers (length (c .before .before .before .before .before .before .before .before .before .args .answers .now)) ls (c .before .before .before .before .before .before .before .before .before .args .answers .now) (cc (not-false (c .before .before .before .before .before .is-numbers .result) (c .before .before .before .before .if1 .left))) (cc (not-true (c .before .is-answers .result) (c .if2 .taken)))
@@ -66,7 +66,7 @@ same-length c = search needs
 
 -- src/lib.rt:314:1
 returns-3 : tie.Need-returns-3
-returns-3 c = 
+returns-3 c =
     let ls = linesOf (c .before .before .before .before .before .before .before .before .before .before .before .before .before .before .args .b .now) in
     let a : c .before .before .before .before .before .before .before .line2 .result .now ≡ firstOf (drop 1 ls) = c .before .before .before .before .before .before .before .line2 .ensures ∙ ap firstOf (c .before .before .before .before .before .before .before .before .after .ensures) in
     let w = c .before .before .write-answers .ensures in

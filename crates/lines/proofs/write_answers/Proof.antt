@@ -28,7 +28,7 @@ count-requires c κs = search needs
 
 -- src/lib.rt:310:5
 write-numbers-requires : tie.Need-write-numbers-requires
-write-numbers-requires c κs = 
+write-numbers-requires c κs =
     let l = c .before .before .before .before .before .args .l .now in
     let t = answers-told (length (c .before .before .before .before .before .args .answers .now)) l (c .before .before .before .before .before .pre) in
     let k : c .before .count .result ≡ length (fieldsIn (tailOf l)) = cc in
@@ -41,7 +41,7 @@ same-length c = search needs
 
 -- src/lib.rt:304:1
 returns : tie.Need-returns
-returns c = 
+returns c =
     let l = c .before .before .before .before .before .before .before .before .args .l .now in
     let k : c .before .before .before .before .count .result ≡ length (fieldsIn (tailOf l)) = cc in
     (k ∙ sym (ap length (rest-tail l)), answers-put l (c .before .before .before .before .before .before .before .before .args .answers .now) _ (c .before .before .write-numbers .ensures ∙ rw (c .before .before .before .before .before .onward .ensures, k)))

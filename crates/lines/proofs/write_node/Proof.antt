@@ -58,7 +58,7 @@ same-length c = search needs
 
 -- src/lib.rt:80:1
 returns : tie.Need-returns
-returns c = 
+returns c =
     let a = c .before .before .before .before .before .before .before .args in
     let p = c .before .before .before .before .before .before .before .pre in
     let t = node-told (a .l .now) (p .0) in

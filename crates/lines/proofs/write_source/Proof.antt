@@ -26,7 +26,7 @@ field-requires c κs = search needs
 
 -- src/lib.rt:183:5
 write-bytes-requires : tie.Need-write-bytes-requires
-write-bytes-requires c κs = 
+write-bytes-requires c κs =
     let t = source-told (length (c .before .before .before .before .before .args .source .now)) (c .before .before .before .before .before .args .l .now) (c .before .before .before .before .before .pre) in
     let q : c .before .field .result .now ≡ fieldOf (tailOf (c .before .before .before .before .before .args .l .now)) = cc in
     rw q (t .1, t .2)
@@ -37,7 +37,7 @@ same-length c = search needs
 
 -- src/lib.rt:179:1
 returns : tie.Need-returns
-returns c = 
+returns c =
     let t = source-told (length (c .before .before .before .before .before .before .before .before .args .source .now)) (c .before .before .before .before .before .before .before .before .args .l .now) (c .before .before .before .before .before .before .before .before .pre) in
     let q : bytesOf (c .before .before .before .before .field .result .now) ≡ sourceOf (c .before .before .before .before .before .before .before .before .args .l .now) = ap bytesOf (cc) ∙ sym (t .0) in
     let w = c .before .before .write-bytes .ensures in

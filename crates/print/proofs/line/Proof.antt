@@ -24,7 +24,7 @@ put-fields-requires c κs = let p = c .before .before .before .pre in simp lengt
 
 -- src/lib.rt:83:5
 slice-write-out-2 : tie.Need-slice-write-out-2
-slice-write-out-2 c = 
+slice-write-out-2 c =
     let p = c .before .before .before .before .before .before .pre in
     let e = c .before .before .put-fields .ensures .1 in
     let k = c .before .before .put-fields .kept .1 .0 in
@@ -41,7 +41,7 @@ same-length c = simp length-set (c .before .before .put-fields .kept .1 .0 ∙ l
 
 -- src/lib.rt:77:1
 returns : tie.Need-returns
-returns c = 
+returns c =
     let a = c .before .before .before .before .before .before .args in
     let p = c .before .before .before .before .before .before .pre in
     let e = c .before .before .put-fields .ensures in

@@ -24,7 +24,7 @@ put-words-requires c κs = let p = c .before .before .before .pre in simp length
 
 -- src/lib.rt:108:5
 slice-write-out-2 : tie.Need-slice-write-out-2
-slice-write-out-2 c = 
+slice-write-out-2 c =
     let p = c .before .before .before .before .before .before .pre in
     let e = c .before .before .put-words .ensures .1 in
     let k = c .before .before .put-words .kept .1 .0 in
@@ -41,7 +41,7 @@ same-length c = simp length-set (c .before .before .put-words .kept .1 .0 ∙ le
 
 -- src/lib.rt:102:1
 returns : tie.Need-returns
-returns c = 
+returns c =
     let a = c .before .before .before .before .before .before .args in
     let p = c .before .before .before .before .before .before .pre in
     let e = c .before .before .put-words .ensures in

@@ -28,7 +28,7 @@ same-length c = c .before .before .put-number .kept .1 .0 ∙ length-set (c .bef
 
 -- src/lib.rt:47:1
 returns : tie.Need-returns
-returns c = 
+returns c =
     let e = c .before .before .put-number .ensures in
     let a = e .0 in
     let b = e .1 in

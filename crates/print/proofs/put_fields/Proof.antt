@@ -24,7 +24,7 @@ abbrev μ-loop : tie.MeasureT-loop
 
 -- src/lib.rt:69:5
 loop-holds : tie.Need-loop-holds Inv-loop μ-loop
-loop-holds c = 
+loop-holds c =
     let a = c .before .before .args in
     let p = c .before .before .pre in
     let l = length-fields (a .numbers .now) (λ i. omega (arith, c .before .shared-slice-known .given i)) in
@@ -56,7 +56,7 @@ loop-less c = search needs
 
 -- src/lib.rt:69:5
 loop-again : tie.Need-loop-again Inv-loop μ-loop
-loop-again c = 
+loop-again c =
     let a = c .before .before .before .before .before .before .before .before .before .before .args in
     let o = c .before .before .before .before .before .before .before .loop in
     let v = o .inv in
@@ -72,7 +72,7 @@ same-length c = search needs
 
 -- src/lib.rt:63:1
 returns : tie.Need-returns Inv-loop μ-loop
-returns c = 
+returns c =
     let a = c .before .before .before .before .args in
     let o = c .before .loop in
     let v = o .inv in

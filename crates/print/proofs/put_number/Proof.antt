@@ -31,7 +31,7 @@ add-end c = search needs
 
 -- src/lib.rt:37:5
 loop-holds : tie.Need-loop-holds Inv-loop μ-loop
-loop-holds c = 
+loop-holds c =
     let e = c .places .ensures .0 in
     (ap (λ (k : ℕ). c .before .before .args .w + k) e, omega arith, refl, ap (λ (k : ℕ). take (c .before .before .args .w) (c .before .before .args .out .now) ++ decimal (c .before .before .args .n) ++ drop (c .before .before .args .w + k) (c .before .before .args .out .now)) e)
 
@@ -53,7 +53,7 @@ loop-less c = search needs
 
 -- src/lib.rt:37:5
 loop-again : tie.Need-loop-again Inv-loop μ-loop
-loop-again c = 
+loop-again c =
     let o = c .before .before .loop in
     let a = c .before .before .before .before .before .args in
     let v = o .inv in
@@ -79,7 +79,7 @@ same-length c = search needs
 
 -- src/lib.rt:30:1
 returns : tie.Need-returns Inv-loop μ-loop
-returns c = 
+returns c =
     let o = c .before .before .loop in
     let a = c .before .before .before .before .before .args in
     let v = o .inv in
