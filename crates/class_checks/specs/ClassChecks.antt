@@ -7,7 +7,6 @@ use Rattle.common.specs.Upto.{upto}
 use Rattle.common.specs.Tests.{within}
 use Rattle.tables.specs.Table.{count, kindOf, parentOf, spanStartOf, spanEndOf, flagsOf, hasFlag}
 use Rattle.tables.specs.Kinds as k
-use Rattle.tables.specs.Roles as role
 use Rattle.tables.specs.NodeFlag as flag
 use Rattle.tables.specs.declared.Found.{Found}
 use Rattle.tables.specs.declared.Found.the-variants.{At, Nothing}
@@ -62,9 +61,9 @@ undeclaredBy ns names n Outside = []
 abbrev pub privateUndeclared : List ℕ → List ℕ → ℕ → List Finding
 privateUndeclared ns names n = undeclaredBy ns names n (currentClass ns n)
 
--- the class has an id: a BindingIdentifier with role 0
+-- the class has an id: a BindingIdentifier, with any role
 abbrev pub hasId : List ℕ → ℕ → Bool
-hasId ns n = isAt (firstChild ns n k.BindingIdentifier k.BindingIdentifier role.Other role.Other)
+hasId ns n = isAt (firstChild ns n k.BindingIdentifier k.BindingIdentifier 0 7)
 
 -- a class declaration without an id that is no `export default`; the span of the word `class`
 unfoldable pub requireClassName : List ℕ → ℕ → Raised

@@ -21,7 +21,6 @@ use tables::Found;
 use tables::NodeId;
 use tables::kinds;
 use tables::node_flag;
-use tables::roles;
 
 pub fn check_private_identifier_outside_class(nodes: &[u32], n: NodeId) -> Raised
     requires { ⌜ Tree (now nodes) ⌝ }
@@ -156,8 +155,8 @@ fn has_id(nodes: &[u32], n: NodeId) -> bool
         n,
         kinds::BINDING_IDENTIFIER,
         kinds::BINDING_IDENTIFIER,
-        roles::OTHER,
-        roles::OTHER,
+        0,
+        7,
     ) else {
         return false;
     };
