@@ -1,13 +1,14 @@
 -- Hexadecimal digits as loops go through them.
-use Prim.Native.Nat.{ℕ, zero, suc, _+_, _-_, _*_, _/_, _%_, _≤_, _<_}
-use mathlib.Core.Path.{_≡_, refl, ap, sym, _∙_}
-use mathlib.Core.Logic.{_⊎_, inl, inr, ⊎-elim}
-use mathlib.Core.Bool.{Bool, true, false, cond, _&&_, _||_}
+use Prim.Native.Nat.{ℕ, _+_, _-_, _*_, _/_, _%_, _≤_, _<_}
+use mathlib.Core.Path.{_≡_, refl}
+use mathlib.Core.Logic.{⊎-elim}
+use mathlib.Core.Bool.{true, false, _&&_, _||_}
 use mathlib.Core.List.{List, [], _∷_, _++_}
 use native.Mathlib.Omega.{arith}
-use lib.Dec.{leb, eqb}
+use lib.Dec.{eqb}
 use lib.ListN.{length, getD, set, take, drop}
-use borrow.Author.Tests.{le-leb, lt-leb, leb-true, eq-eqb, eqb-true}
+use borrow.Author.Tests.{le-leb, lt-leb, eq-eqb, eqb-true}
+use Rattle.common.specs.Bools.{either, range-of}
 use Rattle.common.specs.Tests.{within}
 use Rattle.common.specs.Upto.{all, and-left, and-right}
 use Rattle.common.specs.Wrote.{Wrote}
@@ -21,18 +22,11 @@ data HexRange (c : ℕ) : Type 0 where
   upper : 65 ≤ c → c ≤ 70 → HexRange c
   lower : 97 ≤ c → c ≤ 102 → HexRange c
 
-within-both : (c lo hi : ℕ) → within c lo hi ≡ true → (lo ≤ c) × (c ≤ hi)
-within-both c lo hi e = (leb-true lo c (and-left (leb lo c) (leb c hi) e), leb-true c hi (and-right (leb lo c) (leb c hi) e))
-
-or-cases : (a b : Bool) → (a || b) ≡ true → (a ≡ true) ⊎ (b ≡ true)
-or-cases true b e = inl refl
-or-cases false b e = inr e
-
 hex-range : (c : ℕ) → isHexDigit c ≡ true → HexRange c
 hex-range c e =
-    ⊎-elim (λ h. let r = within-both c 48 57 h in decimal (r .0) (r .1))
-    (λ g. ⊎-elim (λ h. let r = within-both c 65 70 h in upper (r .0) (r .1)) (λ h. let r = within-both c 97 102 h in lower (r .0) (r .1)) (or-cases (within c 65 70) (within c 97 102) g))
-    (or-cases (within c 48 57) (within c 65 70 || within c 97 102) e)
+    ⊎-elim (λ h. let r = range-of c 48 57 h in decimal (r .0) (r .1))
+    (λ g. ⊎-elim (λ h. let r = range-of c 65 70 h in upper (r .0) (r .1)) (λ h. let r = range-of c 97 102 h in lower (r .0) (r .1)) (either (within c 65 70) (within c 97 102) g))
+    (either (within c 48 57) (within c 65 70 || within c 97 102) e)
 
 -- each of the three ways to a digit's worth is safe, and the worth is below 16
 pub record Nibble (c : ℕ) : Type 0 where

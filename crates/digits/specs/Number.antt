@@ -1,6 +1,6 @@
 -- Numbers in lines: decimal digits, and bytes in hexadecimal. Bytes are ASCII.
-use Prim.Native.Nat.{ℕ, zero, suc, _+_, _-_, _*_}
-use mathlib.Core.Bool.{Bool, true, false, cond, not, _&&_, _||_}
+use Prim.Native.Nat.{ℕ, _+_, _-_, _*_}
+use mathlib.Core.Bool.{Bool, true, false, cond, not, _&&_}
 use mathlib.Core.List.{List, [], _∷_, foldl}
 use lib.Dec.{leb}
 use Rattle.common.specs.Tests.{within}

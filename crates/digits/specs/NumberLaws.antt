@@ -1,26 +1,25 @@
 -- What a loop over a number's digits does turn by turn.
-use Prim.Native.Nat.{ℕ, zero, suc, _+_, _-_, _*_, _≤_, _<_}
-use mathlib.Core.Path.{_≡_, refl, ap, sym, _∙_}
-use mathlib.Core.Bool.{Bool, true, false, cond, not, _&&_}
-use mathlib.Core.List.{List, [], _∷_, foldl}
+use Prim.Native.Nat.{ℕ, _+_, _-_, _*_, _≤_, _<_}
+use mathlib.Core.Path.{_≡_, refl}
+use mathlib.Core.Bool.{Bool, true, false, cond, _&&_}
+use mathlib.Core.List.{List, [], _∷_}
 use native.Mathlib.Omega.{arith}
 use lib.Dec.{leb}
 use lib.ListN.{length, getD, drop}
 use borrow.Author.Tests.{le-leb, lt-leb}
-use Rattle.common.specs.Tests.{within}
 use Rattle.common.specs.Upto.{all}
 use Rattle.digits.specs.declared.Numeral.{Numeral}
 use Rattle.digits.specs.declared.Numeral.the-variants.{Value, NoNumber}
 use Rattle.digits.specs.Lists.{drop-step, drop-end}
-use Rattle.digits.specs.Number.{isDigit, valueFrom, valueOf, isNil, isNumber, numberOf}
+use Rattle.digits.specs.Number.{isDigit, valueFrom, valueOf, isNumber, numberOf}
 
 -- the number of digits that stand behind others, which stand for v
 unfoldable pub numberFrom : ℕ → List ℕ → Numeral
 numberFrom v l = cond (all isDigit l && leb (valueFrom v l) 4294967295) (Value (valueFrom v l)) NoNumber
 
-and-false : (b : Bool) → (b && false) ≡ false
-and-false true = refl
-and-false false = refl
+pub and-no : (b : Bool) → (b && false) ≡ false
+and-no true = refl
+and-no false = refl
 
 pub number-none : (s : List ℕ) → length s ≡ 0 → numberOf s ≡ NoNumber
 unfolding numberOf isNumber
@@ -44,7 +43,7 @@ module _ (s : List ℕ) (v i : ℕ) (h : i < length s) where
 
   pub number-high : 57 < getD s i 0 → numberFrom v (drop i s) ≡ NoNumber
   unfolding numberFrom
-  number-high k = rw (drop-step s i h, lt-leb (getD s i 0) 57 k, and-false (leb 48 (getD s i 0)))
+  number-high k = rw (drop-step s i h, lt-leb (getD s i 0) 57 k, and-no (leb 48 (getD s i 0)))
 
 value-grows : (v : ℕ) (l : List ℕ) → v ≤ valueFrom v l
 value-grows v [] = omega arith
@@ -54,7 +53,7 @@ pub number-over : (v : ℕ) (l : List ℕ) → 4294967295 < v → numberFrom v l
 unfolding numberFrom
 number-over v l h =
     let g : 4294967295 < valueFrom v l = omega (arith, value-grows v l) in
-    rw (lt-leb (valueFrom v l) 4294967295 g, and-false (all isDigit l))
+    rw (lt-leb (valueFrom v l) 4294967295 g, and-no (all isDigit l))
 
 pub number-end : (s : List ℕ) (v i : ℕ) → length s ≤ i → v ≤ 4294967295 → numberFrom v (drop i s) ≡ Value v
 unfolding numberFrom

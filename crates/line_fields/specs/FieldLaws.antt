@@ -1,17 +1,16 @@
 -- The fields of a line's tail, one a turn.
 use Prim.Native.Nat.{ℕ, zero, suc, _+_, _-_, _≤_, _<_}
-use mathlib.Core.Path.{_≡_, refl, ap, sym, subst, _∙_}
-use mathlib.Core.Bool.{Bool, true, false, cond, _&&_}
-use mathlib.Core.List.{List, [], _∷_, _++_, map, append-assoc, append-nil}
+use mathlib.Core.Path.{_≡_, refl, ap, sym, _∙_}
+use mathlib.Core.Bool.{true, false, _&&_}
+use mathlib.Core.List.{List, [], _∷_, map}
 use native.Mathlib.Numerals.{add-one}
 use native.Mathlib.Omega.{arith}
-use lib.ListN.{length, getD, set, take, drop, length-drop, length-append, length-map, length-take}
+use lib.ListN.{length, set, take, drop, length-drop, length-map}
 use lib.Seq.{length-take-le}
 use Rattle.common.specs.Upto.{all, and-left, and-right}
 use Rattle.common.specs.Wrote.{Wrote}
 use Rattle.digits.specs.Writes.{wrote-one}
 use Rattle.digits.specs.Number.{isNumber, valueOf}
-use Rattle.line_fields.specs.Split.{fieldsOf}
 use Rattle.line_fields.specs.SplitLaws.{before, onward, onward-short, fieldsIn, fields-turn, fields-end}
 
 -- the first field of a tail, and the tail behind it

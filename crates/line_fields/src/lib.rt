@@ -1,11 +1,9 @@
 // Lines of bytes, and the fields of a line, as parts of the slice that holds them.
 ghost use mathlib.Core.Path.{_≡_};
-ghost use Prim.Native.Nat.{_≤_, _+_, _-_};
-ghost use mathlib.Core.Bool.{true};
-ghost use mathlib.Core.List.{[], map};
-ghost use Rattle.common.specs.Wrote.{put};
+ghost use Prim.Native.Nat.{_≤_, _-_};
+ghost use mathlib.Core.List.{[]};
 ghost use Rattle.common.specs.Upto.{all};
-ghost use Rattle.digits.specs.Number.{isNumber, valueOf};
+ghost use Rattle.digits.specs.Number.{isNumber};
 ghost use Rattle.line_fields.specs.Split.{linesOf};
 ghost use lib.ListN.{length, drop, getD};
 ghost use Rattle.line_fields.specs.SplitLaws.{before, onward, toFirst, fieldsIn};
@@ -94,23 +92,6 @@ pub fn are_numbers(tail: &[u8], n: usize) -> bool
         left -= 1;
     }
     true
-}
-
-// Writes the first n fields, all numbers, from place w on.
-pub fn write_numbers(tail: &[u8], n: usize, out: &mut [u32], w: usize)
-    requires { ⌜ (n ≤ length (fieldsIn (now tail))) × (w + n ≤ length (now out)) × (all isNumber (firsts n (now tail)) ≡ true) ⌝ }
-    ensures { λ _. ⌜ now (out .exit) ≡ put (now (out .entry)) w (map valueOf (firsts n (now (tail .entry)))) ⌝ }
-{
-    let mut t = tail;
-    let mut left = n;
-    let mut at = w;
-    while 0 < left {
-        out[at] = digits::value(field(t));
-        let u = next(t);
-        t = u;
-        at += 1;
-        left -= 1;
-    }
 }
 
 // The tail behind the first n fields.

@@ -5,8 +5,12 @@ use mathlib.Core.List.{List, [], _∷_, _++_}
 use Rattle.digits.specs.Number.{isNumber}
 use Rattle.digits.specs.Hex.{isHex, bytesOf, nibbleOf}
 use Rattle.line_fields.specs.Split.{linesOf, fieldsOf, joined}
-use Rattle.lines.specs.declared.Input.the-variants.{Tables}
-use Rattle.lines.specs.Format.{Room, Reading, lettered, isNumbers, fits, isJ, isN, isX, leading, named, scopeLines, nodeLines, scopesOf, namesOf, nodesOf, readBehind, readLines, readInput}
+use Rattle.lines.specs.declared.Input.{Input}
+use Rattle.lines.specs.declared.Input.the-variants.{Tables, Unread}
+use Rattle.lines.specs.declared.Route.the-variants.{Asked}
+use Rattle.lines.specs.Route.{isA, askedBy, readRoute}
+use Rattle.forms.specs.Forms.{lettered, isNumbers, fits, isJ, isN, isX}
+use Rattle.lines.specs.Format.{Room, Reading, leading, named, scopeLines, nodeLines, scopesOf, namesOf, nodesOf, readBehind, readLines, readInput}
 
 -- its ten lines
 abbrev text : List ℕ
@@ -43,3 +47,24 @@ read = record {
 pub example : readInput large text ≡ read
 unfolding linesOf fieldsOf joined isNumber isHex bytesOf nibbleOf lettered isNumbers fits isJ isN isX leading named scopeLines nodeLines scopesOf namesOf nodesOf readBehind readLines
 example = refl
+
+-- small inputs: nothing; a node's line is missing; the largest number, leading zeros, digits of either case; a number too large; a node
+-- too many; byte 13 before byte 10; an odd number of digits
+abbrev answers : List ℕ → Input
+answers b = readInput large b .answer
+
+pub rows :
+    (answers ([]) ≡ Unread 1)
+    × (answers (74 ∷ 44 ∷ 48 ∷ 44 ∷ 49 ∷ 44 ∷ 49 ∷ 10 ∷ 83 ∷ 44 ∷ 48 ∷ 44 ∷ 50 ∷ 44 ∷ 48 ∷ []) ≡ Unread 3)
+    × (answers (74 ∷ 44 ∷ 52 ∷ 50 ∷ 57 ∷ 52 ∷ 57 ∷ 54 ∷ 55 ∷ 50 ∷ 57 ∷ 53 ∷ 44 ∷ 48 ∷ 48 ∷ 44 ∷ 48 ∷ 10 ∷ 88 ∷ 44 ∷ 52 ∷ 65 ∷ 52 ∷ 97 ∷ []) ≡ Tables 4294967295 0 0 2 0)
+    × (answers (74 ∷ 44 ∷ 52 ∷ 50 ∷ 57 ∷ 52 ∷ 57 ∷ 54 ∷ 55 ∷ 50 ∷ 57 ∷ 54 ∷ 44 ∷ 48 ∷ 44 ∷ 48 ∷ 10 ∷ 88 ∷ 44 ∷ []) ≡ Unread 1)
+    × (answers (74 ∷ 44 ∷ 48 ∷ 44 ∷ 49 ∷ 48 ∷ 50 ∷ 53 ∷ 44 ∷ 48 ∷ 10 ∷ 88 ∷ 44 ∷ []) ≡ Unread 1)
+    × (answers (74 ∷ 44 ∷ 48 ∷ 44 ∷ 48 ∷ 44 ∷ 48 ∷ 13 ∷ 10 ∷ 88 ∷ 44 ∷ []) ≡ Unread 1)
+    × (answers (74 ∷ 44 ∷ 48 ∷ 44 ∷ 48 ∷ 44 ∷ 48 ∷ 10 ∷ 88 ∷ 44 ∷ 52 ∷ []) ≡ Unread 2)
+unfolding linesOf fieldsOf joined isNumber isHex bytesOf nibbleOf lettered isNumbers fits isJ isN isX leading named scopeLines nodeLines scopesOf namesOf nodesOf readBehind readLines
+rows = (refl, refl, refl, refl, refl, refl, refl)
+
+-- with U,0 and A,1,0,7 behind the lines of the example
+pub route : readRoute large 1024 (text ++ 85 ∷ 44 ∷ 48 ∷ 10 ∷ 65 ∷ 44 ∷ 49 ∷ 44 ∷ 48 ∷ 44 ∷ 55 ∷ []) ≡ record { answer = Asked 0 60 6 18 2 0 3; answers = 1 ∷ 0 ∷ 7 ∷ [] }
+unfolding linesOf fieldsOf joined isNumber isHex bytesOf nibbleOf lettered isNumbers fits isJ isN isX leading named scopeLines nodeLines scopesOf namesOf nodesOf readBehind readLines isA askedBy
+route = refl

@@ -1,72 +1,14 @@
--- The lines that `rulecheck` reads (document 01, "The reader program"), over lists of bytes: which lines can be read, and what they give.
-use Prim.Native.Nat.{ℕ, _+_, _-_, _*_, min}
+-- The lines that `rulecheck` reads (document 01, "The reader program"), in their order, and what they give.
+use Prim.Native.Nat.{ℕ, _+_, _-_, min}
 use mathlib.Core.Path.{_≡_}
-use mathlib.Core.Bool.{Bool, true, false, cond, _&&_}
-use mathlib.Core.List.{List, [], _∷_, _++_, map}
+use mathlib.Core.Bool.{Bool, cond}
+use mathlib.Core.List.{List, [], _∷_, _++_}
 use lib.Dec.{leb, eqb}
 use lib.ListN.{length, getD, take, drop}
-use Rattle.common.specs.Upto.{all}
-use Rattle.digits.specs.Number.{isNumber, valueOf}
-use Rattle.digits.specs.Hex.{isHex, bytesOf}
-use Rattle.line_fields.specs.Split.{linesOf, fieldsOf, joined}
+use Rattle.line_fields.specs.Split.{linesOf}
+use Rattle.forms.specs.Forms.{rest, numbersOf, kindIn, nodesIn, scopesIn, isJ, isS, isN, nameOf, sourceOf, isX}
 use Rattle.lines.specs.declared.Input.{Input}
 use Rattle.lines.specs.declared.Input.the-variants.{Tables, Unread}
-
--- the field is this one byte
-abbrev pub isLetter : ℕ → List ℕ → Bool
-isLetter c [] = false
-isLetter c (x ∷ []) = eqb x c
-isLetter c (x ∷ y ∷ l) = false
-
--- "lines up to 2,100 bytes", and the first field is the letter
-unfoldable pub lettered : ℕ → List ℕ → Bool
-lettered c l = leb (length l) 2100 && isLetter c (getD (fieldsOf l) 0 [])
-
--- the fields behind the letter
-abbrev pub rest : List ℕ → List (List ℕ)
-rest l = drop 1 (fieldsOf l)
-
-abbrev pub numbersOf : List (List ℕ) → List ℕ
-numbersOf fs = map valueOf fs
-
--- the letter, n numbers and no more
-unfoldable pub isNumbers : ℕ → ℕ → List ℕ → Bool
-isNumbers c n l = lettered c l && (eqb (length (rest l)) n && all isNumber (rest l))
-
--- "at most 1,024", and so many times `each` find room
-unfoldable pub fits : ℕ → ℕ → ℕ → Bool
-fits n each room = leb n 1024 && leb (n * each) room
-
--- "J: source type, nodes, scopes." A node takes ten numbers, a scope three.
-abbrev pub kindIn : List ℕ → ℕ
-kindIn l = getD (numbersOf (rest l)) 0 0
-
-abbrev pub nodesIn : List ℕ → ℕ
-nodesIn l = getD (numbersOf (rest l)) 1 0
-
-abbrev pub scopesIn : List ℕ → ℕ
-scopesIn l = getD (numbersOf (rest l)) 2 0
-
-unfoldable pub isJ : ℕ → ℕ → List ℕ → Bool
-isJ nodes scopes l = isNumbers 74 3 l && (fits (nodesIn l) 10 nodes && fits (scopesIn l) 3 scopes)
-
--- "S: a scope."
-abbrev pub isS : List ℕ → Bool
-isS l = isNumbers 83 3 l
-
--- "N: eight node numbers, then the rest as name", commas too
-unfoldable pub isN : List ℕ → Bool
-isN l = lettered 78 l && (leb 9 (length (rest l)) && all isNumber (take 8 (rest l)))
-
-abbrev pub nameOf : List ℕ → List ℕ
-nameOf l = joined (drop 8 (rest l))
-
--- "X: source in hexadecimal"
-abbrev pub sourceOf : List ℕ → List ℕ
-sourceOf l = bytesOf (getD (rest l) 0 [])
-
-unfoldable pub isX : ℕ → List ℕ → Bool
-isX room l = lettered 88 l && (eqb (length (rest l)) 1 && (isHex (getD (rest l) 0 []) && fits (length (sourceOf l)) 1 room))
 
 -- the lines before the first that fails a test
 unfoldable pub leading : (List ℕ → Bool) → List (List ℕ) → List (List ℕ)
@@ -133,7 +75,8 @@ pub record Room : Type 0 where
 abbrev pub roomOf : List ℕ → List ℕ → List ℕ → List ℕ → Room
 roomOf nodes scopes source names = record { nodes = length nodes; scopes = length scopes; source = length source; names = length names }
 
--- What stands behind the J line: as many S lines and then N lines as it says, and the X line. What follows isn't read.
+-- What stands behind the J line: as many S lines and then N lines as it says, and the X line. What follows isn't read. A missing line is
+-- taken as an empty one, which can't be read.
 module _ (room : Room) (kind nodes scopes : ℕ) (ls : List (List ℕ)) where
   abbrev pub ssIn : List (List ℕ)
   ssIn = scopeLines scopes ls

@@ -1,25 +1,27 @@
 -- The whole input, in the order in which it is read.
-use Prim.Native.Nat.{ℕ, _+_, _*_, _≤_, _<_, min}
-use mathlib.Core.Path.{_≡_, refl, ap, sym, subst, _∙_}
+use Prim.Native.Nat.{ℕ, _+_, _*_, _≤_}
+use mathlib.Core.Path.{_≡_, refl, ap, sym, _∙_}
 use mathlib.Core.Bool.{Bool, true, false, cond, _&&_}
-use mathlib.Core.List.{List, [], _∷_, _++_, map, append-nil}
+use mathlib.Core.List.{List, [], _∷_, map, append-nil}
 use native.Mathlib.Omega.{arith}
-use lib.Dec.{leb, eqb}
-use lib.ListN.{length, getD, take, drop, drop-of-length-le, length-map}
-use borrow.Author.Tests.{eq-eqb, ne-eqb, eqb-true, leb-true}
+use lib.Dec.{eqb}
+use lib.ListN.{length, getD, drop, drop-of-length-le, length-map}
+use borrow.Author.Tests.{eq-eqb, ne-eqb, eqb-true}
+use Rattle.common.specs.Bools.{never}
 use Rattle.common.specs.Upto.{and-left, and-right}
 use Rattle.common.specs.Wrote.{put}
 use Rattle.digits.specs.Hex.{isHex, bytesOf}
 use Rattle.digits.specs.Number.{valueOf}
-use Rattle.line_fields.specs.SplitLaws.{fieldsIn}
 use Rattle.line_fields.specs.FieldLaws.{fieldOf, firsts}
 use Rattle.lines.specs.declared.Head.{Head}
 use Rattle.lines.specs.declared.Head.the-variants.{Counts, NoHead}
 use Rattle.lines.specs.declared.Input.{Input}
 use Rattle.lines.specs.declared.Input.the-variants.{Tables, Unread}
-use Rattle.lines.specs.Format.{lettered, rest, numbersOf, isNumbers, fits, kindIn, nodesIn, scopesIn, isJ, isX, sourceOf, nodesOf, scopesOf, namesOf, Room, Reading, stopped, tables, ssIn, nsIn, xIn, readBehind, readLines, front, Given}
-use Rattle.lines.specs.FormatLaws.{tailOf, rest-tail, numbers-told, source-field, fits-told, and-no}
-use Rattle.lines.specs.ReadLaws.{firstOf, nodes-nil, scopes-nil, names-nil, empty-numbers, true-false}
+use Rattle.forms.specs.Forms.{lettered, rest, numbersOf, isNumbers, fits, kindIn, nodesIn, scopesIn, isJ, isX, sourceOf}
+use Rattle.lines.specs.Format.{nodesOf, scopesOf, namesOf, Room, Reading, stopped, tables, ssIn, nsIn, xIn, readBehind, readLines, front, Given}
+use Rattle.digits.specs.NumberLaws.{and-no}
+use Rattle.forms.specs.FormLaws.{tailOf, rest-tail, numbers-told, source-field, fits-told}
+use Rattle.lines.specs.ReadLaws.{firstOf, nodes-nil, scopes-nil, names-nil, empty-numbers}
 
 -- what the J line says
 unfoldable pub headOf : ℕ → ℕ → List ℕ → Head
@@ -131,7 +133,7 @@ lines-no room (j ∷ ls) e = rw e
 pub lines-on : (room : Room) (ls : List (List ℕ)) → isJ (room .nodes) (room .scopes) (firstOf ls) ≡ true
     → readLines room ls ≡ readBehind room (kindIn (firstOf ls)) (nodesIn (firstOf ls)) (scopesIn (firstOf ls)) (drop 1 ls)
 unfolding readLines
-lines-on room [] e = absurd (true-false (isJ (room .nodes) (room .scopes) []) e (empty-head (room .nodes) (room .scopes)))
+lines-on room [] e = never (sym e ∙ empty-head (room .nodes) (room .scopes))
 lines-on room (j ∷ ls) e = rw e
 
 -- what the answer on the J line tells

@@ -1,7 +1,6 @@
 pub mod Format
 pub mod Route
 pub mod Example
-pub mod FormatLaws
 pub mod ReadLaws
 pub mod InputLaws
 pub mod RouteLaws

@@ -1,19 +1,21 @@
 -- Scope lines and node lines read one a turn, and what is written of them.
-use Prim.Native.Nat.{ℕ, zero, suc, _+_, _-_, _*_, _≤_, _<_, min}
+use Prim.Native.Nat.{ℕ, zero, suc, _+_, _-_, _*_, _≤_, _<_}
 use mathlib.Core.Path.{_≡_, refl, ap, sym, subst, _∙_}
-use mathlib.Core.Bool.{Bool, true, false, cond, _&&_}
-use mathlib.Core.List.{List, [], _∷_, _++_, map}
+use mathlib.Core.Bool.{Bool, true, false, cond}
+use mathlib.Core.List.{List, [], _∷_, _++_}
 use native.Mathlib.Omega.{arith}
-use lib.Dec.{leb, eqb}
+use lib.Dec.{leb}
 use lib.ListN.{length, getD, set, take, drop, length-append, length-map}
 use lib.Seq.{length-take-le, sets-eq}
 use borrow.Author.Tests.{le-leb, lt-leb, leb-true}
+use Rattle.common.specs.Bools.{never}
 use Rattle.common.specs.Wrote.{Wrote, put, wrote-put, length-put}
-use Rattle.digits.specs.Number.{isNumber, valueOf}
+use Rattle.digits.specs.Number.{valueOf}
 use Rattle.digits.specs.Writes.{wrote-done, put-put}
 use Rattle.line_fields.specs.Split.{fieldsOf}
-use Rattle.lines.specs.Format.{lettered, rest, numbersOf, isNumbers, isS, isN, nameOf, leading, named, scopeLines, nodeLines, scopesOf, namesOf, nodeOf, nodesOf, front}
-use Rattle.lines.specs.FormatLaws.{numbers-told, node-told, rest-tail}
+use Rattle.forms.specs.Forms.{lettered, rest, numbersOf, isNumbers, isS, isN, nameOf}
+use Rattle.lines.specs.Format.{leading, named, scopeLines, nodeLines, scopesOf, namesOf, nodeOf, nodesOf, front}
+use Rattle.forms.specs.FormLaws.{numbers-told, node-told, rest-tail}
 
 -- the first of some lines; a missing line is empty, and can't be read
 abbrev pub firstOf : List (List ℕ) → List ℕ
@@ -31,14 +33,11 @@ empty-node : isN [] ≡ false
 unfolding isN
 empty-node = rw (empty-letter 78)
 
-pub true-false : (b : Bool) → b ≡ true → b ≡ false → ⊥
-true-false b p q = let z : _≡_ {A = ℕ} 0 1 = cc in omega arith
-
 -- scope lines
 module _ (n : ℕ) where
   pub scopes-turn : (ls : List (List ℕ)) → 0 < n → isS (firstOf ls) ≡ true → scopeLines n ls ≡ firstOf ls ∷ scopeLines (n - 1) (drop 1 ls)
   unfolding scopeLines leading
-  scopes-turn [] h e = absurd (true-false (isS []) e (empty-numbers 83 3))
+  scopes-turn [] h e = never (sym e ∙ empty-numbers 83 3)
   scopes-turn (l ∷ ls) h e =
       let k : n ≡ suc (n - 1) = omega arith in
       ap (λ (m : ℕ). leading isS (take m (l ∷ ls))) k ∙ rw e
@@ -123,7 +122,7 @@ module _ (room n : ℕ) where
   pub nodes-turn : (ls : List (List ℕ)) → 0 < n → isN (firstOf ls) ≡ true → length (nameOf (firstOf ls)) ≤ room
       → nodeLines room n ls ≡ firstOf ls ∷ nodeLines (room - length (nameOf (firstOf ls))) (n - 1) (drop 1 ls)
   unfolding nodeLines leading named
-  nodes-turn [] h e f = absurd (true-false (isN []) e empty-node)
+  nodes-turn [] h e f = never (sym e ∙ empty-node)
   nodes-turn (l ∷ ls) h e f =
       let k : n ≡ suc (n - 1) = omega arith in
       ap (λ (m : ℕ). named room (leading isN (take m (l ∷ ls)))) k ∙ rw (e, le-leb (length (nameOf l)) room f)

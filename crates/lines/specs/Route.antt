@@ -10,7 +10,8 @@ use Rattle.lines.specs.declared.Input.{Input}
 use Rattle.lines.specs.declared.Input.the-variants.{Tables, Unread}
 use Rattle.lines.specs.declared.Route.{Route}
 use Rattle.lines.specs.declared.Route.the-variants.{Asked, Unasked}
-use Rattle.lines.specs.Format.{lettered, rest, numbersOf, isNumbers, fits, Room, readInput}
+use Rattle.forms.specs.Forms.{lettered, rest, numbersOf, isNumbers, fits}
+use Rattle.lines.specs.Format.{Room, readInput}
 
 abbrev pub isU : List ℕ → Bool
 isU l = isNumbers 85 1 l
@@ -31,20 +32,20 @@ abbrev pub unasked : ℕ → Asking
 unasked k = record { answer = Unasked k; answers = [] }
 
 -- the U line follows the J line, a line for each scope and node, and the X line
-abbrev pub before : ℕ → ℕ → ℕ
-before nodes scopes = 2 + scopes / 3 + nodes / 10
+abbrev pub linesBefore : ℕ → ℕ → ℕ
+linesBefore nodes scopes = 2 + scopes / 3 + nodes / 10
 
 unfoldable pub askedBy : ℕ → List (List ℕ) → Input → Asking
 askedBy room ls (Unread k) = unasked k
 askedBy room ls (Tables kind n s x m) =
-    cond (isU (getD ls (before n s) []))
-    (cond (isA room (getD ls (before n s + 1) []))
+    cond (isU (getD ls (linesBefore n s) []))
+    (cond (isA room (getD ls (linesBefore n s + 1) []))
     (record {
-      answer = Asked kind n s x m (unitIn (getD ls (before n s) [])) (length (rest (getD ls (before n s + 1) [])));
-      answers = numbersOf (rest (getD ls (before n s + 1) []));
+      answer = Asked kind n s x m (unitIn (getD ls (linesBefore n s) [])) (length (rest (getD ls (linesBefore n s + 1) [])));
+      answers = numbersOf (rest (getD ls (linesBefore n s + 1) []));
     })
-    (unasked (before n s + 2)))
-    (unasked (before n s + 1))
+    (unasked (linesBefore n s + 2)))
+    (unasked (linesBefore n s + 1))
 
 abbrev pub readRoute : Room → ℕ → List ℕ → Asking
 readRoute room answers b = askedBy answers (linesOf b) (readInput room b .answer)

@@ -1,14 +1,13 @@
 -- The two lines as they are tested and read.
-use Prim.Native.Nat.{ℕ, suc, _+_, _*_, _/_, _≤_, _<_, min}
-use mathlib.Core.Path.{_≡_, refl, ap, sym, subst, _∙_}
+use Prim.Native.Nat.{ℕ, _+_, _≤_, _<_, min}
+use mathlib.Core.Path.{_≡_, refl, ap, sym, _∙_}
 use mathlib.Core.Bool.{Bool, true, false, cond, _&&_}
-use mathlib.Core.List.{List, [], _∷_, _++_, map, append-nil}
+use mathlib.Core.List.{List, [], _∷_, _++_, map}
 use native.Mathlib.Nat.{zero-add, add-zero}
 use native.Mathlib.Omega.{arith}
 use lib.Dec.{eqb}
-use lib.ListN.{length, getD, take, drop, length-map}
+use lib.ListN.{length, getD, drop}
 use lib.Seq.{take-all, getD-drop, drop-drop}
-use borrow.Author.Tests.{eq-eqb, ne-eqb, eqb-true, leb-true}
 use Rattle.common.specs.Upto.{all, and-left, and-right}
 use Rattle.common.specs.Wrote.{put}
 use Rattle.digits.specs.Number.{isNumber, valueOf}
@@ -20,11 +19,13 @@ use Rattle.lines.specs.declared.Input.{Input}
 use Rattle.lines.specs.declared.Input.the-variants.{Tables, Unread}
 use Rattle.lines.specs.declared.Route.{Route}
 use Rattle.lines.specs.declared.Route.the-variants.{Asked, Unasked}
-use Rattle.lines.specs.Format.{lettered, rest, numbersOf, isNumbers, fits, isJ, kindIn, nodesIn, scopesIn, isX, nodesOf, scopesOf, Room, Reading, stopped, tables, ssIn, nsIn, xIn, readBehind, readLines, front}
-use Rattle.lines.specs.FormatLaws.{tailOf, rest-tail, numbers-told, fits-told, and-no}
-use Rattle.lines.specs.ReadLaws.{firstOf, scopes-sized, nodes-sized, empty-numbers, true-false}
+use Rattle.forms.specs.Forms.{lettered, rest, numbersOf, isNumbers, fits, isJ, kindIn, nodesIn, scopesIn, isX}
+use Rattle.lines.specs.Format.{nodesOf, scopesOf, Room, stopped, tables, ssIn, nsIn, xIn, readBehind, readLines, front}
+use Rattle.digits.specs.NumberLaws.{and-no}
+use Rattle.forms.specs.FormLaws.{tailOf, rest-tail, numbers-told, fits-told}
+use Rattle.lines.specs.ReadLaws.{firstOf, scopes-sized, nodes-sized}
 use Rattle.lines.specs.InputLaws.{head-room}
-use Rattle.lines.specs.Route.{isU, unitIn, isA, Asking, unasked, before, askedBy}
+use Rattle.lines.specs.Route.{isU, unitIn, isA, Asking, unasked, linesBefore, askedBy}
 
 all-fields : (l : List ℕ) → firsts (length (fieldsIn (tailOf l))) (tailOf l) ≡ rest l
 unfolding firsts
@@ -101,19 +102,19 @@ line-at : (ls : List (List ℕ)) (k : ℕ) → firstOf (drop k ls) ≡ getD ls k
 line-at ls k = getD-drop k ls 0 [] ∙ ap (λ (j : ℕ). getD ls j []) (add-zero k)
 
 pub asked-two : (room : ℕ) (ls : List (List ℕ)) (kind n s x m : ℕ)
-    → askedBy room ls (Tables kind n s x m) ≡ record { answer = routeBy kind n s x m (before n s) (twoOf room (drop (before n s) ls)); answers = twoAnswers room (drop (before n s) ls) }
+    → askedBy room ls (Tables kind n s x m) ≡ record { answer = routeBy kind n s x m (linesBefore n s) (twoOf room (drop (linesBefore n s) ls)); answers = twoAnswers room (drop (linesBefore n s) ls) }
 unfolding askedBy twoOf twoAnswers
 asked-two room ls kind n s x m =
-    let k = before n s in
+    let k = linesBefore n s in
     let u : firstOf (drop k ls) ≡ getD ls k [] = line-at ls k in
     let a : firstOf (drop 1 (drop k ls)) ≡ getD ls (k + 1) [] = ap firstOf (drop-drop 1 k ls) ∙ line-at ls (k + 1) in
     rw (u, a) (go (isU (getD ls k [])) (isA room (getD ls (k + 1) [])))
   where
     go : (p q : Bool)
-        → _≡_ {A = Asking} (cond p (cond q (record { answer = Asked kind n s x m (unitIn (getD ls (before n s) [])) (length (rest (getD ls (before n s + 1) []))); answers = numbersOf (rest (getD ls (before n s + 1) [])) }) (unasked (before n s + 2))) (unasked (before n s + 1)))
+        → _≡_ {A = Asking} (cond p (cond q (record { answer = Asked kind n s x m (unitIn (getD ls (linesBefore n s) [])) (length (rest (getD ls (linesBefore n s + 1) []))); answers = numbersOf (rest (getD ls (linesBefore n s + 1) [])) }) (unasked (linesBefore n s + 2))) (unasked (linesBefore n s + 1)))
         (record {
-          answer = routeBy kind n s x m (before n s) (cond p (cond q (Both (unitIn (getD ls (before n s) [])) (length (rest (getD ls (before n s + 1) [])))) NoAnswers) NoUnit);
-          answers = cond p (cond q (numbersOf (rest (getD ls (before n s + 1) []))) []) [];
+          answer = routeBy kind n s x m (linesBefore n s) (cond p (cond q (Both (unitIn (getD ls (linesBefore n s) [])) (length (rest (getD ls (linesBefore n s + 1) [])))) NoAnswers) NoUnit);
+          answers = cond p (cond q (numbersOf (rest (getD ls (linesBefore n s + 1) []))) []) [];
         })
     go true true = refl
     go true false = refl
@@ -169,7 +170,7 @@ module _ (room : Room) where
       go false f e = let z : _≡_ {A = ℕ} 0 1 = cc in absurd (omega arith)
 
 pub asked-as : (room : ℕ) (ls : List (List ℕ)) (kind n s x m : ℕ) (f₀ : List ℕ) (ks : List (List ℕ)) (two : Two) (f : List ℕ) (r : Route)
-    → ks ≡ drop (before n s) ls → two ≡ twoOf room ks → f ≡ front (twoAnswers room ks) f₀ → r ≡ routeBy kind n s x m (before n s) two
+    → ks ≡ drop (linesBefore n s) ls → two ≡ twoOf room ks → f ≡ front (twoAnswers room ks) f₀ → r ≡ routeBy kind n s x m (linesBefore n s) two
     → (r ≡ askedBy room ls (Tables kind n s x m) .answer) × (f ≡ front (askedBy room ls (Tables kind n s x m) .answers) f₀)
 asked-as room ls kind n s x m f₀ ks two f r e p q h =
-    rw (asked-two room ls kind n s x m, sym e) (h ∙ ap (routeBy kind n s x m (before n s)) p, q)
+    rw (asked-two room ls kind n s x m, sym e) (h ∙ ap (routeBy kind n s x m (linesBefore n s)) p, q)

@@ -10,7 +10,8 @@ ghost use Rattle.lines.specs.InputLaws.{headOf, Gives};
 ghost use Rattle.lines.specs.Route.{isA, unitIn, askedBy, readRoute};
 ghost use Rattle.lines.specs.declared.Input.the-variants.{Tables};
 ghost use Rattle.lines.specs.RouteLaws.{twoOf, twoAnswers};
-ghost use Rattle.lines.specs.Format.{rest, numbersOf, lettered, isNumbers, fits, isN, nameOf, nodeOf, isX, scopeLines, nodeLines, scopesOf, sourceOf, roomOf, readBehind, readInput, front, Given};
+ghost use Rattle.forms.specs.Forms.{rest, numbersOf, isNumbers, isN, nameOf, isX, sourceOf};
+ghost use Rattle.lines.specs.Format.{nodeOf, scopeLines, nodeLines, scopesOf, roomOf, readBehind, readInput, front, Given};
 
 pub enum Input {
     Tables {
@@ -54,70 +55,12 @@ enum Head {
     NoHead,
 }
 
-// A line that isn't too long, whose first field is the letter.
-fn lettered(l: &[u8], c: u8) -> bool
-    ensures { λ r. ⌜ r ≡ lettered c (now (l .entry)) ⌝ }
-{
-    if 2100 < l.len() {
-        return false;
-    }
-    let f = line_fields::before(l, 44);
-    if f.len() != 1 {
-        return false;
-    }
-    f[0] == c
-}
-
-// The letter and n numbers.
-fn is_numbers(l: &[u8], c: u8, n: usize) -> bool
-    ensures { λ r. ⌜ r ≡ isNumbers c n (now (l .entry)) ⌝ }
-{
-    if !lettered(l, c) {
-        return false;
-    }
-    let t = line_fields::onward(l, 44);
-    if line_fields::count(t) != n {
-        return false;
-    }
-    line_fields::are_numbers(t, n)
-}
-
-fn is_node(l: &[u8]) -> bool
-    ensures { λ r. ⌜ r ≡ isN (now (l .entry)) ⌝ }
-{
-    if !lettered(l, 78) {
-        return false;
-    }
-    let t = line_fields::onward(l, 44);
-    if line_fields::count(t) < 9 {
-        return false;
-    }
-    line_fields::are_numbers(t, 8)
-}
-
-// The rest of a node's line, behind its eight numbers.
-fn name(l: &[u8]) -> &[u8]
-    ensures { λ r. ⌜ now r ≡ nameOf (now (l .entry)) ⌝ }
-{
-    line_fields::behind(line_fields::skip(line_fields::onward(l, 44), 8))
-}
-
-fn fits(n: usize, each: usize, room: usize) -> bool
-    requires { ⌜ each ≤ 10 ⌝ }
-    ensures { λ r. ⌜ r ≡ fits n each room ⌝ }
-{
-    if 1024 < n {
-        return false;
-    }
-    n * each <= room
-}
-
 // A node's ten numbers: eight of its line, where its name starts, and how long that is.
 fn write_node(l: &[u8], nodes: &mut [u32], w: usize, start: u32, len: u32)
     requires { ⌜ (isN (now l) ≡ true) × (w + 10 ≤ length (now nodes)) × (len ≡ length (nameOf (now l))) ⌝ }
     ensures { λ _. ⌜ now (nodes .exit) ≡ put (now (nodes .entry)) w (nodeOf start (now (l .entry))) ⌝ }
 {
-    line_fields::write_numbers(line_fields::onward(l, 44), 8, nodes, w);
+    reader::write_numbers(line_fields::onward(l, 44), 8, nodes, w);
     nodes[w + 8] = start;
     nodes[w + 9] = len;
 }
@@ -131,10 +74,10 @@ fn read_scopes(b: &[u8], n: usize, scopes: &mut [u32]) -> usize
     let mut i = 0;
     while i < n {
         let l = line_fields::line(t);
-        if !is_numbers(l, 83, 3) {
+        if !forms::is_numbers(l, 83, 3) {
             return i;
         }
-        line_fields::write_numbers(line_fields::onward(l, 44), 3, scopes, i * 3);
+        reader::write_numbers(line_fields::onward(l, 44), 3, scopes, i * 3);
         let u = line_fields::after(t);
         t = u;
         i += 1;
@@ -165,13 +108,13 @@ fn read_nodes(b: &[u8], n: usize, nodes: &mut [u32], names: &mut [u8]) -> Named
     let mut used = 0;
     while i < n {
         let l = line_fields::line(t);
-        if !is_node(l) {
+        if !forms::is_node(l) {
             return Named {
                 lines: i,
                 bytes: used,
             };
         }
-        let text = name(l);
+        let text = forms::name(l);
         let len = text.len();
         if room - used < len {
             return Named {
@@ -192,23 +135,6 @@ fn read_nodes(b: &[u8], n: usize, nodes: &mut [u32], names: &mut [u8]) -> Named
     }
 }
 
-fn is_source(l: &[u8], room: usize) -> bool
-    ensures { λ r. ⌜ r ≡ isX room (now (l .entry)) ⌝ }
-{
-    if !lettered(l, 88) {
-        return false;
-    }
-    let t = line_fields::onward(l, 44);
-    if line_fields::count(t) != 1 {
-        return false;
-    }
-    let h = line_fields::field(t);
-    if !digits::is_hex(h) {
-        return false;
-    }
-    fits(h.len() / 2, 1, room)
-}
-
 fn write_source(l: &[u8], source: &mut [u8]) -> usize
     requires { ⌜ isX (length (now source)) (now l) ≡ true ⌝ }
     ensures { λ r. ⌜ (r ≡ length (sourceOf (now (l .entry)))) × (now (source .exit) ≡ front (sourceOf (now (l .entry))) (now (source .entry))) ⌝ }
@@ -226,17 +152,17 @@ fn wide(x: u32) -> usize
 fn read_head(l: &[u8], nodes: usize, scopes: usize) -> Head
     ensures { λ r. ⌜ r ≡ headOf nodes scopes (now (l .entry)) ⌝ }
 {
-    if !is_numbers(l, 74, 3) {
+    if !forms::is_numbers(l, 74, 3) {
         return Head::NoHead;
     }
     let mut a = [0u32; 3];
-    line_fields::write_numbers(line_fields::onward(l, 44), 3, &mut a, 0);
+    reader::write_numbers(line_fields::onward(l, 44), 3, &mut a, 0);
     let n = wide(a[1]);
     let s = wide(a[2]);
-    if !fits(n, 10, nodes) {
+    if !forms::fits(n, 10, nodes) {
         return Head::NoHead;
     }
-    if !fits(s, 3, scopes) {
+    if !forms::fits(s, 3, scopes) {
         return Head::NoHead;
     }
     Head::Counts {
@@ -272,7 +198,7 @@ fn read_behind(
         return Input::Unread((2 + s + lines) as u32);
     }
     let x = line_fields::line(line_fields::skip_lines(rest, n));
-    if !is_source(x, source.len()) {
+    if !forms::is_source(x, source.len()) {
         return Input::Unread((2 + s + n) as u32);
     }
     let size = write_source(x, source);
@@ -318,7 +244,7 @@ pub fn read(
 fn is_answers(l: &[u8], room: usize) -> bool
     ensures { λ r. ⌜ r ≡ isA room (now (l .entry)) ⌝ }
 {
-    if !lettered(l, 65) {
+    if !forms::lettered(l, 65) {
         return false;
     }
     let t = line_fields::onward(l, 44);
@@ -326,7 +252,7 @@ fn is_answers(l: &[u8], room: usize) -> bool
     if !line_fields::are_numbers(t, n) {
         return false;
     }
-    fits(n, 1, room)
+    forms::fits(n, 1, room)
 }
 
 fn unit(l: &[u8]) -> u32
@@ -342,7 +268,7 @@ fn write_answers(l: &[u8], answers: &mut [u32]) -> usize
 {
     let t = line_fields::onward(l, 44);
     let n = line_fields::count(t);
-    line_fields::write_numbers(t, n, answers, 0);
+    reader::write_numbers(t, n, answers, 0);
     n
 }
 
@@ -350,7 +276,7 @@ fn read_two(b: &[u8], answers: &mut [u32]) -> Two
     ensures { λ r. ⌜ (r ≡ twoOf (length (now (answers .entry))) (linesOf (now (b .entry)))) × (now (answers .exit) ≡ front (twoAnswers (length (now (answers .entry))) (linesOf (now (b .entry)))) (now (answers .entry))) ⌝ }
 {
     let u = line_fields::line(b);
-    if !is_numbers(u, 85, 1) {
+    if !forms::is_numbers(u, 85, 1) {
         return Two::NoUnit;
     }
     let a = line_fields::line(line_fields::after(b));

@@ -1,7 +1,6 @@
 -- A line that document 01 shows printed: F,22,4,0,1,14,15,0
-use Prim.Native.Nat.{ℕ}
 use mathlib.Core.Path.{_≡_, refl}
-use mathlib.Core.List.{List, [], _∷_}
+use mathlib.Core.List.{[], _∷_}
 use Rattle.line_fields.specs.Split.{joined}
 use Rattle.print.specs.Print.{spelled, decimal, lineOf}
 

@@ -1,13 +1,13 @@
 -- Digits and lines as they are written.
 use Prim.Native.Nat.{ℕ, zero, suc, _+_, _-_, _*_, _/_, _%_, _^_, _≤_, _<_}
 use mathlib.Core.Path.{_≡_, refl, ap, sym, subst, _∙_}
-use mathlib.Core.Bool.{Bool, true, false, cond}
+use mathlib.Core.Bool.{Bool, true, false}
 use mathlib.Core.List.{List, [], _∷_, _++_, map, append-assoc, append-nil}
 use native.Mathlib.Omega.{arith}
 use native.Mathlib.Nat.{pow-suc}
 use lib.Dec.{ltb}
-use lib.ListN.{length, getD, set, take, drop, length-append, length-take, length-drop, length-set}
-use lib.Seq.{drop-cons, set-split, take-set-le, drop-set-lt, length-take-le, take-at, drop-at}
+use lib.ListN.{length, getD, set, take, drop, length-append}
+use lib.Seq.{set-split, take-set-le, length-take-le, drop-at}
 use borrow.Author.Tests.{lt-ltb, le-ltb, ltb-true, ltb-false}
 use native.Mathlib.Numerals.{add-one}
 use Rattle.common.specs.Wrote.{Wrote, put, wrote-put, length-put}

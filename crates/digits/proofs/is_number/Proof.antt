@@ -1,29 +1,22 @@
+-- `digits::is_number` meets its contract.
 use Rattle.digits.specs.NumberLaws.{told-value, told-none}
-use mathlib.Core.Path.{_≡_, _∙_, sym, ap}
+use mathlib.Core.Path.{sym}
 use borrow.Author.Needs.{needs}
 use Rattle.digits.proofs.is_number.Statement.{statement}
 use Rattle.digits.proofs.is_number.Tie as tie
-use Rattle.digits.proofs.is_number.Reads as reads
-use Rattle.digits.proofs.is_number.Lts as lts
-use Rattle.digits.proofs.number.Reads as number-reads
 
--- src/lib.rt:46:11
 number-requires : tie.Need-number-requires
 number-requires c κs = search needs
 
--- src/lib.rt:47:30
 enum-told : tie.Need-enum-told
 enum-told c = search needs
 
--- src/lib.rt:48:30
 enum-told-2 : tie.Need-enum-told-2
 enum-told-2 c = search needs
 
--- src/lib.rt:43:1
 returns : tie.Need-returns
 returns c = sym (told-value (c .before .before .before .before .args .s .now) (c .enum-told .given .0 .0) (cc) .0)
 
--- src/lib.rt:43:1
 returns-2 : tie.Need-returns-2
 returns-2 c = sym (told-none (c .before .before .before .before .args .s .now) (cc))
 

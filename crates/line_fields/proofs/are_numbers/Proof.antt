@@ -1,19 +1,13 @@
+-- `line_fields::are_numbers` meets its contract. The loop keeps: what is left of the work, with what is done, is the whole.
 use borrow.Author.Tests.{not-true, not-false}
 use Rattle.line_fields.specs.FieldLaws.{firsts, numbers-on, numbers-bad, numbers-end, numbers-none}
 use Rattle.digits.specs.Number.{isNumber}
 use Rattle.common.specs.Upto.{all}
-use lib.ListN.{length}
 use native.Mathlib.Omega.{arith}
-use mathlib.Core.Path.{_≡_, _∙_, sym, ap}
-use Prim.Native.Nat.{_≤_, _-_}
+use mathlib.Core.Path.{_≡_}
 use borrow.Author.Needs.{needs}
 use Rattle.line_fields.proofs.are_numbers.Statement.{statement}
 use Rattle.line_fields.proofs.are_numbers.Tie as tie
-use Rattle.line_fields.proofs.are_numbers.Reads as reads
-use Rattle.line_fields.proofs.are_numbers.Lts as lts
-use Rattle.digits.proofs.is_number.Reads as is-number-reads
-use Rattle.line_fields.proofs.field.Reads as field-reads
-use Rattle.line_fields.proofs.next.Reads as next-reads
 
 abbrev Inv-loop : tie.InvT-loop
 Inv-loop tail n t₀ left₀ t left = all isNumber (firsts left t) ≡ all isNumber (firsts n tail)
@@ -21,43 +15,33 @@ Inv-loop tail n t₀ left₀ t left = all isNumber (firsts left t) ≡ all isNum
 abbrev μ-loop : tie.MeasureT-loop
 μ-loop tail n t₀ left₀ t left = left
 
--- src/lib.rt:81:5
 loop-holds : tie.Need-loop-holds Inv-loop μ-loop
 loop-holds c = search needs
 
--- src/lib.rt:83:13
 returns : tie.Need-returns Inv-loop μ-loop
 returns c = cc (numbers-end (c .before .before .loop .left) (c .before .before .loop .t .now) (omega arith))
 
--- src/lib.rt:85:31
 field-requires : tie.Need-field-requires Inv-loop μ-loop
 field-requires c κs = search needs
 
--- src/lib.rt:85:13
 is-number-requires : tie.Need-is-number-requires Inv-loop μ-loop
 is-number-requires c κs = search needs
 
--- src/lib.rt:86:13
 returns-2 : tie.Need-returns-2 Inv-loop μ-loop
 returns-2 c = cc (numbers-bad (c .before .before .before .before .before .loop .left) (c .before .before .before .before .before .loop .t .now) (omega arith) (omega arith) (cc (not-true (c .before .is-number .result) (c .if2 .taken))))
 
--- src/lib.rt:88:13
 next-requires : tie.Need-next-requires Inv-loop μ-loop
 next-requires c κs = search needs
 
--- src/lib.rt:90:9
 sub-left : tie.Need-sub-left Inv-loop μ-loop
 sub-left c = search needs
 
--- src/lib.rt:81:5
 loop-less : tie.Need-loop-less Inv-loop μ-loop
 loop-less c = search needs
 
--- src/lib.rt:81:5
 loop-again : tie.Need-loop-again Inv-loop μ-loop
 loop-again c = cc (numbers-on (c .before .before .before .before .before .before .loop .left) (c .before .before .before .before .before .before .loop .t .now) (omega arith) (omega arith) (cc (not-false (c .before .before .is-number .result) (c .before .if2 .left))))
 
--- src/lib.rt:76:1
 returns-3 : tie.Need-returns-3 Inv-loop μ-loop
 returns-3 c = cc (numbers-none (c .before .loop .left) (c .before .loop .t .now) (omega arith))
 

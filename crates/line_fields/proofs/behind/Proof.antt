@@ -1,28 +1,22 @@
+-- `line_fields::behind` meets its contract.
 use Rattle.digits.specs.Lists.{part-from, drop-none}
-use mathlib.Core.Path.{_≡_, _∙_, sym, ap}
+use mathlib.Core.Path.{sym}
 use borrow.Author.Needs.{needs}
 use Rattle.line_fields.proofs.behind.Statement.{statement}
 use Rattle.line_fields.proofs.behind.Tie as tie
-use Rattle.line_fields.proofs.behind.Reads as reads
-use Rattle.line_fields.proofs.behind.Lts as lts
 
--- src/lib.rt:39:9
 returns : tie.Need-returns
 returns c = sym (drop-none (c .before .args .s .now) 1 (c .if1 .taken))
 
--- src/lib.rt:41:5
 sub-result : tie.Need-sub-result
 sub-result c = search needs
 
--- src/lib.rt:41:5
 part-result-start : tie.Need-part-result-start
 part-result-start c = search needs
 
--- src/lib.rt:41:5
 part-result-end : tie.Need-part-result-end
 part-result-end c = search needs
 
--- src/lib.rt:35:1
 returns-2 : tie.Need-returns-2
 returns-2 c = part-from (c .before .before .args .s .now) 1
 

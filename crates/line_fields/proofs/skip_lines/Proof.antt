@@ -1,15 +1,12 @@
+-- `line_fields::skip_lines` meets its contract. The loop keeps: what is left of the work, with what is done, is the whole.
 use Rattle.line_fields.specs.FieldLaws.{lines-turn, lines-none}
 use Rattle.line_fields.specs.Split.{linesOf}
 use lib.ListN.{drop}
 use native.Mathlib.Omega.{arith}
-use mathlib.Core.Path.{_≡_, _∙_}
-use Prim.Native.Nat.{_-_}
+use mathlib.Core.Path.{_≡_}
 use borrow.Author.Needs.{needs}
 use Rattle.line_fields.proofs.skip_lines.Statement.{statement}
 use Rattle.line_fields.proofs.skip_lines.Tie as tie
-use Rattle.line_fields.proofs.skip_lines.Reads as reads
-use Rattle.line_fields.proofs.skip_lines.Lts as lts
-use Rattle.line_fields.proofs.after.Reads as after-reads
 
 abbrev Inv-loop : tie.InvT-loop
 Inv-loop b n t₀ left₀ t left = drop left (linesOf t) ≡ drop n (linesOf b)
@@ -17,27 +14,21 @@ Inv-loop b n t₀ left₀ t left = drop left (linesOf t) ≡ drop n (linesOf b)
 abbrev μ-loop : tie.MeasureT-loop
 μ-loop b n t₀ left₀ t left = left
 
--- src/lib.rt:150:5
 loop-holds : tie.Need-loop-holds Inv-loop μ-loop
 loop-holds c = search needs
 
--- src/lib.rt:151:13
 after-requires : tie.Need-after-requires Inv-loop μ-loop
 after-requires c κs = search needs
 
--- src/lib.rt:153:9
 sub-left : tie.Need-sub-left Inv-loop μ-loop
 sub-left c = search needs
 
--- src/lib.rt:150:5
 loop-less : tie.Need-loop-less Inv-loop μ-loop
 loop-less c = search needs
 
--- src/lib.rt:150:5
 loop-again : tie.Need-loop-again Inv-loop μ-loop
 loop-again c = cc (lines-turn (c .before .before .loop .left) (linesOf (c .before .before .loop .t .now)) (omega arith))
 
--- src/lib.rt:145:1
 returns : tie.Need-returns Inv-loop μ-loop
 returns c = cc (lines-none (c .before .loop .left) (linesOf (c .before .loop .t .now)) (omega arith))
 

@@ -1,39 +1,27 @@
+-- `lines::read` meets its contract.
 use Rattle.lines.specs.InputLaws.{headOf, head-none, head-some, head-room, gives-parts, none-read, lines-behind, lines-no}
 use Rattle.lines.specs.ReadLaws.{firstOf}
-use Rattle.lines.specs.Format.{Room, roomOf, Reading, readBehind, readLines, stopped}
-use Rattle.lines.specs.declared.Head.the-variants.{Counts, NoHead}
+use Rattle.lines.specs.Format.{Room, roomOf, readBehind, readLines}
+use Rattle.lines.specs.declared.Head.the-variants.{Counts}
 use Rattle.line_fields.specs.Split.{linesOf}
 use lib.ListN.{length}
-use mathlib.Core.List.{List}
-use mathlib.Core.Path.{_≡_, _∙_, ap, sym, refl, subst}
-use Prim.Native.Nat.{ℕ, _≤_, _*_}
+use mathlib.Core.Path.{_≡_, _∙_, ap, sym}
 use borrow.Author.Needs.{needs}
 use Rattle.lines.proofs.read.Statement.{statement}
 use Rattle.lines.proofs.read.Tie as tie
-use Rattle.lines.proofs.read.Reads as reads
-use Rattle.lines.proofs.read.Lts as lts
-use Rattle.line_fields.proofs.after.Reads as after-reads
-use Rattle.line_fields.proofs.line.Reads as line-reads
-use Rattle.lines.proofs.read_behind.Reads as read-behind-reads
-use Rattle.lines.proofs.read_head.Reads as read-head-reads
 
--- src/lib.rt:254:21
 line-requires : tie.Need-line-requires
 line-requires c κs = search needs
 
--- src/lib.rt:254:11
 read-head-requires : tie.Need-read-head-requires
 read-head-requires c κs = search needs
 
--- src/lib.rt:255:24
 enum-known-kind : tie.Need-enum-known-kind
 enum-known-kind c = search needs
 
--- src/lib.rt:255:67
 after-requires : tie.Need-after-requires
 after-requires c κs = search needs
 
--- src/lib.rt:255:55
 read-behind-requires : tie.Need-read-behind-requires
 read-behind-requires c κs =
     let a = c .before .before .before .before .before .before .before .before .before .before .before .before .before .before .before .args in
@@ -42,27 +30,21 @@ read-behind-requires c κs =
     let t = head-some (length (a .nodes .now)) (length (a .scopes .now)) (c .before .before .before .before .before .before .before .before .before .line .result .now) (g .0) (g .1 .0) (g .1 .1 .0) h in
     rw (t .2, t .3) (head-room (length (a .nodes .now)) (length (a .scopes .now)) (c .before .before .before .before .before .before .before .before .before .line .result .now) (t .0))
 
--- src/lib.rt:256:25
 enum-told : tie.Need-enum-told
 enum-told c = search needs
 
--- src/lib.rt:247:1
 same-length : tie.Need-same-length
 same-length c = search needs
 
--- src/lib.rt:247:1
 same-length-2 : tie.Need-same-length-2
 same-length-2 c = search needs
 
--- src/lib.rt:247:1
 same-length-3 : tie.Need-same-length-3
 same-length-3 c = search needs
 
--- src/lib.rt:247:1
 same-length-4 : tie.Need-same-length-4
 same-length-4 c = search needs
 
--- src/lib.rt:247:1
 returns : tie.Need-returns
 returns c =
     let a = c .before .before .before .before .before .before .before .before .before .before .before .before .before .before .before .before .before .before .before .before .before .before .before .before .args in
@@ -73,7 +55,6 @@ returns c =
     (lines-behind room (linesOf (a .input .now)) (g .0) (g .1 .0) (g .1 .1 .0) (c .before .before .before .before .before .before .before .before .before .before .before .before .before .before .before .before .before .before .line .result .now) (linesOf (c .before .before .before .before .before .before .before .before .before .before .before .before .before .after .result .now)) (c .before .before .before .before .before .before .before .before .before .before .before .before .before .before .before .before .before .before .line .ensures) (c .before .before .before .before .before .before .before .before .before .before .before .before .before .after .ensures) (sym (c .before .before .before .before .before .before .before .before .before .before .before .before .before .before .before .before .before .read-head .ensures) ∙ c .before .before .before .before .before .before .before .before .before .before .before .before .before .before .before .kind .given .1))
     (c .before .before .before .before .before .before .before .before .read-behind .ensures)
 
--- src/lib.rt:247:1
 returns-2 : tie.Need-returns-2
 returns-2 c =
     let a = c .before .before .before .before .before .before .before .before .before .args in

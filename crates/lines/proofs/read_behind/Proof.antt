@@ -1,31 +1,22 @@
-use Rattle.lines.specs.InputLaws.{Gives, gives-scopes, gives-stopped, gives-tables, behind-scopes, behind-nodes, behind-source, behind-all}
+-- `lines::read_behind` meets its contract.
+use Rattle.lines.specs.InputLaws.{gives-scopes, gives-stopped, gives-tables, behind-scopes, behind-nodes, behind-source, behind-all}
 use Rattle.lines.specs.ReadLaws.{NodesRead, scopes-sized, nodes-sized}
-use Rattle.lines.specs.Format.{isX, nameOf, nodeOf, scopeLines, nodeLines, nodesOf, scopesOf, namesOf, sourceOf, front, Room, roomOf, Reading, readBehind, ssIn, nsIn, xIn}
+use Rattle.forms.specs.Forms.{isX, sourceOf}
+use Rattle.lines.specs.Format.{scopeLines, nodeLines, nodesOf, scopesOf, front, Room, roomOf, readBehind, xIn}
 use Rattle.line_fields.specs.Split.{linesOf}
 use borrow.Author.Tests.{not-true, not-false}
 use lib.ListN.{length, drop, getD}
 use native.Mathlib.Omega.{arith}
 use mathlib.Core.List.{List, []}
-use mathlib.Core.Bool.{true, false}
 use mathlib.Core.Path.{_≡_, _∙_, ap, sym, refl, subst}
-use Prim.Native.Nat.{ℕ, _≤_, _<_, _+_, _-_, _*_, min}
+use Prim.Native.Nat.{ℕ, _+_, _*_, min}
 use borrow.Author.Needs.{needs}
 use Rattle.lines.proofs.read_behind.Statement.{statement}
 use Rattle.lines.proofs.read_behind.Tie as tie
-use Rattle.lines.proofs.read_behind.Reads as reads
-use Rattle.lines.proofs.read_behind.Lts as lts
-use Rattle.line_fields.proofs.line.Reads as line-reads
-use Rattle.line_fields.proofs.skip_lines.Reads as skip-lines-reads
-use Rattle.lines.proofs.is_source.Reads as is-source-reads
-use Rattle.lines.proofs.read_nodes.Reads as read-nodes-reads
-use Rattle.lines.proofs.read_scopes.Reads as read-scopes-reads
-use Rattle.lines.proofs.write_source.Reads as write-source-reads
 
--- src/lib.rt:221:9
 read-scopes-requires : tie.Need-read-scopes-requires
 read-scopes-requires c κs = search needs
 
--- src/lib.rt:223:31
 add-t19 : tie.Need-add-t19
 add-t19 c =
     let z = scopes-sized (c .before .before .before .before .before .before .before .before .before .before .args .s) (linesOf (c .before .before .before .before .before .before .before .before .before .before .args .b .now)) .few in
@@ -33,7 +24,6 @@ add-t19 c =
     let p = c .before .before .before .before .before .before .before .before .before .before .pre .1 in
     omega arith
 
--- src/lib.rt:223:30
 cast-t20 : tie.Need-cast-t20
 cast-t20 c =
     let z = scopes-sized (c .before .before .before .before .before .before .before .before .before .before .args .s) (linesOf (c .before .before .before .before .before .before .before .before .before .before .args .b .now)) .few in
@@ -41,11 +31,9 @@ cast-t20 c =
     let p = c .before .before .before .before .before .before .before .before .before .before .pre .1 in
     omega arith
 
--- src/lib.rt:223:9
 same-length : tie.Need-same-length
 same-length c = search needs
 
--- src/lib.rt:223:9
 returns : tie.Need-returns
 returns c =
     let a = c .before .before .before .before .before .before .before .before .before .before .args in
@@ -57,19 +45,15 @@ returns c =
     (behind-scopes room (a .kind) (a .n) (a .s) ls (λ q. c .if1 .taken (e .0 ∙ q)))
     (ap (λ (k : ℕ). 2 + k) (e .0)) (e .1)
 
--- src/lib.rt:225:9
 skip-lines-requires : tie.Need-skip-lines-requires
 skip-lines-requires c κs = search needs
 
--- src/lib.rt:226:9
 read-nodes-requires : tie.Need-read-nodes-requires
 read-nodes-requires c κs = search needs
 
--- src/lib.rt:230:31
 add-t25 : tie.Need-add-t25
 add-t25 c = search needs
 
--- src/lib.rt:230:31
 add-t26 : tie.Need-add-t26
 add-t26 c =
     let z = nodes-sized (min 1024 (length (c .before .before .before .before .before .before .before .before .before .before .before .before .before .before .before .before .before .before .before .args .names .now))) (c .before .before .before .before .before .before .before .before .before .before .before .before .before .before .before .before .before .before .before .args .n) 0 (linesOf (c .before .before .before .before .before .before .before .before .skip-lines .result .now)) .few in
@@ -78,7 +62,6 @@ add-t26 c =
     let q = c .before .before .before .before .before .before .before .before .before .before .before .before .before .before .before .before .before .before .before .pre .1 in
     omega arith
 
--- src/lib.rt:230:30
 cast-t27 : tie.Need-cast-t27
 cast-t27 c =
     let z = nodes-sized (min 1024 (length (c .before .before .before .before .before .before .before .before .before .before .before .before .before .before .before .before .before .before .before .args .names .now))) (c .before .before .before .before .before .before .before .before .before .before .before .before .before .before .before .before .before .before .before .args .n) 0 (linesOf (c .before .before .before .before .before .before .before .before .skip-lines .result .now)) .few in
@@ -87,19 +70,15 @@ cast-t27 c =
     let q = c .before .before .before .before .before .before .before .before .before .before .before .before .before .before .before .before .before .before .before .pre .1 in
     omega arith
 
--- src/lib.rt:230:9
 same-length-2 : tie.Need-same-length-2
 same-length-2 c = search needs
 
--- src/lib.rt:230:9
 same-length-3 : tie.Need-same-length-3
 same-length-3 c = search needs
 
--- src/lib.rt:230:9
 same-length-4 : tie.Need-same-length-4
 same-length-4 c = search needs
 
--- src/lib.rt:230:9
 returns-2 : tie.Need-returns-2
 returns-2 c =
     let a = c .before .before .before .before .before .before .before .before .before .before .before .before .before .before .before .before .before .before .before .args in
@@ -114,43 +93,33 @@ returns-2 c =
     (behind-nodes room (a .kind) (a .n) (a .s) ls (sym (e .0) ∙ c .before .before .before .before .before .before .before .before .before .if1 .left) (λ q. c .if2 .taken (d .count ∙ q)))
     (ap (λ (k : ℕ). 2 + a .s + k) (d .count)) (e .1) (d .nodes) (d .names)
 
--- src/lib.rt:232:26
 skip-lines-requires-2 : tie.Need-skip-lines-requires-2
 skip-lines-requires-2 c κs = search needs
 
--- src/lib.rt:232:9
 line-requires : tie.Need-line-requires
 line-requires c κs = search needs
 
--- src/lib.rt:233:9
 is-source-requires : tie.Need-is-source-requires
 is-source-requires c κs = search needs
 
--- src/lib.rt:234:31
 add-t31 : tie.Need-add-t31
 add-t31 c = search needs
 
--- src/lib.rt:234:31
 add-t32 : tie.Need-add-t32
 add-t32 c = search needs
 
--- src/lib.rt:234:30
 cast-t33 : tie.Need-cast-t33
 cast-t33 c = search needs
 
--- src/lib.rt:234:9
 same-length-5 : tie.Need-same-length-5
 same-length-5 c = search needs
 
--- src/lib.rt:234:9
 same-length-6 : tie.Need-same-length-6
 same-length-6 c = search needs
 
--- src/lib.rt:234:9
 same-length-7 : tie.Need-same-length-7
 same-length-7 c = search needs
 
--- src/lib.rt:234:9
 returns-3 : tie.Need-returns-3
 returns-3 c =
     let a = c .before .before .before .before .before .before .before .before .before .before .before .before .before .before .before .before .before .before .before .before .before .before .before .args in
@@ -166,35 +135,27 @@ returns-3 c =
     (behind-source room (a .kind) (a .n) (a .s) ls (sym (e .0) ∙ c .before .before .before .before .before .before .before .before .before .before .before .before .before .if1 .left) (sym (d .count) ∙ c .before .before .before .before .if2 .left) (ap (isX (length (a .source .now))) (sym x) ∙ cc (not-true (c .before .is-source .result) (c .if3 .taken))))
     refl (e .1) (d .nodes) (d .names)
 
--- src/lib.rt:236:9
 write-source-requires : tie.Need-write-source-requires
 write-source-requires c κs = cc (not-false (c .before .before .is-source .result) (c .before .if3 .left))
 
--- src/lib.rt:239:16
 mul-t29 : tie.Need-mul-t29
 mul-t29 c = search needs
 
--- src/lib.rt:240:17
 mul-t36 : tie.Need-mul-t36
 mul-t36 c = search needs
 
--- src/lib.rt:217:1
 same-length-8 : tie.Need-same-length-8
 same-length-8 c = search needs
 
--- src/lib.rt:217:1
 same-length-9 : tie.Need-same-length-9
 same-length-9 c = search needs
 
--- src/lib.rt:217:1
 same-length-10 : tie.Need-same-length-10
 same-length-10 c = search needs
 
--- src/lib.rt:217:1
 same-length-11 : tie.Need-same-length-11
 same-length-11 c = search needs
 
--- src/lib.rt:217:1
 returns-4 : tie.Need-returns-4
 returns-4 c =
     let a = c .before .before .before .before .before .before .before .before .before .before .before .before .before .before .before .before .before .before .before .before .before .before .before .before .before .before .before .args in

@@ -1,72 +1,51 @@
-use Rattle.lines.specs.InputLaws.{head-array}
-use Rattle.lines.specs.InputLaws.{head-numbers, head-nodes, head-scopes, head-is, put-three}
-use Rattle.lines.specs.FormatLaws.{numbers-told, tailOf, rest-tail}
-use Rattle.lines.specs.Format.{rest, isNumbers, numbersOf, nodesIn, scopesIn, kindIn}
-use Rattle.line_fields.specs.FieldLaws.{firsts}
-use Rattle.digits.specs.Number.{valueOf}
-use Rattle.common.specs.Wrote.{put}
+-- `lines::read_head` meets its contract.
+use Rattle.lines.specs.InputLaws.{head-array, head-numbers, head-nodes, head-scopes, head-is}
+use Rattle.forms.specs.FormLaws.{numbers-told}
+use Rattle.forms.specs.Forms.{isNumbers, nodesIn, scopesIn, kindIn}
 use borrow.Author.Tests.{not-true, not-false}
-use lib.ListN.{length, getD, length-map}
+use lib.ListN.{getD}
 use native.Mathlib.Omega.{arith}
-use mathlib.Core.List.{List, map, [], _∷_}
+use mathlib.Core.List.{List}
 use mathlib.Core.Bool.{true}
 use mathlib.Core.Path.{_≡_, _∙_, ap, sym, refl}
 use Prim.Native.Nat.{ℕ}
 use borrow.Author.Needs.{needs}
 use Rattle.lines.proofs.read_head.Statement.{statement}
 use Rattle.lines.proofs.read_head.Tie as tie
-use Rattle.lines.proofs.read_head.Reads as reads
-use Rattle.lines.proofs.read_head.Lts as lts
-use Rattle.line_fields.proofs.onward.Reads as onward-reads
-use Rattle.line_fields.proofs.write_numbers.Reads as write-numbers-reads
-use Rattle.lines.proofs.fits.Reads as fits-reads
-use Rattle.lines.proofs.is_numbers.Reads as is-numbers-reads
-use Rattle.lines.proofs.wide.Reads as wide-reads
 
--- src/lib.rt:196:9
 is-numbers-requires : tie.Need-is-numbers-requires
 is-numbers-requires c κs = search needs
 
--- src/lib.rt:197:9
 returns : tie.Need-returns
 returns c = sym (head-numbers (c .before .before .before .args .nodes) (c .before .before .before .args .scopes) (c .before .before .before .args .l .now) (cc (not-true (c .before .is-numbers .result) (c .if1 .taken))))
 
--- src/lib.rt:200:27
 onward-requires : tie.Need-onward-requires
 onward-requires c κs = search needs
 
--- src/lib.rt:200:53
 slice-aggregate-write-numbers : tie.Need-slice-aggregate-write-numbers
 slice-aggregate-write-numbers c = search needs
 
--- src/lib.rt:200:5
 write-numbers-requires : tie.Need-write-numbers-requires
 write-numbers-requires c κs =
     let t = numbers-told 74 3 (c .before .before .before .before .before .args .l .now) (cc (not-false (c .before .before .before .is-numbers .result) (c .before .before .if1 .left))) in
     let n = t .0 in
     rw (c .before .onward .ensures) (omega arith, omega arith, t .1)
 
--- src/lib.rt:201:18
 array-read-wide : tie.Need-array-read-wide
 array-read-wide c = search needs
 
--- src/lib.rt:201:9
 wide-requires : tie.Need-wide-requires
 wide-requires c κs = search needs
 
--- src/lib.rt:202:18
 array-read-wide-2 : tie.Need-array-read-wide-2
 array-read-wide-2 c = search needs
 
--- src/lib.rt:202:9
 wide-requires-2 : tie.Need-wide-requires-2
 wide-requires-2 c κs = search needs
 
--- src/lib.rt:203:9
 fits-requires : tie.Need-fits-requires
 fits-requires c κs = search needs
 
--- src/lib.rt:204:9
 returns-2 : tie.Need-returns-2
 returns-2 c =
     let l = c .before .before .before .before .before .before .before .before .before .before .before .args .l .now in
@@ -75,11 +54,9 @@ returns-2 c =
     let n : c .before .before .before .wide .result ≡ nodesIn l = c .before .before .before .wide .ensures ∙ ap (λ (x : List ℕ). getD x 1 0) v in
     sym (head-nodes (c .before .before .before .before .before .before .before .before .before .before .before .args .nodes) (c .before .before .before .before .before .before .before .before .before .before .before .args .scopes) l (cc (not-true (c .before .fits2 .result) (c .if2 .taken))))
 
--- src/lib.rt:206:9
 fits-requires-2 : tie.Need-fits-requires-2
 fits-requires-2 c κs = search needs
 
--- src/lib.rt:207:9
 returns-3 : tie.Need-returns-3
 returns-3 c =
     let l = c .before .before .before .before .before .before .before .before .before .before .before .before .before .args .l .now in
@@ -89,11 +66,9 @@ returns-3 c =
     let m : c .before .before .before .before .wide2 .result ≡ scopesIn l = c .before .before .before .before .wide2 .ensures ∙ ap (λ (x : List ℕ). getD x 2 0) v in
     sym (head-scopes (c .before .before .before .before .before .before .before .before .before .before .before .before .before .args .nodes) (c .before .before .before .before .before .before .before .before .before .before .before .before .before .args .scopes) l s (cc (not-false (c .before .before .before .fits2 .result) (c .before .before .if2 .left))) (cc (not-true (c .before .fits3 .result) (c .if3 .taken))))
 
--- src/lib.rt:210:15
 array-read-t15 : tie.Need-array-read-t15
 array-read-t15 c = search needs
 
--- src/lib.rt:193:1
 returns-4 : tie.Need-returns-4
 returns-4 c =
     let l = c .before .before .before .before .before .before .before .before .before .before .before .before .before .args .l .now in

@@ -1,30 +1,22 @@
+-- `lines::read_route` meets its contract.
 use Rattle.lines.specs.RouteLaws.{tables-small, asked-none}
-use Rattle.lines.specs.Route.{Asking, askedBy, unasked}
+use Rattle.lines.specs.Route.{Asking, askedBy}
 use Rattle.lines.specs.Format.{Room, roomOf, readLines, front}
 use Rattle.lines.specs.declared.Input.the-variants.{Tables, Unread}
 use Rattle.lines.specs.declared.Input.{Input}
 use Rattle.line_fields.specs.Split.{linesOf}
 use lib.ListN.{length}
-use mathlib.Core.List.{List}
-use mathlib.Core.Path.{_≡_, _∙_, ap, sym, refl}
-use Prim.Native.Nat.{ℕ}
+use mathlib.Core.Path.{_≡_, _∙_, ap, sym}
 use borrow.Author.Needs.{needs}
 use Rattle.lines.proofs.read_route.Statement.{statement}
 use Rattle.lines.proofs.read_route.Tie as tie
-use Rattle.lines.proofs.read_route.Reads as reads
-use Rattle.lines.proofs.read_route.Lts as lts
-use Rattle.lines.proofs.read.Reads as read-reads
-use Rattle.lines.proofs.read_asked.Reads as read-asked-reads
 
--- src/lib.rt:358:11
 read-requires : tie.Need-read-requires
 read-requires c κs = search needs
 
--- src/lib.rt:359:25
 enum-known-kind : tie.Need-enum-known-kind
 enum-known-kind c = search needs
 
--- src/lib.rt:359:77
 read-asked-requires : tie.Need-read-asked-requires
 read-asked-requires c κs =
     let a = c .before .before .before .before .before .before .before .before .before .before .before .before .before .before .before .before .before .before .before .before .before .before .before .args in
@@ -32,31 +24,24 @@ read-asked-requires c κs =
     let room : Room = roomOf (a .nodes .now) (a .scopes .now) (a .source .now) (a .names .now) in
     tables-small room (linesOf (a .input .now)) (g .0) (g .1 .0) (g .1 .1 .0) (g .1 .1 .1 .0) (g .1 .1 .1 .1 .0) (sym (c .before .before .before .before .before .before .before .before .before .before .before .before .read .ensures .0) ∙ c .before .before .kind .given .1)
 
--- src/lib.rt:360:23
 enum-known-k : tie.Need-enum-known-k
 enum-known-k c = search needs
 
--- src/lib.rt:353:1
 same-length : tie.Need-same-length
 same-length c = search needs
 
--- src/lib.rt:353:1
 same-length-2 : tie.Need-same-length-2
 same-length-2 c = search needs
 
--- src/lib.rt:353:1
 same-length-3 : tie.Need-same-length-3
 same-length-3 c = search needs
 
--- src/lib.rt:353:1
 same-length-4 : tie.Need-same-length-4
 same-length-4 c = search needs
 
--- src/lib.rt:353:1
 same-length-5 : tie.Need-same-length-5
 same-length-5 c = search needs
 
--- src/lib.rt:353:1
 returns : tie.Need-returns
 returns c =
     let a = c .before .before .before .before .before .before .before .before .before .before .before .before .before .before .before .before .before .before .before .before .before .before .before .before .before .before .args in
@@ -67,23 +52,18 @@ returns c =
     let r = c .before .before .read-asked .ensures in
     (r .0 ∙ ap (λ (i : Input). askedBy (length (a .answers .now)) ls i .answer) e, (r .1 ∙ ap (λ (i : Input). front (askedBy (length (a .answers .now)) ls i .answers) (a .answers .now)) e, c .before .before .before .before .before .before .before .before .before .before .before .before .before .before .before .read .ensures .1))
 
--- src/lib.rt:353:1
 same-length-6 : tie.Need-same-length-6
 same-length-6 c = search needs
 
--- src/lib.rt:353:1
 same-length-7 : tie.Need-same-length-7
 same-length-7 c = search needs
 
--- src/lib.rt:353:1
 same-length-8 : tie.Need-same-length-8
 same-length-8 c = search needs
 
--- src/lib.rt:353:1
 same-length-9 : tie.Need-same-length-9
 same-length-9 c = search needs
 
--- src/lib.rt:353:1
 returns-2 : tie.Need-returns-2
 returns-2 c =
     let a = c .before .before .before .before .before .before .before .before .before .before .before .before .before .before .before .before .before .before .before .before .before .before .args in

@@ -1,30 +1,20 @@
+-- `lines::read_scopes` meets its contract. The loop keeps: what is left of the work, with what is done, is the whole.
 use mathlib.Core.Bool.{true}
-use mathlib.Core.Path.{subst}
-use Rattle.lines.specs.Format.{rest}
-use Rattle.line_fields.specs.FieldLaws.{firsts}
-use lib.ListN.{drop}
+use mathlib.Core.Path.{subst, _≡_, _∙_, ap, sym}
+use Rattle.forms.specs.Forms.{rest, isS}
 use Rattle.digits.specs.Number.{valueOf}
 use Rattle.common.specs.Wrote.{put}
 use mathlib.Core.List.{List, map}
 use Rattle.lines.specs.ReadLaws.{Scoping, scoping-start, scoping-turn, scoping-done, scopes-bad, scopes-none, firstOf}
-use Rattle.lines.specs.FormatLaws.{numbers-told}
-use Rattle.lines.specs.Format.{isS, scopeLines}
+use Rattle.forms.specs.FormLaws.{numbers-told}
+use Rattle.lines.specs.Format.{scopeLines}
 use Rattle.line_fields.specs.Split.{linesOf}
 use borrow.Author.Tests.{not-true, not-false}
-use lib.ListN.{length}
 use native.Mathlib.Omega.{arith}
-use mathlib.Core.Path.{_≡_, _∙_, ap, sym, refl}
-use Prim.Native.Nat.{ℕ, _≤_, _<_, _+_, _-_, _*_}
+use Prim.Native.Nat.{ℕ, _+_, _-_, _*_}
 use borrow.Author.Needs.{needs}
 use Rattle.lines.proofs.read_scopes.Statement.{statement}
 use Rattle.lines.proofs.read_scopes.Tie as tie
-use Rattle.lines.proofs.read_scopes.Reads as reads
-use Rattle.lines.proofs.read_scopes.Lts as lts
-use Rattle.line_fields.proofs.after.Reads as after-reads
-use Rattle.line_fields.proofs.line.Reads as line-reads
-use Rattle.line_fields.proofs.onward.Reads as onward-reads
-use Rattle.line_fields.proofs.write_numbers.Reads as write-numbers-reads
-use Rattle.lines.proofs.is_numbers.Reads as is-numbers-reads
 
 abbrev Inv-loop : tie.InvT-loop
 Inv-loop b n scopes₀ t₀ i₀ scopes t i = Scoping scopes₀ scopes n (scopeLines n (linesOf b)) i (linesOf t)
@@ -32,23 +22,18 @@ Inv-loop b n scopes₀ t₀ i₀ scopes t i = Scoping scopes₀ scopes n (scopeL
 abbrev μ-loop : tie.MeasureT-loop
 μ-loop b n scopes₀ t₀ i₀ scopes t i = n - i
 
--- src/lib.rt:96:5
 loop-holds : tie.Need-loop-holds Inv-loop μ-loop
 loop-holds c = scoping-start (c .before .before .args .scopes .now) (c .before .before .args .n) (linesOf (c .before .before .args .b .now)) (c .before .before .pre)
 
--- src/lib.rt:97:13
 line-requires : tie.Need-line-requires Inv-loop μ-loop
 line-requires c κs = search needs
 
--- src/lib.rt:98:13
 is-numbers-requires : tie.Need-is-numbers-requires Inv-loop μ-loop
 is-numbers-requires c κs = search needs
 
--- src/lib.rt:99:13
 same-length : tie.Need-same-length Inv-loop μ-loop
 same-length c = search needs
 
--- src/lib.rt:99:13
 returns : tie.Need-returns Inv-loop μ-loop
 returns c =
     let a = c .before .before .before .before .before .before .before .args in
@@ -56,15 +41,12 @@ returns c =
     scoping-done (a .scopes .now) (o .scopes) (a .n) (scopeLines (a .n) (linesOf (a .b .now))) (o .i) (linesOf (o .t .now)) (o .inv)
     (scopes-bad (a .n - o .i) (linesOf (o .t .now)) (cc (not-true (c .before .is-numbers .result) (c .if1 .taken))))
 
--- src/lib.rt:101:31
 onward-requires : tie.Need-onward-requires Inv-loop μ-loop
 onward-requires c κs = search needs
 
--- src/lib.rt:101:65
 mul-write-numbers : tie.Need-mul-write-numbers Inv-loop μ-loop
 mul-write-numbers c = search needs
 
--- src/lib.rt:101:9
 write-numbers-requires : tie.Need-write-numbers-requires Inv-loop μ-loop
 write-numbers-requires c κs =
     let a = c .before .before .before .before .before .before .before .before .before .args in
@@ -76,19 +58,15 @@ write-numbers-requires c κs =
     let n = t .0 in
     rw (c .before .onward .ensures) (omega arith, omega arith, t .1)
 
--- src/lib.rt:102:13
 after-requires : tie.Need-after-requires Inv-loop μ-loop
 after-requires c κs = search needs
 
--- src/lib.rt:104:9
 add-i : tie.Need-add-i Inv-loop μ-loop
 add-i c = search needs
 
--- src/lib.rt:96:5
 loop-less : tie.Need-loop-less Inv-loop μ-loop
 loop-less c = search needs
 
--- src/lib.rt:96:5
 loop-again : tie.Need-loop-again Inv-loop μ-loop
 loop-again c =
     let a = c .before .before .before .before .before .before .before .before .before .before .before .before .before .args in
@@ -103,11 +81,9 @@ loop-again c =
     (subst (λ (ks : List (List ℕ)). Scoping (a .scopes .now) (put (o .scopes) (o .i * 3) (map valueOf (rest (firstOf ls)))) (a .n) whole (o .i + 1) ks) (sym (c .after .ensures))
     (scoping-turn (a .scopes .now) (o .scopes) (a .n) whole (o .i) ls (o .inv) (omega arith) s))
 
--- src/lib.rt:90:1
 same-length-2 : tie.Need-same-length-2 Inv-loop μ-loop
 same-length-2 c = search needs
 
--- src/lib.rt:90:1
 returns-2 : tie.Need-returns-2 Inv-loop μ-loop
 returns-2 c =
     let a = c .before .before .before .before .args in

@@ -1,62 +1,46 @@
-use Rattle.lines.specs.Format.{nameOf, numbersOf, rest}
+-- `lines::write_node` meets its contract.
+use Rattle.forms.specs.Forms.{numbersOf, rest}
 use Rattle.common.specs.Wrote.{put}
-use lib.ListN.{set, take}
-use mathlib.Core.List.{List, [], _∷_, _++_}
+use lib.ListN.{set, take, length-set}
+use mathlib.Core.List.{List, [], _∷_, _++_, map}
 use Prim.Native.Nat.{ℕ, _+_}
 use Rattle.lines.specs.ReadLaws.{node-put, eight}
-use Rattle.lines.specs.FormatLaws.{node-told, tailOf}
-use Rattle.line_fields.specs.SplitLaws.{onward, fieldsIn}
-use Rattle.line_fields.specs.FieldLaws.{firsts}
+use Rattle.forms.specs.FormLaws.{node-told}
+use Rattle.line_fields.specs.SplitLaws.{onward}
 use Rattle.digits.specs.Number.{valueOf}
-use mathlib.Core.List.{map}
-use lib.ListN.{length, length-set}
 use native.Mathlib.Omega.{arith}
-use mathlib.Core.Path.{_≡_, sym, ap, _∙_}
+use mathlib.Core.Path.{_≡_, ap, _∙_}
 use borrow.Author.Needs.{needs}
 use Rattle.lines.proofs.write_node.Statement.{statement}
 use Rattle.lines.proofs.write_node.Tie as tie
-use Rattle.lines.proofs.write_node.Reads as reads
-use Rattle.lines.proofs.write_node.Lts as lts
-use Rattle.line_fields.proofs.onward.Reads as onward-reads
-use Rattle.line_fields.proofs.write_numbers.Reads as write-numbers-reads
 
--- src/lib.rt:84:27
 onward-requires : tie.Need-onward-requires
 onward-requires c κs = search needs
 
--- src/lib.rt:84:5
 write-numbers-requires : tie.Need-write-numbers-requires
 write-numbers-requires c κs = let t = node-told (c .before .before .before .before .args .l .now) (c .before .before .before .before .pre .0) in let h = c .before .before .before .before .pre .1 in let n = t .0 in rw (c .before .onward .ensures) (omega arith, omega arith, t .1)
 
--- src/lib.rt:85:11
 add-nodes : tie.Need-add-nodes
 add-nodes c = search needs
 
--- src/lib.rt:85:5
 mul-nodes : tie.Need-mul-nodes
 mul-nodes c = search needs
 
--- src/lib.rt:85:5
 slice-write-nodes : tie.Need-slice-write-nodes
 slice-write-nodes c = search needs
 
--- src/lib.rt:86:11
 add-nodes-2 : tie.Need-add-nodes-2
 add-nodes-2 c = search needs
 
--- src/lib.rt:86:5
 mul-nodes-2 : tie.Need-mul-nodes-2
 mul-nodes-2 c = search needs
 
--- src/lib.rt:86:5
 slice-write-nodes-2 : tie.Need-slice-write-nodes-2
 slice-write-nodes-2 c = let k = c .before .before .write-numbers .kept .1 .1 .0 in let p = c .before .before .before .before .before .before .before .pre .1 in simp length-set (omega arith)
 
--- src/lib.rt:80:1
 same-length : tie.Need-same-length
 same-length c = search needs
 
--- src/lib.rt:80:1
 returns : tie.Need-returns
 returns c =
     let a = c .before .before .before .before .before .before .before .args in

@@ -1,28 +1,21 @@
-use Rattle.print.specs.PrintLaws.{fieldsFor, line-put}
-use lib.ListN.{length, length-set}
+-- `print::line` meets its contract.
+use Rattle.print.specs.PrintLaws.{line-put}
+use lib.ListN.{length-set}
 use native.Mathlib.Omega.{arith}
-use mathlib.Core.Path.{_≡_, _∙_, ap, sym, refl, subst}
-use Prim.Native.Nat.{ℕ, _+_, _-_, _*_, _≤_, _<_}
+use mathlib.Core.Path.{_∙_}
 use borrow.Author.Needs.{needs}
 use Rattle.print.proofs.line.Statement.{statement}
 use Rattle.print.proofs.line.Tie as tie
-use Rattle.print.proofs.line.Reads as reads
-use Rattle.print.proofs.line.Lts as lts
-use Rattle.print.proofs.put_fields.Reads as put-fields-reads
 
--- src/lib.rt:81:5
 slice-write-out : tie.Need-slice-write-out
 slice-write-out c = search needs
 
--- src/lib.rt:82:40
 add-put-fields : tie.Need-add-put-fields
 add-put-fields c = search needs
 
--- src/lib.rt:82:9
 put-fields-requires : tie.Need-put-fields-requires
 put-fields-requires c κs = let p = c .before .before .before .pre in simp length-set (omega arith)
 
--- src/lib.rt:83:5
 slice-write-out-2 : tie.Need-slice-write-out-2
 slice-write-out-2 c =
     let p = c .before .before .before .before .before .before .pre in
@@ -31,15 +24,12 @@ slice-write-out-2 c =
     let s = length-set (c .before .before .before .before .before .before .args .out .now) (c .before .before .before .before .before .before .args .w) (c .before .before .before .before .before .before .args .letter) in
     omega arith
 
--- src/lib.rt:84:5
 add-result : tie.Need-add-result
 add-result c = search needs
 
--- src/lib.rt:77:1
 same-length : tie.Need-same-length
 same-length c = simp length-set (c .before .before .put-fields .kept .1 .0 ∙ length-set (c .before .before .before .before .before .before .args .out .now) (c .before .before .before .before .before .before .args .w) (c .before .before .before .before .before .before .args .letter))
 
--- src/lib.rt:77:1
 returns : tie.Need-returns
 returns c =
     let a = c .before .before .before .before .before .before .args in

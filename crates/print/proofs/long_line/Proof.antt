@@ -1,28 +1,21 @@
-use Rattle.print.specs.PrintLaws.{fieldsFor, line-put}
-use lib.ListN.{length, length-set}
+-- `print::long_line` meets its contract.
+use Rattle.print.specs.PrintLaws.{line-put}
+use lib.ListN.{length-set}
 use native.Mathlib.Omega.{arith}
-use mathlib.Core.Path.{_≡_, _∙_, ap, sym, refl, subst}
-use Prim.Native.Nat.{ℕ, _+_, _-_, _*_, _≤_, _<_}
+use mathlib.Core.Path.{_∙_}
 use borrow.Author.Needs.{needs}
 use Rattle.print.proofs.long_line.Statement.{statement}
 use Rattle.print.proofs.long_line.Tie as tie
-use Rattle.print.proofs.long_line.Reads as reads
-use Rattle.print.proofs.long_line.Lts as lts
-use Rattle.print.proofs.put_words.Reads as put-words-reads
 
--- src/lib.rt:106:5
 slice-write-out : tie.Need-slice-write-out
 slice-write-out c = search needs
 
--- src/lib.rt:107:39
 add-put-words : tie.Need-add-put-words
 add-put-words c = search needs
 
--- src/lib.rt:107:9
 put-words-requires : tie.Need-put-words-requires
 put-words-requires c κs = let p = c .before .before .before .pre in simp length-set (omega arith)
 
--- src/lib.rt:108:5
 slice-write-out-2 : tie.Need-slice-write-out-2
 slice-write-out-2 c =
     let p = c .before .before .before .before .before .before .pre in
@@ -31,15 +24,12 @@ slice-write-out-2 c =
     let s = length-set (c .before .before .before .before .before .before .args .out .now) (c .before .before .before .before .before .before .args .w) (c .before .before .before .before .before .before .args .letter) in
     omega arith
 
--- src/lib.rt:109:5
 add-result : tie.Need-add-result
 add-result c = search needs
 
--- src/lib.rt:102:1
 same-length : tie.Need-same-length
 same-length c = simp length-set (c .before .before .put-words .kept .1 .0 ∙ length-set (c .before .before .before .before .before .before .args .out .now) (c .before .before .before .before .before .before .args .w) (c .before .before .before .before .before .before .args .letter))
 
--- src/lib.rt:102:1
 returns : tie.Need-returns
 returns c =
     let a = c .before .before .before .before .before .before .args in

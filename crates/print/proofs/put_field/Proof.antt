@@ -1,32 +1,25 @@
+-- `print::put_field` meets its contract.
 use Rattle.print.specs.PrintLaws.{byte-put}
 use Rattle.print.specs.Print.{decimal}
-use lib.ListN.{length, length-set}
+use lib.ListN.{length-set}
 use native.Mathlib.Omega.{arith}
-use mathlib.Core.Path.{_≡_, _∙_, ap, sym, refl}
+use mathlib.Core.Path.{_∙_}
 use borrow.Author.Needs.{needs}
 use Rattle.print.proofs.put_field.Statement.{statement}
 use Rattle.print.proofs.put_field.Tie as tie
-use Rattle.print.proofs.put_field.Reads as reads
-use Rattle.print.proofs.put_field.Lts as lts
-use Rattle.print.proofs.put_number.Reads as put-number-reads
 
--- src/lib.rt:51:5
 slice-write-out : tie.Need-slice-write-out
 slice-write-out c = search needs
 
--- src/lib.rt:52:24
 add-put-number : tie.Need-add-put-number
 add-put-number c = search needs
 
--- src/lib.rt:52:5
 put-number-requires : tie.Need-put-number-requires
 put-number-requires c κs = let p = c .before .before .pre in simp length-set (omega arith)
 
--- src/lib.rt:47:1
 same-length : tie.Need-same-length
 same-length c = c .before .before .put-number .kept .1 .0 ∙ length-set (c .before .before .before .before .before .args .out .now) (c .before .before .before .before .before .args .w) 44
 
--- src/lib.rt:47:1
 returns : tie.Need-returns
 returns c =
     let e = c .before .before .put-number .ensures in

@@ -1,20 +1,14 @@
-use Rattle.print.specs.PrintLaws.{put-done}
-use Rattle.print.specs.PrintLaws.{Words, fieldsFor, length-fields, fields-turn, fields-end}
-use Rattle.print.specs.Print.{decimal}
-use Rattle.digits.specs.Writes.{put-start, put-end, wrote-done}
-use Rattle.common.specs.Wrote.{Wrote, put}
-use lib.ListN.{length, take, drop, getD}
+-- `print::put_fields` meets its contract. The loop keeps: what is left of the work, with what is done, is the whole.
+use Rattle.print.specs.PrintLaws.{put-done, fieldsFor, length-fields, fields-turn, fields-end}
+use Rattle.digits.specs.Writes.{put-start}
+use Rattle.common.specs.Wrote.{Wrote}
+use lib.ListN.{length, take, drop}
 use native.Mathlib.Omega.{arith}
-use mathlib.Core.List.{List, _++_, _∷_}
-use mathlib.Core.Path.{_≡_, _∙_, ap, sym, refl, subst}
-use Prim.Native.Nat.{ℕ, _+_, _-_, _*_, _≤_, _<_}
+use mathlib.Core.List.{_++_}
+use Prim.Native.Nat.{_+_, _-_, _*_, _≤_}
 use borrow.Author.Needs.{needs}
 use Rattle.print.proofs.put_fields.Statement.{statement}
 use Rattle.print.proofs.put_fields.Tie as tie
-use Rattle.print.proofs.put_fields.Reads as reads
-use Rattle.print.proofs.put_fields.Lts as lts
-use Rattle.print.proofs.put_field.Reads as put-field-reads
-use Rattle.print.proofs.wide.Reads as wide-reads
 
 abbrev Inv-loop : tie.InvT-loop
 Inv-loop numbers out₀ w at₀ i₀ out at i = (i ≤ length numbers) × (at ≤ w + 21 * i) × Wrote out₀ out at (fieldsFor (drop i numbers)) (take w out₀ ++ fieldsFor numbers)
@@ -22,7 +16,6 @@ Inv-loop numbers out₀ w at₀ i₀ out at i = (i ≤ length numbers) × (at �
 abbrev μ-loop : tie.MeasureT-loop
 μ-loop numbers out₀ w at₀ i₀ out at i = length numbers - i
 
--- src/lib.rt:69:5
 loop-holds : tie.Need-loop-holds Inv-loop μ-loop
 loop-holds c =
     let a = c .before .before .args in
@@ -30,31 +23,24 @@ loop-holds c =
     let l = length-fields (a .numbers .now) (λ i. omega (arith, c .before .shared-slice-known .given i)) in
     (omega arith, omega arith, put-start (a .out .now) (a .w) (fieldsFor (a .numbers .now)) (omega arith))
 
--- src/lib.rt:70:29
 mul-wide : tie.Need-mul-wide Inv-loop μ-loop
 mul-wide c = search needs
 
--- src/lib.rt:70:29
 shared-slice-read-wide : tie.Need-shared-slice-read-wide Inv-loop μ-loop
 shared-slice-read-wide c = search needs
 
--- src/lib.rt:70:24
 wide-requires : tie.Need-wide-requires Inv-loop μ-loop
 wide-requires c κs = search needs
 
--- src/lib.rt:70:9
 put-field-requires : tie.Need-put-field-requires Inv-loop μ-loop
 put-field-requires c κs = search needs
 
--- src/lib.rt:71:9
 add-i : tie.Need-add-i Inv-loop μ-loop
 add-i c = search needs
 
--- src/lib.rt:69:5
 loop-less : tie.Need-loop-less Inv-loop μ-loop
 loop-less c = search needs
 
--- src/lib.rt:69:5
 loop-again : tie.Need-loop-again Inv-loop μ-loop
 loop-again c =
     let a = c .before .before .before .before .before .before .before .before .before .before .args in
@@ -66,11 +52,9 @@ loop-again c =
     let t = c .before .before .before .before .before .before .loop-test .taken in
     (omega arith, omega arith, rw (e .2, e .0, c .before .before .before .before .wide .ensures) (fields-turn (a .out .now) (o .out) (o .at) (a .numbers .now) (o .i) _ (v .2) t))
 
--- src/lib.rt:63:1
 same-length : tie.Need-same-length Inv-loop μ-loop
 same-length c = search needs
 
--- src/lib.rt:63:1
 returns : tie.Need-returns Inv-loop μ-loop
 returns c =
     let a = c .before .before .before .before .args in

@@ -1,19 +1,15 @@
-use Prim.Native.Nat.{ℕ, _/_, _%_}
-use Rattle.print.specs.PrintLaws.{length-more, length-less, digit-turn, digit-last}
+-- `print::put_number` meets its contract. The loop keeps: what is left of the work, with what is done, is the whole.
+use Prim.Native.Nat.{ℕ, _+_, _-_, _≤_}
+use Rattle.print.specs.PrintLaws.{length-more, digit-turn, digit-last}
 use Rattle.print.specs.Print.{decimal}
 use Rattle.common.specs.Wrote.{put}
 use lib.ListN.{length, take, drop, length-set}
 use native.Mathlib.Omega.{arith}
 use mathlib.Core.List.{_++_}
-use mathlib.Core.Path.{_≡_, _∙_, ap, sym, refl}
-use Prim.Native.Nat.{_+_, _-_, _≤_, _<_}
+use mathlib.Core.Path.{_≡_, _∙_, ap, refl}
 use borrow.Author.Needs.{needs}
 use Rattle.print.proofs.put_number.Statement.{statement}
 use Rattle.print.proofs.put_number.Tie as tie
-use Rattle.print.proofs.put_number.Reads as reads
-use Rattle.print.proofs.put_number.Lts as lts
-use Rattle.print.proofs.glyph.Reads as glyph-reads
-use Rattle.print.proofs.places.Reads as places-reads
 
 abbrev Inv-loop : tie.InvT-loop
 Inv-loop n out₀ w end i₀ rest₀ out i rest = (i ≡ w + length (decimal rest)) × (i ≤ end) × (length out ≡ length out₀) × (take w out ++ decimal rest ++ drop i out ≡ put out₀ w (decimal n))
@@ -21,37 +17,29 @@ Inv-loop n out₀ w end i₀ rest₀ out i rest = (i ≡ w + length (decimal res
 abbrev μ-loop : tie.MeasureT-loop
 μ-loop n out₀ w end i₀ rest₀ out i rest = rest
 
--- src/lib.rt:34:19
 places-requires : tie.Need-places-requires Inv-loop μ-loop
 places-requires c κs = search needs
 
--- src/lib.rt:34:15
 add-end : tie.Need-add-end Inv-loop μ-loop
 add-end c = search needs
 
--- src/lib.rt:37:5
 loop-holds : tie.Need-loop-holds Inv-loop μ-loop
 loop-holds c =
     let e = c .places .ensures .0 in
     (ap (λ (k : ℕ). c .before .before .args .w + k) e, omega arith, refl, ap (λ (k : ℕ). take (c .before .before .args .w) (c .before .before .args .out .now) ++ decimal (c .before .before .args .n) ++ drop (c .before .before .args .w + k) (c .before .before .args .out .now)) e)
 
--- src/lib.rt:38:9
 sub-i : tie.Need-sub-i Inv-loop μ-loop
 sub-i c = let i = c .before .loop .inv .0 in omega (arith, length-more (c .before .loop .rest) (c .loop-test .taken))
 
--- src/lib.rt:39:18
 glyph-requires : tie.Need-glyph-requires Inv-loop μ-loop
 glyph-requires c κs = search needs
 
--- src/lib.rt:39:9
 slice-write-out : tie.Need-slice-write-out Inv-loop μ-loop
 slice-write-out c = search needs
 
--- src/lib.rt:37:5
 loop-less : tie.Need-loop-less Inv-loop μ-loop
 loop-less c = search needs
 
--- src/lib.rt:37:5
 loop-again : tie.Need-loop-again Inv-loop μ-loop
 loop-again c =
     let o = c .before .before .loop in
@@ -65,19 +53,15 @@ loop-again c =
     let q = c .before .before .before .before .before .pre in
     rw (c .glyph .ensures) (omega arith, omega arith, length-set (o .out) (o .i - 1) _ ∙ l, digit-turn (o .out) _ (a .w) (o .i) (o .rest) e (omega arith) (v .3) (c .before .loop-test .taken))
 
--- src/lib.rt:42:14
 glyph-requires-2 : tie.Need-glyph-requires-2 Inv-loop μ-loop
 glyph-requires-2 c κs = search needs
 
--- src/lib.rt:42:5
 slice-write-out-2 : tie.Need-slice-write-out-2 Inv-loop μ-loop
 slice-write-out-2 c = search needs
 
--- src/lib.rt:30:1
 same-length : tie.Need-same-length Inv-loop μ-loop
 same-length c = search needs
 
--- src/lib.rt:30:1
 returns : tie.Need-returns Inv-loop μ-loop
 returns c =
     let o = c .before .before .loop in

@@ -1,21 +1,22 @@
 -- Which lines can be read, as the code tests them.
-use Prim.Native.Nat.{ℕ, zero, suc, _+_, _-_, _*_, _/_, _≤_, _<_, min}
-use mathlib.Core.Path.{_≡_, refl, ap, sym, subst, _∙_}
-use mathlib.Core.Bool.{Bool, true, false, cond, _&&_}
-use mathlib.Core.List.{List, [], _∷_, _++_, map}
+use Prim.Native.Nat.{ℕ, _*_, _/_, _≤_, _<_}
+use mathlib.Core.Path.{_≡_, refl, ap, sym, _∙_}
+use mathlib.Core.Bool.{true, false, _&&_}
+use mathlib.Core.List.{List, [], _∷_}
 use native.Mathlib.Omega.{arith}
 use lib.Dec.{leb, eqb}
 use lib.ListN.{length, getD, take, drop}
 use lib.Seq.{take-all}
 use borrow.Author.Tests.{le-leb, lt-leb, leb-true, eq-eqb, ne-eqb, eqb-true}
 use Rattle.common.specs.Upto.{all, and-left, and-right}
-use Rattle.digits.specs.Number.{isNumber, valueOf}
-use Rattle.digits.specs.Hex.{isHex, bytesOf}
+use Rattle.digits.specs.Number.{isNumber}
+use Rattle.digits.specs.Hex.{isHex}
+use Rattle.digits.specs.NumberLaws.{and-no}
 use Rattle.digits.specs.HexLaws.{length-bytes}
-use Rattle.line_fields.specs.Split.{fieldsOf, joined}
+use Rattle.line_fields.specs.Split.{fieldsOf}
 use Rattle.line_fields.specs.SplitLaws.{before, onward, fieldsIn, fields-first, fields-turn, joined-tail}
 use Rattle.line_fields.specs.FieldLaws.{fieldOf, firsts, tail-some}
-use Rattle.lines.specs.Format.{isLetter, lettered, rest, isNumbers, fits, isN, nameOf, isX, sourceOf}
+use Rattle.forms.specs.Forms.{isLetter, lettered, rest, isNumbers, fits, isN, nameOf, isX}
 
 -- what stands behind the letter
 abbrev pub tailOf : List ℕ → List ℕ
@@ -23,10 +24,6 @@ tailOf l = onward 44 l
 
 pub rest-tail : (l : List ℕ) → rest l ≡ fieldsIn (tailOf l)
 rest-tail l = ap (drop 1) (fields-first l)
-
-pub and-no : (b : Bool) → (b && false) ≡ false
-and-no true = refl
-and-no false = refl
 
 letter-one : (c : ℕ) (f : List ℕ) → length f ≡ 1 → isLetter c f ≡ eqb (getD f 0 0) c
 letter-one c [] h = absurd (omega arith)

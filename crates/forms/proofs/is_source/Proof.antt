@@ -1,63 +1,44 @@
+-- `forms::is_source` meets its contract.
 use mathlib.Core.Bool.{true, false}
-use Rattle.lines.specs.FormatLaws.{tailOf, source-letter, source-count, source-is}
+use Rattle.forms.specs.FormLaws.{tailOf, source-letter, source-count, source-is}
 use Rattle.digits.specs.Hex.{isHex}
 use Rattle.line_fields.specs.FieldLaws.{fieldOf}
-use Rattle.line_fields.specs.SplitLaws.{onward}
 use borrow.Author.Tests.{not-true, not-false}
-use lib.ListN.{length}
-use mathlib.Core.Path.{_≡_, _∙_, ap, sym, refl}
+use mathlib.Core.Path.{_≡_, _∙_, sym}
 use borrow.Author.Needs.{needs}
-use Rattle.lines.proofs.is_source.Statement.{statement}
-use Rattle.lines.proofs.is_source.Tie as tie
-use Rattle.lines.proofs.is_source.Reads as reads
-use Rattle.lines.proofs.is_source.Lts as lts
-use Rattle.digits.proofs.is_hex.Reads as is-hex-reads
-use Rattle.line_fields.proofs.count.Reads as count-reads
-use Rattle.line_fields.proofs.field.Reads as field-reads
-use Rattle.line_fields.proofs.onward.Reads as onward-reads
-use Rattle.lines.proofs.fits.Reads as fits-reads
-use Rattle.lines.proofs.lettered.Reads as lettered-reads
+use Rattle.forms.proofs.is_source.Statement.{statement}
+use Rattle.forms.proofs.is_source.Tie as tie
 
--- src/lib.rt:165:9
 lettered-requires : tie.Need-lettered-requires
 lettered-requires c κs = search needs
 
--- src/lib.rt:166:9
 returns : tie.Need-returns
 returns c = sym (source-letter (c .before .before .before .args .room) (c .before .before .before .args .l .now) (cc (not-true (c .before .lettered .result) (c .if1 .taken))))
 
--- src/lib.rt:168:9
 onward-requires : tie.Need-onward-requires
 onward-requires c κs = search needs
 
--- src/lib.rt:169:8
 count-requires : tie.Need-count-requires
 count-requires c κs = search needs
 
--- src/lib.rt:170:9
 returns-2 : tie.Need-returns-2
 returns-2 c = sym (source-count (c .before .before .before .before .before .before .args .room) (c .before .before .before .before .before .before .args .l .now) (λ e. c .if2 .taken (cc)))
 
--- src/lib.rt:172:9
 field-requires : tie.Need-field-requires
 field-requires c κs = search needs
 
--- src/lib.rt:173:9
 is-hex-requires : tie.Need-is-hex-requires
 is-hex-requires c κs = search needs
 
--- src/lib.rt:174:9
 returns-3 : tie.Need-returns-3
 returns-3 c =
     let s = source-is (c .before .before .before .before .before .before .before .before .before .args .room) (c .before .before .before .before .before .before .before .before .before .args .l .now) (cc (not-false (c .before .before .before .before .before .before .before .lettered .result) (c .before .before .before .before .before .before .if1 .left))) (cc) in
     let e : isHex (fieldOf (tailOf (c .before .before .before .before .before .before .before .before .before .args .l .now))) ≡ false = cc (not-true (c .before .is-hex .result) (c .if3 .taken)) in
     sym (s ∙ rw e)
 
--- src/lib.rt:176:5
 fits-requires : tie.Need-fits-requires
 fits-requires c κs = search needs
 
--- src/lib.rt:162:1
 returns-4 : tie.Need-returns-4
 returns-4 c =
     let s = source-is (c .before .before .before .before .before .before .before .before .before .before .args .room) (c .before .before .before .before .before .before .before .before .before .before .args .l .now) (cc (not-false (c .before .before .before .before .before .before .before .before .lettered .result) (c .before .before .before .before .before .before .before .if1 .left))) (cc) in
