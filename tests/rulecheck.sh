@@ -45,5 +45,11 @@ is "1,025 bytes of source" "${program}X,$long${long}aa\n" 'R,0,4'
 is "a line of 2,101 bytes" "J,0,1,1\nS,0,2,0\nN,0,0,0,0,0,0,0,$long${long}aaaaaaaaaaaaaaaaaaaaaaaaaaaaaaaaaaaaa\nX,\n" 'R,0,3'
 is "refusal 3" 'J,0,1,1\nS,0,2,0\nN,5,0,0,0,0,0,0,0,\nX,\n' 'R,3,0'
 is "refusal 4" 'J,0,1,1\nS,0,2,0\nN,0,0,0,0,1,0,0,0,\nX,\n' 'R,4,0'
+# 6 at a Super: a function scope at the Program, above which nothing stands; and the same without the function scope
+at_super='N,0,0,0,0,0,0,0,0,\nN,22,0,3,0,0,0,0,0,\nN,37,1,0,0,0,0,0,0,\nX,\n'
+is "a search that ends above the Program" "J,0,3,1\nS,0,4,0\n$at_super" 'R,6,2'
+is "a super outside any function" "J,0,3,1\nS,0,2,0\n$at_super" 'F,30,2,0,0,0,0,0\nE,1'
+# 6 at a Super: its scope is the class's, and no class element stands above it
+is "a search without an element" 'J,0,6,1\nS,0,2,0\nN,0,0,0,0,0,0,0,0,\nN,26,0,3,0,0,0,0,0,\nN,27,1,0,0,0,0,0,0,\nN,3,2,0,0,0,0,0,0,\nN,22,3,3,0,0,0,0,0,\nN,37,4,0,0,0,0,0,0,\nX,\n' 'R,6,5'
 echo "$passed passed, $failed failed"
 [ "$failed" -eq 0 ]
