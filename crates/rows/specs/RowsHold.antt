@@ -68,24 +68,23 @@ module _ (r : CheckRow) (passed : inputRefusal (r .sourceType) (r .nodes) (r .sc
     checks : Checks r
     checks = record { found = found; answer = answers; slice = writes }
 
-abbrev Passes : Row → Type 0
-Passes (check r) = inputRefusal (r .sourceType) (r .nodes) (r .scopes) (r .source) (r .names) ≡ Passed
+-- what is computed of a row
+abbrev Computed : Row → Type 0
+Computed (check r) =
+    (inputRefusal (r .sourceType) (r .nodes) (r .scopes) (r .source) (r .names) ≡ Passed)
+    × (flat (findingsOf (r .sourceType) (r .nodes) (r .scopes) (r .source) (r .names)) ≡ r .finds)
 
-abbrev Finds : Row → Type 0
-Finds (check r) = flat (findingsOf (r .sourceType) (r .nodes) (r .scopes) (r .source) (r .names)) ≡ r .finds
+holds : (r : Row) → Computed r → Holds r
+holds (check r) c = checks r (c .0) (c .1)
 
-each : (rs : List Row) → Each Passes rs → Each Finds rs → Each Holds rs
-each [] p f = tt
-each (check r ∷ rs) p f = (checks r (p .0) (f .0), each rs (p .1) (f .1))
+each : (rs : List Row) → Each Computed rs → Each Holds rs
+each [] c = tt
+each (r ∷ rs) c = (holds r (c .0), each rs (c .1))
 
--- no row is turned down, and each has its findings: computed
-passed : Each Passes rows
-unfolding rows upto range above climb first keep children howMany isChild wrongTable wrongSizes listedFlags mostExtra listedExtra unlistedAt strayAt misplacedAt brokenAt chainOn misscopedAt isStatement mayBeStatement isHolder strayStatement strayHeld strayAlternate strayInSwitch strayCase strayInTry strayClause strayInClause strayFunctionBody strayClassBody strayElement strayValue misplacedStatement misplacedPart misplacedElement misplaced misplacedChildAt isDefault defaults wrongBody wrongAlternate wrongDefault wrongTry wrongClause wrongLabel wrongFunction wrongClass wrongValue wrongElement wrongStatement wrongPart wrongHome wrongCountAt misshapenAt refusalOf failsAt inputRefusal
-passed = (refl, (refl, (refl, (refl, (refl, (refl, (refl, (refl, (refl, (refl, (refl, (refl, (refl, (refl, (refl, tt)))))))))))))))
-
-found : Each Finds rows
-unfolding rows upto range above climb same nameOf keep children isChild firstNode nearestOf flat flatMap xor escapeOf badEscape sourceText checkStringLiteral checkNumberLiteral isStrictWord checkIdentifier checkBindingIdentifier checkIdentifierReference checkDirective walkUp sameLabel under plainContinueAt continueTo labelledContinueAt labeledAt checkFunctionDeclaration checkLabeledItem currentClass classesOf elementName elementSpan hasBody enters elements privates lastOf sideOf previousOn previousOf isDuplicate redeclaration duplicateBy duplicatesIn duplicateElements references undeclaredIn requireClassName constructors constructorSpan checkClass nameFindings loopFindings jumpFindings literalFindings expressionFindings findingsAt findingsOf
-found = (refl, (refl, (refl, (refl, (refl, (refl, (refl, (refl, (refl, (refl, (refl, (refl, (refl, (refl, (refl, tt)))))))))))))))
+computed : Each Computed rows
+unfolding rows upto range above climb first keep children howMany isChild wrongTable wrongSizes listedFlags mostExtra listedExtra unlistedAt strayAt misplacedAt brokenAt chainOn misscopedAt isStatement mayBeStatement isHolder strayStatement strayHeld strayAlternate strayInSwitch strayCase strayInTry strayClause strayInClause strayFunctionBody strayClassBody strayElement strayValue misplacedStatement misplacedPart misplacedElement misplaced misplacedChildAt isDefault defaults wrongBody wrongAlternate wrongDefault wrongTry wrongClause wrongLabel wrongFunction wrongClass wrongValue wrongElement wrongStatement wrongPart wrongHome wrongCountAt misshapenAt refusalOf failsAt inputRefusal same nameOf firstNode nearestOf flat flatMap xor escapeOf badEscape sourceText checkStringLiteral checkNumberLiteral isStrictWord checkIdentifier checkBindingIdentifier checkIdentifierReference checkDirective walkUp sameLabel under plainContinueAt continueTo labelledContinueAt labeledAt checkFunctionDeclaration checkLabeledItem currentClass classesOf elementName elementSpan hasBody enters elements privates lastOf sideOf previousOn previousOf isDuplicate redeclaration duplicateBy duplicatesIn duplicateElements references undeclaredIn requireClassName constructors constructorSpan checkClass nameFindings loopFindings jumpFindings literalFindings expressionFindings findingsAt findingsOf
+computed =
+    ((refl, refl), ((refl, refl), ((refl, refl), ((refl, refl), ((refl, refl), ((refl, refl), ((refl, refl), ((refl, refl), ((refl, refl), ((refl, refl), ((refl, refl), ((refl, refl), ((refl, refl), ((refl, refl), ((refl, refl), tt)))))))))))))))
 
 pub rows-hold : Each Holds rows
-rows-hold = each rows passed found
+rows-hold = each rows computed
