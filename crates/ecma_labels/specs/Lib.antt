@@ -1,0 +1,5 @@
+pub mod Labels
+pub mod Breaches
+pub mod Changed
+pub mod ShapeLaws
+pub mod BreachLaws
