@@ -6,3 +6,4 @@ pub mod BreachLaws
 pub mod AgreeLaws
 pub mod BreakLaws
 pub mod ContinueLaws
+pub mod CodeLaws
