@@ -108,7 +108,7 @@ module _ (ns : List ℕ) (n l kind : ℕ) where
       (λ q. ap (λ r. nodesOf (withCode 22 (listed r))) (q .1) ∙ ap (λ b. only (not b && true) n) (sym (ap isClear (q .1)) ∙ c)) (e .1 refl)
 
 -- kinds that are neither
-neither : (k : ℕ) → eqb k 18 ≡ false → eqb k 19 ≡ false → within k 18 19 ≡ false
+pub neither : (k : ℕ) → eqb k 18 ≡ false → eqb k 19 ≡ false → within k 18 19 ≡ false
 neither k p q = go (within k 18 19) refl
   where
     go : (b : Bool) → within k 18 19 ≡ b → b ≡ false
@@ -123,7 +123,7 @@ neither k p q = go (within k 18 19) refl
 
 module _ (ns names : List ℕ) (t : Tree ns) where
   -- a node of another kind than the program's is not the first
-  later : (n c : ℕ) → kindOf ns n ≡ suc c → 0 < n
+  pub later : (n c : ℕ) → kindOf ns n ≡ suc c → 0 < n
   later n c e = ⊎-elim (λ (q : 0 ≡ n). let k : kindOf ns n ≡ 0 = subst (λ x. kindOf ns x ≡ 0) q (t .root) in absurd (omega arith)) (λ (q : 0 < n). q) (eq-or-lt-of-le (omega arith))
 
   -- A CONTINUE

@@ -133,7 +133,7 @@ module _ (ns names : List ℕ) (t : Tree ns) where
         let p = t .falls j z h in
         rw (x, labelInIs ns t (parentOf ns j) (omega arith)) (wentStep (parentOf ns j) u (eqb (kindOf ns (parentOf ns j)) 6) (labelOf ns (parentOf ns j)) S r e))
 
-    noClear : (kind : ℕ) → isClear (noLabel ns n l kind) ≡ false
+    pub noClear : (kind : ℕ) → isClear (noLabel ns n l kind) ≡ false
     unfolding noLabel
     noClear kind = go (eqb kind 0)
       where

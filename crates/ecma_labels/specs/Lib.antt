@@ -7,3 +7,5 @@ pub mod AgreeLaws
 pub mod BreakLaws
 pub mod ContinueLaws
 pub mod CodeLaws
+pub mod DifferenceLaws
+pub mod EarlyLaws
