@@ -338,4 +338,3 @@ module _ (ns names : List ℕ) (t : Tree ns) (w : Shaped ns) where
   pub breakNestedSome : (u : ℕ) → u < count ns → isUnit ns u ≡ true → anyBreakNotNested ns names (partsOf ns u) false ≡ some (each (inUnitOf ns (breakNotNestedAt ns names) u) (upto (u + 1) (count ns)))
   unfolding breakNestedRule
   breakNestedSome = ruleSome breakNestedRule
-

@@ -12,7 +12,6 @@ use Rattle.common.specs.Upto.{upto}
 use Rattle.tables.specs.Table.{kindOf, count}
 use Rattle.tables.specs.Facts.{Tree}
 use Rattle.shape.specs.ShapeLaws.{Shaped}
-use Rattle.input.specs.InputLaws.{WellFormed}
 use Rattle.diagnostics.specs.declared.Finding.{Finding}
 use Rattle.checker.specs.Findings.{findingsAt}
 use Rattle.ecma_dispatch.specs.WithCode.{withCode}
@@ -25,6 +24,7 @@ use Rattle.trees.specs.ProgramLaws.{programIs}
 use Rattle.ecma_labels.specs.Labels.{isUnit, labelRule, labelErrors, anyDuplicateLabels}
 use Rattle.ecma_labels.specs.Breaches.{duplicateLabelAt, undefinedBreakAt, undefinedContinueAt, continueNotNestedAt, breakNotNestedAt}
 use Rattle.ecma_labels.specs.Changed.{undefinedNearestAt, plainContinueNotNestedAt, noLabelAt, noLoopAt, inProgram}
+use Rattle.ecma_labels.specs.Findings.{labelFindings}
 use Rattle.ecma_labels.specs.BreachLaws.{inUnitOf, duplicateSome, undefinedBreakSome, undefinedContinueSome, continueNestedSome, breakNestedSome}
 use Rattle.ecma_labels.specs.CodeLaws.{code18, code19, code20, code21, code22, code23}
 use Rattle.ecma_labels.specs.DifferenceLaws.{targets, notNested, offDuplicates}
@@ -125,11 +125,7 @@ module _ (ns names : List ℕ) where
         programIs (isUnit ns) (labelRule ns names) ns t (rw (t .root)) (λ j. only (brokenAt j) j)
         (λ u c x. rw (unitIs u c x) (someEach (inUnitOf ns brokenAt u) (u + 1) (count ns)))
 
-    -- the findings of a node with these codes
     module _ (sourceType : ℕ) (ss source : List ℕ) where
-      abbrev pub labelFindings : ℕ → List Finding
-      labelFindings j = flatMap (λ c. withCode c (findingsAt sourceType ns ss source names j)) (18 ∷ 19 ∷ 20 ∷ 21 ∷ 22 ∷ 23 ∷ [])
-
       someNodes : (fs : List Finding) → some fs ≡ some (nodesOf fs)
       unfolding nodesOf
       someNodes [] = refl
@@ -143,7 +139,7 @@ module _ (ns names : List ℕ) where
       shuffle false false false false true f = rw (orTrue f)
       shuffle false false false false false f = refl
 
-      someFindings : (j : ℕ) → j < count ns → some (labelFindings j) ≡ brokenAt j
+      someFindings : (j : ℕ) → j < count ns → some (labelFindings sourceType ns ss source names j) ≡ brokenAt j
       unfolding flatMap
       someFindings j h =
           someAppend (W 18) (W 19 ++ (W 20 ++ (W 21 ++ (W 22 ++ (W 23 ++ [])))))
@@ -174,7 +170,7 @@ module _ (ns names : List ℕ) where
       unfolding duplicateLabelAt undefinedBreakAt undefinedNearestAt plainContinueNotNestedAt breakNotNestedAt
       atRoot = rw (t .root)
 
-      pub errorsIff : (labelErrors ns names ≡ true) ↔ Says labelFindings 0 (count ns)
+      pub errorsIff : (labelErrors ns names ≡ true) ↔ Says (labelFindings sourceType ns ss source names) 0 (count ns)
       errorsIff = (
         (λ e. let s = programBroken .0 e in let l = s .low in record { at = s .at; low = omega arith; high = s .high; does = someFindings (s .at) (s .high) ∙ sym (someOnly (brokenAt (s .at)) (s .at)) ∙ s .does }),
         λ s. programBroken .1 (record { at = s .at; low = after (s .at) (sym (someFindings (s .at) (s .high)) ∙ s .does); high = s .high; does = someOnly (brokenAt (s .at)) (s .at) ∙ sym (someFindings (s .at) (s .high)) ∙ s .does }),
@@ -182,8 +178,3 @@ module _ (ns names : List ℕ) where
         where
           after : (j : ℕ) → brokenAt j ≡ true → 1 ≤ j
           after j e = ⊎-elim (λ (q : 0 ≡ j). absurd (true≢false (sym e ∙ subst (λ x. brokenAt x ≡ false) q atRoot))) (λ (q : 0 < j). q) (eq-or-lt-of-le (omega arith))
-
--- of well-formed tables
-pub labelErrorsAre : (sourceType : ℕ) (ns ss source names : List ℕ) (w : WellFormed sourceType ns ss source names)
-    → (labelErrors ns names ≡ true) ↔ Says (labelFindings ns names (w .input .tree) (w .shaped) sourceType ss source) 0 (count ns)
-labelErrorsAre sourceType ns ss source names w = errorsIff ns names (w .input .tree) (w .shaped) sourceType ss source

@@ -1,6 +1,7 @@
 pub mod Labels
 pub mod Breaches
 pub mod Changed
+pub mod Findings
 pub mod ShapeLaws
 pub mod BreachLaws
 pub mod AgreeLaws
@@ -9,3 +10,5 @@ pub mod ContinueLaws
 pub mod CodeLaws
 pub mod DifferenceLaws
 pub mod EarlyLaws
+pub mod Theorems
+pub mod Examples
