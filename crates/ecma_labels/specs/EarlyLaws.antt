@@ -52,7 +52,7 @@ orTrue true = refl
 orTrue false = refl
 
 -- a rule that the nodes of a unit break alike
-sameUnit : (ns : List ℕ) (f g : ℕ → Bool) (u : ℕ) → ((j : ℕ) → j < count ns → homeOf ns (isUnit ns) j ≡ u → f j ≡ g j)
+pub sameUnit : (ns : List ℕ) (f g : ℕ → Bool) (u : ℕ) → ((j : ℕ) → j < count ns → homeOf ns (isUnit ns) j ≡ u → f j ≡ g j)
     → each (inUnitOf ns f u) (upto (u + 1) (count ns)) ≡ each (inUnitOf ns g u) (upto (u + 1) (count ns))
 sameUnit ns f g u h = eachSame (inUnitOf ns f u) (inUnitOf ns g u) (u + 1) (count ns) (λ j p q. go j q (eqb (homeOf ns (isUnit ns) j) u) refl)
   where
@@ -62,7 +62,7 @@ sameUnit ns f g u h = eachSame (inUnitOf ns f u) (inUnitOf ns g u) (u + 1) (coun
 
 module _ (ns names : List ℕ) where
   -- the five rules, as the Rust has them
-  abbrev brokenAt : ℕ → Bool
+  abbrev pub brokenAt : ℕ → Bool
   brokenAt j =
       duplicateLabelAt ns names j
       || (undefinedBreakAt ns names j || (undefinedNearestAt ns names j || (plainContinueNotNestedAt ns names j || breakNotNestedAt ns names j)))
@@ -139,7 +139,7 @@ module _ (ns names : List ℕ) where
       shuffle false false false false true f = rw (orTrue f)
       shuffle false false false false false f = refl
 
-      someFindings : (j : ℕ) → j < count ns → some (labelFindings sourceType ns ss source names j) ≡ brokenAt j
+      pub someFindings : (j : ℕ) → j < count ns → some (labelFindings sourceType ns ss source names j) ≡ brokenAt j
       unfolding flatMap
       someFindings j h =
           someAppend (W 18) (W 19 ++ (W 20 ++ (W 21 ++ (W 22 ++ (W 23 ++ [])))))

@@ -1,6 +1,6 @@
 -- THE THEOREMS, of well-formed tables. Node by node: a finding of a code, or of some codes, is raised at the node exactly where the rule is broken there, and one only.
 -- Then by unit, as the standard states its rules, and of the program.
-use Prim.Native.Nat.{ℕ, _+_, _≤_, _<_}
+use Prim.Native.Nat.{ℕ, zero, suc, _+_, _-_, _≤_, _<_}
 use mathlib.Core.Path.{_≡_, refl, sym, _∙_, ap, subst}
 use mathlib.Core.Bool.{Bool, true, false, cond, not, _&&_, _||_, true≢false}
 use mathlib.Core.List.{List, [], _∷_, _++_, flatMap, append-nil}
@@ -8,7 +8,7 @@ use mathlib.Core.Logic.{_↔_}
 use lib.Dec.{eqb}
 use borrow.Author.Tests.{eqb-true}
 use native.Mathlib.Omega.{arith}
-use Rattle.common.specs.Upto.{upto}
+use Rattle.common.specs.Upto.{range, upto}
 use Rattle.tables.specs.Table.{kindOf, count}
 use Rattle.children.specs.Children.{keep}
 use Rattle.input.specs.InputLaws.{WellFormed}
@@ -19,16 +19,16 @@ use Rattle.ecma_dispatch.specs.NodesOf.{nodesOf}
 use Rattle.ecma_dispatch.specs.NodesOfLaws.{nodesNil, nodesAppend}
 use Rattle.trees.specs.Rose.{partsOf}
 use Rattle.trees.specs.Walk.{each, some, Says, only}
-use Rattle.trees.specs.WalkLaws.{someOnly}
+use Rattle.trees.specs.WalkLaws.{someAppend, someEach, someOnly}
 use Rattle.trees.specs.Unit.{homeOf}
-use Rattle.ecma_labels.specs.Labels.{isUnit, labelErrors, unlabelled, anyDuplicateLabels, anyUndefinedBreakTarget, anyUndefinedContinueTarget, anyContinueNotNested, anyBreakNotNested}
+use Rattle.ecma_labels.specs.Labels.{isUnit, labelRule, labelErrors, unlabelled, anyDuplicateLabels, anyUndefinedBreakTarget, anyUndefinedContinueTarget, anyContinueNotNested, anyBreakNotNested}
 use Rattle.ecma_labels.specs.Breaches.{labelAt, duplicateLabelAt, undefinedBreakAt, undefinedContinueAt, continueNotNestedAt, breakNotNestedAt}
 use Rattle.ecma_labels.specs.Changed.{anyUndefinedNearest, undefinedNearestAt, plainContinueNotNestedAt, noLabelAt, noLoopAt, inProgram}
 use Rattle.ecma_labels.specs.Findings.{ofUnit, withCodes, labelFindings, breakFindings, continueFindings}
-use Rattle.ecma_labels.specs.BreachLaws.{inUnitOf, duplicateUnit, undefinedBreakUnit, undefinedContinueUnit, undefinedNearestUnit, continueNestedUnit, breakNestedUnit}
+use Rattle.ecma_labels.specs.BreachLaws.{inUnitOf, undefinedContinueSome, undefinedNearestSome, duplicateUnit, undefinedBreakUnit, undefinedContinueUnit, undefinedNearestUnit, continueNestedUnit, breakNestedUnit}
 use Rattle.ecma_labels.specs.CodeLaws.{code18, code19, code20, code21, code22, code23, all18, all19, all20, all21, all22, all23}
 use Rattle.ecma_labels.specs.DifferenceLaws.{targets, notNested, plainSame, offDuplicates}
-use Rattle.ecma_labels.specs.EarlyLaws.{errorsIff}
+use Rattle.ecma_labels.specs.EarlyLaws.{brokenAt, sameUnit, unitIs, someFindings, errorsIff}
 
 -- findings that are raised where a test holds, in a unit
 module _ (ns : List ℕ) (g : ℕ → List Finding) (test : ℕ → Bool) (u : ℕ) (h : (j : ℕ) → j < count ns → nodesOf (g j) ≡ only (test j) j) where
@@ -49,6 +49,17 @@ module _ (ns : List ℕ) (g : ℕ → List Finding) (test : ℕ → Bool) (u : �
     (λ s. record { at = s .at; low = s .low; high = s .high; does = sym (alike (s .at) (s .high)) ∙ s .does }),
     λ s. record { at = s .at; low = s .low; high = s .high; does = alike (s .at) (s .high) ∙ s .does },
   )
+
+-- what some number says, where both say something at the same numbers
+someSame : {A B : Type 0} (f : ℕ → List A) (g : ℕ → List B) (i n : ℕ) → ((j : ℕ) → i ≤ j → j < n → some (f j) ≡ some (g j)) → some (each f (upto i n)) ≡ some (each g (upto i n))
+unfolding upto range
+someSame f g i n h = go i (n - i) (λ j p q. h j p (omega arith))
+  where
+    go : (i k : ℕ) → ((j : ℕ) → i ≤ j → j < i + k → some (f j) ≡ some (g j)) → some (each f (range i k)) ≡ some (each g (range i k))
+    go i zero h = refl
+    go i (suc k) h =
+        someAppend (f i) (each f (range (suc i) k))
+        ∙ rw (h i (omega arith) (omega arith), go (suc i) k (λ j p q. h j (omega arith) (omega arith))) (sym (someAppend (g i) (each g (range (suc i) k))))
 
 both : {A B C : Type 0} → A ↔ B → B ↔ C → A ↔ C
 both p q = ((λ a. q .0 (p .0 a)), λ c. p .1 (q .1 c))
@@ -148,6 +159,29 @@ module _ (sourceType : ℕ) (ns ss source names : List ℕ) (w : WellFormed sour
 
     pub breaksNotNestedUnit : (anyBreakNotNested ns names (partsOf ns u) false ≡ true) ↔ Says (ofUnit ns (λ j. withCode 18 (findingsAt sourceType ns ss source names j)) u) (u + 1) (count ns)
     breaksNotNestedUnit = both (breakNestedUnit ns names (w .input .tree) (w .shaped) u c x) (unitSays ns (λ j. withCode 18 (findingsAt sourceType ns ss source names j)) (breakNotNestedAt ns names) u breaksNotNested)
+
+    -- the standard's own 8.3.3, in a unit in which 8.3.1 finds nothing
+    pub undefinedContinuesOnce : anyDuplicateLabels ns names (partsOf ns u) [] ≡ false
+        → (anyUndefinedContinueTarget ns names (partsOf ns u) ([], []) ≡ true) ↔ Says (ofUnit ns (continueFindings sourceType ns ss source names) u) (u + 1) (count ns)
+    undefinedContinuesOnce e =
+        both (rw (sameRule) (undefinedNearestUnit ns names (w .input .tree) (w .shaped) u c x)) (unitSays ns (continueFindings sourceType ns ss source names) (undefinedNearestAt ns names) u undefinedContinues)
+      where
+        sameRule : anyUndefinedContinueTarget ns names (partsOf ns u) ([], []) ≡ anyUndefinedNearest ns names (partsOf ns u) ([], [])
+        sameRule =
+            undefinedContinueSome ns names (w .input .tree) (w .shaped) u c x
+            ∙ ap some (sameUnit ns (undefinedContinueAt ns names) (undefinedNearestAt ns names) u (agreeNearest u c x e))
+            ∙ sym (undefinedNearestSome ns names (w .input .tree) (w .shaped) u c x)
+
+    -- all the rules of the unit: the standard has an error of it just where some node of it has a finding 18 to 23
+    pub labelRuleUnit : (labelRule ns names (partsOf ns u) ≡ true) ↔ Says (ofUnit ns (labelFindings sourceType ns ss source names) u) (u + 1) (count ns)
+    labelRuleUnit = rw (unitIs ns names (w .input .tree) (w .shaped) u c x ∙ sameSome) (someEach (ofUnit ns (labelFindings sourceType ns ss source names) u) (u + 1) (count ns))
+      where
+        sameSome : some (each (inUnitOf ns (brokenAt ns names) u) (upto (u + 1) (count ns))) ≡ some (each (ofUnit ns (labelFindings sourceType ns ss source names) u) (upto (u + 1) (count ns)))
+        sameSome = someSame (inUnitOf ns (brokenAt ns names) u) (ofUnit ns (labelFindings sourceType ns ss source names) u) (u + 1) (count ns) (λ j p q. go j q (eqb (homeOf ns (isUnit ns) j) u))
+          where
+            go : (j : ℕ) → j < count ns → (b : Bool) → some (cond b (only (brokenAt ns names j) j) []) ≡ some (cond b (labelFindings sourceType ns ss source names j) [])
+            go j h true = someOnly (brokenAt ns names j) j ∙ sym (someFindings ns names (w .input .tree) (w .shaped) sourceType ss source j h)
+            go j h false = refl
 
     -- the standard's own 8.3.3 and 14.8.1, by the nodes that break them
     pub undefinedContinuesStandard : (anyUndefinedContinueTarget ns names (partsOf ns u) ([], []) ≡ true) ↔ Says (inUnitOf ns (undefinedContinueAt ns names) u) (u + 1) (count ns)
