@@ -1,5 +1,5 @@
 -- Document 01, "Rows to prove": "a table proved by a lone statement". A row is a whole input as a tree maker gives it; `rows-hold` (RowsHold.antt) is the statement.
-use Prim.Native.Nat.{ℕ, _/_, _≤_}
+use Prim.Native.Nat.{ℕ, _*_, _/_, _≤_}
 use Prim.Native.Char.{code}
 use Prim.Native.String.{String, [] as []ˢ, _∷_ as _∷ˢ_}
 use mathlib.Core.Path.{_≡_}
@@ -9,6 +9,13 @@ use Rattle.diagnostics.specs.Finding.{flat}
 use Rattle.checker.specs.Findings.{findingsOf}
 use Rattle.rules.specs.Check.{checkAnswer, checkSlice}
 use Rattle.rules.specs.declared.Checked.the-variants.{Findings}
+use Rattle.tables.specs.Table.{count}
+use Rattle.completion.specs.Route.{Route, route as ruledRoute}
+use Rattle.flat.specs.Code.{unit}
+use Rattle.flat.specs.Machine.{codeRoute}
+use Rattle.unit.specs.Unit.{unitOf}
+use Rattle.viewer.specs.declared.Routed.the-variants as Routed
+use Rattle.routes.specs.Calls.{routeAnswer, routeSlice}
 
 -- a text as bytes; each of its characters is one
 abbrev pub bytes : String → List ℕ
@@ -24,8 +31,20 @@ pub record CheckRow : Type 0 where
   pub names : List ℕ
   pub finds : List ℕ
 
+-- what `route` is given, and the route: the nodes listed, the end and the answers taken
+pub record RouteRow : Type 0 where
+  pub sourceType : ℕ
+  pub nodes : List ℕ
+  pub scopes : List ℕ
+  pub source : List ℕ
+  pub names : List ℕ
+  pub unit : ℕ
+  pub answers : List ℕ
+  pub shows : Route
+
 pub data Row : Type 0 where
   check : CheckRow → Row
+  route : RouteRow → Row
 
 -- these are the findings; the call refuses nothing where it has room, answers how many there are, and writes them from the slice's start
 pub record Checks (r : CheckRow) : Type 0 where
@@ -33,8 +52,19 @@ pub record Checks (r : CheckRow) : Type 0 where
   pub answer : (s : List ℕ) → length (r .finds) ≤ length s → checkAnswer (r .sourceType) (r .nodes) (r .scopes) (r .source) (r .names) (length s) ≡ Findings (length (r .finds) / 7)
   pub slice : (s : List ℕ) → length (r .finds) ≤ length s → checkSlice (r .sourceType) (r .nodes) (r .scopes) (r .source) (r .names) s ≡ r .finds ++ drop (length (r .finds)) s
 
+-- this is the route by the completion rules and by the flat code; the call refuses nothing where it has room, answers with it, and writes its list from the slice's start
+pub record Shows (r : RouteRow) : Type 0 where
+  pub ruled : ruledRoute (unitOf (r .nodes) (r .names) (r .unit)) (r .answers) ≡ r .shows
+  pub coded : codeRoute (unit (unitOf (r .nodes) (r .names) (r .unit))) (r .answers) ≡ r .shows
+  pub answer : (c s : List ℕ) → 16 * count (r .nodes) ≤ length c → length (r .shows .list) ≤ length s
+      → routeAnswer (r .sourceType) (r .nodes) (r .scopes) (r .source) (r .names) (r .unit) (r .answers) (length c) (length s)
+      ≡ Routed.Route (r .shows .end) (length (r .shows .list)) (r .shows .taken)
+  pub slice : (c s : List ℕ) → 16 * count (r .nodes) ≤ length c → length (r .shows .list) ≤ length s
+      → routeSlice (r .sourceType) (r .nodes) (r .scopes) (r .source) (r .names) (r .unit) (r .answers) (length c) s ≡ r .shows .list ++ drop (length (r .shows .list)) s
+
 abbrev pub Holds : Row → Type 0
 Holds (check r) = Checks r
+Holds (route r) = Shows r
 
 -- a statement of each row of a table
 abbrev pub Each : (Row → Type 0) → List Row → Type 0
@@ -369,6 +399,38 @@ threeConstructors =
       finds = 27 ∷ 1 ∷ 10 ∷ 21 ∷ 27 ∷ 38 ∷ 0 ∷ [];
     }
 
+-- Route of `a: while(t){ switch(s){ case c: continue a; } x; }`: 3 is the while, 6 the switch, 10 the continue, 12 the x.
+abbrev pub loop : List ℕ → Route → RouteRow
+loop answers shows =
+    record {
+      sourceType = 0;
+      nodes =
+          0 ∷ 0 ∷ 0 ∷ 0 ∷ 50 ∷ 0 ∷ 0 ∷ 0 ∷ 0 ∷ 0
+          ∷ 6 ∷ 0 ∷ 3 ∷ 0 ∷ 50 ∷ 0 ∷ 0 ∷ 0 ∷ 0 ∷ 0
+          ∷ 33 ∷ 1 ∷ 6 ∷ 0 ∷ 1 ∷ 0 ∷ 0 ∷ 0 ∷ 0 ∷ 1
+          ∷ 10 ∷ 1 ∷ 3 ∷ 3 ∷ 50 ∷ 0 ∷ 0 ∷ 0 ∷ 1 ∷ 0
+          ∷ 32 ∷ 3 ∷ 0 ∷ 9 ∷ 10 ∷ 0 ∷ 0 ∷ 0 ∷ 1 ∷ 1
+          ∷ 5 ∷ 3 ∷ 3 ∷ 11 ∷ 50 ∷ 0 ∷ 0 ∷ 0 ∷ 2 ∷ 0
+          ∷ 14 ∷ 5 ∷ 3 ∷ 13 ∷ 45 ∷ 1 ∷ 0 ∷ 0 ∷ 2 ∷ 0
+          ∷ 32 ∷ 6 ∷ 0 ∷ 20 ∷ 21 ∷ 1 ∷ 0 ∷ 0 ∷ 2 ∷ 1
+          ∷ 15 ∷ 6 ∷ 3 ∷ 24 ∷ 43 ∷ 2 ∷ 0 ∷ 0 ∷ 3 ∷ 0
+          ∷ 32 ∷ 8 ∷ 0 ∷ 29 ∷ 30 ∷ 2 ∷ 0 ∷ 0 ∷ 3 ∷ 1
+          ∷ 19 ∷ 8 ∷ 3 ∷ 32 ∷ 43 ∷ 2 ∷ 0 ∷ 0 ∷ 4 ∷ 0
+          ∷ 33 ∷ 10 ∷ 6 ∷ 41 ∷ 42 ∷ 2 ∷ 0 ∷ 0 ∷ 4 ∷ 1
+          ∷ 22 ∷ 5 ∷ 3 ∷ 46 ∷ 48 ∷ 1 ∷ 0 ∷ 0 ∷ 5 ∷ 0
+          ∷ 32 ∷ 12 ∷ 0 ∷ 46 ∷ 47 ∷ 1 ∷ 0 ∷ 0 ∷ 5 ∷ 1
+          ∷ [];
+      scopes = 0 ∷ 2 ∷ 0 ∷ 0 ∷ 0 ∷ 5 ∷ 1 ∷ 0 ∷ 6 ∷ [];
+      source = bytes "a: while(t){ switch(s){ case c: continue a; } x; }";
+      names = bytes "atscax";
+      unit = 0;
+      answers = answers;
+      shows = shows;
+    }
+
+abbrev pub listed : List ℕ → ℕ → ℕ → Route
+listed list end taken = record { list = list; end = end; taken = taken }
+
 unfoldable pub rows : List Row
 rows =
     check nul
@@ -386,4 +448,8 @@ rows =
     ∷ check switch
     ∷ check labelTwice
     ∷ check threeConstructors
+    -- "answers 1,0,0 list while, switch, continue, while, end 0; 1,5,0 list while, switch, x, while, end 0; 1 lists while, end 3"
+    ∷ route (loop (1 ∷ 0 ∷ 0 ∷ []) (listed (3 ∷ 6 ∷ 10 ∷ 3 ∷ []) 0 3))
+    ∷ route (loop (1 ∷ 5 ∷ 0 ∷ []) (listed (3 ∷ 6 ∷ 12 ∷ 3 ∷ []) 0 3))
+    ∷ route (loop (1 ∷ []) (listed (3 ∷ []) 3 1))
     ∷ []
