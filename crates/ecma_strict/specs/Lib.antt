@@ -1,3 +1,4 @@
+pub mod Nodes
 pub mod Strict
 pub mod Literals
 pub mod LiteralsLaws

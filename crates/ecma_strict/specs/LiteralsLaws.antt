@@ -4,16 +4,16 @@ use mathlib.Core.Path.{_≡_, refl, ap, sym, subst, _∙_}
 use mathlib.Core.List.{List, [], _∷_}
 use mathlib.Core.Bool.{Bool, true, false, cond, not, _&&_, _||_}
 use native.Mathlib.Omega.{arith}
-use borrow.Author.Tests.{eq-eqb, ne-eqb, eqb-true, eqb-false, leb-true, leb-false}
+use borrow.Author.Tests.{eq-eqb, ne-eqb, eqb-true, eqb-false, leb-true, leb-false, lt-leb}
 use lib.Dec.{eqb, leb}
 use lib.ListN.{length}
 use Rattle.common.specs.Upto.{all, any, and-left, and-right}
 use Rattle.common.specs.Tests.{within}
 use Rattle.common.specs.Bools.{never, or-first, or-second}
-use Rattle.tables.specs.Table.{kindOf, parentOf, extraOf}
+use Rattle.tables.specs.Table.{kindOf, parentOf, spanStartOf, spanEndOf, extraOf}
 use Rattle.tables.specs.Kinds as k
 use Rattle.tables.specs.Extras as extra
-use Rattle.diagnostics.specs.Finding.{errorAt}
+use Rattle.diagnostics.specs.Finding.{errorSpan, errorAt}
 use Rattle.diagnostics.specs.Codes as code
 use Rattle.diagnostics.specs.Contexts as context
 use Rattle.diagnostics.specs.declared.Raised.{Raised}
@@ -23,6 +23,8 @@ use Rattle.literals.specs.declared.Escape.{Escape}
 use Rattle.literals.specs.declared.Escape.the-variants.{LegacyOctal, NonOctalDecimal, Fine}
 use Rattle.literals.specs.Escapes.{digitNext, isLegacyOctal, isNonOctalDecimal, escapeOf, isFine, orElse, badEscape}
 use Rattle.literals.specs.Literals.{sourceText, leadingZero, escapeFinding, checkStringLiteral, checkNumberLiteral}
+use Rattle.trees.specs.Walk.{only}
+use Rattle.ecma_strict.specs.Nodes.{nodesOf}
 use Rattle.ecma_strict.specs.Strict.{strictCode}
 use Rattle.ecma_strict.specs.Literals.{textOf, decimalDigit, octalDigit, nonOctalDigit, next, legacyOctalInteger, octalsThenNonOctal, nonOctalDecimalInteger, numericLiteral, strictOctal, strictNonOctal, legacyOctalEscape, nonOctalDecimalEscape, escapes, stringLiteral, strictOctalEscape, strictNonOctalEscape, zeroThenDigit, toldOctal, toldNonOctal, octalFirst, nonOctalFirst, looksPlain, firstOctalEscape, firstNonOctalEscape, BaseTold, EscapesTold}
 
@@ -294,3 +296,86 @@ module _ (ns ss source : List ℕ) (n : ℕ) (w : EscapesTold ns source n) where
       (looked (looksPlain ns source n) (any nonOctalDecimalEscape es) (any legacyOctalEscape es) (nonOctalFirst es)
       (λ p. swapOr (any legacyOctalEscape es) (any nonOctalDecimalEscape es) (told p))
       (swapAnd (any legacyOctalEscape es) (any nonOctalDecimalEscape es) (w .one)) (nonOctalOnly es) (nonOctalNone es))
+
+-- THE NODES OF CODES 9, 10 AND 11
+-- no number is octal and decimal
+basesApart : (e : ℕ) → (eqb e extra.Octal && (eqb e extra.Decimal || eqb e extra.Float)) ≡ false
+basesApart e = go (eqb e 3) refl
+  where
+    go : (b : Bool) → eqb e 3 ≡ b → (b && (eqb e 0 || eqb e 1)) ≡ false
+    go true q = let z = eqb-true e 3 q in rw (ne-eqb e 0 (λ y. omega arith), ne-eqb e 1 (λ y. omega arith))
+    go false q = refl
+
+-- no escape is of both kinds
+escapesApart : (e : List ℕ) → (legacyOctalEscape e && nonOctalDecimalEscape e) ≡ false
+unfolding legacyOctalEscape nonOctalDecimalEscape
+escapesApart [] = refl
+escapesApart (c ∷ l) = rw (legacyIs c l) (go (nonOctalDigit c) refl)
+  where
+    go : (b : Bool) → nonOctalDigit c ≡ b → (isLegacyOctal c l && b) ≡ false
+    go true q =
+        let x = leb-true 56 c (and-left (leb 56 c) (leb c 57) q) in
+        rw (ne-eqb c 48 (λ y. omega arith), lt-leb c 55 (omega arith)) (by (leb 49 c))
+      where
+        by : (y : Bool) → ((y && false) && true) ≡ false
+        by true = refl
+        by false = refl
+    go false q = by (isLegacyOctal c l)
+      where
+        by : (y : Bool) → (y && false) ≡ false
+        by true = refl
+        by false = refl
+
+firstApart : (es : List (List ℕ)) → (octalFirst es && nonOctalFirst es) ≡ false
+unfolding octalFirst nonOctalFirst
+firstApart [] = refl
+firstApart (e ∷ es) = go (legacyOctalEscape e) (nonOctalDecimalEscape e) (octalFirst es) (nonOctalFirst es) (escapesApart e) (firstApart es)
+  where
+    go : (a b c d : Bool) → (a && b) ≡ false → (c && d) ≡ false → ((a || (not b && c)) && (b || (not a && d))) ≡ false
+    go true true c d x y = x
+    go true false c d x y = refl
+    go false true c d x y = refl
+    go false false c d x y = y
+
+-- two tests that are apart stay so under others
+apart : (p s q a b : Bool) → (a && b) ≡ false → ((p && (s && (q && a))) && (p && (s && (q && b)))) ≡ false
+apart true true true a b e = e
+apart true true false a b e = refl
+apart true false q a b e = refl
+apart false s q a b e = refl
+
+firstOf : (c s e s2 e2 n : ℕ) (d : ℕ) → (a b : Bool) → eqb d c ≡ false → nodesOf c (cond a (errorSpan c n s e context.none) (cond b (errorSpan d n s2 e2 context.none) Clear)) ≡ only a n
+firstOf c s e s2 e2 n d true b q = rw (eq-eqb c c refl)
+firstOf c s e s2 e2 n d false true q = rw q
+firstOf c s e s2 e2 n d false false q = refl
+
+secondOf : (c s e s2 e2 n : ℕ) (d : ℕ) → (a b : Bool) → eqb d c ≡ false → (a && b) ≡ false → nodesOf c (cond a (errorSpan d n s2 e2 context.none) (cond b (errorSpan c n s e context.none) Clear)) ≡ only b n
+secondOf c s e s2 e2 n d true true q x = never x
+secondOf c s e s2 e2 n d true false q x = rw q
+secondOf c s e s2 e2 n d false true q x = rw (eq-eqb c c refl)
+secondOf c s e s2 e2 n d false false q x = refl
+
+module _ (ns ss source : List ℕ) (n : ℕ) where
+  -- 9 at a number
+  pub numberOctal : kindOf ns n ≡ k.NumericLiteral → nodesOf code.legacyOctal (checkNumberLiteral ns ss source n) ≡ only (toldOctal ns ss source n) n
+  numberOctal q = ap (nodesOf 9) (numberIs ns ss source n q) ∙ firstOf 9 (spanStartOf ns n) (spanEndOf ns n) (spanStartOf ns n) (spanEndOf ns n) n 10 (toldOctal ns ss source n) (toldNonOctal ns ss source n) refl
+
+  -- 10 at a number
+  pub numberNonOctal : kindOf ns n ≡ k.NumericLiteral → nodesOf code.leadingZeroDecimal (checkNumberLiteral ns ss source n) ≡ only (toldNonOctal ns ss source n) n
+  unfolding toldOctal toldNonOctal
+  numberNonOctal q =
+      ap (nodesOf 10) (numberIs ns ss source n q)
+      ∙ secondOf 10 (spanStartOf ns n) (spanEndOf ns n) (spanStartOf ns n) (spanEndOf ns n) n 9 (toldOctal ns ss source n) (toldNonOctal ns ss source n) refl
+      (apart (numericLiteral ns n) (strictCode ns ss n) (zeroThenDigit (textOf ns source n)) (eqb (extraOf ns n) extra.Octal) (eqb (extraOf ns n) extra.Decimal || eqb (extraOf ns n) extra.Float) (basesApart (extraOf ns n)))
+
+  -- 9 at a string
+  pub stringOctal : kindOf ns n ≡ k.StringLiteral → nodesOf code.legacyOctal (checkStringLiteral ns ss source n) ≡ only (firstOctalEscape ns ss source n) n
+  stringOctal q = ap (nodesOf 9) (stringIs ns ss source n q) ∙ firstOf 9 (spanStartOf ns n) (spanEndOf ns n) (spanStartOf ns n) (spanEndOf ns n) n 11 (firstOctalEscape ns ss source n) (firstNonOctalEscape ns ss source n) refl
+
+  -- 11 at a string
+  pub stringNonOctal : kindOf ns n ≡ k.StringLiteral → nodesOf code.nonOctalDecimalEscapeSequence (checkStringLiteral ns ss source n) ≡ only (firstNonOctalEscape ns ss source n) n
+  unfolding firstOctalEscape firstNonOctalEscape
+  stringNonOctal q =
+      ap (nodesOf 11) (stringIs ns ss source n q)
+      ∙ secondOf 11 (spanStartOf ns n) (spanEndOf ns n) (spanStartOf ns n) (spanEndOf ns n) n 9 (firstOctalEscape ns ss source n) (firstNonOctalEscape ns ss source n) refl
+      (apart (stringLiteral ns n) (strictCode ns ss n) (not (looksPlain ns source n)) (octalFirst (escapes (textOf ns source n))) (nonOctalFirst (escapes (textOf ns source n))) (firstApart (escapes (textOf ns source n))))
