@@ -1,4 +1,5 @@
 pub mod Nodes
+pub mod NodesLaws
 pub mod Strict
 pub mod Literals
 pub mod LiteralsLaws
