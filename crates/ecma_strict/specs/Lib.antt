@@ -7,3 +7,8 @@ pub mod Delete
 pub mod DeleteLaws
 pub mod Statements
 pub mod StatementsLaws
+pub mod Identifiers
+pub mod IdentifiersLaws
+pub mod Contains
+pub mod ContainsLaws
+pub mod SearchLaws

@@ -1,0 +1,76 @@
+-- The operations that go down, node by node: the parts of u contain what is sought just where some node is sought whose way up first comes to an edge at u.
+use Prim.Native.Nat.{ℕ, zero, suc, _+_, _≤_, _<_}
+use mathlib.Core.Path.{_≡_, refl, ap, sym, subst, _∙_}
+use mathlib.Core.List.{List, [], _++_, foldr}
+use mathlib.Core.Bool.{Bool, true, false, cond, not, _&&_, _||_}
+use mathlib.Core.Logic.{⊎-elim}
+use native.Mathlib.Nat.{eq-or-lt-of-le}
+use native.Mathlib.Omega.{arith}
+use borrow.Author.Tests.{eq-eqb}
+use lib.Dec.{eqb}
+use Rattle.common.specs.Upto.{upto}
+use Rattle.common.specs.Bools.{never}
+use Rattle.tables.specs.Table.{kindOf, parentOf, count, ancestors}
+use Rattle.tables.specs.Facts.{Tree}
+use Rattle.ancestry.specs.AncestryLaws.{ancestors-up, ancestors-root}
+use Rattle.trees.specs.Rose.{Rose, Roses, node, rnil, rcons, idx, partsOf}
+use Rattle.trees.specs.Walk.{each, some, only}
+use Rattle.trees.specs.WalkLaws.{eachSame, someAppend, someOnly}
+use Rattle.trees.specs.Unit.{says, saysAll}
+use Rattle.trees.specs.Trail.{handedDown, unitOf}
+use Rattle.trees.specs.TrailLaws.{unitBridge, handedLaw, handedRoot}
+use Rattle.ecma_strict.specs.Contains.{contains, containsAny, containsIn}
+
+-- an induction up the tree
+pub upward : (ns : List ℕ) → Tree ns → (P : ℕ → Type 0) → P 0 → ((i : ℕ) → 0 < i → i < count ns → P (parentOf ns i) → P i) → (i : ℕ) → i < count ns → P i
+upward ns t P first step i h = go i i (omega arith) h
+  where
+    go : (f i : ℕ) → i ≤ f → i < count ns → P i
+    go zero i hf h = let e : 0 ≡ i = omega arith in subst P e first
+    go (suc f) i hf h =
+        ⊎-elim (λ (e : 0 ≡ i). subst P e first)
+        (λ (z : 0 < i). let p = t .falls i z h in step i z h (go f (parentOf ns i) (omega arith) (omega arith)))
+        (eq-or-lt-of-le (omega arith))
+
+-- the nearest edge, one step up, and at the program
+module _ (ns : List ℕ) (t : Tree ns) (edge : ℕ → ℕ → Bool) where
+  pub unitUp : (j : ℕ) → 0 < j → j < count ns → unitOf ns edge j ≡ cond (edge (parentOf ns j) j) (parentOf ns j) (unitOf ns edge (parentOf ns j))
+  unitUp j z h = handedLaw ns (λ i j r. cond (edge i j) i r) 0 t j z h
+
+  pub unitRoot : unitOf ns edge 0 ≡ 0
+  unitRoot = handedRoot ns (λ i j r. cond (edge i j) i r) 0
+
+someIf : (x : Bool) (l m : List ℕ) → ((x && some l) || some m) ≡ some (cond x l [] ++ m)
+someIf true l m = sym (someAppend l m)
+someIf false l m = refl
+
+-- the Boolean operation, as one that lists what it finds
+module _ (sought : ℕ → Bool) (into : ℕ → ℕ → Bool) where
+  abbrev lists : Roses → (ℕ → Bool) → List ℕ
+  lists ks b = saysAll {A = Unit {0}} (λ n a. only (sought n) n) into (λ i j a. a) ks b (λ j. tt)
+
+  mutual
+    unfolding contains says
+
+    literal : (t : Rose) → contains sought into t ≡ some (says {A = Unit {0}} (λ n a. only (sought n) n) into (λ i j a. a) t tt)
+    literal (node n ks) =
+        rw (literalAll ks (into n)) (ap (λ b. b || some (lists ks (into n))) (sym (someOnly (sought n) n)) ∙ sym (someAppend (only (sought n) n) (lists ks (into n))))
+
+    literalAll : (ks : Roses) (b : ℕ → Bool) → containsAny sought into ks b ≡ some (lists ks b)
+    literalAll rnil b = refl
+    literalAll (rcons t ts) b = rw (literal t, literalAll ts b) (someIf (b (idx t)) (says {A = Unit {0}} (λ n a. only (sought n) n) into (λ i j a. a) t tt) (lists ts b))
+
+-- THE OPERATION NODE BY NODE
+pub containsIs : (ns : List ℕ) → Tree ns → (sought : ℕ → Bool) (edge : ℕ → ℕ → Bool) → ((j : ℕ) → edge 0 j ≡ true) → (u : ℕ) → u < count ns
+    → containsIn ns sought edge u ≡ some (each (λ j. cond (eqb (unitOf ns edge j) u) (only (sought j) j) []) (upto (u + 1) (count ns)))
+containsIs ns t sought edge root u h =
+    literalAll sought (λ i j. not (edge i j)) (partsOf ns u) (edge u)
+    ∙ ap some (unitBridge {A = Unit {0}} (λ n a. only (sought n) n) (λ i j. not (edge i j)) (λ i j a. a) ns t edge (λ i j. tt) tt root (λ i j. shut (edge i j)) (λ i j p x y. quiet (edge i j) x y) u h)
+  where
+    shut : (b : Bool) → not b ≡ true → b ≡ false
+    shut true e = never (sym e)
+    shut false e = refl
+
+    quiet : {C : Type 0} → (b : Bool) → b ≡ false → not b ≡ false → C
+    quiet true x y = never x
+    quiet false x y = never y
