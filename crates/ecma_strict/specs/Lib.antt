@@ -12,3 +12,4 @@ pub mod IdentifiersLaws
 pub mod Contains
 pub mod ContainsLaws
 pub mod SearchLaws
+pub mod AgreeLaws
