@@ -13,3 +13,5 @@ pub mod Contains
 pub mod ContainsLaws
 pub mod SearchLaws
 pub mod AgreeLaws
+pub mod Functions
+pub mod FunctionsLaws
