@@ -15,3 +15,4 @@ pub mod SearchLaws
 pub mod AgreeLaws
 pub mod Functions
 pub mod FunctionsLaws
+pub mod Theorems
