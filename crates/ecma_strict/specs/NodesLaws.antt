@@ -113,11 +113,11 @@ unfolding raised flatMap
 raisedFlat c f [] = refl
 raisedFlat c f (j ∷ l) = mapAppend (withCode c (f j)) (flatMap (λ j. withCode c (f j)) l) ∙ ap (λ m. map (λ (f : Finding). f .node .0) (withCode c (f j)) ++ m) (raisedFlat c f l)
 
-pub wholeIs : (c t : ℕ) (ns ss source names : List ℕ) (rule : ℕ → Bool) → member c (1 ∷ []) ≡ false
-    → ((j : ℕ) → j < count ns → raised c (findingsAt t ns ss source names j) ≡ only (rule j) j)
-    → raised c (findingsOf t ns ss source names) ≡ each (λ j. only (rule j) j) (upto 0 (count ns))
+pub wholeIs : (c t : ℕ) (ns ss source names : List ℕ) (rule : ℕ → List ℕ) → member c (1 ∷ []) ≡ false
+    → ((j : ℕ) → j < count ns → raised c (findingsAt t ns ss source names j) ≡ rule j)
+    → raised c (findingsOf t ns ss source names) ≡ each rule (upto 0 (count ns))
 unfolding raised
 wholeIs c t ns ss source names rule e h =
     ap (map (λ (f : Finding). f .node .0)) (wholeOther t ns ss source names c e)
     ∙ raisedFlat c (findingsAt t ns ss source names) (upto 0 (count ns))
-    ∙ eachSame (λ j. raised c (findingsAt t ns ss source names j)) (λ j. only (rule j) j) 0 (count ns) (λ j p q. h j q)
+    ∙ eachSame (λ j. raised c (findingsAt t ns ss source names j)) rule 0 (count ns) (λ j p q. h j q)

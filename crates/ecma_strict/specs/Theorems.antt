@@ -266,3 +266,51 @@ module _ (t : ℕ) (ns ss source names : List ℕ) (w : WellFormed t ns ss sourc
   code33 =
       atListed 33 n at (awaitOrYield ns n) (awaitInParameterSaid ns n) (inParameter ns n)
       (λ e. parameterIs ns (w .input .tree) n h e) (λ e. rw e) (at33 t ns ss source names n)
+
+-- Of the whole tree: the nodes at which findings with a code are raised are those where the rule is broken, in order.
+abbrev pub Exactly : ℕ → ℕ → List ℕ → List ℕ → List ℕ → List ℕ → (ℕ → List ℕ) → Type 0
+Exactly c t ns ss source names rule = raised c (findingsOf t ns ss source names) ≡ each rule (upto 0 (count ns))
+
+pub record EarlyErrors (t : ℕ) (ns ss source names : List ℕ) : Type 0 where
+  pub reservedWord : Exactly 2 t ns ss source names (λ n. only (reservedName t ns ss names n) n)
+  pub awaitInBlock : Exactly 3 t ns ss source names (λ n. only (awaitNameScoped t ns ss names n || (awaitExpression ns n && scopedInBlock ns ss n)) n)
+  pub evalAssigned : Exactly 4 t ns ss source names (λ n. only (bindsEval ns ss names n || assignsEval ns ss names n) n)
+  pub letDeclared : Exactly 5 t ns ss source names (λ n. only (letBoundSaid ns ss names n) n)
+  pub argumentsInClass : Exactly 6 t ns ss source names (λ n. only (argumentsSaid ns ss names n) n)
+  pub legacyOctal : Exactly 9 t ns ss source names (λ n. only (toldOctal ns ss source n || firstOctalEscape ns ss source n) n)
+  pub leadingZero : Exactly 10 t ns ss source names (λ n. only (toldNonOctal ns ss source n) n)
+  pub nonOctalEscape : Exactly 11 t ns ss source names (λ n. only (firstNonOctalEscape ns ss source n) n)
+  pub useStrict : Exactly 12 t ns ss source names (λ n. only (useStrictScoped ns ss names n) n)
+  pub usingInScript : Exactly 13 t ns ss source names (λ n. only (topUsing t ns ss n) n)
+  pub awaitUsingInBlock : Exactly 14 t ns ss source names (λ n. only (awaitUsing ns n && scopedInBlock ns ss n) n)
+  pub strictFunctions : Exactly 15 t ns ss source names (λ n. only (strictFunction ns ss n) n ++ only (strictFunctionElse ns ss n) n)
+  pub sloppyFunctions : Exactly 16 t ns ss source names (λ n. only (sloppyFunction ns ss n || labelledFunctionSaid ns ss n) n)
+  pub withStatement : Exactly 17 t ns ss source names (λ n. only (strictWith ns ss n) n)
+  pub forHead : Exactly 24 t ns ss source names (λ n. only (saidHead ns ss n) n)
+  pub forAwaitInBlock : Exactly 25 t ns ss source names (λ n. only (forAwait ns n && scopedInBlock ns ss n) n)
+  pub deleteOfName : Exactly 31 t ns ss source names (λ n. only (deletesName ns ss n) n)
+  pub deleteOfPrivate : Exactly 32 t ns ss source names (λ n. only (deletesPrivateAnywhere ns n) n)
+  pub awaitOrYieldInParameters : Exactly 33 t ns ss source names (λ n. only (awaitInParameterSaid ns n) n)
+
+pub earlyErrors : (t : ℕ) (ns ss source names : List ℕ) → WellFormed t ns ss source names → EarlyErrors t ns ss source names
+earlyErrors t ns ss source names w = record {
+  reservedWord = wholeIs 2 t ns ss source names (λ n. only (reservedName t ns ss names n) n) refl (code2 t ns ss source names w);
+  awaitInBlock = wholeIs 3 t ns ss source names (λ n. only (awaitNameScoped t ns ss names n || (awaitExpression ns n && scopedInBlock ns ss n)) n) refl (code3 t ns ss source names w);
+  evalAssigned = wholeIs 4 t ns ss source names (λ n. only (bindsEval ns ss names n || assignsEval ns ss names n) n) refl (code4 t ns ss source names w);
+  letDeclared = wholeIs 5 t ns ss source names (λ n. only (letBoundSaid ns ss names n) n) refl (code5 t ns ss source names w);
+  argumentsInClass = wholeIs 6 t ns ss source names (λ n. only (argumentsSaid ns ss names n) n) refl (code6 t ns ss source names w);
+  legacyOctal = wholeIs 9 t ns ss source names (λ n. only (toldOctal ns ss source n || firstOctalEscape ns ss source n) n) refl (code9 t ns ss source names w);
+  leadingZero = wholeIs 10 t ns ss source names (λ n. only (toldNonOctal ns ss source n) n) refl (code10 t ns ss source names w);
+  nonOctalEscape = wholeIs 11 t ns ss source names (λ n. only (firstNonOctalEscape ns ss source n) n) refl (code11 t ns ss source names w);
+  useStrict = wholeIs 12 t ns ss source names (λ n. only (useStrictScoped ns ss names n) n) refl (code12 t ns ss source names w);
+  usingInScript = wholeIs 13 t ns ss source names (λ n. only (topUsing t ns ss n) n) refl (code13 t ns ss source names w);
+  awaitUsingInBlock = wholeIs 14 t ns ss source names (λ n. only (awaitUsing ns n && scopedInBlock ns ss n) n) refl (code14 t ns ss source names w);
+  strictFunctions = wholeIs 15 t ns ss source names (λ n. only (strictFunction ns ss n) n ++ only (strictFunctionElse ns ss n) n) refl (code15 t ns ss source names w);
+  sloppyFunctions = wholeIs 16 t ns ss source names (λ n. only (sloppyFunction ns ss n || labelledFunctionSaid ns ss n) n) refl (code16 t ns ss source names w);
+  withStatement = wholeIs 17 t ns ss source names (λ n. only (strictWith ns ss n) n) refl (code17 t ns ss source names w);
+  forHead = wholeIs 24 t ns ss source names (λ n. only (saidHead ns ss n) n) refl (code24 t ns ss source names w);
+  forAwaitInBlock = wholeIs 25 t ns ss source names (λ n. only (forAwait ns n && scopedInBlock ns ss n) n) refl (code25 t ns ss source names w);
+  deleteOfName = wholeIs 31 t ns ss source names (λ n. only (deletesName ns ss n) n) refl (code31 t ns ss source names w);
+  deleteOfPrivate = wholeIs 32 t ns ss source names (λ n. only (deletesPrivateAnywhere ns n) n) refl (code32 t ns ss source names w);
+  awaitOrYieldInParameters = wholeIs 33 t ns ss source names (λ n. only (awaitInParameterSaid ns n) n) refl (code33 t ns ss source names w);
+}
