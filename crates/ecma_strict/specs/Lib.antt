@@ -16,3 +16,4 @@ pub mod AgreeLaws
 pub mod Functions
 pub mod FunctionsLaws
 pub mod Theorems
+pub mod LabelledLaws
