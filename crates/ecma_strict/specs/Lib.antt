@@ -17,3 +17,4 @@ pub mod Functions
 pub mod FunctionsLaws
 pub mod Theorems
 pub mod LabelledLaws
+pub mod Units
