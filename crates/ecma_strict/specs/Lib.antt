@@ -18,3 +18,4 @@ pub mod FunctionsLaws
 pub mod Theorems
 pub mod LabelledLaws
 pub mod Units
+pub mod Standard
