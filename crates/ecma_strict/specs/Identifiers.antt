@@ -36,8 +36,8 @@ strictReserved =
     ∷ []
 
 -- 13.1.1, Identifier: "It is a Syntax Error if IsStrict(this phrase) is true and the StringValue of IdentifierName is one of" these, and "if the goal symbol of the syntactic
--- grammar is Module and the StringValue of IdentifierName is "await"." (What the parameters [Yield] and [Await] of the grammar forbid, and words that are reserved
--- everywhere, the tables don't tell: no tree has them. But see 15.7.1 for `await` in a static block.)
+-- grammar is Module and the StringValue of IdentifierName is "await"." Not here: a word that is reserved everywhere (no tree has it as a name), and `yield` and `await` where the
+-- production has the parameter [Yield] or [Await], since the tables don't tell which functions are generators or async. For `await` in a static block see Contains.
 unfoldable pub reservedName : ℕ → List ℕ → List ℕ → List ℕ → ℕ → Bool
 reservedName sourceType ns ss names n =
     identifier ns n && ((strictCode ns ss n && any (λ w. nameIs ns names n w) strictReserved) || (goalModule sourceType && nameIs ns names n word.awaitWord))

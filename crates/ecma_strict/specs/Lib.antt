@@ -19,3 +19,4 @@ pub mod Theorems
 pub mod LabelledLaws
 pub mod Units
 pub mod Standard
+pub mod Examples
