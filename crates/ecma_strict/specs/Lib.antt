@@ -9,6 +9,7 @@ pub mod Statements
 pub mod StatementsLaws
 pub mod Identifiers
 pub mod IdentifiersLaws
+pub mod Scopes
 pub mod Contains
 pub mod ContainsLaws
 pub mod SearchLaws
@@ -20,3 +21,4 @@ pub mod LabelledLaws
 pub mod Units
 pub mod Standard
 pub mod Examples
+pub mod ScopesLaws
