@@ -21,7 +21,8 @@ use Rattle.scoping.specs.ScopingLaws.{static-here, static-function, static-up, 
 use Rattle.trees.specs.Trail.{unitOf}
 use Rattle.ecma_strict.specs.Strict.{strictCode}
 use Rattle.ecma_strict.specs.Identifiers.{goalModule, assignsEval}
-use Rattle.ecma_strict.specs.Contains.{isNode, initializer, awaitEdge, staticBlock, awaitNameEdge, awaitName, argumentsEdge, argumentsHome, argumentsReference, parameter, parameterEdge, awaitOrYield, boundEdge, lexicalDeclaration, letName, awaitInBlock, awaitNameInBlock, argumentsInClass, awaitInParameter, letBound, scopedInBlock, awaitNameScoped, letEdge, letBoundSaid, fieldEdge, fieldHome, argumentsSaid, throughClassEdge, awaitInParameterSaid, blockScope, functionScope, ScopesTold, AwaitNameTold}
+use Rattle.ecma_strict.specs.Contains.{isNode, initializer, awaitEdge, staticBlock, awaitNameEdge, awaitName, argumentsEdge, argumentsHome, argumentsReference, parameter, parameterEdge, awaitOrYield, boundEdge, lexicalDeclaration, letName, awaitInBlock, awaitNameInBlock, argumentsInClass, awaitInParameter, letBound, scopedInBlock, awaitNameScoped, letEdge, letBoundSaid, fieldEdge, fieldHome, argumentsSaid, throughClassEdge, awaitInParameterSaid, AwaitNameTold}
+use Rattle.ecma_strict.specs.Scopes.{blockScope, functionScope}
 use Rattle.ecma_strict.specs.ContainsLaws.{upward, unitUp, unitRoot}
 use Rattle.ecma_strict.specs.SearchLaws.{rootOnly, unitHere, unitPass}
 
@@ -171,6 +172,17 @@ parameterAgrees ns n t h e = rw (unitsAgree ns t (parameterEdge ns) (throughClas
 -- CODES 3, 14, 25: where the scopes follow the tree, and no Initializer of a field stands between
 abbrev pub blockEdge : List ℕ → ℕ → ℕ → Bool
 blockEdge ns i j = within (kindOf ns i) k.Program k.StaticBlock
+
+-- What scopes that follow the tree tell: what stands in a function, an arrow or a static block has a scope that is flagged so; any other part of a node has the node's scope, or one around
+-- which is the node's, and which has neither flag.
+pub record ScopesTold (ns ss : List ℕ) : Type 0 where
+  pub top : scopeOf ns 0 ≡ 0
+  pub neither : (blockScope ns ss 0 ≡ false) × (functionScope ns ss 0 ≡ false)
+  pub inside : (i : ℕ) → 0 < i → i < count ns → within (kindOf ns (parentOf ns i)) k.Function k.StaticBlock ≡ true
+      → (blockScope ns ss i ≡ staticBlock ns (parentOf ns i)) × (functionScope ns ss i ≡ not (staticBlock ns (parentOf ns i)))
+  pub elsewhere : (i : ℕ) → 0 < i → i < count ns → within (kindOf ns (parentOf ns i)) k.Function k.StaticBlock ≡ false
+      → (scopeOf ns i ≡ scopeOf ns (parentOf ns i))
+      ⊎ ((0 < scopeOf ns i) × (scopeParentOf ss (scopeOf ns i) ≡ scopeOf ns (parentOf ns i)) × (blockScope ns ss i ≡ false) × (functionScope ns ss i ≡ false))
 
 module _ (ns ss : List ℕ) (t : Tree ns) (c : Chained ss) (s : Scoped ns ss) (w : ScopesTold ns ss) where
   scopesAre : (i : ℕ) → i < count ns → inStaticBlock ss (scopeOf ns i) ≡ staticBlock ns (unitOf ns (blockEdge ns) i)

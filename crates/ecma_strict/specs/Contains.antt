@@ -1,12 +1,11 @@
 -- ECMA-262, 8.5.1 Contains, 15.7.8 ContainsArguments, 8.2.1 BoundNames: operations that begin at a node of one kind, go down, and end at others.
-use Prim.Native.Nat.{ℕ, _<_}
+use Prim.Native.Nat.{ℕ}
 use mathlib.Core.Path.{_≡_}
-use mathlib.Core.Logic.{_⊎_}
 use mathlib.Core.List.{List, _∷_, foldr}
 use mathlib.Core.Bool.{Bool, true, false, cond, not, _&&_, _||_}
 use lib.Dec.{eqb}
 use Rattle.common.specs.Tests.{within}
-use Rattle.tables.specs.Table.{kindOf, parentOf, flagsOf, extraOf, count, scopeOf, scopeParentOf, scopeFlagsOf, scopeNodeOf, outer, hasFlag}
+use Rattle.tables.specs.Table.{kindOf, parentOf, flagsOf, extraOf, scopeOf, scopeFlagsOf, scopeNodeOf, outer, hasFlag}
 use Rattle.tables.specs.Kinds as k
 use Rattle.tables.specs.Extras as extra
 use Rattle.tables.specs.NodeFlag as flag
@@ -19,6 +18,7 @@ use Rattle.children.specs.Children.{valueOf}
 use Rattle.trees.specs.Rose.{Rose, Roses, node, rnil, rcons, idx, partsOf}
 use Rattle.trees.specs.Trail.{unitOf}
 use Rattle.ecma_strict.specs.Strict.{strictCode}
+use Rattle.ecma_strict.specs.Scopes.{blockScope}
 use Rattle.ecma_strict.specs.Identifiers.{goalModule, assignsEval}
 
 -- "For each child node child of this Parse Node: if child is an instance of symbol, return true; if child is an instance of a nonterminal, let contained be the result
@@ -159,24 +159,6 @@ unfoldable pub awaitInParameterSaid : List ℕ → ℕ → Bool
 awaitInParameterSaid ns n = awaitOrYield ns n && parameter ns (unitOf ns (throughClassEdge ns) n)
 
 -- WHERE THE RULES AGREE
-
--- the scope is flagged as a static block's, as a function's
-abbrev pub blockScope : List ℕ → List ℕ → ℕ → Bool
-blockScope ns ss i = hasFlag (scopeFlagsOf ss (scopeOf ns i)) scope.StaticBlockScope
-
-abbrev pub functionScope : List ℕ → List ℕ → ℕ → Bool
-functionScope ns ss i = hasFlag (scopeFlagsOf ss (scopeOf ns i)) scope.FunctionScope
-
--- The scopes follow the tree: what stands in a function, an arrow or a static block has a scope that is flagged so; any other part of a node has the node's scope, or one around
--- which is the node's, and which has neither flag.
-pub record ScopesTold (ns ss : List ℕ) : Type 0 where
-  pub top : scopeOf ns 0 ≡ 0
-  pub neither : (blockScope ns ss 0 ≡ false) × (functionScope ns ss 0 ≡ false)
-  pub inside : (i : ℕ) → 0 < i → i < count ns → within (kindOf ns (parentOf ns i)) k.Function k.StaticBlock ≡ true
-      → (blockScope ns ss i ≡ staticBlock ns (parentOf ns i)) × (functionScope ns ss i ≡ not (staticBlock ns (parentOf ns i)))
-  pub elsewhere : (i : ℕ) → 0 < i → i < count ns → within (kindOf ns (parentOf ns i)) k.Function k.StaticBlock ≡ false
-      → (scopeOf ns i ≡ scopeOf ns (parentOf ns i))
-      ⊎ ((0 < scopeOf ns i) × (scopeParentOf ss (scopeOf ns i) ≡ scopeOf ns (parentOf ns i)) × (blockScope ns ss i ≡ false) × (functionScope ns ss i ≡ false))
 
 -- the scope of the name n is that of the node where its [Await] parameter comes from, and is flagged as a static block's if it is one
 pub record AwaitNameTold (ns ss : List ℕ) (n : ℕ) : Type 0 where

@@ -77,6 +77,10 @@ useStrictScoped ns ss names n =
     && (hasFlag (scopeFlagsOf ss (scopeOf ns n)) scope.FunctionScope
     && (within (kindOf ns (scopeNodeOf ss (scopeOf ns n))) k.Function k.Arrow && not (simpleParameters ns (scopeNodeOf ss (scopeOf ns n)))))
 
+-- a directive stands in the prologue of a Script, a Module or a FunctionBody
+abbrev pub directivePlaced : List ℕ → ℕ → Bool
+directivePlaced ns n = eqb (kindOf ns (parentOf ns n)) k.Program || eqb (kindOf ns (parentOf ns n)) k.FunctionBody
+
 -- where they agree: a directive in the body of a function has that function's scope, and no other directive has one of a function
 pub record DirectiveTold (ns ss : List ℕ) (n : ℕ) : Type 0 where
   pub function : hasFlag (scopeFlagsOf ss (scopeOf ns n)) scope.FunctionScope ≡ eqb (kindOf ns (parentOf ns n)) k.FunctionBody

@@ -1,6 +1,7 @@
 pub mod Nodes
 pub mod NodesLaws
 pub mod Strict
+pub mod Scopes
 pub mod Literals
 pub mod LiteralsLaws
 pub mod Delete
@@ -9,16 +10,15 @@ pub mod Statements
 pub mod StatementsLaws
 pub mod Identifiers
 pub mod IdentifiersLaws
-pub mod Scopes
 pub mod Contains
 pub mod ContainsLaws
 pub mod SearchLaws
 pub mod AgreeLaws
+pub mod ScopesLaws
 pub mod Functions
 pub mod FunctionsLaws
-pub mod Theorems
 pub mod LabelledLaws
-pub mod Units
+pub mod Theorems
 pub mod Standard
+pub mod Units
 pub mod Examples
-pub mod ScopesLaws

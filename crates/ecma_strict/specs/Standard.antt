@@ -4,9 +4,11 @@ use Prim.Native.Nat.{ℕ, _<_}
 use mathlib.Core.Path.{_≡_, refl, ap, _∙_}
 use mathlib.Core.List.{List}
 use mathlib.Core.Bool.{Bool, true, false, not, _&&_, _||_}
+use native.Mathlib.Omega.{arith}
+use borrow.Author.Tests.{eqb-true}
 use lib.Dec.{eqb}
 use Rattle.common.specs.Tests.{within}
-use Rattle.tables.specs.Table.{kindOf, count}
+use Rattle.tables.specs.Table.{kindOf, parentOf, count, scopeOf, scopeNodeOf}
 use Rattle.tables.specs.Kinds as k
 use Rattle.checker.specs.Findings.{findingsAt}
 use Rattle.input.specs.InputLaws.{WellFormed}
@@ -18,11 +20,13 @@ use Rattle.ecma_strict.specs.Literals.{firstOctalEscape, strictOctal, st
 use Rattle.ecma_strict.specs.LiteralsLaws.{octalAgrees, nonOctalAgrees, octalEscapeAgrees, nonOctalEscapeAgrees}
 use Rattle.ecma_strict.specs.Delete.{deletesPrivate}
 use Rattle.ecma_strict.specs.DeleteLaws.{deletePrivateAgrees}
-use Rattle.ecma_strict.specs.Statements.{headOf, ofHead, unsaid, initializedHead, badUsing, UsingTold}
+use Rattle.ecma_strict.specs.Statements.{headOf, ofHead, unsaid, initializedHead, heldUsing, badUsing, otherScope}
 use Rattle.ecma_strict.specs.StatementsLaws.{headAgrees, usingAgrees}
-use Rattle.ecma_strict.specs.Identifiers.{goalModule, assignsEval, useStrictThere, DirectiveTold}
+use Rattle.ecma_strict.specs.Identifiers.{goalModule, assignsEval, useStrictScoped, useStrictThere, directivePlaced}
 use Rattle.ecma_strict.specs.IdentifiersLaws.{useStrictAgrees}
-use Rattle.ecma_strict.specs.Contains.{awaitEdge, argumentsEdge, parameterEdge, boundEdge, awaitExpression, forAwait, awaitUsing, awaitInBlock, awaitName, awaitNameInBlock, awaitNameScoped, scopedInBlock, argumentsInClass, awaitInParameter, letBound, ScopesTold, AwaitNameTold}
+use Rattle.ecma_strict.specs.Contains.{awaitEdge, argumentsEdge, parameterEdge, boundEdge, awaitExpression, forAwait, awaitUsing, awaitInBlock, awaitName, awaitNameInBlock, awaitNameScoped, scopedInBlock, argumentsInClass, awaitInParameter, letBound, awaitNameEdge}
+use Rattle.ecma_strict.specs.Scopes.{scopesFollow}
+use Rattle.ecma_strict.specs.ScopesLaws.{scopesTold, awaitNameTold, directiveTold, usingTold, notProgram}
 use Rattle.ecma_strict.specs.AgreeLaws.{letAgrees, argumentsAgree, classPart, parameterAgrees, blockAgrees, awaitNameAgrees}
 use Rattle.ecma_strict.specs.Functions.{sloppyFunction, labelledFunctionAt}
 use Rattle.ecma_strict.specs.FunctionsLaws.{labelledAgrees}
@@ -37,8 +41,8 @@ module _ (t : ℕ) (ns ss source names : List ℕ) (w : WellFormed t ns ss sourc
 
   -- at a name: in a script, where its scope is that of the node where its [Await] comes from; at an AwaitExpression: where the scopes follow the tree, and no Initializer of a
   -- field stands between
-  pub standard3 : (awaitName ns names n ≡ true → (goalModule t ≡ false) × AwaitNameTold ns ss n)
-      → (awaitExpression ns n ≡ true → ScopesTold ns ss × (within (kindOf ns (unitOf ns (awaitEdge ns) n)) k.PropertyDefinition k.AccessorProperty ≡ false))
+  pub standard3 : (awaitName ns names n ≡ true → (goalModule t ≡ false) × (scopesFollow ns ss ≡ true) × (scopeNodeOf ss (scopeOf ns n) ≡ unitOf ns (awaitNameEdge ns) n))
+      → (awaitExpression ns n ≡ true → (scopesFollow ns ss ≡ true) × (within (kindOf ns (unitOf ns (awaitEdge ns) n)) k.PropertyDefinition k.AccessorProperty ≡ false))
       → Rule 3 (awaitNameInBlock ns names n || (awaitExpression ns n && awaitInBlock ns n))
   unfolding awaitNameScoped awaitNameInBlock
   standard3 f g = code3 t ns ss source names w n h ∙ ap (λ x. only x n) (both (name (awaitName ns names n) refl) (expression (awaitExpression ns n) refl))
@@ -47,11 +51,11 @@ module _ (t : ℕ) (ns ss source names : List ℕ) (w : WellFormed t ns ss sourc
       both p q = rw (p, q)
 
       name : (b : Bool) → awaitName ns names n ≡ b → awaitNameScoped t ns ss names n ≡ awaitNameInBlock ns names n
-      name true e = awaitNameAgrees t ns ss names n (f e .0) (f e .1)
+      name true e = awaitNameAgrees t ns ss names n (f e .0) (awaitNameTold ns ss (w .input .tree) (f e .1) n h (f e .2))
       name false e = rw e
 
       expression : (b : Bool) → awaitExpression ns n ≡ b → (awaitExpression ns n && scopedInBlock ns ss n) ≡ (awaitExpression ns n && awaitInBlock ns n)
-      expression true e = ap (λ x. awaitExpression ns n && x) (blockAgrees ns ss (w .input .tree) (w .input .chained) (w .input .scoped) (g e .0) n h (g e .1))
+      expression true e = ap (λ x. awaitExpression ns n && x) (blockAgrees ns ss (w .input .tree) (w .input .chained) (w .input .scoped) (scopesTold ns ss (w .input .tree) (g e .0)) n h (g e .1))
       expression false e = rw e
 
   -- in sloppy code, not as the name of a class in an Initializer
@@ -74,18 +78,26 @@ module _ (t : ℕ) (ns ss source names : List ℕ) (w : WellFormed t ns ss sourc
   pub standard11 : EscapesTold ns source n → Rule 11 (strictNonOctalEscape ns ss source n)
   standard11 e = code11 t ns ss source names w n h ∙ ap (λ x. only x n) (nonOctalEscapeAgrees ns ss source n e)
 
-  -- where the scope of a directive is that of the function in whose body it stands
-  pub standard12 : DirectiveTold ns ss n → Rule 12 (useStrictThere ns names n)
-  standard12 d = code12 t ns ss source names w n h ∙ ap (λ x. only x n) (useStrictAgrees ns ss names n d)
+  -- where the scopes follow the tree, and a directive stands in the prologue of a program or a function
+  pub standard12 : scopesFollow ns ss ≡ true → (kindOf ns n ≡ k.Directive → directivePlaced ns n ≡ true) → Rule 12 (useStrictThere ns names n)
+  unfolding useStrictScoped useStrictThere
+  standard12 s d = code12 t ns ss source names w n h ∙ ap (λ x. only x n) (go (eqb (kindOf ns n) k.Directive) refl)
+    where
+      go : (b : Bool) → eqb (kindOf ns n) k.Directive ≡ b → useStrictScoped ns ss names n ≡ useStrictThere ns names n
+      go true e =
+          let q = eqb-true (kindOf ns n) 23 e in
+          useStrictAgrees ns ss names n
+          (directiveTold ns ss (w .input .tree) s (w .shaped .placed) n (notProgram ns (w .input .tree) n (λ (c : kindOf ns n ≡ 0). omega arith)) h (d q))
+      go false e = rw e
 
-  -- where the scope is the top one just if no Block and the like holds the declaration, and no clause of a switch does
-  pub standard13 : UsingTold ns ss n → Rule 13 (badUsing t ns n)
-  standard13 u = code13 t ns ss source names w n h ∙ ap (λ x. only x n) (usingAgrees t ns ss n u)
+  -- where the scopes follow the tree, no clause of a switch holds the declaration, and nothing around it makes a scope but a Block and the like
+  pub standard13 : scopesFollow ns ss ≡ true → eqb (kindOf ns (parentOf ns n)) k.SwitchCase ≡ false → (otherScope ns n && not (heldUsing ns n)) ≡ false → Rule 13 (badUsing t ns n)
+  standard13 s c o = code13 t ns ss source names w n h ∙ ap (λ x. only x n) (usingAgrees t ns ss n (usingTold ns ss (w .input .tree) s (w .shaped .placed) n h o c))
 
   -- where the scopes follow the tree, and no Initializer of a field stands between
-  pub standard14 : ScopesTold ns ss → within (kindOf ns (unitOf ns (awaitEdge ns) n)) k.PropertyDefinition k.AccessorProperty ≡ false → Rule 14 (awaitUsing ns n && awaitInBlock ns n)
+  pub standard14 : scopesFollow ns ss ≡ true → within (kindOf ns (unitOf ns (awaitEdge ns) n)) k.PropertyDefinition k.AccessorProperty ≡ false → Rule 14 (awaitUsing ns n && awaitInBlock ns n)
   standard14 s e =
-      code14 t ns ss source names w n h ∙ ap (λ x. only (awaitUsing ns n && x) n) (blockAgrees ns ss (w .input .tree) (w .input .chained) (w .input .scoped) s n h e)
+      code14 t ns ss source names w n h ∙ ap (λ x. only (awaitUsing ns n && x) n) (blockAgrees ns ss (w .input .tree) (w .input .chained) (w .input .scoped) (scopesTold ns ss (w .input .tree) s) n h e)
 
   -- in sloppy code: in strict code 15 is raised at the label
   pub standard16 : strictCode ns ss n ≡ false → Rule 16 (sloppyFunction ns ss n || labelledFunctionAt ns n)
@@ -95,9 +107,9 @@ module _ (t : ℕ) (ns ss source names : List ℕ) (w : WellFormed t ns ss sourc
   pub standard24 : ofHead (unsaid ns n) (headOf ns n) ≡ false → Rule 24 (initializedHead ns ss n)
   standard24 u = code24 t ns ss source names w n h ∙ ap (λ x. only x n) (headAgrees ns ss n u)
 
-  pub standard25 : ScopesTold ns ss → within (kindOf ns (unitOf ns (awaitEdge ns) n)) k.PropertyDefinition k.AccessorProperty ≡ false → Rule 25 (forAwait ns n && awaitInBlock ns n)
+  pub standard25 : scopesFollow ns ss ≡ true → within (kindOf ns (unitOf ns (awaitEdge ns) n)) k.PropertyDefinition k.AccessorProperty ≡ false → Rule 25 (forAwait ns n && awaitInBlock ns n)
   standard25 s e =
-      code25 t ns ss source names w n h ∙ ap (λ x. only (forAwait ns n && x) n) (blockAgrees ns ss (w .input .tree) (w .input .chained) (w .input .scoped) s n h e)
+      code25 t ns ss source names w n h ∙ ap (λ x. only (forAwait ns n && x) n) (blockAgrees ns ss (w .input .tree) (w .input .chained) (w .input .scoped) (scopesTold ns ss (w .input .tree) s) n h e)
 
   -- in strict code
   pub standard32 : strictCode ns ss n ≡ true → Rule 32 (deletesPrivate ns ss n)

@@ -7,16 +7,16 @@ use lib.Dec.{eqb, leb}
 use lib.ListN.{length}
 use Rattle.common.specs.Upto.{upto, all, any}
 use Rattle.common.specs.Tests.{within}
-use Rattle.tables.specs.Table.{kindOf, parentOf, count, flagsOf, extraOf, scopeOf, scopeFlagsOf, hasFlag, ancestors}
+use Rattle.tables.specs.Table.{kindOf, parentOf, count, flagsOf, extraOf, hasFlag, ancestors}
 use Rattle.tables.specs.Kinds as k
 use Rattle.tables.specs.Roles as role
 use Rattle.tables.specs.Extras as extra
 use Rattle.tables.specs.NodeFlag as flag
-use Rattle.tables.specs.ScopeFlag as scope
 use Rattle.tables.specs.declared.Found.{Found}
 use Rattle.tables.specs.declared.Found.the-variants.{At, Nothing}
 use Rattle.children.specs.Children.{keep, isChild, firstChild}
 use Rattle.ecma_strict.specs.Strict.{strictCode}
+use Rattle.ecma_strict.specs.Scopes.{mayMakeScope, topScope}
 
 -- 14.11.1: WithStatement : with ( Expression ) Statement: "It is a Syntax Error if IsStrict(this production) is true."
 unfoldable pub strictWith : List ℕ → List ℕ → ℕ → Bool
@@ -83,11 +83,12 @@ unfoldable pub badUsing : ℕ → List ℕ → ℕ → Bool
 badUsing sourceType ns n = usingDeclaration ns n && ((eqb sourceType 0 && not (heldUsing ns n)) || eqb (kindOf ns (parentOf ns n)) k.SwitchCase)
 
 -- CHANGED RULE, as the Rust has it: in a script, where the scope is the top one
-abbrev pub topScope : List ℕ → List ℕ → ℕ → Bool
-topScope ns ss n = hasFlag (scopeFlagsOf ss (scopeOf ns n)) scope.Top
-
 unfoldable pub topUsing : ℕ → List ℕ → List ℕ → ℕ → Bool
 topUsing sourceType ns ss n = usingDeclaration ns n && (eqb sourceType 0 && topScope ns ss n)
+
+-- something else stands around it that makes a scope: a switch, and what no text has there
+unfoldable pub otherScope : List ℕ → ℕ → Bool
+otherScope ns n = any (λ a. within (kindOf ns a) k.Function k.Arrow || mayMakeScope (kindOf ns a)) (ancestors ns n)
 
 -- where they agree: the scope is the top one just where none of these contains the declaration, and it is in no clause of a switch
 pub record UsingTold (ns ss : List ℕ) (n : ℕ) : Type 0 where

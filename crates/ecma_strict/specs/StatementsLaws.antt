@@ -29,7 +29,8 @@ use Rattle.statements.specs.Statements.{checkFound, checkWithStatement, leftOf,
 use Rattle.trees.specs.Walk.{only}
 use Rattle.ecma_strict.specs.Nodes.{nodesOf}
 use Rattle.ecma_strict.specs.Strict.{strictCode}
-use Rattle.ecma_strict.specs.Statements.{strictWith, declaratorsOf, initialized, plainName, single, annexHead, badHead, headOf, ofHead, initializedHead, unsaid, saidHead, usingDeclaration, heldUsing, badUsing, topScope, topUsing, UsingTold}
+use Rattle.ecma_strict.specs.Statements.{strictWith, declaratorsOf, initialized, plainName, single, annexHead, badHead, headOf, ofHead, initializedHead, unsaid, saidHead, usingDeclaration, heldUsing, badUsing, topUsing, UsingTold}
+use Rattle.ecma_strict.specs.Scopes.{topScope}
 
 -- one finding where a test says so
 pub ifOnly : (c s e n x : ℕ) (b : Bool) → nodesOf c (cond b (errorSpan c n s e x) Clear) ≡ only b n

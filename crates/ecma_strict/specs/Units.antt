@@ -24,7 +24,9 @@ use Rattle.trees.specs.Trail.{unitOf}
 use Rattle.ecma_strict.specs.Nodes.{raised}
 use Rattle.ecma_strict.specs.Strict.{strictCode}
 use Rattle.ecma_strict.specs.Identifiers.{strictReserved, reservedName, bindsEval, assignsEval}
-use Rattle.ecma_strict.specs.Contains.{containsIn, awaitEdge, staticBlock, awaitExpression, forAwait, awaitUsing, awaitInBlock, argumentsEdge, argumentsHome, argumentsReference, argumentsInClass, argumentsSaid, parameter, parameterEdge, awaitOrYield, awaitInParameter, awaitInParameterSaid, boundEdge, lexicalDeclaration, letName, letBound, letBoundSaid, awaitNameScoped, scopedInBlock, ScopesTold}
+use Rattle.ecma_strict.specs.Contains.{containsIn, awaitEdge, staticBlock, awaitExpression, forAwait, awaitUsing, awaitInBlock, argumentsEdge, argumentsHome, argumentsReference, argumentsInClass, argumentsSaid, parameter, parameterEdge, awaitOrYield, awaitInParameter, awaitInParameterSaid, boundEdge, lexicalDeclaration, letName, letBound, letBoundSaid, awaitNameScoped, scopedInBlock}
+use Rattle.ecma_strict.specs.Scopes.{scopesFollow}
+use Rattle.ecma_strict.specs.ScopesLaws.{scopesTold}
 use Rattle.ecma_strict.specs.ContainsLaws.{containsIs}
 use Rattle.ecma_strict.specs.AgreeLaws.{letAgrees, argumentsAgree, classPart, parameterAgrees, blockAgrees}
 use Rattle.ecma_strict.specs.Functions.{isFunction, endsInStatement, endsInLabelled, labelledAmong, labelsFunction, labelEdge, strictFunction, strictFunctionElse, sloppyFunction, labelledFunctionSaid}
@@ -85,14 +87,14 @@ module _ (t : ℕ) (ns ss source names : List ℕ) (w : WellFormed t ns ss sourc
   root = w .input .tree .root
 
   -- 15.7.1: "ClassStaticBlockStatementList Contains await": 3 at an AwaitExpression, 25 at a for await, 14 at an await using
-  module _ (s : ScopesTold ns ss) (u : ℕ) (h : u < count ns) (q : staticBlock ns u ≡ true) where
+  module _ (s : scopesFollow ns ss ≡ true) (u : ℕ) (h : u < count ns) (q : staticBlock ns u ≡ true) where
     edge0 : (j : ℕ) → awaitEdge ns 0 j ≡ true
     edge0 j = rw root
 
     inside : (j : ℕ) → j < count ns → unitOf ns (awaitEdge ns) j ≡ u → scopedInBlock ns ss j ≡ true
     unfolding awaitInBlock
     inside j l e =
-        blockAgrees ns ss (w .input .tree) (w .input .chained) (w .input .scoped) s j l (rw (e, eqb-true (kindOf ns u) 3 q))
+        blockAgrees ns ss (w .input .tree) (w .input .chained) (w .input .scoped) (scopesTold ns ss (w .input .tree) s) j l (rw (e, eqb-true (kindOf ns u) 3 q))
         ∙ ap (λ (x : ℕ). staticBlock ns x) e ∙ q
 
     pub blockContainsAwait : containsIn ns (awaitExpression ns) (awaitEdge ns) u ≡ some (foundIn (awaitExpression ns) (awaitEdge ns) u (at 3))
