@@ -9,6 +9,7 @@ use Rattle.common.specs.Upto.{upto, range}
 use Rattle.children.specs.Children.{keep, children, isChild, firstNode}
 use Rattle.trees.specs.Rose.{kids, others, forest, partsOf}
 use Rattle.trees.specs.Trail as trails
+use Rattle.ecma_strict.specs.Scopes.{followsAt, flaggedAt, scopesFollow}
 use Rattle.ecma_strict.specs.Literals.{textOf, legacyOctalInteger, octalsThenNonOctal, nonOctalDecimalInteger, legacyOctalEscape, nonOctalDecimalEscape, escapes, strictOctalEscape, strictNonOctalEscape, octalFirst, nonOctalFirst, firstOctalEscape, firstNonOctalEscape}
 use Rattle.ecma_strict.specs.Delete.{ultimately, nameReference, privateReference, deletesPrivate, deletesPrivateAnywhere}
 use Rattle.ecma_strict.specs.Statements.{annexHead, badHead, initializedHead, saidHead, heldUsing, badUsing, topUsing}
@@ -528,3 +529,8 @@ privateChainTree = record {
 pub privateChain : deletesPrivate (privateChainTree .nodes) (privateChainTree .scopes) 12 ∷ deletesPrivateAnywhere (privateChainTree .nodes) 12 ∷ [] ≡ true ∷ true ∷ []
 unfolding deletesPrivate ultimately privateReference deletesPrivateAnywhere same nameOf above climb upto range keep children isChild firstNode kids others forest partsOf trails.climb trails.trail
 privateChain = refl
+
+-- the scopes of all these trees follow the tree
+pub scopesHold : map (λ t. scopesFollow (t .nodes) (t .scopes)) (blockNameTree ∷ arrowParameterTree ∷ arrowBodyTree ∷ functionNameTree ∷ expressionNameTree ∷ parameterBlockTree ∷ accessorTree ∷ assignedTree ∷ strictLetTree ∷ letHeadTree ∷ varHeadTree ∷ usingClauseTree ∷ usingTopTree ∷ usingBlockTree ∷ usingForTree ∷ strictLabelTree ∷ twoLabelsTree ∷ twoEscapesTree ∷ privateChainTree ∷ []) ≡ map (λ t. true) (blockNameTree ∷ arrowParameterTree ∷ arrowBodyTree ∷ functionNameTree ∷ expressionNameTree ∷ parameterBlockTree ∷ accessorTree ∷ assignedTree ∷ strictLetTree ∷ letHeadTree ∷ varHeadTree ∷ usingClauseTree ∷ usingTopTree ∷ usingBlockTree ∷ usingForTree ∷ strictLabelTree ∷ twoLabelsTree ∷ twoEscapesTree ∷ privateChainTree ∷ [])
+unfolding scopesFollow flaggedAt followsAt upto range
+scopesHold = refl
