@@ -1,4 +1,4 @@
--- ECMA-262, 8.5.1 Contains, 15.7.8 ContainsArguments, 8.2.1 BoundNames: operations that begin at a node of one kind, go down, and end at others.
+-- ECMA-262, 8.5.1 Contains, 15.7.9 ContainsArguments, 8.2.1 BoundNames: operations that begin at a node of one kind, go down, and end at others.
 use Prim.Native.Nat.{ℕ}
 use mathlib.Core.Path.{_≡_}
 use mathlib.Core.List.{List, _∷_, foldr}
@@ -74,7 +74,7 @@ abbrev pub awaitName : List ℕ → List ℕ → ℕ → Bool
 awaitName ns names n = within (kindOf ns n) k.BindingIdentifier k.LabelIdentifier && nameIs ns names n word.awaitWord
 
 -- 15.7.1: "It is a Syntax Error if Initializer is present and ContainsArguments of Initializer is true", and "if ContainsArguments of ClassStaticBlockStatementList is true".
--- 15.7.8: of functions and static blocks it is false; it goes into arrows. (A field within the Initializer has the rule itself.)
+-- 15.7.9: of functions it is false; it goes into arrows. A field or a static block within has the rule itself, so what it holds counts there.
 abbrev pub argumentsEdge : List ℕ → ℕ → ℕ → Bool
 argumentsEdge ns i j = (within (kindOf ns i) k.Program k.Function || eqb (kindOf ns i) k.StaticBlock) || initializer ns i j
 
@@ -95,7 +95,7 @@ parameterEdge ns i j = (within (kindOf ns i) k.Program k.StaticBlock || paramete
 abbrev pub awaitOrYield : List ℕ → ℕ → Bool
 awaitOrYield ns n = within (kindOf ns n) k.Await k.Yield
 
--- 14.3.1.1: LexicalDeclaration : LetOrConst BindingList: "It is a Syntax Error if the BoundNames of BindingList contains "let"."
+-- 14.3.1.1: LexicalDeclaration : LetOrConst BindingList: "It is a Syntax Error if the BoundNames of BindingList contains "let"."; the same of using, and of a ForDeclaration (14.7.5.1).
 -- 8.2.1 BoundNames: the BindingIdentifiers below the declaration, but not those of functions, arrows and classes in an Initializer.
 abbrev pub boundEdge : List ℕ → ℕ → ℕ → Bool
 boundEdge ns i j = (within (kindOf ns i) k.Program k.Arrow || eqb (kindOf ns i) k.Class) || eqb (kindOf ns i) k.VariableDeclaration

@@ -23,7 +23,7 @@ isFunction ns Nothing = false
 abbrev pub endsInStatement : List ℕ → ℕ → Bool
 endsInStatement ns n = within (kindOf ns n) k.For k.With
 
--- 14.6, 14.7, 14.11: no Statement is a FunctionDeclaration. 14.13.1 with B.3.1, LabelledItem : FunctionDeclaration: "It is a Syntax Error if IsStrict(this production) is true."
+-- 14.6, 14.7, 14.11: no Statement is a FunctionDeclaration. 14.13.1 with B.3.1, LabelledItem : FunctionDeclaration: an error in strict mode code.
 unfoldable pub strictFunction : List ℕ → List ℕ → ℕ → Bool
 strictFunction ns ss n = (endsInStatement ns n || eqb (kindOf ns n) k.Labeled) && (strictCode ns ss n && isFunction ns (heldOf ns n))
 
@@ -51,7 +51,7 @@ module _ (ns : List ℕ) where
   labelledAmong rnil = false
   labelledAmong (rcons t ts) = (within (roleOf ns (idx t)) role.Held role.Alternate && isLabelledFunction t) || labelledAmong ts
 
--- 14.6.1, 14.7.1.1, 14.7.2.1, 14.7.3.1, 14.7.4.1, 14.7.5.1, 14.11.1: "It is a Syntax Error if IsLabelledFunction(Statement) is true."
+-- 14.6.1, 14.7.2.1, 14.7.3.1, 14.7.4.1, 14.7.5.1, 14.11.1: "It is a Syntax Error if IsLabelledFunction(Statement) is true."
 unfoldable pub endsInLabelled : List ℕ → ℕ → Bool
 endsInLabelled ns n = endsInStatement ns n && labelledAmong ns (partsOf ns n)
 

@@ -10,6 +10,7 @@ use Rattle.tables.specs.Table.{kindOf, parentOf, flagsOf, scopeOf, scopeFlagsOf
 use Rattle.tables.specs.Kinds as k
 use Rattle.tables.specs.NodeFlag as flag
 use Rattle.tables.specs.ScopeFlag as scope
+use Rattle.children.specs.Children.{children}
 use Rattle.names.specs.Name.{nameIs}
 use Rattle.names.specs.Words as word
 use Rattle.ecma_strict.specs.Strict.{strictCode}
@@ -62,8 +63,12 @@ useStrictDirective ns names n = eqb (kindOf ns n) k.Directive && nameIs ns names
 abbrev pub simpleParameters : List ℕ → ℕ → Bool
 simpleParameters ns f = hasFlag (flagsOf ns f) flag.SimpleParameters
 
+-- 15.2.2 FunctionBodyContainsUseStrict: "If the Directive Prologue of FunctionStatementList contains a Use Strict Directive, return true": b is the FunctionBody
+abbrev pub containsUseStrict : List ℕ → List ℕ → ℕ → Bool
+containsUseStrict ns names b = any (useStrictDirective ns names) (children ns b)
+
 -- 15.2.1, 15.3.1, 15.4.1 and others: "It is a Syntax Error if FunctionBodyContainsUseStrict of FunctionBody is true and IsSimpleParameterList of FormalParameters is false."
--- The directive n stands in the FunctionBody of such a function or arrow.
+-- At the directive: n is one in the FunctionBody of such a function or arrow.
 unfoldable pub useStrictThere : List ℕ → List ℕ → ℕ → Bool
 useStrictThere ns names n =
     useStrictDirective ns names n

@@ -10,7 +10,9 @@ use Rattle.common.specs.Upto.{upto, any, and-left, and-right}
 use Rattle.common.specs.Tests.{within}
 use Rattle.common.specs.Bools.{never, in-range, range-of}
 use Rattle.tables.specs.Table.{kindOf, parentOf, count, extraOf}
-use Rattle.children.specs.Children.{heldOf}
+use Rattle.tables.specs.declared.Found.the-variants.{At}
+use Rattle.children.specs.Children.{keep, children, heldOf, functionBodyOf}
+use Rattle.children.specs.ChildrenLaws.{found-child}
 use Rattle.tables.specs.Kinds as k
 use Rattle.tables.specs.Extras as extra
 use Rattle.names.specs.Name.{nameIs}
@@ -23,7 +25,7 @@ use Rattle.trees.specs.WalkLaws.{someAppend, someOnly, someEach, eachSame}
 use Rattle.trees.specs.Trail.{unitOf}
 use Rattle.ecma_strict.specs.Nodes.{raised}
 use Rattle.ecma_strict.specs.Strict.{strictCode}
-use Rattle.ecma_strict.specs.Identifiers.{strictReserved, reservedName, bindsEval, assignsEval}
+use Rattle.ecma_strict.specs.Identifiers.{strictReserved, reservedName, bindsEval, assignsEval, useStrictDirective, simpleParameters, containsUseStrict, useStrictThere}
 use Rattle.ecma_strict.specs.Contains.{containsIn, awaitEdge, staticBlock, awaitExpression, forAwait, awaitUsing, awaitInBlock, argumentsEdge, argumentsHome, argumentsReference, argumentsInClass, argumentsSaid, parameter, parameterEdge, awaitOrYield, awaitInParameter, awaitInParameterSaid, boundEdge, lexicalDeclaration, letName, letBound, letBoundSaid, awaitNameScoped, scopedInBlock}
 use Rattle.ecma_strict.specs.Scopes.{scopesFollow}
 use Rattle.ecma_strict.specs.ScopesLaws.{scopesTold}
@@ -31,6 +33,7 @@ use Rattle.ecma_strict.specs.ContainsLaws.{containsIs}
 use Rattle.ecma_strict.specs.AgreeLaws.{letAgrees, argumentsAgree, classPart, parameterAgrees, blockAgrees}
 use Rattle.ecma_strict.specs.Functions.{isFunction, endsInStatement, endsInLabelled, labelledAmong, labelsFunction, labelEdge, strictFunction, strictFunctionElse, sloppyFunction, labelledFunctionSaid}
 use Rattle.ecma_strict.specs.LabelledLaws.{statementsOf}
+use Rattle.ecma_strict.specs.Standard.{standard12}
 use Rattle.ecma_strict.specs.Theorems.{code2, code3, code4, code5, code6, code14, code15, code16, code25, code33}
 
 -- two ways to say something, of which each says something where the other does
@@ -46,6 +49,15 @@ someSame f g n h i = sym (marked f i) ∙ ap some (eachSame (λ j. mark (f j)) (
 
     marked : (e : ℕ → List ℕ) (i : ℕ) → some (each (λ j. mark (e j)) (upto i n)) ≡ some (each e (upto i n))
     marked e i = all e (upto i n)
+
+anyKeep : (q p : ℕ → Bool) (l : List ℕ) → any p (keep q l) ≡ some (each (λ j. cond (q j) (only (p j) j) []) l)
+unfolding keep
+anyKeep q p [] = refl
+anyKeep q p (j ∷ l) = go (q j) (anyKeep q p l)
+  where
+    go : (b : Bool) → any p (keep q l) ≡ some (each (λ j. cond (q j) (only (p j) j) []) l) → any p (cond b (j ∷ keep q l) (keep q l)) ≡ some (cond b (only (p j) j) [] ++ each (λ j. cond (q j) (only (p j) j) []) l)
+    go true h = rw h (ap (λ b. b || some (each (λ j. cond (q j) (only (p j) j) []) l)) (sym (someOnly (p j) j)) ∙ sym (someAppend (only (p j) j) (each (λ j. cond (q j) (only (p j) j) []) l)))
+    go false h = h
 
 orLeft : (a b : Bool) → a ≡ true → (a || b) ≡ true
 orLeft true b e = refl
@@ -192,3 +204,30 @@ module _ (t : ℕ) (ns ss source names : List ℕ) (w : WellFormed t ns ss sourc
           orLeft (some (at 16 j)) (some (at 15 j))
           (someOf (at 16 j) (sloppyFunction ns ss j || labelledFunctionSaid ns ss j) j (code16 t ns ss source names w j l)
           (orRight (sloppyFunction ns ss j) (labelledFunctionSaid ns ss j) (rw (f, x, e, q))))
+
+  -- 15.2.1: FunctionBodyContainsUseStrict, of a function or an arrow f whose parameters are not simple, with body b: 12 at a directive
+  pub bodyContainsUseStrict : scopesFollow ns ss ≡ true → (f b : ℕ) → functionBodyOf ns f ≡ At (record { 0 = b }) → within (kindOf ns f) k.Function k.Arrow ≡ true → simpleParameters ns f ≡ false
+      → containsUseStrict ns names b ≡ some (each (λ j. cond (eqb (parentOf ns j) b) (at 12 j) []) (upto (b + 1) (count ns)))
+  unfolding children useStrictThere
+  bodyContainsUseStrict s f b e q p =
+      let c = found-child ns f 4 4 0 7 (f + 1) b e in
+      let c0 = c .kindLow in
+      let c1 = c .kindHigh in
+      let body : kindOf ns b ≡ 4 = omega arith in
+      anyKeep (λ j. eqb (parentOf ns j) b) (useStrictDirective ns names) (upto (b + 1) (count ns))
+      ∙ someSame (λ j. cond (eqb (parentOf ns j) b) (only (useStrictDirective ns names j) j) []) (λ j. cond (eqb (parentOf ns j) b) (at 12 j) []) (count ns) (λ j l. go body (c .parent) j l (eqb (parentOf ns j) b) refl) (b + 1)
+    where
+      go : kindOf ns b ≡ 4 → parentOf ns b ≡ f → (j : ℕ) → j < count ns → (x : Bool) → eqb (parentOf ns j) b ≡ x → some (cond x (only (useStrictDirective ns names j) j) []) ≡ some (cond x (at 12 j) [])
+      go body up j l true x =
+          let y = eqb-true (parentOf ns j) b x in
+          let k : kindOf ns (parentOf ns j) ≡ 4 = ap (λ (z : ℕ). kindOf ns z) y ∙ body in
+          let g : parentOf ns (parentOf ns j) ≡ f = ap (λ (z : ℕ). parentOf ns z) y ∙ up in
+          ap some (ap (λ r. only r j) (rule j k g) ∙ sym (standard12 t ns ss source names w j l s (λ z. rw k)))
+        where
+          andTrue : (r : Bool) → r ≡ (r && true)
+          andTrue true = refl
+          andTrue false = refl
+
+          rule : (j : ℕ) → kindOf ns (parentOf ns j) ≡ 4 → parentOf ns (parentOf ns j) ≡ f → useStrictDirective ns names j ≡ useStrictThere ns names j
+          rule j k g = rw (k, g, q, p) (andTrue (useStrictDirective ns names j))
+      go body up j l false x = refl
