@@ -73,16 +73,28 @@ awaitNameEdge ns i j =
 abbrev pub awaitName : List ℕ → List ℕ → ℕ → Bool
 awaitName ns names n = within (kindOf ns n) k.BindingIdentifier k.LabelIdentifier && nameIs ns names n word.awaitWord
 
--- 15.7.1: "It is a Syntax Error if Initializer is present and ContainsArguments of Initializer is true", and "if ContainsArguments of ClassStaticBlockStatementList is true".
--- 15.7.9: of functions it is false; it goes into arrows. A field or a static block within has the rule itself, so what it holds counts there.
+-- IdentifierReference : Identifier: "If the StringValue of Identifier is "arguments", return true."
+abbrev pub argumentsReference : List ℕ → List ℕ → ℕ → Bool
+argumentsReference ns names n = eqb (kindOf ns n) k.IdentifierReference && nameIs ns names n word.argumentsWord
+
+-- 15.7.1: "It is a Syntax Error if Initializer is present and ContainsArguments of Initializer is true", and "if ContainsArguments of ClassStaticBlockStatementList is true":
+-- where the operation begins
+abbrev pub argumentsBegin : List ℕ → ℕ → ℕ → Bool
+argumentsBegin ns i j = eqb (kindOf ns i) k.StaticBlock || initializer ns i j
+
+-- 15.7.9: of a function it is false (of a method it looks at the ClassElementName: what else the method has is a function); else it goes into every child, arrows and fields too
+abbrev pub argumentsInto : List ℕ → ℕ → ℕ → Bool
+argumentsInto ns i j = not (eqb (kindOf ns i) k.Function || eqb (kindOf ns i) k.StaticBlock)
+
+abbrev pub containsArguments : List ℕ → List ℕ → ℕ → Bool
+containsArguments ns names u = containsAny (argumentsReference ns names) (argumentsInto ns) (partsOf ns u) (argumentsBegin ns u)
+
+-- between i and j it begins or ends
 abbrev pub argumentsEdge : List ℕ → ℕ → ℕ → Bool
 argumentsEdge ns i j = (within (kindOf ns i) k.Program k.Function || eqb (kindOf ns i) k.StaticBlock) || initializer ns i j
 
 abbrev pub argumentsHome : List ℕ → ℕ → Bool
 argumentsHome ns u = eqb (kindOf ns u) k.StaticBlock || within (kindOf ns u) k.PropertyDefinition k.AccessorProperty
-
-abbrev pub argumentsReference : List ℕ → List ℕ → ℕ → Bool
-argumentsReference ns names n = eqb (kindOf ns n) k.IdentifierReference && nameIs ns names n word.argumentsWord
 
 -- 15.3.1, 15.4.1, 15.5.1, 15.6.1, 15.8.1, 15.9.1: "It is a Syntax Error if FormalParameters Contains YieldExpression is true", "Contains AwaitExpression".
 -- FormalParameter, FunctionRestParameter : BindingRestElement

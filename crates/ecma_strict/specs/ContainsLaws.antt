@@ -6,16 +6,17 @@ use mathlib.Core.Bool.{Bool, true, false, cond, not, _&&_, _||_}
 use mathlib.Core.Logic.{⊎-elim}
 use native.Mathlib.Nat.{eq-or-lt-of-le}
 use native.Mathlib.Omega.{arith}
-use borrow.Author.Tests.{eq-eqb}
+use borrow.Author.Tests.{eq-eqb, ne-eqb}
 use lib.Dec.{eqb}
 use Rattle.common.specs.Upto.{upto}
 use Rattle.common.specs.Bools.{never}
 use Rattle.tables.specs.Table.{kindOf, parentOf, count, ancestors}
 use Rattle.tables.specs.Facts.{Tree}
 use Rattle.ancestry.specs.AncestryLaws.{ancestors-up, ancestors-root}
-use Rattle.trees.specs.Rose.{Rose, Roses, node, rnil, rcons, idx, partsOf}
+use Rattle.trees.specs.Rose.{Rose, Roses, node, rnil, rcons, idx, partsOf, marks, marksAll}
+use Rattle.trees.specs.RoseLaws.{Under, Placed, PlacedAll, partsPlaced}
 use Rattle.trees.specs.Walk.{each, some, only}
-use Rattle.trees.specs.WalkLaws.{eachSame, someAppend, someOnly}
+use Rattle.trees.specs.WalkLaws.{eachAppend, eachSame, someAppend, someOnly}
 use Rattle.trees.specs.Unit.{says, saysAll}
 use Rattle.trees.specs.Trail.{handedDown, unitOf}
 use Rattle.trees.specs.TrailLaws.{unitBridge, handedLaw, handedRoot}
@@ -74,3 +75,62 @@ containsIs ns t sought edge root u h =
     quiet : {C : Type 0} → (b : Bool) → b ≡ false → not b ≡ false → C
     quiet true x y = never x
     quiet false x y = never y
+
+nothing : (a : Bool) → false ≡ (a && false)
+nothing true = refl
+nothing false = refl
+
+-- AN OPERATION THAT BEGINS AT SOME PARTS OF u, node by node: it comes to j where it begins at a part of u on the way to j, and goes into all that follow
+abbrev pub comes : List ℕ → (ℕ → ℕ → Bool) → (ℕ → ℕ → Bool) → ℕ → ℕ → Bool
+comes ns begin into u j = handedDown ns (λ i k r. cond (eqb i u) (begin i k) (r && into i k)) false j
+
+module _ (ns : List ℕ) (t : Tree ns) (sought : ℕ → Bool) (into begin : ℕ → ℕ → Bool) (u : ℕ) (g : ℕ → List ℕ)
+    (says' : (j : ℕ) → j < count ns → comes ns begin into u j ≡ true → sought j ≡ true → some (g j) ≡ true)
+  where
+    abbrev at : ℕ → Bool
+    at j = comes ns begin into u j
+
+    abbrev saysAt : ℕ → List ℕ
+    saysAt j = cond (at j && sought j) (g j) []
+
+    step : (j : ℕ) → 0 < j → j < count ns → at j ≡ cond (eqb (parentOf ns j) u) (begin (parentOf ns j) j) (at (parentOf ns j) && into (parentOf ns j) j)
+    step j z h = handedLaw ns (λ i k r. cond (eqb i u) (begin i k) (r && into i k)) false t j z h
+
+    here : (i : ℕ) → i < count ns → some (saysAt i) ≡ (at i && sought i)
+    here i h = go (at i) (sought i) refl refl
+      where
+        go : (a b : Bool) → at i ≡ a → sought i ≡ b → some (cond (a && b) (g i) []) ≡ (a && b)
+        go true true p q = says' i h p q
+        go true false p q = refl
+        go false b p q = refl
+
+    both : (a s c : Bool) → ((a && s) || (a && c)) ≡ (a && (s || c))
+    both true s c = refl
+    both false s c = refl
+
+    spread : (a b c r : Bool) → (((a && b) && c) || (a && r)) ≡ (a && ((b && c) || r))
+    spread true b c r = refl
+    spread false b c r = refl
+
+    down : (i : ℕ) → u < i → (j : ℕ) → Under ns i j → at j ≡ (at i && into i j)
+    down i l j v = step j (v .pos) (v .fits) ∙ rw (v .up, ne-eqb i u (λ q. omega arith))
+
+    after : (i : ℕ) → u ≤ i → (j : ℕ) → Under ns i j → u < j
+    after i l j v = let f = t .falls j (v .pos) (v .fits) in let e = v .up in omega arith
+
+    mutual
+      unfolding contains marks
+      ofTree : (x : Rose) → Placed ns x → u < idx x → idx x < count ns → some (each saysAt (marks x)) ≡ (at (idx x) && contains sought into x)
+      ofTree (node i ks) p l h =
+          someAppend (saysAt i) (each saysAt (marksAll ks))
+          ∙ rw (here i h, ofTrees ks i (at i) (into i) (down i l) (omega arith) p) (both (at i) (sought i) (containsAny sought into ks (into i)))
+
+      ofTrees : (ks : Roses) (i : ℕ) (a : Bool) (b : ℕ → Bool) → ((j : ℕ) → Under ns i j → at j ≡ (a && b j)) → u ≤ i → PlacedAll ns i ks → some (each saysAt (marksAll ks)) ≡ (a && containsAny sought into ks b)
+      ofTrees rnil i a b e l p = nothing a
+      ofTrees (rcons x xs) i a b e l p =
+          ap some (eachAppend saysAt (marks x) (marksAll xs)) ∙ someAppend (each saysAt (marks x)) (each saysAt (marksAll xs))
+          ∙ rw (ofTree x (p .1) (after i l (idx x) (p .0)) (p .0 .fits), ofTrees xs i a b e l (p .2), e (idx x) (p .0)) (spread a (b (idx x)) (contains sought into x) (containsAny sought into xs b))
+
+    -- it is true of u exactly if g says something at some node below u that it comes to and that is sought
+    pub comesIs : u < count ns → containsAny sought into (partsOf ns u) (begin u) ≡ some (each saysAt (marksAll (partsOf ns u)))
+    comesIs h = sym (ofTrees (partsOf ns u) u true (begin u) (λ j v. step j (v .pos) (v .fits) ∙ rw (v .up, eq-eqb u u refl)) (omega arith) (partsPlaced ns u h))
