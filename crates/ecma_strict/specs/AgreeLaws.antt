@@ -24,7 +24,7 @@ use Rattle.ecma_strict.specs.Identifiers.{goalModule, assignsEval}
 use Rattle.ecma_strict.specs.Contains.{isNode, initializer, awaitEdge, staticBlock, awaitNameEdge, awaitName, argumentsEdge, argumentsHome, argumentsReference, parameter, parameterEdge, awaitOrYield, boundEdge, lexicalDeclaration, letName, awaitInBlock, awaitNameInBlock, argumentsInClass, awaitInParameter, letBound, scopedInBlock, awaitNameScoped, letEdge, letBoundSaid, fieldEdge, fieldHome, argumentsSaid, throughClassEdge, awaitInParameterSaid, AwaitNameTold}
 use Rattle.ecma_strict.specs.Scopes.{blockScope, functionScope}
 use Rattle.ecma_strict.specs.ContainsLaws.{upward, unitUp, unitRoot}
-use Rattle.ecma_strict.specs.SearchLaws.{rootOnly, unitHere, unitPass}
+use Rattle.ecma_strict.specs.SearchLaws.{unitHere, unitPass}
 
 -- two sets of edges, one larger: where the nearest of the larger set is none of the surplus, it is the nearest of the smaller too
 module _ (ns : List ℕ) (t : Tree ns) (large small : ℕ → ℕ → Bool) (surplus : ℕ → Bool)
@@ -185,7 +185,7 @@ pub record ScopesTold (ns ss : List ℕ) : Type 0 where
       ⊎ ((0 < scopeOf ns i) × (scopeParentOf ss (scopeOf ns i) ≡ scopeOf ns (parentOf ns i)) × (blockScope ns ss i ≡ false) × (functionScope ns ss i ≡ false))
 
 module _ (ns ss : List ℕ) (t : Tree ns) (c : Chained ss) (s : Scoped ns ss) (w : ScopesTold ns ss) where
-  scopesAre : (i : ℕ) → i < count ns → inStaticBlock ss (scopeOf ns i) ≡ staticBlock ns (unitOf ns (blockEdge ns) i)
+  pub scopesAre : (i : ℕ) → i < count ns → inStaticBlock ss (scopeOf ns i) ≡ staticBlock ns (unitOf ns (blockEdge ns) i)
   scopesAre = upward ns t (λ i. inStaticBlock ss (scopeOf ns i) ≡ staticBlock ns (unitOf ns (blockEdge ns) i)) first step
     where
       first : inStaticBlock ss (scopeOf ns 0) ≡ staticBlock ns (unitOf ns (blockEdge ns) 0)

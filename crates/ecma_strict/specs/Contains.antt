@@ -32,9 +32,9 @@ module _ (sought : ℕ → Bool) (into : ℕ → ℕ → Bool) where
     containsAny rnil b = false
     containsAny (rcons t ts) b = (b (idx t) && contains t) || containsAny ts b
 
--- The operation on the parts of u, where `edge i j` says that one begins or ends between the node i and its part j.
-abbrev pub containsIn : List ℕ → (ℕ → Bool) → (ℕ → ℕ → Bool) → ℕ → Bool
-containsIn ns sought edge u = containsAny sought (λ i j. not (edge i j)) (partsOf ns u) (edge u)
+-- The operation of a node u: it begins at those parts of u of which `begin` says so.
+abbrev pub containsFrom : List ℕ → (ℕ → Bool) → (ℕ → ℕ → Bool) → (ℕ → ℕ → Bool) → ℕ → Bool
+containsFrom ns sought into begin u = containsAny sought into (partsOf ns u) (begin u)
 
 -- FieldDefinition : ClassElementName Initializer: j is the Initializer of i
 abbrev pub isNode : Found → ℕ → Bool
@@ -44,13 +44,16 @@ isNode Nothing j = false
 abbrev pub initializer : List ℕ → ℕ → ℕ → Bool
 initializer ns i j = within (kindOf ns i) k.PropertyDefinition k.AccessorProperty && isNode (valueOf ns i) j
 
--- 15.7.1: "It is a Syntax Error if ClassStaticBlockStatementList Contains await is true." 8.5.1: of functions, arrows and static blocks it is false, of a class it looks at
--- the heritage and the computed keys, so not into the Initializer of a field.
-abbrev pub awaitEdge : List ℕ → ℕ → ℕ → Bool
-awaitEdge ns i j = within (kindOf ns i) k.Program k.StaticBlock || initializer ns i j
+-- 8.5.1 Contains: of functions, arrows and static blocks it is false; of a class it looks at the heritage and the computed keys, so not into the Initializer of a field
+abbrev pub containsInto : List ℕ → ℕ → ℕ → Bool
+containsInto ns i j = not (within (kindOf ns i) k.Function k.StaticBlock || initializer ns i j)
 
+-- 15.7.1: "It is a Syntax Error if ClassStaticBlockStatementList Contains await is true."
 abbrev pub staticBlock : List ℕ → ℕ → Bool
 staticBlock ns u = eqb (kindOf ns u) k.StaticBlock
+
+abbrev pub blockBegin : List ℕ → ℕ → ℕ → Bool
+blockBegin ns i j = staticBlock ns i
 
 -- AwaitExpression; for await ( .. of .. ); await using
 abbrev pub awaitExpression : List ℕ → ℕ → Bool
@@ -86,39 +89,47 @@ argumentsBegin ns i j = eqb (kindOf ns i) k.StaticBlock || initializer ns i j
 abbrev pub argumentsInto : List ℕ → ℕ → ℕ → Bool
 argumentsInto ns i j = not (eqb (kindOf ns i) k.Function || eqb (kindOf ns i) k.StaticBlock)
 
-abbrev pub containsArguments : List ℕ → List ℕ → ℕ → Bool
-containsArguments ns names u = containsAny (argumentsReference ns names) (argumentsInto ns) (partsOf ns u) (argumentsBegin ns u)
+-- 15.3.1, 15.4.1, 15.5.1, 15.6.1, 15.8.1, 15.9.1: "It is a Syntax Error if FormalParameters Contains YieldExpression is true", "Contains AwaitExpression".
+-- FormalParameter, FunctionRestParameter : BindingRestElement
+abbrev pub parameter : List ℕ → ℕ → Bool
+parameter ns i = eqb (kindOf ns i) k.FormalParameter || (eqb (kindOf ns i) k.BindingRestElement && eqb (kindOf ns (parentOf ns i)) k.FormalParameterRest)
 
--- between i and j it begins or ends
+abbrev pub parameterBegin : List ℕ → ℕ → ℕ → Bool
+parameterBegin ns i j = parameter ns i
+
+abbrev pub awaitOrYield : List ℕ → ℕ → Bool
+awaitOrYield ns n = within (kindOf ns n) k.Await k.Yield
+
+-- 14.3.1.1: LexicalDeclaration : LetOrConst BindingList: "It is a Syntax Error if the BoundNames of BindingList contains "let"."; the same of using, and of a ForDeclaration (14.7.5.1).
+abbrev pub lexicalDeclaration : List ℕ → ℕ → Bool
+lexicalDeclaration ns u = eqb (kindOf ns u) k.VariableDeclaration && not (eqb (extraOf ns u) extra.Var)
+
+abbrev pub boundBegin : List ℕ → ℕ → ℕ → Bool
+boundBegin ns i j = lexicalDeclaration ns i
+
+-- 8.2.1 BoundNames: the BindingIdentifiers below the declaration, but not those of functions, arrows and classes in an Initializer, nor of another declaration
+abbrev pub boundInto : List ℕ → ℕ → ℕ → Bool
+boundInto ns i j = not (within (kindOf ns i) k.Function k.Arrow || (eqb (kindOf ns i) k.Class || eqb (kindOf ns i) k.VariableDeclaration))
+
+abbrev pub letName : List ℕ → List ℕ → ℕ → Bool
+letName ns names n = eqb (kindOf ns n) k.BindingIdentifier && nameIs ns names n word.letWord
+
+-- THE RULES AT A NODE: it is one of those that make such an operation true. On the way up from it, the first place where one begins or ends is where this one begins.
+
+abbrev pub awaitEdge : List ℕ → ℕ → ℕ → Bool
+awaitEdge ns i j = within (kindOf ns i) k.Program k.StaticBlock || initializer ns i j
+
 abbrev pub argumentsEdge : List ℕ → ℕ → ℕ → Bool
 argumentsEdge ns i j = (within (kindOf ns i) k.Program k.Function || eqb (kindOf ns i) k.StaticBlock) || initializer ns i j
 
 abbrev pub argumentsHome : List ℕ → ℕ → Bool
 argumentsHome ns u = eqb (kindOf ns u) k.StaticBlock || within (kindOf ns u) k.PropertyDefinition k.AccessorProperty
 
--- 15.3.1, 15.4.1, 15.5.1, 15.6.1, 15.8.1, 15.9.1: "It is a Syntax Error if FormalParameters Contains YieldExpression is true", "Contains AwaitExpression".
--- FormalParameter, FunctionRestParameter : BindingRestElement
-abbrev pub parameter : List ℕ → ℕ → Bool
-parameter ns i = eqb (kindOf ns i) k.FormalParameter || (eqb (kindOf ns i) k.BindingRestElement && eqb (kindOf ns (parentOf ns i)) k.FormalParameterRest)
-
 abbrev pub parameterEdge : List ℕ → ℕ → ℕ → Bool
 parameterEdge ns i j = (within (kindOf ns i) k.Program k.StaticBlock || parameter ns i) || initializer ns i j
 
-abbrev pub awaitOrYield : List ℕ → ℕ → Bool
-awaitOrYield ns n = within (kindOf ns n) k.Await k.Yield
-
--- 14.3.1.1: LexicalDeclaration : LetOrConst BindingList: "It is a Syntax Error if the BoundNames of BindingList contains "let"."; the same of using, and of a ForDeclaration (14.7.5.1).
--- 8.2.1 BoundNames: the BindingIdentifiers below the declaration, but not those of functions, arrows and classes in an Initializer.
 abbrev pub boundEdge : List ℕ → ℕ → ℕ → Bool
 boundEdge ns i j = (within (kindOf ns i) k.Program k.Arrow || eqb (kindOf ns i) k.Class) || eqb (kindOf ns i) k.VariableDeclaration
-
-abbrev pub lexicalDeclaration : List ℕ → ℕ → Bool
-lexicalDeclaration ns u = eqb (kindOf ns u) k.VariableDeclaration && not (eqb (extraOf ns u) extra.Var)
-
-abbrev pub letName : List ℕ → List ℕ → ℕ → Bool
-letName ns names n = eqb (kindOf ns n) k.BindingIdentifier && nameIs ns names n word.letWord
-
--- THE RULES AT A NODE: it is one of those that make the operation true of the node where it began
 
 unfoldable pub awaitInBlock : List ℕ → ℕ → Bool
 awaitInBlock ns n = staticBlock ns (unitOf ns (awaitEdge ns) n)

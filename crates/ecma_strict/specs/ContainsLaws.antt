@@ -6,13 +6,13 @@ use mathlib.Core.Bool.{Bool, true, false, cond, not, _&&_, _||_}
 use mathlib.Core.Logic.{⊎-elim}
 use native.Mathlib.Nat.{eq-or-lt-of-le}
 use native.Mathlib.Omega.{arith}
-use borrow.Author.Tests.{eq-eqb, ne-eqb}
+use borrow.Author.Tests.{eq-eqb, ne-eqb, eqb-true}
 use lib.Dec.{eqb}
-use Rattle.common.specs.Upto.{upto}
+use Rattle.common.specs.Upto.{upto, and-left, and-right}
 use Rattle.common.specs.Bools.{never}
 use Rattle.tables.specs.Table.{kindOf, parentOf, count, ancestors}
 use Rattle.tables.specs.Facts.{Tree}
-use Rattle.ancestry.specs.AncestryLaws.{ancestors-up, ancestors-root}
+use Rattle.ancestry.specs.AncestryLaws.{parent-in}
 use Rattle.trees.specs.Rose.{Rose, Roses, node, rnil, rcons, idx, partsOf, marks, marksAll}
 use Rattle.trees.specs.RoseLaws.{Under, Placed, PlacedAll, partsPlaced}
 use Rattle.trees.specs.Walk.{each, some, only}
@@ -20,7 +20,11 @@ use Rattle.trees.specs.WalkLaws.{eachAppend, eachSame, someAppend, someOnly}
 use Rattle.trees.specs.Unit.{says, saysAll}
 use Rattle.trees.specs.Trail.{handedDown, unitOf}
 use Rattle.trees.specs.TrailLaws.{unitBridge, handedLaw, handedRoot}
-use Rattle.ecma_strict.specs.Contains.{contains, containsAny, containsIn}
+use Rattle.ecma_strict.specs.Contains.{contains, containsAny, containsFrom}
+
+-- only node 0 is a Program
+pub rootOnly : (ns : List ℕ) → Tree ns → (i : ℕ) → i < count ns → kindOf ns i ≡ 0 → i ≡ 0
+rootOnly ns t i h q = ⊎-elim (λ (e : 0 ≡ i). sym e) (λ (z : 0 < i). absurd (t .inner i z h q)) (eq-or-lt-of-le (omega arith))
 
 -- an induction up the tree
 pub upward : (ns : List ℕ) → Tree ns → (P : ℕ → Type 0) → P 0 → ((i : ℕ) → 0 < i → i < count ns → P (parentOf ns i) → P i) → (i : ℕ) → i < count ns → P i
@@ -60,6 +64,10 @@ module _ (sought : ℕ → Bool) (into : ℕ → ℕ → Bool) where
     literalAll : (ks : Roses) (b : ℕ → Bool) → containsAny sought into ks b ≡ some (lists ks b)
     literalAll rnil b = refl
     literalAll (rcons t ts) b = rw (literal t, literalAll ts b) (someIf (b (idx t)) (says {A = Unit {0}} (λ n a. only (sought n) n) into (λ i j a. a) t tt) (lists ts b))
+
+-- The operation on the parts of u, where `edge i j` says that one begins or ends between the node i and its part j.
+abbrev pub containsIn : List ℕ → (ℕ → Bool) → (ℕ → ℕ → Bool) → ℕ → Bool
+containsIn ns sought edge u = containsAny sought (λ i j. not (edge i j)) (partsOf ns u) (edge u)
 
 -- THE OPERATION NODE BY NODE
 pub containsIs : (ns : List ℕ) → Tree ns → (sought : ℕ → Bool) (edge : ℕ → ℕ → Bool) → ((j : ℕ) → edge 0 j ≡ true) → (u : ℕ) → u < count ns
@@ -132,5 +140,43 @@ module _ (ns : List ℕ) (t : Tree ns) (sought : ℕ → Bool) (into begin : ℕ
           ∙ rw (ofTree x (p .1) (after i l (idx x) (p .0)) (p .0 .fits), ofTrees xs i a b e l (p .2), e (idx x) (p .0)) (spread a (b (idx x)) (contains sought into x) (containsAny sought into xs b))
 
     -- it is true of u exactly if g says something at some node below u that it comes to and that is sought
-    pub comesIs : u < count ns → containsAny sought into (partsOf ns u) (begin u) ≡ some (each saysAt (marksAll (partsOf ns u)))
+    pub comesIs : u < count ns → containsFrom ns sought into begin u ≡ some (each saysAt (marksAll (partsOf ns u)))
     comesIs h = sym (ofTrees (partsOf ns u) u true (begin u) (λ j v. step j (v .pos) (v .fits) ∙ rw (v .up, eq-eqb u u refl)) (omega arith) (partsPlaced ns u h))
+
+-- what an operation of u comes to has, as the first edge on its way up, one at a node of which `home` holds: where it begins at u there is an edge, and where it goes on there is none
+-- but at such a node
+module _ (ns : List ℕ) (t : Tree ns) (into begin edge : ℕ → ℕ → Bool) (home : ℕ → Bool) (u : ℕ) (start : home u ≡ true)
+    (first : (j : ℕ) → begin u j ≡ true → edge u j ≡ true) (on' : (i j : ℕ) → (kindOf ns i ≡ 0 → ⊥) → into i j ≡ true → edge i j ≡ true → home i ≡ true)
+  where
+    comesTo : (j : ℕ) → 0 < j → j < count ns → comes ns begin into u j ≡ cond (eqb (parentOf ns j) u) (begin (parentOf ns j) j) (comes ns begin into u (parentOf ns j) && into (parentOf ns j) j)
+    comesTo j z h = handedLaw ns (λ i k r. cond (eqb i u) (begin i k) (r && into i k)) false t j z h
+
+    notFrom : comes ns begin into u 0 ≡ true → true ≡ false
+    notFrom e = sym e ∙ handedRoot ns (λ i k r. cond (eqb i u) (begin i k) (r && into i k)) false
+
+    pub comesHome : (j : ℕ) → j < count ns → comes ns begin into u j ≡ true → home (unitOf ns edge j) ≡ true
+    comesHome = upward ns t (λ j. comes ns begin into u j ≡ true → home (unitOf ns edge j) ≡ true) (λ e. never (notFrom e)) step
+      where
+        step : (j : ℕ) → 0 < j → j < count ns → (comes ns begin into u (parentOf ns j) ≡ true → home (unitOf ns edge (parentOf ns j)) ≡ true) → comes ns begin into u j ≡ true → home (unitOf ns edge j) ≡ true
+        step j z h r e = ap home (unitUp ns t edge j z h) ∙ go (eqb (parentOf ns j) u) refl (sym (comesTo j z h) ∙ e)
+          where
+            go : (x : Bool) → eqb (parentOf ns j) u ≡ x → cond x (begin (parentOf ns j) j) (comes ns begin into u (parentOf ns j) && into (parentOf ns j) j) ≡ true
+                → home (cond (edge (parentOf ns j) j) (parentOf ns j) (unitOf ns edge (parentOf ns j))) ≡ true
+            go true x q =
+                let y : parentOf ns j ≡ u = eqb-true (parentOf ns j) u x in
+                let b : begin u j ≡ true = ap (λ (i : ℕ). begin i j) (sym y) ∙ q in
+                let g : edge (parentOf ns j) j ≡ true = ap (λ (i : ℕ). edge i j) y ∙ first j b in
+                rw g (ap home y ∙ start)
+            go false x q = by (edge (parentOf ns j) j) refl
+              where
+                came : comes ns begin into u (parentOf ns j) ≡ true
+                came = and-left (comes ns begin into u (parentOf ns j)) (into (parentOf ns j) j) q
+
+                notRoot : kindOf ns (parentOf ns j) ≡ 0 → ⊥
+                notRoot k =
+                    let o : parentOf ns j ≡ 0 = rootOnly ns t (parentOf ns j) (parent-in ns t j h) k in
+                    never (notFrom (ap (λ (i : ℕ). comes ns begin into u i) (sym o) ∙ came))
+
+                by : (b : Bool) → edge (parentOf ns j) j ≡ b → home (cond b (parentOf ns j) (unitOf ns edge (parentOf ns j))) ≡ true
+                by true b = on' (parentOf ns j) j notRoot (and-right (comes ns begin into u (parentOf ns j)) (into (parentOf ns j) j) q) b
+                by false b = r came

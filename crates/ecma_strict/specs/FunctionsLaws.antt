@@ -34,7 +34,7 @@ use Rattle.ecma_strict.specs.Nodes.{nodesOf}
 use Rattle.ecma_strict.specs.Strict.{strictCode}
 use Rattle.ecma_strict.specs.Functions.{isFunction, endsInStatement, strictFunction, strictFunctionElse, sloppyFunction, labelsFunction, labelEdge, labelledFunctionAt, labelledFunctionSaid}
 use Rattle.ecma_strict.specs.ContainsLaws.{upward, unitUp, unitRoot}
-use Rattle.ecma_strict.specs.SearchLaws.{rootOnly, unitHere, unitPass}
+use Rattle.ecma_strict.specs.SearchLaws.{unitHere, unitPass}
 
 module _ (ns ss : List ℕ) (n : ℕ) where
   -- what is raised for the statement that was found: f it is a function, s strict code, i the holder is an if

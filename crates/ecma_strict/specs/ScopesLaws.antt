@@ -20,9 +20,8 @@ use Rattle.ecma_strict.specs.Scopes.{makesScope, mayMakeScope, sameScope
 use Rattle.ecma_strict.specs.Statements.{holdsUsing, heldUsing, otherScope, UsingTold}
 use Rattle.ecma_strict.specs.Identifiers.{directivePlaced, DirectiveTold}
 use Rattle.ecma_strict.specs.Contains.{awaitNameEdge, staticBlock, AwaitNameTold}
-use Rattle.ecma_strict.specs.SearchLaws.{rootOnly}
 use Rattle.ecma_strict.specs.AgreeLaws.{ScopesTold}
-use Rattle.ecma_strict.specs.ContainsLaws.{upward}
+use Rattle.ecma_strict.specs.ContainsLaws.{rootOnly, upward}
 use Rattle.trees.specs.Trail.{unitOf}
 
 -- the holders of a using declaration, but for FunctionBody, make a scope; what is no holder, no function and no arrow makes none

@@ -42,7 +42,7 @@ use Rattle.ecma_strict.specs.Strict.{strictCode}
 use Rattle.ecma_strict.specs.StatementsLaws.{ifOnly}
 use Rattle.ecma_strict.specs.Identifiers.{evalOrArguments, bindsEval, assignsEval}
 use Rattle.ecma_strict.specs.Contains.{isNode, awaitExpression, forAwait, awaitUsing, argumentsReference, parameter, awaitOrYield, lexicalDeclaration, letName, scopedInBlock, letEdge, letBoundSaid, fieldEdge, fieldHome, argumentsSaid, throughClassEdge, awaitInParameterSaid}
-use Rattle.ecma_strict.specs.ContainsLaws.{upward, unitUp, unitRoot}
+use Rattle.ecma_strict.specs.ContainsLaws.{rootOnly, upward, unitUp, unitRoot}
 
 orTrue : (b : Bool) → (b || true) ≡ true
 orTrue true = refl
@@ -53,9 +53,6 @@ positive a n = ⊎-elim (λ (e : 0 ≡ a). absurd (n (sym e))) (λ (z : 0 < a). 
 
 -- A STEP UP
 module _ (ns : List ℕ) (t : Tree ns) where
-  pub rootOnly : (i : ℕ) → i < count ns → kindOf ns i ≡ 0 → i ≡ 0
-  rootOnly i h q = ⊎-elim (λ (e : 0 ≡ i). sym e) (λ (z : 0 < i). absurd (t .inner i z h q)) (eq-or-lt-of-le (omega arith))
-
   module _ (edge : ℕ → ℕ → Bool) (i : ℕ) (z : 0 < i) (h : i < count ns) where
     pub unitHere : edge (parentOf ns i) i ≡ true → unitOf ns edge i ≡ parentOf ns i
     unitHere e = unitUp ns t edge i z h ∙ rw e
@@ -70,7 +67,7 @@ module _ (ns : List ℕ) (t : Tree ns) where
 
         go : (b : Bool) → eqb (kindOf ns (parentOf ns i)) 0 ≡ b → cond (edge (parentOf ns i) i) (parentOf ns i) (unitOf ns edge (parentOf ns i)) ≡ unitOf ns edge (parentOf ns i)
         go true e =
-            let q : parentOf ns i ≡ 0 = rootOnly (parentOf ns i) (parent-in ns t i h) (eqb-true (kindOf ns (parentOf ns i)) 0 e) in
+            let q : parentOf ns i ≡ 0 = rootOnly ns t (parentOf ns i) (parent-in ns t i h) (eqb-true (kindOf ns (parentOf ns i)) 0 e) in
             let u : unitOf ns edge (parentOf ns i) ≡ parentOf ns i = ap (λ (x : ℕ). unitOf ns edge x) q ∙ unitRoot ns t edge ∙ sym q in
             rw u (both (edge (parentOf ns i) i) (parentOf ns i))
         go false e = rw (f (eqb-false (kindOf ns (parentOf ns i)) 0 e))

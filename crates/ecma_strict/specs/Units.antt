@@ -26,10 +26,10 @@ use Rattle.trees.specs.Trail.{unitOf}
 use Rattle.ecma_strict.specs.Nodes.{raised}
 use Rattle.ecma_strict.specs.Strict.{strictCode}
 use Rattle.ecma_strict.specs.Identifiers.{strictReserved, reservedName, bindsEval, assignsEval, useStrictDirective, simpleParameters, containsUseStrict, useStrictThere}
-use Rattle.ecma_strict.specs.Contains.{containsIn, awaitEdge, staticBlock, awaitExpression, forAwait, awaitUsing, awaitInBlock, argumentsEdge, argumentsHome, argumentsReference, argumentsInClass, argumentsSaid, parameter, parameterEdge, awaitOrYield, awaitInParameter, awaitInParameterSaid, boundEdge, lexicalDeclaration, letName, letBound, letBoundSaid, awaitNameScoped, scopedInBlock}
+use Rattle.ecma_strict.specs.Contains.{awaitEdge, staticBlock, awaitExpression, forAwait, awaitUsing, awaitInBlock, argumentsEdge, argumentsHome, argumentsReference, argumentsInClass, argumentsSaid, parameter, parameterEdge, awaitOrYield, awaitInParameter, awaitInParameterSaid, boundEdge, lexicalDeclaration, letName, letBound, letBoundSaid, awaitNameScoped, scopedInBlock}
 use Rattle.ecma_strict.specs.Scopes.{scopesFollow}
 use Rattle.ecma_strict.specs.ScopesLaws.{scopesTold}
-use Rattle.ecma_strict.specs.ContainsLaws.{containsIs}
+use Rattle.ecma_strict.specs.ContainsLaws.{containsIn, containsIs}
 use Rattle.ecma_strict.specs.AgreeLaws.{letAgrees, argumentsAgree, classPart, parameterAgrees, blockAgrees}
 use Rattle.ecma_strict.specs.Functions.{isFunction, endsInStatement, endsInLabelled, labelledAmong, labelsFunction, labelEdge, strictFunction, strictFunctionElse, sloppyFunction, labelledFunctionSaid}
 use Rattle.ecma_strict.specs.LabelledLaws.{statementsOf}
