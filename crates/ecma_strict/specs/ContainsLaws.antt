@@ -128,6 +128,7 @@ module _ (ns : List ℕ) (t : Tree ns) (sought : ℕ → Bool) (into begin : ℕ
 
     mutual
       unfolding contains marks
+
       ofTree : (x : Rose) → Placed ns x → u < idx x → idx x < count ns → some (each saysAt (marks x)) ≡ (at (idx x) && contains sought into x)
       ofTree (node i ks) p l h =
           someAppend (saysAt i) (each saysAt (marksAll ks))

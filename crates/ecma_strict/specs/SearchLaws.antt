@@ -48,7 +48,7 @@ orTrue : (b : Bool) → (b || true) ≡ true
 orTrue true = refl
 orTrue false = refl
 
-positive : (a : ℕ) → (a ≡ 0 → ⊥) → 1 ≤ a
+pub positive : (a : ℕ) → (a ≡ 0 → ⊥) → 1 ≤ a
 positive a n = ⊎-elim (λ (e : 0 ≡ a). absurd (n (sym e))) (λ (z : 0 < a). z) (eq-or-lt-of-le (omega arith))
 
 -- A STEP UP

@@ -4,33 +4,35 @@ use mathlib.Core.Path.{_≡_, refl, ap, sym, subst, _∙_}
 use mathlib.Core.List.{List, [], _∷_, _++_, foldr}
 use mathlib.Core.Bool.{Bool, true, false, cond, not, _&&_, _||_}
 use native.Mathlib.Omega.{arith}
-use borrow.Author.Tests.{eq-eqb, ne-eqb, eqb-true, eqb-false}
+use borrow.Author.Tests.{eq-eqb, ne-eqb, eqb-true, eqb-false, not-true}
 use lib.Dec.{eqb}
 use Rattle.common.specs.Upto.{upto, any, and-left, and-right}
 use Rattle.common.specs.Tests.{within}
-use Rattle.common.specs.Bools.{never, in-range, range-of}
+use Rattle.common.specs.Bools.{never, or-first, or-second, in-range, range-of}
 use Rattle.tables.specs.Table.{kindOf, parentOf, count, extraOf}
 use Rattle.tables.specs.declared.Found.the-variants.{At}
-use Rattle.children.specs.Children.{keep, children, heldOf, functionBodyOf}
+use Rattle.children.specs.Children.{keep, children, valueOf, heldOf, functionBodyOf}
 use Rattle.children.specs.ChildrenLaws.{found-child}
 use Rattle.tables.specs.Kinds as k
 use Rattle.tables.specs.Extras as extra
 use Rattle.names.specs.Name.{nameIs}
 use Rattle.names.specs.Words as word
+use Rattle.scoping.specs.Scoping.{inStaticBlock}
 use Rattle.checker.specs.Findings.{findingsAt}
 use Rattle.input.specs.InputLaws.{WellFormed}
-use Rattle.trees.specs.Rose.{partsOf}
+use Rattle.trees.specs.Rose.{partsOf, marksAll}
 use Rattle.trees.specs.Walk.{each, some, only}
 use Rattle.trees.specs.WalkLaws.{someAppend, someOnly, someEach, eachSame}
 use Rattle.trees.specs.Trail.{unitOf}
 use Rattle.ecma_strict.specs.Nodes.{raised}
 use Rattle.ecma_strict.specs.Strict.{strictCode}
 use Rattle.ecma_strict.specs.Identifiers.{strictReserved, reservedName, bindsEval, assignsEval, useStrictDirective, simpleParameters, containsUseStrict, useStrictThere}
-use Rattle.ecma_strict.specs.Contains.{awaitEdge, staticBlock, awaitExpression, forAwait, awaitUsing, awaitInBlock, argumentsEdge, argumentsHome, argumentsReference, argumentsInClass, argumentsSaid, parameter, parameterEdge, awaitOrYield, awaitInParameter, awaitInParameterSaid, boundEdge, lexicalDeclaration, letName, letBound, letBoundSaid, awaitNameScoped, scopedInBlock}
+use Rattle.ecma_strict.specs.Contains.{containsFrom, isNode, initializer, containsInto, staticBlock, blockBegin, awaitExpression, forAwait, awaitUsing, argumentsReference, argumentsBegin, argumentsInto, parameter, parameterBegin, awaitOrYield, lexicalDeclaration, boundBegin, boundInto, letName, scopedInBlock, awaitNameScoped, letEdge, letBoundSaid, fieldEdge, fieldHome, argumentsSaid, throughClassEdge, awaitInParameterSaid}
 use Rattle.ecma_strict.specs.Scopes.{scopesFollow}
 use Rattle.ecma_strict.specs.ScopesLaws.{scopesTold}
-use Rattle.ecma_strict.specs.ContainsLaws.{containsIn, containsIs}
-use Rattle.ecma_strict.specs.AgreeLaws.{letAgrees, argumentsAgree, classPart, parameterAgrees, blockAgrees}
+use Rattle.ecma_strict.specs.ContainsLaws.{containsIn, containsIs, comes, comesIs, comesHome}
+use Rattle.ecma_strict.specs.SearchLaws.{positive}
+use Rattle.ecma_strict.specs.AgreeLaws.{blockEdge, scopesAre}
 use Rattle.ecma_strict.specs.Functions.{isFunction, endsInStatement, endsInLabelled, labelledAmong, labelsFunction, labelEdge, strictFunction, strictFunctionElse, sloppyFunction, labelledFunctionSaid}
 use Rattle.ecma_strict.specs.LabelledLaws.{statementsOf}
 use Rattle.ecma_strict.specs.Standard.{standard12}
@@ -58,6 +60,9 @@ anyKeep q p (j ∷ l) = go (q j) (anyKeep q p l)
     go : (b : Bool) → any p (keep q l) ≡ some (each (λ j. cond (q j) (only (p j) j) []) l) → any p (cond b (j ∷ keep q l) (keep q l)) ≡ some (cond b (only (p j) j) [] ++ each (λ j. cond (q j) (only (p j) j) []) l)
     go true h = rw h (ap (λ b. b || some (each (λ j. cond (q j) (only (p j) j) []) l)) (sym (someOnly (p j) j)) ∙ sym (someAppend (only (p j) j) (each (λ j. cond (q j) (only (p j) j) []) l)))
     go false h = h
+
+clash : {A : Type 0} → false ≡ true → A
+clash e = never (sym e)
 
 orLeft : (a b : Bool) → a ≡ true → (a || b) ≡ true
 orLeft true b e = refl
@@ -98,91 +103,137 @@ module _ (t : ℕ) (ns ss source names : List ℕ) (w : WellFormed t ns ss sourc
   root : kindOf ns 0 ≡ 0
   root = w .input .tree .root
 
+  -- what an operation of u comes to, each with the findings that g gives for it
+  abbrev pub foundBelow : (ℕ → Bool) → (ℕ → ℕ → Bool) → (ℕ → ℕ → Bool) → ℕ → (ℕ → List ℕ) → List ℕ
+  foundBelow sought into begin u g = each (λ j. cond (comes ns begin into u j && sought j) (g j) []) (marksAll (partsOf ns u))
+
   -- 15.7.1: "ClassStaticBlockStatementList Contains await": 3 at an AwaitExpression, 25 at a for await, 14 at an await using
   module _ (s : scopesFollow ns ss ≡ true) (u : ℕ) (h : u < count ns) (q : staticBlock ns u ≡ true) where
-    edge0 : (j : ℕ) → awaitEdge ns 0 j ≡ true
-    edge0 j = rw root
-
-    inside : (j : ℕ) → j < count ns → unitOf ns (awaitEdge ns) j ≡ u → scopedInBlock ns ss j ≡ true
-    unfolding awaitInBlock
+    inside : (j : ℕ) → j < count ns → comes ns (blockBegin ns) (containsInto ns) u j ≡ true → scopedInBlock ns ss j ≡ true
+    unfolding scopedInBlock inStaticBlock
     inside j l e =
-        blockAgrees ns ss (w .input .tree) (w .input .chained) (w .input .scoped) (scopesTold ns ss (w .input .tree) s) j l (rw (e, eqb-true (kindOf ns u) 3 q))
-        ∙ ap (λ (x : ℕ). staticBlock ns x) e ∙ q
+        scopesAre ns ss (w .input .tree) (w .input .chained) (w .input .scoped) (scopesTold ns ss (w .input .tree) s) j l
+        ∙ comesHome ns (w .input .tree) (containsInto ns) (blockBegin ns) (blockEdge ns) (staticBlock ns) u q (λ i x. rw (eqb-true (kindOf ns u) 3 q)) none j l e
+      where
+        none : (i k : ℕ) → (kindOf ns i ≡ 0 → ⊥) → containsInto ns i k ≡ true → blockEdge ns i k ≡ true → staticBlock ns i ≡ true
+        none i k n x y =
+            let r = range-of (kindOf ns i) 0 3 y in
+            let r1 = r .1 in
+            clash (sym (or-first (within (kindOf ns i) 1 3) (initializer ns i k) (not-true (within (kindOf ns i) 1 3 || initializer ns i k) x)) ∙ in-range (kindOf ns i) 1 3 (positive (kindOf ns i) n) r1)
 
-    pub blockContainsAwait : containsIn ns (awaitExpression ns) (awaitEdge ns) u ≡ some (foundIn (awaitExpression ns) (awaitEdge ns) u (at 3))
+    pub blockContainsAwait : containsFrom ns (awaitExpression ns) (containsInto ns) (blockBegin ns) u ≡ some (foundBelow (awaitExpression ns) (containsInto ns) (blockBegin ns) u (at 3))
     blockContainsAwait =
-        unitFindings (awaitExpression ns) (awaitEdge ns) edge0 (at 3) u h
+        comesIs ns (w .input .tree) (awaitExpression ns) (containsInto ns) (blockBegin ns) u (at 3)
         (λ j l e f. someOf (at 3 j) (awaitNameScoped t ns ss names j || (awaitExpression ns j && scopedInBlock ns ss j)) j (code3 t ns ss source names w j l)
-        (orRight (awaitNameScoped t ns ss names j) (awaitExpression ns j && scopedInBlock ns ss j) (rw (f, inside j l e))))
+        (orRight (awaitNameScoped t ns ss names j) (awaitExpression ns j && scopedInBlock ns ss j) (rw (f, inside j l e)))) h
 
-    pub blockContainsForAwait : containsIn ns (forAwait ns) (awaitEdge ns) u ≡ some (foundIn (forAwait ns) (awaitEdge ns) u (at 25))
+    pub blockContainsForAwait : containsFrom ns (forAwait ns) (containsInto ns) (blockBegin ns) u ≡ some (foundBelow (forAwait ns) (containsInto ns) (blockBegin ns) u (at 25))
     blockContainsForAwait =
-        unitFindings (forAwait ns) (awaitEdge ns) edge0 (at 25) u h
-        (λ j l e f. someOf (at 25 j) (forAwait ns j && scopedInBlock ns ss j) j (code25 t ns ss source names w j l) (rw (f, inside j l e)))
+        comesIs ns (w .input .tree) (forAwait ns) (containsInto ns) (blockBegin ns) u (at 25)
+        (λ j l e f. someOf (at 25 j) (forAwait ns j && scopedInBlock ns ss j) j (code25 t ns ss source names w j l) (rw (f, inside j l e))) h
 
-    pub blockContainsAwaitUsing : containsIn ns (awaitUsing ns) (awaitEdge ns) u ≡ some (foundIn (awaitUsing ns) (awaitEdge ns) u (at 14))
+    pub blockContainsAwaitUsing : containsFrom ns (awaitUsing ns) (containsInto ns) (blockBegin ns) u ≡ some (foundBelow (awaitUsing ns) (containsInto ns) (blockBegin ns) u (at 14))
     blockContainsAwaitUsing =
-        unitFindings (awaitUsing ns) (awaitEdge ns) edge0 (at 14) u h
-        (λ j l e f. someOf (at 14 j) (awaitUsing ns j && scopedInBlock ns ss j) j (code14 t ns ss source names w j l) (rw (f, inside j l e)))
+        comesIs ns (w .input .tree) (awaitUsing ns) (containsInto ns) (blockBegin ns) u (at 14)
+        (λ j l e f. someOf (at 14 j) (awaitUsing ns j && scopedInBlock ns ss j) j (code14 t ns ss source names w j l) (rw (f, inside j l e))) h
 
   -- 15.7.1: ContainsArguments, of a field and of a static block: 6, or 4 where `arguments` is assigned to
-  pub homeContainsArguments : (u : ℕ) → u < count ns → argumentsHome ns u ≡ true → eqb (kindOf ns u) k.AccessorProperty ≡ false
-      → containsIn ns (argumentsReference ns names) (argumentsEdge ns) u ≡ some (foundIn (argumentsReference ns names) (argumentsEdge ns) u (λ j. at 6 j ++ at 4 j))
-  unfolding argumentsInClass
-  homeContainsArguments u h q a =
-      unitFindings (argumentsReference ns names) (argumentsEdge ns) (λ j. rw root) (λ j. at 6 j ++ at 4 j) u h
-      (λ j l e f. someAppend (at 6 j) (at 4 j) ∙ go j l e f (assignsEval ns ss names j) refl)
+  pub homeContainsArguments : (u : ℕ) → u < count ns → fieldHome ns u ≡ true
+      → containsFrom ns (argumentsReference ns names) (argumentsInto ns) (argumentsBegin ns) u ≡ some (foundBelow (argumentsReference ns names) (argumentsInto ns) (argumentsBegin ns) u (λ j. at 6 j ++ at 4 j))
+  unfolding argumentsSaid
+  homeContainsArguments u h q =
+      comesIs ns (w .input .tree) (argumentsReference ns names) (argumentsInto ns) (argumentsBegin ns) u (λ j. at 6 j ++ at 4 j)
+      (λ j l e f. someAppend (at 6 j) (at 4 j) ∙ go j l e f (assignsEval ns ss names j) refl) h
     where
-      go : (j : ℕ) → j < count ns → unitOf ns (argumentsEdge ns) j ≡ u → argumentsReference ns names j ≡ true → (b : Bool) → assignsEval ns ss names j ≡ b → (some (at 6 j) || some (at 4 j)) ≡ true
+      first : (j : ℕ) → argumentsBegin ns u j ≡ true → fieldEdge ns u j ≡ true
+      first j e = by (within (kindOf ns u) 0 1) (eqb (kindOf ns u) 3) (eqb (kindOf ns u) 29) (within (kindOf ns u) 29 30) (isNode (valueOf ns u) j) q e
+        where
+          by : (a b c d g : Bool) → (b || c) ≡ true → (b || (d && g)) ≡ true → ((a || b) || (c && g)) ≡ true
+          by true b c d g x y = refl
+          by false true c d g x y = refl
+          by false false true true g x y = y
+          by false false true false g x y = never (sym y)
+          by false false false d g x y = never (sym x)
+
+      on : (i j : ℕ) → (kindOf ns i ≡ 0 → ⊥) → argumentsInto ns i j ≡ true → fieldEdge ns i j ≡ true → fieldHome ns i ≡ true
+      on i j n x y = by (within (kindOf ns i) 0 1) refl (eqb (kindOf ns i) 3) (eqb (kindOf ns i) 29) (isNode (valueOf ns i) j) y
+        where
+          low : within (kindOf ns i) 0 1 ≡ true → eqb (kindOf ns i) 1 ≡ true
+          low z = let r = range-of (kindOf ns i) 0 1 z in let r1 = r .1 in let r2 = positive (kindOf ns i) n in eq-eqb (kindOf ns i) 1 (omega arith)
+
+          by : (a : Bool) → within (kindOf ns i) 0 1 ≡ a → (b c d : Bool) → ((a || b) || (c && d)) ≡ true → (b || c) ≡ true
+          by true z b c d e = clash (sym (or-first (eqb (kindOf ns i) 1) (eqb (kindOf ns i) 3) (not-true (eqb (kindOf ns i) 1 || eqb (kindOf ns i) 3) x)) ∙ low z)
+          by false z true c d e = refl
+          by false z false true d e = refl
+          by false z false false d e = e
+
+      go : (j : ℕ) → j < count ns → comes ns (argumentsBegin ns) (argumentsInto ns) u j ≡ true → argumentsReference ns names j ≡ true → (b : Bool) → assignsEval ns ss names j ≡ b → (some (at 6 j) || some (at 4 j)) ≡ true
       go j l e f true x =
           orRight (some (at 6 j)) (some (at 4 j))
           (someOf (at 4 j) (bindsEval ns ss names j || assignsEval ns ss names j) j (code4 t ns ss source names w j l) (orRight (bindsEval ns ss names j) (assignsEval ns ss names j) x))
       go j l e f false x =
           orLeft (some (at 6 j)) (some (at 4 j))
           (someOf (at 6 j) (argumentsSaid ns ss names j) j (code6 t ns ss source names w j l)
-          (argumentsAgree ns ss names j (w .input .tree) l x (ap (λ (y : ℕ). eqb (kindOf ns y) k.AccessorProperty) e ∙ a) ∙ rw (f, e, q)))
+          (rw (f, x, comesHome ns (w .input .tree) (argumentsInto ns) (argumentsBegin ns) (fieldEdge ns) (fieldHome ns) u q first on j l e)))
 
   -- 15.3.1 and others: "FormalParameters Contains YieldExpression", "Contains AwaitExpression": 33
   pub parametersContain : (u : ℕ) → u < count ns → parameter ns u ≡ true
-      → containsIn ns (awaitOrYield ns) (parameterEdge ns) u ≡ some (foundIn (awaitOrYield ns) (parameterEdge ns) u (at 33))
-  unfolding awaitInParameter
+      → containsFrom ns (awaitOrYield ns) (containsInto ns) (parameterBegin ns) u ≡ some (foundBelow (awaitOrYield ns) (containsInto ns) (parameterBegin ns) u (at 33))
+  unfolding awaitInParameterSaid
   parametersContain u h q =
-      unitFindings (awaitOrYield ns) (parameterEdge ns) (λ j. rw root) (at 33) u h
+      comesIs ns (w .input .tree) (awaitOrYield ns) (containsInto ns) (parameterBegin ns) u (at 33)
       (λ j l e f. someOf (at 33 j) (awaitInParameterSaid ns j) j (code33 t ns ss source names w j l)
-      (parameterAgrees ns j (w .input .tree) l (ap (λ (y : ℕ). classPart ns y) e ∙ outside) ∙ rw (f, e, q)))
+      (rw (f, comesHome ns (w .input .tree) (containsInto ns) (parameterBegin ns) (throughClassEdge ns) (parameter ns) u q (λ k x. orRight (within (kindOf ns u) 0 2) (parameter ns u) q) on j l e))) h
     where
-      outside : classPart ns u ≡ false
-      outside = go (eqb (kindOf ns u) 49) refl q
+      on : (i j : ℕ) → (kindOf ns i ≡ 0 → ⊥) → containsInto ns i j ≡ true → throughClassEdge ns i j ≡ true → parameter ns i ≡ true
+      on i j n x y = by (within (kindOf ns i) 0 2) refl (parameter ns i) y
         where
-          go : (b : Bool) → eqb (kindOf ns u) 49 ≡ b → parameter ns u ≡ true → classPart ns u ≡ false
-          go true e p = rw (eqb-true (kindOf ns u) 49 e)
-          go false e p =
-              let x : (eqb (kindOf ns u) 51 && eqb (kindOf ns (parentOf ns u)) 50) ≡ true = rw e at p in
-              rw (eqb-true (kindOf ns u) 51 (and-left (eqb (kindOf ns u) 51) (eqb (kindOf ns (parentOf ns u)) 50) x))
+          by : (a : Bool) → within (kindOf ns i) 0 2 ≡ a → (b : Bool) → (a || b) ≡ true → b ≡ true
+          by true z b e =
+              let r = range-of (kindOf ns i) 0 2 z in
+              let r1 = r .1 in
+              clash (sym (or-first (within (kindOf ns i) 1 3) (initializer ns i j) (not-true (within (kindOf ns i) 1 3 || initializer ns i j) x)) ∙ in-range (kindOf ns i) 1 3 (positive (kindOf ns i) n) (omega arith))
+          by false z b e = e
 
   -- 14.3.1.1: "the BoundNames of BindingList contains "let"": 5, or 2 in strict code
   pub declarationBindsLet : (u : ℕ) → u < count ns → lexicalDeclaration ns u ≡ true
-      → containsIn ns (letName ns names) (boundEdge ns) u ≡ some (foundIn (letName ns names) (boundEdge ns) u (λ j. at 5 j ++ at 2 j))
-  unfolding letBound reservedName
+      → containsFrom ns (letName ns names) (boundInto ns) (boundBegin ns) u ≡ some (foundBelow (letName ns names) (boundInto ns) (boundBegin ns) u (λ j. at 5 j ++ at 2 j))
+  unfolding letBoundSaid reservedName
   declarationBindsLet u h q =
-      unitFindings (letName ns names) (boundEdge ns) (λ j. rw root) (λ j. at 5 j ++ at 2 j) u h (λ j l e f. someAppend (at 5 j) (at 2 j) ∙ go j l e f (strictCode ns ss j) refl)
+      comesIs ns (w .input .tree) (letName ns names) (boundInto ns) (boundBegin ns) u (λ j. at 5 j ++ at 2 j) (λ j l e f. someAppend (at 5 j) (at 2 j) ∙ go j l e f (strictCode ns ss j) refl) h
     where
       reserved : (j : ℕ) → nameIs ns names j word.letWord ≡ true → any (λ x. nameIs ns names j x) strictReserved ≡ true
       reserved j e =
           orRight (nameIs ns names j word.implementsWord) _
           (orRight (nameIs ns names j word.interfaceWord) _ (orLeft (nameIs ns names j word.letWord) _ e))
 
-      go : (j : ℕ) → j < count ns → unitOf ns (boundEdge ns) j ≡ u → letName ns names j ≡ true → (b : Bool) → strictCode ns ss j ≡ b → (some (at 5 j) || some (at 2 j)) ≡ true
+      first : (j : ℕ) → boundBegin ns u j ≡ true → letEdge ns u j ≡ true
+      first j e = orRight (within (kindOf ns u) 0 2) (eqb (kindOf ns u) 24) (and-left (eqb (kindOf ns u) 24) (not (eqb (extraOf ns u) extra.Var)) q)
+
+      on : (i j : ℕ) → (kindOf ns i ≡ 0 → ⊥) → boundInto ns i j ≡ true → letEdge ns i j ≡ true → lexicalDeclaration ns i ≡ true
+      on i j n x y = by (within (kindOf ns i) 0 2) refl (eqb (kindOf ns i) 24) refl y
+        where
+          out : (within (kindOf ns i) 1 2 || (eqb (kindOf ns i) 26 || eqb (kindOf ns i) 24)) ≡ false
+          out = not-true (within (kindOf ns i) 1 2 || (eqb (kindOf ns i) 26 || eqb (kindOf ns i) 24)) x
+
+          by : (a : Bool) → within (kindOf ns i) 0 2 ≡ a → (b : Bool) → eqb (kindOf ns i) 24 ≡ b → (a || b) ≡ true → lexicalDeclaration ns i ≡ true
+          by true z b c e =
+              let r = range-of (kindOf ns i) 0 2 z in
+              let r1 = r .1 in
+              clash (sym (or-first (within (kindOf ns i) 1 2) (eqb (kindOf ns i) 26 || eqb (kindOf ns i) 24) out) ∙ in-range (kindOf ns i) 1 2 (positive (kindOf ns i) n) r1)
+          by false z true c e = clash (sym (or-second (eqb (kindOf ns i) 26) (eqb (kindOf ns i) 24) (or-second (within (kindOf ns i) 1 2) (eqb (kindOf ns i) 26 || eqb (kindOf ns i) 24) out)) ∙ c)
+          by false z false c e = never (sym e)
+
+      go : (j : ℕ) → j < count ns → comes ns (boundBegin ns) (boundInto ns) u j ≡ true → letName ns names j ≡ true → (b : Bool) → strictCode ns ss j ≡ b → (some (at 5 j) || some (at 2 j)) ≡ true
       go j l e f true x =
           let i = eqb-true (kindOf ns j) 31 (and-left (eqb (kindOf ns j) 31) (nameIs ns names j word.letWord) f) in
           orRight (some (at 5 j)) (some (at 2 j))
           (someOf (at 2 j) (reservedName t ns ss names j) j (code2 t ns ss source names w j l)
           (rw (in-range (kindOf ns j) 31 33 (omega arith) (omega arith), x, reserved j (and-right (eqb (kindOf ns j) 31) (nameIs ns names j word.letWord) f))))
       go j l e f false x =
-          let d = eqb-true (kindOf ns u) 24 (and-left (eqb (kindOf ns u) 24) (not (eqb (extraOf ns u) extra.Var)) q) in
           orLeft (some (at 5 j)) (some (at 2 j))
           (someOf (at 5 j) (letBoundSaid ns ss names j) j (code5 t ns ss source names w j l)
-          (letAgrees ns ss names j (w .input .tree) l x (ap (λ (y : ℕ). eqb (kindOf ns y) k.Class) e ∙ ne-eqb (kindOf ns u) 26 (λ z. omega arith)) ∙ rw (f, e, q)))
+          (rw (f, x, comesHome ns (w .input .tree) (boundInto ns) (boundBegin ns) (letEdge ns) (lexicalDeclaration ns) u q first on j l e)))
 
   -- 14.6.1 and others: "IsLabelledFunction(Statement)": 16, or 15 in strict code
   pub statementIsLabelled : (u : ℕ) → u < count ns → endsInStatement ns u ≡ true
