@@ -13,6 +13,7 @@ pub mod IdentifiersLaws
 pub mod Contains
 pub mod ContainsLaws
 pub mod SearchLaws
+pub mod NodeRules
 pub mod AgreeLaws
 pub mod ScopesLaws
 pub mod Functions
