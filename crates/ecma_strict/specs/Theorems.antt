@@ -24,6 +24,9 @@ use Rattle.literals.specs.Literals.{checkNumberLiteral, checkStringLiteral}
 use Rattle.expressions.specs.Expressions.{checkUnaryExpression, inParameter, inBlock}
 use Rattle.checker.specs.Findings.{findingsAt, findingsOf}
 use Rattle.input.specs.InputLaws.{WellFormed}
+use Rattle.verdict.specs.declared.Verdict.the-variants.{Passed}
+use Rattle.wellformed.specs.WellFormed.{inputRefusal}
+use Rattle.wellformed.specs.WellFormedLaws.{input-well-formed}
 use Rattle.trees.specs.Walk.{each, only}
 use Rattle.ecma_dispatch.specs.WithCode.{withCode}
 use Rattle.ecma_dispatch.specs.Dispatch.{at2, at3, at4, at5, at6, at9, at10, at11, at12, at13, at14, at15, at16, at17, at24, at25, at31, at32, at33}
@@ -314,3 +317,7 @@ earlyErrors t ns ss source names w = record {
   deleteOfPrivate = wholeIs 32 t ns ss source names (λ n. only (deletesPrivateAnywhere ns n) n) refl (code32 t ns ss source names w);
   awaitOrYieldInParameters = wholeIs 33 t ns ss source names (λ n. only (awaitInParameterSaid ns n) n) refl (code33 t ns ss source names w);
 }
+
+-- Tables that none of the refusals 1 to 6 turns down are well-formed.
+pub earlyErrorsOf : (t : ℕ) (ns ss source names : List ℕ) → inputRefusal t ns ss source names ≡ Passed → EarlyErrors t ns ss source names
+earlyErrorsOf t ns ss source names e = earlyErrors t ns ss source names (input-well-formed t ns ss source names e)
