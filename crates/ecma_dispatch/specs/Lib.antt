@@ -3,3 +3,5 @@ pub mod WithCodeLaws
 pub mod CheckCodes
 pub mod ByKind
 pub mod Dispatch
+pub mod NodesOf
+pub mod NodesOfLaws
