@@ -1,30 +1,29 @@
 -- Where the rules of the Rust for codes 3, 5, 6, 14, 25 and 33 are the standard's.
-use Prim.Native.Nat.{ℕ, _+_, _≤_, _<_}
-use mathlib.Core.Path.{_≡_, refl, ap, sym, subst, _∙_}
-use mathlib.Core.List.{List, [], _∷_, foldr}
-use mathlib.Core.Bool.{Bool, true, false, cond, not, _&&_, _||_}
+use Prim.Native.Nat.{ℕ, _≤_, _<_}
+use mathlib.Core.Path.{_≡_, refl, ap, sym, _∙_}
+use mathlib.Core.List.{List}
+use mathlib.Core.Bool.{Bool, true, false, not, _&&_, _||_}
 use mathlib.Core.Logic.{_⊎_, inl, inr, ⊎-elim}
 use native.Mathlib.Nat.{eq-or-lt-of-le}
 use native.Mathlib.Omega.{arith}
-use borrow.Author.Tests.{eq-eqb, ne-eqb, eqb-true, eqb-false}
+use borrow.Author.Tests.{eq-eqb, eqb-true, eqb-false}
 use lib.Dec.{eqb}
 use Rattle.common.specs.Tests.{within}
 use Rattle.common.specs.Bools.{never, in-range, range-of}
-use Rattle.tables.specs.Table.{kindOf, parentOf, count, extraOf, scopeOf, scopeFlagsOf, scopeParentOf, scopeNodeOf, countScopes, hasFlag}
+use Rattle.tables.specs.Table.{kindOf, parentOf, count, scopeOf, scopeParentOf}
 use Rattle.tables.specs.Facts.{Tree, Chained, Scoped}
 use Rattle.tables.specs.Kinds as k
-use Rattle.tables.specs.ScopeFlag as scope
-use Rattle.ancestry.specs.AncestryLaws.{parent-in}
 use Rattle.children.specs.Children.{valueOf}
 use Rattle.scoping.specs.Scoping.{inStaticBlock}
 use Rattle.scoping.specs.ScopingLaws.{static-here, static-function, static-up, static-root}
 use Rattle.trees.specs.Trail.{unitOf}
 use Rattle.ecma_strict.specs.Strict.{strictCode}
 use Rattle.ecma_strict.specs.Identifiers.{goalModule, assignsEval}
-use Rattle.ecma_strict.specs.Contains.{isNode, initializer, awaitEdge, staticBlock, awaitNameEdge, awaitName, argumentsEdge, argumentsHome, argumentsReference, parameter, parameterEdge, awaitOrYield, boundEdge, lexicalDeclaration, letName, awaitInBlock, awaitNameInBlock, argumentsInClass, awaitInParameter, letBound, scopedInBlock, awaitNameScoped, letEdge, letBoundSaid, fieldEdge, fieldHome, argumentsSaid, throughClassEdge, awaitInParameterSaid, AwaitNameTold}
+use Rattle.ecma_strict.specs.Contains.{isNode, initializer, awaitEdge, staticBlock, awaitName, argumentsEdge, argumentsHome, argumentsReference, parameter, parameterEdge, boundEdge, awaitInBlock, awaitNameInBlock, argumentsInClass, awaitInParameter, letBound}
 use Rattle.ecma_strict.specs.Scopes.{blockScope, functionScope}
-use Rattle.ecma_strict.specs.ContainsLaws.{upward, unitUp, unitRoot}
+use Rattle.ecma_strict.specs.ContainsLaws.{upward, unitRoot}
 use Rattle.ecma_strict.specs.SearchLaws.{unitHere, unitPass}
+use Rattle.ecma_strict.specs.Changed.{scopedInBlock, awaitNameScoped, letEdge, letBoundSaid, fieldEdge, fieldHome, argumentsSaid, throughClassEdge, awaitInParameterSaid, AwaitNameTold}
 
 -- two sets of edges, one larger: where the nearest of the larger set is none of the surplus, it is the nearest of the smaller too
 module _ (ns : List ℕ) (t : Tree ns) (large small : ℕ → ℕ → Bool) (surplus : ℕ → Bool)

@@ -1,15 +1,13 @@
 -- ECMA-262, 8.5.1 Contains, 15.7.9 ContainsArguments, 8.2.1 BoundNames: operations that begin at a node of one kind, go down, and end at others.
 use Prim.Native.Nat.{ℕ}
-use mathlib.Core.Path.{_≡_}
-use mathlib.Core.List.{List, _∷_, foldr}
-use mathlib.Core.Bool.{Bool, true, false, cond, not, _&&_, _||_}
+use mathlib.Core.List.{List}
+use mathlib.Core.Bool.{Bool, false, not, _&&_, _||_}
 use lib.Dec.{eqb}
 use Rattle.common.specs.Tests.{within}
-use Rattle.tables.specs.Table.{kindOf, parentOf, flagsOf, extraOf, scopeOf, scopeFlagsOf, scopeNodeOf, outer, hasFlag}
+use Rattle.tables.specs.Table.{kindOf, parentOf, flagsOf, extraOf, hasFlag}
 use Rattle.tables.specs.Kinds as k
 use Rattle.tables.specs.Extras as extra
 use Rattle.tables.specs.NodeFlag as flag
-use Rattle.tables.specs.ScopeFlag as scope
 use Rattle.tables.specs.declared.Found.{Found}
 use Rattle.tables.specs.declared.Found.the-variants.{At, Nothing}
 use Rattle.names.specs.Name.{nameIs}
@@ -17,9 +15,6 @@ use Rattle.names.specs.Words as word
 use Rattle.children.specs.Children.{valueOf}
 use Rattle.trees.specs.Rose.{Rose, Roses, node, rnil, rcons, idx, partsOf}
 use Rattle.trees.specs.Trail.{unitOf}
-use Rattle.ecma_strict.specs.Strict.{strictCode}
-use Rattle.ecma_strict.specs.Scopes.{blockScope}
-use Rattle.ecma_strict.specs.Identifiers.{goalModule, assignsEval}
 
 -- "For each child node child of this Parse Node: if child is an instance of symbol, return true; if child is an instance of a nonterminal, let contained be the result
 -- of child Contains symbol. If contained is true, return true. Return false." It goes into the part j of the node i where `into i j` says so.
@@ -145,45 +140,3 @@ awaitInParameter ns n = awaitOrYield ns n && parameter ns (unitOf ns (parameterE
 
 unfoldable pub letBound : List ℕ → List ℕ → ℕ → Bool
 letBound ns names n = letName ns names n && lexicalDeclaration ns (unitOf ns (boundEdge ns) n)
-
--- CHANGED RULES, as the Rust has them
-
--- 3, 14, 25 go by scopes: among the scope of n and those around it, nearest first, that of a static block comes before that of a function
-unfoldable pub scopedInBlock : List ℕ → List ℕ → ℕ → Bool
-scopedInBlock ns ss n =
-    foldr (λ t r. cond (hasFlag (scopeFlagsOf ss t) scope.StaticBlockScope) true (cond (hasFlag (scopeFlagsOf ss t) scope.FunctionScope) false r)) false (scopeOf ns n ∷ outer ss (scopeOf ns n))
-
--- 3 at a name: only where the name's own scope is a static block's, and not in a module, where 2 is raised
-unfoldable pub awaitNameScoped : ℕ → List ℕ → List ℕ → List ℕ → ℕ → Bool
-awaitNameScoped sourceType ns ss names n = awaitName ns names n && (not (goalModule sourceType) && hasFlag (scopeFlagsOf ss (scopeOf ns n)) scope.StaticBlockScope)
-
--- 5: not in strict code, where 2 is raised; and the name of a class in the Initializer counts as bound
-abbrev pub letEdge : List ℕ → ℕ → ℕ → Bool
-letEdge ns i j = within (kindOf ns i) k.Program k.Arrow || eqb (kindOf ns i) k.VariableDeclaration
-
-unfoldable pub letBoundSaid : List ℕ → List ℕ → List ℕ → ℕ → Bool
-letBoundSaid ns ss names n = letName ns names n && (not (strictCode ns ss n) && lexicalDeclaration ns (unitOf ns (letEdge ns) n))
-
--- 6: the Initializer of an auto-accessor is passed over; and a reference at which 4 is raised is left
-abbrev pub fieldEdge : List ℕ → ℕ → ℕ → Bool
-fieldEdge ns i j = (within (kindOf ns i) k.Program k.Function || eqb (kindOf ns i) k.StaticBlock) || (eqb (kindOf ns i) k.PropertyDefinition && isNode (valueOf ns i) j)
-
-abbrev pub fieldHome : List ℕ → ℕ → Bool
-fieldHome ns u = eqb (kindOf ns u) k.StaticBlock || eqb (kindOf ns u) k.PropertyDefinition
-
-unfoldable pub argumentsSaid : List ℕ → List ℕ → List ℕ → ℕ → Bool
-argumentsSaid ns ss names n = argumentsReference ns names n && (not (assignsEval ns ss names n) && fieldHome ns (unitOf ns (fieldEdge ns) n))
-
--- 33: static blocks and the Initializers of fields within a parameter count as its parts
-abbrev pub throughClassEdge : List ℕ → ℕ → ℕ → Bool
-throughClassEdge ns i j = within (kindOf ns i) k.Program k.Arrow || parameter ns i
-
-unfoldable pub awaitInParameterSaid : List ℕ → ℕ → Bool
-awaitInParameterSaid ns n = awaitOrYield ns n && parameter ns (unitOf ns (throughClassEdge ns) n)
-
--- WHERE THE RULES AGREE
-
--- the scope of the name n is that of the node where its [Await] parameter comes from, and is flagged as a static block's if it is one
-pub record AwaitNameTold (ns ss : List ℕ) (n : ℕ) : Type 0 where
-  pub flagged : blockScope ns ss n ≡ staticBlock ns (scopeNodeOf ss (scopeOf ns n))
-  pub whose : scopeNodeOf ss (scopeOf ns n) ≡ unitOf ns (awaitNameEdge ns) n

@@ -1,7 +1,7 @@
 -- The operations that go down, node by node: the parts of u contain what is sought just where some node is sought whose way up first comes to an edge at u.
 use Prim.Native.Nat.{ℕ, zero, suc, _+_, _≤_, _<_}
 use mathlib.Core.Path.{_≡_, refl, ap, sym, subst, _∙_}
-use mathlib.Core.List.{List, [], _++_, foldr}
+use mathlib.Core.List.{List, [], _++_}
 use mathlib.Core.Bool.{Bool, true, false, cond, not, _&&_, _||_}
 use mathlib.Core.Logic.{⊎-elim}
 use native.Mathlib.Nat.{eq-or-lt-of-le}
@@ -10,13 +10,13 @@ use borrow.Author.Tests.{eq-eqb, ne-eqb, eqb-true}
 use lib.Dec.{eqb}
 use Rattle.common.specs.Upto.{upto, and-left, and-right}
 use Rattle.common.specs.Bools.{never}
-use Rattle.tables.specs.Table.{kindOf, parentOf, count, ancestors}
+use Rattle.tables.specs.Table.{kindOf, parentOf, count}
 use Rattle.tables.specs.Facts.{Tree}
 use Rattle.ancestry.specs.AncestryLaws.{parent-in}
 use Rattle.trees.specs.Rose.{Rose, Roses, node, rnil, rcons, idx, partsOf, marks, marksAll}
 use Rattle.trees.specs.RoseLaws.{Under, Placed, PlacedAll, partsPlaced}
 use Rattle.trees.specs.Walk.{each, some, only}
-use Rattle.trees.specs.WalkLaws.{eachAppend, eachSame, someAppend, someOnly}
+use Rattle.trees.specs.WalkLaws.{eachAppend, someAppend, someOnly}
 use Rattle.trees.specs.Unit.{says, saysAll}
 use Rattle.trees.specs.Trail.{handedDown, unitOf}
 use Rattle.trees.specs.TrailLaws.{unitBridge, handedLaw, handedRoot}

@@ -1,7 +1,7 @@
 -- ECMA-262, 13.5.1.1 Static Semantics: Early Errors of UnaryExpression : delete UnaryExpression.
 use Prim.Native.Nat.{ℕ}
 use mathlib.Core.List.{List}
-use mathlib.Core.Bool.{Bool, true, false, cond, _&&_, _||_}
+use mathlib.Core.Bool.{Bool, false, cond, _&&_, _||_}
 use lib.Dec.{eqb}
 use Rattle.tables.specs.Table.{kindOf, flagsOf, extraOf, hasFlag}
 use Rattle.tables.specs.Kinds as k
@@ -56,7 +56,3 @@ deletesName ns ss n = deleteExpression ns n && (strictCode ns ss n && derives ns
 -- .. or a private reference
 unfoldable pub deletesPrivate : List ℕ → List ℕ → ℕ → Bool
 deletesPrivate ns ss n = deleteExpression ns n && (strictCode ns ss n && derives ns (privateReference ns) (valueOf ns n))
-
--- CHANGED RULE, as the Rust has it: strict code is not asked for, since a private name stands in a class only
-unfoldable pub deletesPrivateAnywhere : List ℕ → ℕ → Bool
-deletesPrivateAnywhere ns n = deleteExpression ns n && derives ns (privateReference ns) (valueOf ns n)

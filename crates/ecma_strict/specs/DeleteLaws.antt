@@ -4,11 +4,11 @@ use mathlib.Core.Path.{_≡_, refl, ap, sym, subst, _∙_}
 use mathlib.Core.List.{List, []}
 use mathlib.Core.Bool.{Bool, true, false, cond, _&&_, _||_}
 use native.Mathlib.Omega.{arith}
-use borrow.Author.Tests.{eq-eqb, ne-eqb, eqb-true, eqb-false}
+use borrow.Author.Tests.{eq-eqb, ne-eqb, eqb-true}
 use lib.Dec.{eqb}
-use Rattle.common.specs.Upto.{upto, and-left, and-right}
-use Rattle.common.specs.Bools.{never, in-range}
-use Rattle.tables.specs.Table.{kindOf, roleOf, parentOf, count, flagsOf, extraOf, spanStartOf, spanEndOf, hasFlag}
+use Rattle.common.specs.Upto.{and-left}
+use Rattle.common.specs.Bools.{in-range}
+use Rattle.tables.specs.Table.{kindOf, roleOf, parentOf, count, flagsOf, extraOf, hasFlag}
 use Rattle.tables.specs.Facts.{Tree}
 use Rattle.tables.specs.Kinds as k
 use Rattle.tables.specs.NodeFlag as flag
@@ -16,20 +16,21 @@ use Rattle.tables.specs.declared.Found.{Found}
 use Rattle.tables.specs.declared.Found.the-variants.{At, Nothing}
 use Rattle.children.specs.Children.{isChild, firstNode, valueOf, innerOf}
 use Rattle.children.specs.ChildrenLaws.{child-other, found-child}
-use Rattle.diagnostics.specs.Finding.{errorSpan, errorAt}
+use Rattle.diagnostics.specs.Finding.{errorAt}
 use Rattle.diagnostics.specs.Codes as code
 use Rattle.diagnostics.specs.Contexts as context
 use Rattle.diagnostics.specs.declared.Raised.{Raised}
 use Rattle.diagnostics.specs.declared.Raised.the-variants.{Clear}
 use Rattle.fields.specs.FieldsLaws.{Listed}
-use Rattle.expressions.specs.Expressions.{isParenthesis, innerExpression, errorPart, fieldOf, chainFinding, deleteOf, deleteFinding, checkUnaryExpression}
+use Rattle.expressions.specs.Expressions.{innerExpression, errorPart, fieldOf, chainFinding, deleteOf, deleteFinding, checkUnaryExpression}
 use Rattle.expressions.specs.ExpressionLaws.{inner-bare, inner-empty, inner-on}
 use Rattle.trees.specs.Rose.{Rose, Roses, node, rnil, rcons, idx, partsOf, treeAt, foldParts}
 use Rattle.trees.specs.RoseLaws.{PlacedAll, WholeAll, partsPlaced, partsWhole, foldPartsIs}
 use Rattle.trees.specs.Walk.{only}
 use Rattle.ecma_strict.specs.Nodes.{nodesOf}
 use Rattle.ecma_strict.specs.Strict.{strictCode}
-use Rattle.ecma_strict.specs.Delete.{parenthesized, ultimately, ultimatelyFirst, nameReference, firstIsPrivate, privateReference, derives, deleteExpression, deletesName, deletesPrivate, deletesPrivateAnywhere}
+use Rattle.ecma_strict.specs.Delete.{parenthesized, ultimately, ultimatelyFirst, nameReference, firstIsPrivate, privateReference, derives, deletesName, deletesPrivate}
+use Rattle.ecma_strict.specs.Changed.{deletesPrivateAnywhere}
 
 -- the first part of a node in its tree is its first child
 abbrev pub firstIn : Roses → Found

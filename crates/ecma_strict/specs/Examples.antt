@@ -10,12 +10,13 @@ use Rattle.children.specs.Children.{keep, children, isChild, firstNode}
 use Rattle.trees.specs.Rose.{kids, others, forest, partsOf}
 use Rattle.trees.specs.Trail as trails
 use Rattle.ecma_strict.specs.Scopes.{followsAt, flaggedAt, scopesFollow}
-use Rattle.ecma_strict.specs.Literals.{textOf, legacyOctalInteger, octalsThenNonOctal, nonOctalDecimalInteger, legacyOctalEscape, nonOctalDecimalEscape, escapes, strictOctalEscape, strictNonOctalEscape, octalFirst, nonOctalFirst, firstOctalEscape, firstNonOctalEscape}
-use Rattle.ecma_strict.specs.Delete.{ultimately, nameReference, privateReference, deletesPrivate, deletesPrivateAnywhere}
-use Rattle.ecma_strict.specs.Statements.{annexHead, badHead, initializedHead, saidHead, heldUsing, badUsing, topUsing}
+use Rattle.ecma_strict.specs.Literals.{textOf, legacyOctalInteger, octalsThenNonOctal, nonOctalDecimalInteger, legacyOctalEscape, nonOctalDecimalEscape, escapes, strictOctalEscape, strictNonOctalEscape}
+use Rattle.ecma_strict.specs.Delete.{ultimately, privateReference, deletesPrivate}
+use Rattle.ecma_strict.specs.Statements.{annexHead, badHead, initializedHead, heldUsing, badUsing}
 use Rattle.ecma_strict.specs.Identifiers.{reservedName, assignsEval}
-use Rattle.ecma_strict.specs.Contains.{awaitInBlock, awaitNameInBlock, argumentsInClass, awaitInParameter, letBound, scopedInBlock, awaitNameScoped, letBoundSaid, argumentsSaid, awaitInParameterSaid}
-use Rattle.ecma_strict.specs.Functions.{strictFunction, isLabelledFunction, labelledAmong, endsInLabelled, labelledFunctionAt, labelledFunctionSaid}
+use Rattle.ecma_strict.specs.Contains.{awaitInBlock, awaitNameInBlock, argumentsInClass, awaitInParameter, letBound}
+use Rattle.ecma_strict.specs.Functions.{strictFunction, isLabelledFunction, labelledAmong, endsInLabelled, labelledFunctionAt}
+use Rattle.ecma_strict.specs.Changed.{octalFirst, nonOctalFirst, firstOctalEscape, firstNonOctalEscape, deletesPrivateAnywhere, saidHead, topUsing, scopedInBlock, awaitNameScoped, letBoundSaid, argumentsSaid, awaitInParameterSaid, labelledFunctionSaid}
 
 -- 12.9.3: numbers that are a LegacyOctalIntegerLiteral, and that begin with a NonOctalDecimalIntegerLiteral
 pub record Number : Type 0 where

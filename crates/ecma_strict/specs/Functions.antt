@@ -1,7 +1,7 @@
 -- ECMA-262, functions in statement position: 14.6, 14.7, 14.11, 14.13 with B.3.1 and B.3.3.
 use Prim.Native.Nat.{ℕ}
 use mathlib.Core.List.{List}
-use mathlib.Core.Bool.{Bool, true, false, cond, not, _&&_, _||_}
+use mathlib.Core.Bool.{Bool, false, cond, not, _&&_, _||_}
 use lib.Dec.{eqb}
 use Rattle.common.specs.Tests.{within}
 use Rattle.tables.specs.Table.{kindOf, roleOf}
@@ -64,7 +64,3 @@ labelEdge ns i j = not (eqb (kindOf ns i) k.Labeled)
 
 unfoldable pub labelledFunctionAt : List ℕ → ℕ → Bool
 labelledFunctionAt ns n = labelsFunction ns n && endsInStatement ns (unitOf ns (labelEdge ns) n)
-
--- CHANGED RULE, as the Rust has it: not in strict code, where the labelled function itself is raised
-unfoldable pub labelledFunctionSaid : List ℕ → List ℕ → ℕ → Bool
-labelledFunctionSaid ns ss n = labelsFunction ns n && (not (strictCode ns ss n) && endsInStatement ns (unitOf ns (labelEdge ns) n))

@@ -1,27 +1,17 @@
 -- What the checks of functions in statement position raise is what the rules say.
-use Prim.Native.Nat.{ℕ, zero, suc, _+_, _≤_, _<_}
-use mathlib.Core.Path.{_≡_, refl, ap, sym, subst, _∙_}
-use mathlib.Core.List.{List, [], _∷_, _++_, foldr}
-use mathlib.Core.Bool.{Bool, true, false, cond, not, _&&_, _||_}
-use mathlib.Core.Logic.{_⊎_, inl, inr, ⊎-elim}
-use native.Mathlib.Nat.{eq-or-lt-of-le}
-use native.Mathlib.Omega.{arith}
-use borrow.Author.Tests.{eq-eqb, ne-eqb, eqb-true, eqb-false}
+use Prim.Native.Nat.{ℕ, _<_}
+use mathlib.Core.Path.{_≡_, refl, ap, sym, _∙_}
+use mathlib.Core.List.{List, []}
+use mathlib.Core.Bool.{Bool, true, false, cond, not, _&&_}
+use borrow.Author.Tests.{eq-eqb, eqb-true, eqb-false}
 use lib.Dec.{eqb}
-use lib.ListN.{length}
-use Rattle.common.specs.Upto.{upto, and-left, and-right}
-use Rattle.common.specs.Tests.{within}
-use Rattle.common.specs.Bools.{never, in-range, range-of}
-use Rattle.tables.specs.Table.{kindOf, parentOf, roleOf, count, spanStartOf, spanEndOf}
+use Rattle.tables.specs.Table.{kindOf, parentOf, count}
 use Rattle.tables.specs.Facts.{Tree}
 use Rattle.tables.specs.Kinds as k
-use Rattle.tables.specs.Roles as role
 use Rattle.tables.specs.declared.Found.{Found}
 use Rattle.tables.specs.declared.Found.the-variants.{At, Nothing}
-use Rattle.ancestry.specs.AncestryLaws.{parent-in}
-use Rattle.children.specs.Children.{keep, isChild, firstNode, heldOf, alternateOf}
-use Rattle.children.specs.ChildrenLaws.{child-other, tally, tally-all}
-use Rattle.diagnostics.specs.Finding.{errorSpan, errorAt}
+use Rattle.children.specs.Children.{heldOf, alternateOf}
+use Rattle.diagnostics.specs.Finding.{errorAt}
 use Rattle.diagnostics.specs.Codes as code
 use Rattle.diagnostics.specs.Contexts as context
 use Rattle.diagnostics.specs.declared.Raised.{Raised}
@@ -32,9 +22,10 @@ use Rattle.trees.specs.Walk.{only}
 use Rattle.trees.specs.Trail.{unitOf}
 use Rattle.ecma_strict.specs.Nodes.{nodesOf}
 use Rattle.ecma_strict.specs.Strict.{strictCode}
-use Rattle.ecma_strict.specs.Functions.{isFunction, endsInStatement, strictFunction, strictFunctionElse, sloppyFunction, labelsFunction, labelEdge, labelledFunctionAt, labelledFunctionSaid}
-use Rattle.ecma_strict.specs.ContainsLaws.{upward, unitUp, unitRoot}
+use Rattle.ecma_strict.specs.Functions.{isFunction, endsInStatement, strictFunction, strictFunctionElse, sloppyFunction, labelEdge, labelledFunctionAt}
+use Rattle.ecma_strict.specs.ContainsLaws.{upward, unitRoot}
 use Rattle.ecma_strict.specs.SearchLaws.{unitHere, unitPass}
+use Rattle.ecma_strict.specs.Changed.{labelledFunctionSaid}
 
 module _ (ns ss : List ℕ) (n : ℕ) where
   -- what is raised for the statement that was found: f it is a function, s strict code, i the holder is an if

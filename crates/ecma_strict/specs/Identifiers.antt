@@ -1,15 +1,13 @@
 -- ECMA-262, 13.1.1 Identifiers; 8.6.4 AssignmentTargetType; 15.2.1 "use strict" with parameters that are not simple.
 use Prim.Native.Nat.{ℕ}
-use mathlib.Core.Path.{_≡_}
 use mathlib.Core.List.{List, [], _∷_}
-use mathlib.Core.Bool.{Bool, true, false, cond, not, _&&_, _||_}
+use mathlib.Core.Bool.{Bool, not, _&&_, _||_}
 use lib.Dec.{eqb}
 use Rattle.common.specs.Upto.{any}
 use Rattle.common.specs.Tests.{within}
-use Rattle.tables.specs.Table.{kindOf, parentOf, flagsOf, scopeOf, scopeFlagsOf, scopeNodeOf, hasFlag}
+use Rattle.tables.specs.Table.{kindOf, parentOf, flagsOf, hasFlag}
 use Rattle.tables.specs.Kinds as k
 use Rattle.tables.specs.NodeFlag as flag
-use Rattle.tables.specs.ScopeFlag as scope
 use Rattle.children.specs.Children.{children}
 use Rattle.names.specs.Name.{nameIs}
 use Rattle.names.specs.Words as word
@@ -74,19 +72,3 @@ useStrictThere ns names n =
     useStrictDirective ns names n
     && (eqb (kindOf ns (parentOf ns n)) k.FunctionBody
     && (within (kindOf ns (parentOf ns (parentOf ns n))) k.Function k.Arrow && not (simpleParameters ns (parentOf ns (parentOf ns n)))))
-
--- CHANGED RULE, as the Rust has it: the function is the one whose scope is the directive's
-unfoldable pub useStrictScoped : List ℕ → List ℕ → List ℕ → ℕ → Bool
-useStrictScoped ns ss names n =
-    useStrictDirective ns names n
-    && (hasFlag (scopeFlagsOf ss (scopeOf ns n)) scope.FunctionScope
-    && (within (kindOf ns (scopeNodeOf ss (scopeOf ns n))) k.Function k.Arrow && not (simpleParameters ns (scopeNodeOf ss (scopeOf ns n)))))
-
--- a directive stands in the prologue of a Script, a Module or a FunctionBody
-abbrev pub directivePlaced : List ℕ → ℕ → Bool
-directivePlaced ns n = eqb (kindOf ns (parentOf ns n)) k.Program || eqb (kindOf ns (parentOf ns n)) k.FunctionBody
-
--- where they agree: a directive in the body of a function has that function's scope, and no other directive has one of a function
-pub record DirectiveTold (ns ss : List ℕ) (n : ℕ) : Type 0 where
-  pub function : hasFlag (scopeFlagsOf ss (scopeOf ns n)) scope.FunctionScope ≡ eqb (kindOf ns (parentOf ns n)) k.FunctionBody
-  pub whose : kindOf ns (parentOf ns n) ≡ k.FunctionBody → scopeNodeOf ss (scopeOf ns n) ≡ parentOf ns (parentOf ns n)

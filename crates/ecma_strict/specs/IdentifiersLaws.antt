@@ -1,33 +1,30 @@
 -- What the checks of names and directives raise is what the rules say.
-use Prim.Native.Nat.{ℕ, _<_}
-use mathlib.Core.Path.{_≡_, refl, ap, sym, subst, _∙_}
-use mathlib.Core.List.{List, []}
+use Prim.Native.Nat.{ℕ}
+use mathlib.Core.Path.{_≡_, refl, ap, sym, subst}
+use mathlib.Core.List.{List}
 use mathlib.Core.Bool.{Bool, true, false, cond, not, _&&_, _||_}
-use native.Mathlib.Omega.{arith}
-use borrow.Author.Tests.{eq-eqb, ne-eqb, eqb-true, eqb-false}
+use borrow.Author.Tests.{eq-eqb, eqb-true}
 use lib.Dec.{eqb}
 use Rattle.common.specs.Upto.{any}
 use Rattle.common.specs.Tests.{within}
-use Rattle.common.specs.Bools.{never, in-range}
-use Rattle.tables.specs.Table.{kindOf, parentOf, flagsOf, spanStartOf, spanEndOf, scopeOf, scopeFlagsOf, scopeNodeOf, hasFlag}
+use Rattle.common.specs.Bools.{never}
+use Rattle.tables.specs.Table.{kindOf, parentOf, spanStartOf, spanEndOf, scopeOf, scopeFlagsOf, scopeNodeOf, hasFlag}
 use Rattle.tables.specs.Kinds as k
-use Rattle.tables.specs.NodeFlag as flag
 use Rattle.tables.specs.ScopeFlag as scope
 use Rattle.names.specs.Name.{same, nameOf, nameIs}
 use Rattle.names.specs.NameLaws.{same-eq}
 use Rattle.names.specs.Words as word
-use Rattle.diagnostics.specs.Finding.{errorSpan, errorAt}
+use Rattle.diagnostics.specs.Finding.{errorAt}
 use Rattle.diagnostics.specs.Codes as code
 use Rattle.diagnostics.specs.Contexts as context
-use Rattle.diagnostics.specs.declared.Raised.{Raised}
 use Rattle.diagnostics.specs.declared.Raised.the-variants.{Clear}
 use Rattle.identifiers.specs.Identifiers.{strictContext, awaitFinding, isStrictWord, checkIdentifier, isNotSimple, checkDirective}
 use Rattle.trees.specs.Walk.{only}
 use Rattle.ecma_strict.specs.Nodes.{nodesOf}
 use Rattle.ecma_strict.specs.Strict.{strictCode}
 use Rattle.ecma_strict.specs.StatementsLaws.{ifOnly}
-use Rattle.ecma_strict.specs.Identifiers.{goalModule, identifier, strictReserved, reservedName, useStrictDirective, simpleParameters, useStrictThere, useStrictScoped, DirectiveTold}
-use Rattle.ecma_strict.specs.Contains.{awaitName, awaitNameScoped}
+use Rattle.ecma_strict.specs.Identifiers.{goalModule, identifier, strictReserved, reservedName, useStrictDirective, simpleParameters, useStrictThere}
+use Rattle.ecma_strict.specs.Changed.{useStrictScoped, DirectiveTold, awaitNameScoped}
 
 -- `await` is none of the words that are reserved in strict code
 apart : any (λ w. same word.awaitWord w) strictReserved ≡ false

@@ -1,6 +1,6 @@
 -- IsLabelledFunction, node by node: it is true of a Statement just where a label of a function has its way up, label by label, to that Statement.
-use Prim.Native.Nat.{ℕ, zero, suc, _+_, _≤_, _<_}
-use mathlib.Core.Path.{_≡_, refl, ap, sym, subst, _∙_}
+use Prim.Native.Nat.{ℕ, suc, _+_, _≤_, _<_}
+use mathlib.Core.Path.{_≡_, refl, ap, sym, _∙_}
 use mathlib.Core.List.{List, [], _∷_, foldr}
 use mathlib.Core.Bool.{Bool, true, false, cond, not, _&&_, _||_}
 use mathlib.Core.Logic.{_⊎_, inl, inr, ⊎-elim}
@@ -11,10 +11,9 @@ use lib.Dec.{eqb}
 use lib.ListN.{length}
 use Rattle.common.specs.Upto.{upto}
 use Rattle.common.specs.Tests.{within}
-use Rattle.common.specs.Bools.{never, in-range, range-of}
+use Rattle.common.specs.Bools.{in-range, range-of}
 use Rattle.tables.specs.Table.{kindOf, parentOf, roleOf, count}
 use Rattle.tables.specs.Facts.{Tree}
-use Rattle.tables.specs.Kinds as k
 use Rattle.tables.specs.Roles as role
 use Rattle.tables.specs.declared.Found.{Found}
 use Rattle.tables.specs.declared.Found.the-variants.{At, Nothing}

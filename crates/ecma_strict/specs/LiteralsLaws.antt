@@ -1,13 +1,12 @@
 -- What the checks of literals raise is what the rules of 12.9.3.1 and 12.9.4.1 say.
 use Prim.Native.Nat.{ℕ, _+_, _≤_, _<_}
-use mathlib.Core.Path.{_≡_, refl, ap, sym, subst, _∙_}
+use mathlib.Core.Path.{_≡_, refl, ap, sym, _∙_}
 use mathlib.Core.List.{List, [], _∷_}
 use mathlib.Core.Bool.{Bool, true, false, cond, not, _&&_, _||_}
 use native.Mathlib.Omega.{arith}
 use borrow.Author.Tests.{eq-eqb, ne-eqb, eqb-true, eqb-false, leb-true, leb-false, lt-leb}
 use lib.Dec.{eqb, leb}
-use lib.ListN.{length}
-use Rattle.common.specs.Upto.{all, any, and-left, and-right}
+use Rattle.common.specs.Upto.{all, any, and-left}
 use Rattle.common.specs.Tests.{within}
 use Rattle.common.specs.Bools.{never, or-first, or-second}
 use Rattle.tables.specs.Table.{kindOf, parentOf, spanStartOf, spanEndOf, extraOf}
@@ -18,15 +17,14 @@ use Rattle.diagnostics.specs.Codes as code
 use Rattle.diagnostics.specs.Contexts as context
 use Rattle.diagnostics.specs.declared.Raised.{Raised}
 use Rattle.diagnostics.specs.declared.Raised.the-variants.{Clear}
-use Rattle.scoping.specs.Scoping.{isStrict}
-use Rattle.literals.specs.declared.Escape.{Escape}
 use Rattle.literals.specs.declared.Escape.the-variants.{LegacyOctal, NonOctalDecimal, Fine}
-use Rattle.literals.specs.Escapes.{digitNext, isLegacyOctal, isNonOctalDecimal, escapeOf, isFine, orElse, badEscape}
+use Rattle.literals.specs.Escapes.{digitNext, isLegacyOctal, isNonOctalDecimal, escapeOf, orElse, badEscape}
 use Rattle.literals.specs.Literals.{sourceText, leadingZero, escapeFinding, checkStringLiteral, checkNumberLiteral}
 use Rattle.trees.specs.Walk.{only}
 use Rattle.ecma_strict.specs.Nodes.{nodesOf}
 use Rattle.ecma_strict.specs.Strict.{strictCode}
-use Rattle.ecma_strict.specs.Literals.{textOf, decimalDigit, octalDigit, nonOctalDigit, next, legacyOctalInteger, octalsThenNonOctal, nonOctalDecimalInteger, numericLiteral, strictOctal, strictNonOctal, legacyOctalEscape, nonOctalDecimalEscape, escapes, stringLiteral, strictOctalEscape, strictNonOctalEscape, zeroThenDigit, toldOctal, toldNonOctal, octalFirst, nonOctalFirst, looksPlain, firstOctalEscape, firstNonOctalEscape, BaseTold, EscapesTold}
+use Rattle.ecma_strict.specs.Literals.{textOf, decimalDigit, octalDigit, nonOctalDigit, next, legacyOctalInteger, octalsThenNonOctal, nonOctalDecimalInteger, numericLiteral, strictOctal, strictNonOctal, legacyOctalEscape, nonOctalDecimalEscape, escapes, stringLiteral, strictOctalEscape, strictNonOctalEscape}
+use Rattle.ecma_strict.specs.Changed.{zeroThenDigit, toldOctal, toldNonOctal, octalFirst, nonOctalFirst, looksPlain, firstOctalEscape, firstNonOctalEscape, BaseTold, EscapesTold}
 
 -- DIGITS
 -- lo is in order with the middle: below or at it, and from the next on

@@ -1,5 +1,5 @@
 -- THE RULES AT A NODE ARE THE STANDARD'S OPERATIONS: the rule holds at n exactly if there is a node above, of the kind where the operation begins, from which the operation comes to n.
-use Prim.Native.Nat.{ℕ, _≤_, _<_}
+use Prim.Native.Nat.{ℕ, _<_}
 use mathlib.Core.Path.{_≡_, refl, ap, sym, _∙_}
 use mathlib.Core.List.{List}
 use mathlib.Core.Bool.{Bool, true, false, cond, not, _&&_, _||_}
@@ -8,12 +8,11 @@ use native.Mathlib.Nat.{eq-or-lt-of-le}
 use native.Mathlib.Omega.{arith}
 use borrow.Author.Tests.{eq-eqb, ne-eqb, eqb-true, not-true}
 use lib.Dec.{eqb}
-use Rattle.common.specs.Upto.{and-left, and-right}
+use Rattle.common.specs.Upto.{and-left}
 use Rattle.common.specs.Tests.{within}
 use Rattle.common.specs.Bools.{never, or-first, or-second, either, in-range, range-of}
 use Rattle.tables.specs.Table.{kindOf, parentOf, count, extraOf}
 use Rattle.tables.specs.Facts.{Tree}
-use Rattle.tables.specs.Kinds as k
 use Rattle.tables.specs.Extras as extra
 use Rattle.children.specs.Children.{valueOf}
 use Rattle.trees.specs.Trail.{unitOf}

@@ -1,28 +1,28 @@
 -- What is known where the scopes follow the tree.
 use Prim.Native.Nat.{ℕ, _≤_, _<_}
-use mathlib.Core.Path.{_≡_, refl, ap, sym, subst, _∙_}
+use mathlib.Core.Path.{_≡_, refl, ap, sym, _∙_}
 use mathlib.Core.List.{List}
-use mathlib.Core.Bool.{Bool, true, false, cond, not, _&&_, _||_}
+use mathlib.Core.Bool.{Bool, true, false, not, _&&_, _||_}
 use mathlib.Core.Logic.{_⊎_, inl, inr, ⊎-elim}
 use native.Mathlib.Nat.{eq-or-lt-of-le}
 use native.Mathlib.Omega.{arith}
-use borrow.Author.Tests.{eq-eqb, ne-eqb, eqb-true, eqb-false, ltb-true, lt-ltb}
+use borrow.Author.Tests.{eq-eqb, ne-eqb, eqb-true, eqb-false, ltb-true}
 use lib.Dec.{eqb, ltb}
-use Rattle.common.specs.Upto.{upto, any, all, all-upto, and-left, and-right}
+use Rattle.common.specs.Upto.{upto, all, all-upto, and-left, and-right}
 use Rattle.common.specs.Tests.{within}
 use Rattle.common.specs.Bools.{never, or-first, or-second, either, in-range, range-of}
-use Rattle.tables.specs.Table.{kindOf, parentOf, count, scopeOf, scopeParentOf, scopeNodeOf, ancestors}
+use Rattle.tables.specs.Table.{kindOf, parentOf, count, scopeOf, scopeParentOf, scopeNodeOf}
 use Rattle.tables.specs.Facts.{Tree}
 use Rattle.tables.specs.Kinds as k
 use Rattle.ancestry.specs.AncestryLaws.{parent-in, ancestors-up, ancestors-root}
 use Rattle.standing.specs.StandingLaws.{Placed}
 use Rattle.ecma_strict.specs.Scopes.{makesScope, mayMakeScope, sameScope, newScope, followsAt, iff, blockScope, functionScope, topScope, scopeKind, flaggedAt, scopesFollow}
-use Rattle.ecma_strict.specs.Statements.{holdsUsing, heldUsing, otherScope, UsingTold}
-use Rattle.ecma_strict.specs.Identifiers.{directivePlaced, DirectiveTold}
-use Rattle.ecma_strict.specs.Contains.{awaitNameEdge, staticBlock, AwaitNameTold}
+use Rattle.ecma_strict.specs.Statements.{holdsUsing, heldUsing}
+use Rattle.ecma_strict.specs.Contains.{awaitNameEdge}
 use Rattle.ecma_strict.specs.AgreeLaws.{ScopesTold}
 use Rattle.ecma_strict.specs.ContainsLaws.{rootOnly, upward}
 use Rattle.trees.specs.Trail.{unitOf}
+use Rattle.ecma_strict.specs.Changed.{otherScope, UsingTold, directivePlaced, DirectiveTold, AwaitNameTold}
 
 -- the holders of a using declaration, but for FunctionBody, make a scope; what is no holder, no function and no arrow makes none
 holdersMake : (a : ℕ) → holdsUsing a ≡ true → eqb a 4 ≡ false → makesScope a ≡ true

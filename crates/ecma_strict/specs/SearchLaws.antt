@@ -1,17 +1,16 @@
 -- What the checks that search upward raise is what the operations that go down find: codes 4, 5, 6, 33, and 3, 14, 25.
 use Prim.Native.Nat.{ℕ, _+_, _≤_, _<_}
-use mathlib.Core.Path.{_≡_, refl, ap, sym, subst, _∙_}
-use mathlib.Core.List.{List, [], _∷_, foldr}
+use mathlib.Core.Path.{_≡_, refl, ap, sym, _∙_}
+use mathlib.Core.List.{List}
 use mathlib.Core.Bool.{Bool, true, false, cond, not, _&&_, _||_}
 use mathlib.Core.Logic.{⊎-elim}
 use native.Mathlib.Nat.{eq-or-lt-of-le}
 use native.Mathlib.Omega.{arith}
 use borrow.Author.Tests.{eq-eqb, ne-eqb, eqb-true, eqb-false}
 use lib.Dec.{eqb}
-use Rattle.common.specs.Upto.{any, and-left, and-right}
 use Rattle.common.specs.Tests.{within}
 use Rattle.common.specs.Bools.{never, either, in-range, range-of}
-use Rattle.tables.specs.Table.{kindOf, parentOf, roleOf, count, flagsOf, extraOf, spanStartOf, spanEndOf, scopeOf, scopeFlagsOf, ancestors, hasFlag}
+use Rattle.tables.specs.Table.{kindOf, parentOf, count, flagsOf, extraOf, spanStartOf, spanEndOf, hasFlag}
 use Rattle.tables.specs.Facts.{Tree}
 use Rattle.tables.specs.Kinds as k
 use Rattle.tables.specs.Extras as extra
@@ -22,8 +21,8 @@ use Rattle.names.specs.Name.{nameIs}
 use Rattle.names.specs.Words as word
 use Rattle.children.specs.Children.{valueOf}
 use Rattle.ancestry.specs.Ancestry.{hasAncestor}
-use Rattle.ancestry.specs.AncestryLaws.{parent-in, ancestors-up, ancestors-root}
-use Rattle.diagnostics.specs.Finding.{errorSpan, errorAt}
+use Rattle.ancestry.specs.AncestryLaws.{parent-in, ancestors-up}
+use Rattle.diagnostics.specs.Finding.{errorAt}
 use Rattle.diagnostics.specs.Codes as code
 use Rattle.diagnostics.specs.Contexts as context
 use Rattle.diagnostics.specs.declared.Raised.{Raised}
@@ -41,8 +40,9 @@ use Rattle.ecma_strict.specs.Nodes.{nodesOf}
 use Rattle.ecma_strict.specs.Strict.{strictCode}
 use Rattle.ecma_strict.specs.StatementsLaws.{ifOnly}
 use Rattle.ecma_strict.specs.Identifiers.{evalOrArguments, bindsEval, assignsEval}
-use Rattle.ecma_strict.specs.Contains.{isNode, awaitExpression, forAwait, awaitUsing, argumentsReference, parameter, awaitOrYield, lexicalDeclaration, letName, scopedInBlock, letEdge, letBoundSaid, fieldEdge, fieldHome, argumentsSaid, throughClassEdge, awaitInParameterSaid}
+use Rattle.ecma_strict.specs.Contains.{isNode, awaitExpression, forAwait, awaitUsing, parameter, awaitOrYield, lexicalDeclaration}
 use Rattle.ecma_strict.specs.ContainsLaws.{rootOnly, upward, unitUp, unitRoot}
+use Rattle.ecma_strict.specs.Changed.{scopedInBlock, letEdge, letBoundSaid, fieldEdge, fieldHome, argumentsSaid, throughClassEdge, awaitInParameterSaid}
 
 orTrue : (b : Bool) → (b || true) ≡ true
 orTrue true = refl

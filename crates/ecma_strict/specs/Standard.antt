@@ -16,21 +16,22 @@ use Rattle.trees.specs.Walk.{only}
 use Rattle.trees.specs.Trail.{unitOf}
 use Rattle.ecma_strict.specs.Nodes.{raised}
 use Rattle.ecma_strict.specs.Strict.{strictCode}
-use Rattle.ecma_strict.specs.Literals.{firstOctalEscape, strictOctal, strictNonOctal, strictOctalEscape, strictNonOctalEscape, BaseTold, EscapesTold}
+use Rattle.ecma_strict.specs.Literals.{strictOctal, strictNonOctal, strictOctalEscape, strictNonOctalEscape}
 use Rattle.ecma_strict.specs.LiteralsLaws.{octalAgrees, nonOctalAgrees, octalEscapeAgrees, nonOctalEscapeAgrees}
 use Rattle.ecma_strict.specs.Delete.{deletesPrivate}
 use Rattle.ecma_strict.specs.DeleteLaws.{deletePrivateAgrees}
-use Rattle.ecma_strict.specs.Statements.{headOf, ofHead, unsaid, initializedHead, heldUsing, badUsing, otherScope}
+use Rattle.ecma_strict.specs.Statements.{headOf, ofHead, initializedHead, heldUsing, badUsing}
 use Rattle.ecma_strict.specs.StatementsLaws.{headAgrees, usingAgrees}
-use Rattle.ecma_strict.specs.Identifiers.{goalModule, assignsEval, useStrictScoped, useStrictThere, directivePlaced}
+use Rattle.ecma_strict.specs.Identifiers.{goalModule, assignsEval, useStrictThere}
 use Rattle.ecma_strict.specs.IdentifiersLaws.{useStrictAgrees}
-use Rattle.ecma_strict.specs.Contains.{awaitEdge, argumentsEdge, parameterEdge, boundEdge, awaitExpression, forAwait, awaitUsing, awaitInBlock, awaitName, awaitNameInBlock, awaitNameScoped, scopedInBlock, argumentsInClass, awaitInParameter, letBound, awaitNameEdge}
+use Rattle.ecma_strict.specs.Contains.{awaitEdge, argumentsEdge, parameterEdge, boundEdge, awaitExpression, forAwait, awaitUsing, awaitInBlock, awaitName, awaitNameInBlock, argumentsInClass, awaitInParameter, letBound, awaitNameEdge}
 use Rattle.ecma_strict.specs.Scopes.{scopesFollow}
 use Rattle.ecma_strict.specs.ScopesLaws.{scopesTold, awaitNameTold, directiveTold, usingTold, notProgram}
 use Rattle.ecma_strict.specs.AgreeLaws.{letAgrees, argumentsAgree, classPart, parameterAgrees, blockAgrees, awaitNameAgrees}
 use Rattle.ecma_strict.specs.Functions.{sloppyFunction, labelledFunctionAt}
 use Rattle.ecma_strict.specs.FunctionsLaws.{labelledAgrees}
 use Rattle.ecma_strict.specs.Theorems.{code3, code5, code6, code9, code10, code11, code12, code13, code14, code16, code24, code25, code32, code33}
+use Rattle.ecma_strict.specs.Changed.{firstOctalEscape, BaseTold, EscapesTold, unsaid, otherScope, useStrictScoped, directivePlaced, awaitNameScoped, scopedInBlock}
 
 module _ (t : ℕ) (ns ss source names : List ℕ) (w : WellFormed t ns ss source names) (n : ℕ) (h : n < count ns) where
   abbrev at : ℕ → List ℕ

@@ -1,8 +1,7 @@
 -- ECMA-262, 14.11.1 With; 14.7.5 and B.3.5 heads of for-in and for-of; 14.3.1.1 using; 14.6, 14.7, 14.11, 14.13.1, B.3.1 and B.3.3 functions in statement position.
 use Prim.Native.Nat.{ℕ, _+_}
-use mathlib.Core.Path.{_≡_}
-use mathlib.Core.List.{List, [], _∷_}
-use mathlib.Core.Bool.{Bool, true, false, cond, not, _&&_, _||_}
+use mathlib.Core.List.{List}
+use mathlib.Core.Bool.{Bool, false, not, _&&_, _||_}
 use lib.Dec.{eqb, leb}
 use lib.ListN.{length}
 use Rattle.common.specs.Upto.{upto, all, any}
@@ -16,7 +15,6 @@ use Rattle.tables.specs.declared.Found.{Found}
 use Rattle.tables.specs.declared.Found.the-variants.{At, Nothing}
 use Rattle.children.specs.Children.{keep, isChild, firstChild}
 use Rattle.ecma_strict.specs.Strict.{strictCode}
-use Rattle.ecma_strict.specs.Scopes.{mayMakeScope, topScope}
 
 -- 14.11.1: WithStatement : with ( Expression ) Statement: "It is a Syntax Error if IsStrict(this production) is true."
 unfoldable pub strictWith : List ℕ → List ℕ → ℕ → Bool
@@ -57,14 +55,6 @@ ofHead p Nothing = false
 unfoldable pub initializedHead : List ℕ → List ℕ → ℕ → Bool
 initializedHead ns ss n = within (kindOf ns n) k.ForIn k.ForOf && ofHead (badHead ns ss n) (headOf ns n)
 
--- CHANGED RULE, as the Rust has it: nothing is said of several declarations, nor of a `let` or `const` in a for-in whose name is plain
-abbrev pub unsaid : List ℕ → ℕ → ℕ → Bool
-unsaid ns n d =
-    not (single (declaratorsOf ns d)) || ((eqb (kindOf ns n) k.ForIn && not (eqb (extraOf ns d) extra.Var)) && all (plainName ns) (declaratorsOf ns d))
-
-unfoldable pub saidHead : List ℕ → List ℕ → ℕ → Bool
-saidHead ns ss n = within (kindOf ns n) k.ForIn k.ForOf && ofHead (λ d. badHead ns ss n d && not (unsaid ns n d)) (headOf ns n)
-
 -- 14.3.1.1: USING
 
 abbrev pub usingDeclaration : List ℕ → ℕ → Bool
@@ -81,16 +71,3 @@ heldUsing ns n = any (λ a. holdsUsing (kindOf ns a)) (ancestors ns n)
 -- StatementList of either a CaseClause or DefaultClause."
 unfoldable pub badUsing : ℕ → List ℕ → ℕ → Bool
 badUsing sourceType ns n = usingDeclaration ns n && ((eqb sourceType 0 && not (heldUsing ns n)) || eqb (kindOf ns (parentOf ns n)) k.SwitchCase)
-
--- CHANGED RULE, as the Rust has it: in a script, where the scope is the top one
-unfoldable pub topUsing : ℕ → List ℕ → List ℕ → ℕ → Bool
-topUsing sourceType ns ss n = usingDeclaration ns n && (eqb sourceType 0 && topScope ns ss n)
-
--- something else stands around it that makes a scope: a switch, and what no text has there
-unfoldable pub otherScope : List ℕ → ℕ → Bool
-otherScope ns n = any (λ a. within (kindOf ns a) k.Function k.Arrow || mayMakeScope (kindOf ns a)) (ancestors ns n)
-
--- where they agree: the scope is the top one just where none of these contains the declaration, and it is in no clause of a switch
-pub record UsingTold (ns ss : List ℕ) (n : ℕ) : Type 0 where
-  pub top : topScope ns ss n ≡ not (heldUsing ns n)
-  pub clause : eqb (kindOf ns (parentOf ns n)) k.SwitchCase ≡ false

@@ -1,36 +1,33 @@
 -- What the checks of statements raise is what the rules say.
-use Prim.Native.Nat.{ℕ, _+_, _≤_, _<_}
-use mathlib.Core.Path.{_≡_, refl, ap, sym, subst, _∙_}
+use Prim.Native.Nat.{ℕ, _+_}
+use mathlib.Core.Path.{_≡_, refl, ap, sym, _∙_}
 use mathlib.Core.List.{List, [], _∷_}
 use mathlib.Core.Bool.{Bool, true, false, cond, not, _&&_, _||_}
 use native.Mathlib.Omega.{arith}
-use borrow.Author.Tests.{eq-eqb, ne-eqb, eqb-true, eqb-false, leb-true, lt-leb}
-use lib.Dec.{eqb, leb}
+use borrow.Author.Tests.{eq-eqb, lt-leb}
+use lib.Dec.{eqb}
 use lib.ListN.{length}
-use Rattle.common.specs.Upto.{upto, all, any}
+use Rattle.common.specs.Upto.{upto}
 use Rattle.common.specs.Tests.{within}
-use Rattle.common.specs.Bools.{never, in-range}
-use Rattle.tables.specs.Table.{kindOf, parentOf, count, flagsOf, extraOf, spanStartOf, spanEndOf, scopeOf, scopeFlagsOf, hasFlag}
+use Rattle.tables.specs.Table.{kindOf, count, extraOf, spanStartOf, spanEndOf}
 use Rattle.tables.specs.Kinds as k
 use Rattle.tables.specs.Extras as extra
-use Rattle.tables.specs.NodeFlag as flag
-use Rattle.tables.specs.ScopeFlag as scope
 use Rattle.tables.specs.declared.Found.{Found}
 use Rattle.tables.specs.declared.Found.the-variants.{At, Nothing}
-use Rattle.children.specs.Children.{keep, isChild, firstNode, firstChild}
+use Rattle.children.specs.Children.{keep, isChild}
 use Rattle.children.specs.ChildrenLaws.{tally, tally-all}
 use Rattle.gather.specs.Gather.{kept-first, kept-none}
 use Rattle.diagnostics.specs.Finding.{errorSpan, errorAt}
 use Rattle.diagnostics.specs.Codes as code
 use Rattle.diagnostics.specs.Contexts as context
-use Rattle.diagnostics.specs.declared.Raised.{Raised}
 use Rattle.diagnostics.specs.declared.Raised.the-variants.{Clear}
-use Rattle.statements.specs.Statements.{checkFound, checkWithStatement, leftOf, declaratorOf, declarators, checkInitialiser, checkLeft, checkForStatementLeft, checkUsing}
+use Rattle.statements.specs.Statements.{checkFound, checkWithStatement, declaratorOf, declarators, checkInitialiser, checkLeft, checkForStatementLeft, checkUsing}
 use Rattle.trees.specs.Walk.{only}
 use Rattle.ecma_strict.specs.Nodes.{nodesOf}
 use Rattle.ecma_strict.specs.Strict.{strictCode}
-use Rattle.ecma_strict.specs.Statements.{strictWith, declaratorsOf, initialized, plainName, single, annexHead, badHead, headOf, ofHead, initializedHead, unsaid, saidHead, usingDeclaration, heldUsing, badUsing, topUsing, UsingTold}
+use Rattle.ecma_strict.specs.Statements.{strictWith, declaratorsOf, initialized, plainName, single, annexHead, badHead, headOf, ofHead, initializedHead, heldUsing, badUsing}
 use Rattle.ecma_strict.specs.Scopes.{topScope}
+use Rattle.ecma_strict.specs.Changed.{unsaid, saidHead, topUsing, UsingTold}
 
 -- one finding where a test says so
 pub ifOnly : (c s e n x : ℕ) (b : Bool) → nodesOf c (cond b (errorSpan c n s e x) Clear) ≡ only b n

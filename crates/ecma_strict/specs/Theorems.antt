@@ -2,12 +2,12 @@
 -- those of ECMA-262; those marked (changed) are the Rust's, and the laws named beside them say where they are the standard's.
 use Prim.Native.Nat.{ℕ, _<_}
 use mathlib.Core.Path.{_≡_, refl, ap, sym, _∙_}
-use mathlib.Core.List.{List, [], _∷_, _++_}
+use mathlib.Core.List.{List, [], _++_}
 use mathlib.Core.Bool.{Bool, true, false, cond, not, _&&_, _||_}
 use mathlib.Core.Logic.{⊎-elim}
 use native.Mathlib.Nat.{eq-or-lt-of-le}
 use native.Mathlib.Omega.{arith}
-use borrow.Author.Tests.{eq-eqb, ne-eqb, eqb-true, eqb-false}
+use borrow.Author.Tests.{ne-eqb, eqb-true, eqb-false}
 use lib.Dec.{eqb}
 use Rattle.common.specs.Upto.{upto}
 use Rattle.common.specs.Tests.{within}
@@ -16,7 +16,6 @@ use Rattle.tables.specs.Table.{kindOf, count}
 use Rattle.tables.specs.Kinds as k
 use Rattle.children.specs.Children.{heldOf, alternateOf}
 use Rattle.diagnostics.specs.declared.Finding.{Finding}
-use Rattle.diagnostics.specs.declared.Raised.{Raised}
 use Rattle.diagnostics.specs.Finding.{listed}
 use Rattle.statements.specs.Statements.{checkBody, checkConsequent, checkAlternate, checkFunctionDeclarationInLabeledStatement, checkWithStatement, checkForStatementLeft, checkForOfStatement, checkUsing, checkAwaitUsing}
 use Rattle.identifiers.specs.Identifiers.{checkIdentifier, checkBindingIdentifier, checkIdentifierReference, checkDirective}
@@ -30,21 +29,21 @@ use Rattle.wellformed.specs.WellFormedLaws.{input-well-formed}
 use Rattle.trees.specs.Walk.{each, only}
 use Rattle.ecma_dispatch.specs.WithCode.{withCode}
 use Rattle.ecma_dispatch.specs.Dispatch.{at2, at3, at4, at5, at6, at9, at10, at11, at12, at13, at14, at15, at16, at17, at24, at25, at31, at32, at33}
-use Rattle.ecma_strict.specs.Nodes.{raised, nodesOf}
-use Rattle.ecma_strict.specs.NodesLaws.{raisedBy, raisedIf, raisedNil, raisedAgain, raisedListed, raisedAppend, atListed, atWith, atTwo, atTwoListed, atTwoMixed, wholeIs}
+use Rattle.ecma_strict.specs.Nodes.{raised}
+use Rattle.ecma_strict.specs.NodesLaws.{raisedBy, raisedNil, raisedAgain, raisedListed, raisedAppend, atListed, atWith, atTwo, atTwoListed, atTwoMixed, wholeIs}
 use Rattle.ecma_strict.specs.Strict.{strictCode}
-use Rattle.ecma_strict.specs.Literals.{toldOctal, toldNonOctal, firstOctalEscape, firstNonOctalEscape}
 use Rattle.ecma_strict.specs.LiteralsLaws.{numberOctal, numberNonOctal, stringOctal, stringNonOctal}
-use Rattle.ecma_strict.specs.Delete.{deletesName, deletesPrivateAnywhere}
+use Rattle.ecma_strict.specs.Delete.{deletesName}
 use Rattle.ecma_strict.specs.DeleteLaws.{deleteName, deletePrivate}
-use Rattle.ecma_strict.specs.Statements.{strictWith, saidHead, topUsing}
+use Rattle.ecma_strict.specs.Statements.{strictWith}
 use Rattle.ecma_strict.specs.StatementsLaws.{withIs, headIs, usingIs}
-use Rattle.ecma_strict.specs.Identifiers.{identifier, reservedName, bindsEval, assignsEval, useStrictScoped}
+use Rattle.ecma_strict.specs.Identifiers.{identifier, reservedName, bindsEval, assignsEval}
 use Rattle.ecma_strict.specs.IdentifiersLaws.{reservedIs, awaitNameIs, useStrictIs}
-use Rattle.ecma_strict.specs.Contains.{awaitExpression, awaitUsing, forAwait, awaitOrYield, scopedInBlock, awaitNameScoped, letBoundSaid, argumentsSaid, awaitInParameterSaid}
+use Rattle.ecma_strict.specs.Contains.{awaitExpression, awaitUsing, forAwait, awaitOrYield}
 use Rattle.ecma_strict.specs.SearchLaws.{bindingIs, letBoundIs, referenceIs, argumentsSaidIs, parameterIs, awaitBlockIs, awaitUsingIs, forAwaitIs}
-use Rattle.ecma_strict.specs.Functions.{isFunction, endsInStatement, strictFunction, strictFunctionElse, sloppyFunction, labelledFunctionSaid}
+use Rattle.ecma_strict.specs.Functions.{isFunction, strictFunction, strictFunctionElse, sloppyFunction}
 use Rattle.ecma_strict.specs.FunctionsLaws.{bodyStrict, consequentStrict, alternateStrict, bodySloppy, ifSloppy, labelStrict, labelSloppy}
+use Rattle.ecma_strict.specs.Changed.{toldOctal, toldNonOctal, firstOctalEscape, firstNonOctalEscape, deletesPrivateAnywhere, saidHead, topUsing, useStrictScoped, scopedInBlock, awaitNameScoped, letBoundSaid, argumentsSaid, awaitInParameterSaid, labelledFunctionSaid}
 
 -- one of two rules, where the other says nothing
 left : (a b : Bool) (n : ℕ) → b ≡ false → only a n ≡ only (a || b) n

@@ -1,10 +1,10 @@
 -- THE OPERATIONS OF THE STANDARD AND THE FINDINGS: an operation is true of the node where it begins exactly if a finding is raised at one of the nodes that it finds there.
-use Prim.Native.Nat.{ℕ, _+_, _≤_, _<_}
-use mathlib.Core.Path.{_≡_, refl, ap, sym, subst, _∙_}
-use mathlib.Core.List.{List, [], _∷_, _++_, foldr}
+use Prim.Native.Nat.{ℕ, _+_, _<_}
+use mathlib.Core.Path.{_≡_, refl, ap, sym, _∙_}
+use mathlib.Core.List.{List, [], _∷_, _++_}
 use mathlib.Core.Bool.{Bool, true, false, cond, not, _&&_, _||_}
 use native.Mathlib.Omega.{arith}
-use borrow.Author.Tests.{eq-eqb, ne-eqb, eqb-true, eqb-false, not-true}
+use borrow.Author.Tests.{eq-eqb, eqb-true, not-true}
 use lib.Dec.{eqb}
 use Rattle.common.specs.Upto.{upto, any, and-left, and-right}
 use Rattle.common.specs.Tests.{within}
@@ -22,21 +22,22 @@ use Rattle.checker.specs.Findings.{findingsAt}
 use Rattle.input.specs.InputLaws.{WellFormed}
 use Rattle.trees.specs.Rose.{partsOf, marksAll}
 use Rattle.trees.specs.Walk.{each, some, only}
-use Rattle.trees.specs.WalkLaws.{someAppend, someOnly, someEach, eachSame}
+use Rattle.trees.specs.WalkLaws.{someAppend, someOnly, eachSame}
 use Rattle.trees.specs.Trail.{unitOf}
 use Rattle.ecma_strict.specs.Nodes.{raised}
 use Rattle.ecma_strict.specs.Strict.{strictCode}
 use Rattle.ecma_strict.specs.Identifiers.{strictReserved, reservedName, bindsEval, assignsEval, useStrictDirective, simpleParameters, containsUseStrict, useStrictThere}
-use Rattle.ecma_strict.specs.Contains.{containsFrom, isNode, initializer, containsInto, staticBlock, blockBegin, awaitExpression, forAwait, awaitUsing, argumentsReference, argumentsBegin, argumentsInto, parameter, parameterBegin, awaitOrYield, lexicalDeclaration, boundBegin, boundInto, letName, scopedInBlock, awaitNameScoped, letEdge, letBoundSaid, fieldEdge, fieldHome, argumentsSaid, throughClassEdge, awaitInParameterSaid}
+use Rattle.ecma_strict.specs.Contains.{containsFrom, isNode, initializer, containsInto, staticBlock, blockBegin, awaitExpression, forAwait, awaitUsing, argumentsReference, argumentsBegin, argumentsInto, parameter, parameterBegin, awaitOrYield, lexicalDeclaration, boundBegin, boundInto, letName}
 use Rattle.ecma_strict.specs.Scopes.{scopesFollow}
 use Rattle.ecma_strict.specs.ScopesLaws.{scopesTold}
 use Rattle.ecma_strict.specs.ContainsLaws.{containsIn, containsIs, comes, comesIs, comesHome}
 use Rattle.ecma_strict.specs.SearchLaws.{positive}
 use Rattle.ecma_strict.specs.AgreeLaws.{blockEdge, scopesAre}
-use Rattle.ecma_strict.specs.Functions.{isFunction, endsInStatement, endsInLabelled, labelledAmong, labelsFunction, labelEdge, strictFunction, strictFunctionElse, sloppyFunction, labelledFunctionSaid}
+use Rattle.ecma_strict.specs.Functions.{isFunction, endsInStatement, endsInLabelled, labelledAmong, labelsFunction, labelEdge, strictFunction, strictFunctionElse, sloppyFunction}
 use Rattle.ecma_strict.specs.LabelledLaws.{statementsOf}
 use Rattle.ecma_strict.specs.Standard.{standard12}
 use Rattle.ecma_strict.specs.Theorems.{code2, code3, code4, code5, code6, code14, code15, code16, code25, code33}
+use Rattle.ecma_strict.specs.Changed.{scopedInBlock, awaitNameScoped, letEdge, letBoundSaid, fieldEdge, fieldHome, argumentsSaid, throughClassEdge, awaitInParameterSaid, labelledFunctionSaid}
 
 -- two ways to say something, of which each says something where the other does
 someSame : (f g : ℕ → List ℕ) (n : ℕ) → ((j : ℕ) → j < n → some (f j) ≡ some (g j)) → (i : ℕ) → some (each f (upto i n)) ≡ some (each g (upto i n))
