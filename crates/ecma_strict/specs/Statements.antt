@@ -1,4 +1,4 @@
--- ECMA-262, 14.11.1 With; 14.7.5 and B.3.5 heads of for-in and for-of; 14.3.1.1 using; 14.6, 14.7, 14.11, 14.13.1, B.3.1 and B.3.3 functions in statement position.
+-- ECMA-262, 14.11.1 With; 14.7.5 and B.3.5 heads of for-in and for-of; 14.3.1.1 using.
 use Prim.Native.Nat.{ℕ, _+_}
 use mathlib.Core.List.{List}
 use mathlib.Core.Bool.{Bool, false, not, _&&_, _||_}
