@@ -1,0 +1,67 @@
+-- Laws of findings with one code.
+use Prim.Native.Nat.{ℕ, zero, suc, _+_, _-_, _≤_, _<_}
+use mathlib.Core.Path.{_≡_, refl, ap, sym, _∙_}
+use mathlib.Core.List.{List, [], _∷_, _++_, flatMap}
+use mathlib.Core.Bool.{Bool, true, false, cond, _||_}
+use borrow.Author.Tests.{eq-eqb}
+use native.Mathlib.Omega.{arith}
+use Rattle.common.specs.Upto.{range, upto}
+use lib.Dec.{eqb}
+use Rattle.walk.specs.On.{member}
+use Rattle.children.specs.Children.{keep}
+use Rattle.diagnostics.specs.declared.Finding.{Finding}
+use Rattle.diagnostics.specs.declared.Raised.{Raised}
+use Rattle.diagnostics.specs.declared.Raised.the-variants.{Error, Clear}
+use Rattle.diagnostics.specs.Finding.{listed}
+use Rattle.ecma_classes.specs.Raising.{raising}
+
+pub raising-append : (c : ℕ) (fs gs : List Finding) → raising c (fs ++ gs) ≡ raising c fs ++ raising c gs
+unfolding raising
+raising-append c [] gs = refl
+raising-append c (f ∷ fs) gs = go (eqb (f .code) c) (raising-append c fs gs)
+  where
+    go : (b : Bool) → raising c (fs ++ gs) ≡ raising c fs ++ raising c gs
+        → cond b (f .node .0 ∷ raising c (fs ++ gs)) (raising c (fs ++ gs)) ≡ cond b (f .node .0 ∷ raising c fs) (raising c fs) ++ raising c gs
+    go true h = rw h
+    go false h = h
+
+pub raising-flat : (c : ℕ) (f : ℕ → List Finding) (l : List ℕ) → raising c (flatMap f l) ≡ flatMap (λ k. raising c (f k)) l
+unfolding flatMap raising
+raising-flat c f [] = refl
+raising-flat c f (k ∷ l) = raising-append c (f k) (flatMap f l) ∙ rw (raising-flat c f l)
+
+pub raising-none : (c : ℕ) (f : ℕ → List Finding) → ((k : ℕ) → raising c (f k) ≡ []) → (l : List ℕ) → raising c (flatMap f l) ≡ []
+unfolding flatMap raising
+raising-none c f h [] = refl
+raising-none c f h (k ∷ l) = raising-append c (f k) (flatMap f l) ∙ rw (h k, raising-none c f h l)
+
+-- no finding is raised where none is
+pub raising-cond : (c : ℕ) (b : Bool) (r : Raised) → raising c (listed (cond b r Clear)) ≡ cond b (raising c (listed r)) []
+unfolding raising
+raising-cond c true r = refl
+raising-cond c false r = refl
+
+pub keep-same : (p q : ℕ → Bool) → ((k : ℕ) → p k ≡ q k) → (l : List ℕ) → keep p l ≡ keep q l
+unfolding keep
+keep-same p q h [] = refl
+keep-same p q h (k ∷ l) = rw (h k, keep-same p q h l)
+
+-- a test that two say alike of the members of a list
+pub keep-alike : (p q : ℕ → Bool) (l : List ℕ) → ((x : ℕ) → member x l ≡ true → p x ≡ q x) → keep p l ≡ keep q l
+unfolding keep
+keep-alike p q [] h = refl
+keep-alike p q (x ∷ l) h =
+    rw (h x (rw (eq-eqb x x refl)), keep-alike p q l (λ y m. h y (go y (eqb y x) m)))
+  where
+    go : (y : ℕ) (b : Bool) → member y l ≡ true → (b || member y l) ≡ true
+    go y true m = refl
+    go y false m = m
+
+-- .. of the numbers from i up to n
+pub keep-upto : (p q : ℕ → Bool) (i n : ℕ) → ((x : ℕ) → i ≤ x → x < n → p x ≡ q x) → keep p (upto i n) ≡ keep q (upto i n)
+unfolding upto range keep
+keep-upto p q i n h = go i (n - i) (λ x a b. h x a (omega arith))
+  where
+    go : (i f : ℕ) → ((x : ℕ) → i ≤ x → x < i + f → p x ≡ q x) → keep p (range i f) ≡ keep q (range i f)
+    go i zero h = refl
+    go i (suc f) h = rw (h i (omega arith) (omega arith), go (suc i) f (λ x a b. h x (omega arith) (omega arith)))
