@@ -36,7 +36,7 @@ found-at : (f : Found) → isAt f ≡ found f
 found-at (At m) = refl
 found-at Nothing = refl
 
-body-in : (ns : List ℕ) (f : Found) → hasBodyAt ns f ≡ bodyIn ns f
+pub body-in : (ns : List ℕ) (f : Found) → hasBodyAt ns f ≡ bodyIn ns f
 body-in ns (At m) = found-at (functionBodyOf ns (m .0))
 body-in ns Nothing = refl
 
