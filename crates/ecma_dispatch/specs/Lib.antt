@@ -1,0 +1,5 @@
+pub mod WithCode
+pub mod WithCodeLaws
+pub mod CheckCodes
+pub mod ByKind
+pub mod Dispatch
