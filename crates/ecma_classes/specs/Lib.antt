@@ -6,3 +6,4 @@ pub mod RaisingLaws
 pub mod ObjectsLaws
 pub mod PrivateNames
 pub mod PrivateTwiceLaws
+pub mod PrivateNamesLaws

@@ -4,7 +4,7 @@ use mathlib.Core.Path.{_≡_, refl, ap, sym, subst, _∙_}
 use mathlib.Core.List.{List, [], _∷_, _++_, foldr}
 use mathlib.Core.Bool.{Bool, true, false, cond, not, _&&_, _||_}
 use native.Mathlib.Omega.{arith}
-use borrow.Author.Tests.{eq-eqb, eqb-true}
+use borrow.Author.Tests.{eq-eqb, eqb-true, eqb-false}
 use lib.Dec.{eqb}
 use Rattle.common.specs.Upto.{range, upto, any, and-left, and-right}
 use Rattle.common.specs.Bools.{never}
@@ -111,3 +111,15 @@ upto-rising i n = go i (n - i)
     go : (i f : ℕ) → Rising (range i f)
     go i zero = tt
     go i (suc f) = ((λ x m. low (suc i) f x m), go (suc i) f)
+
+pub in-upto : (n j : ℕ) → j < n → member j (upto 0 n) ≡ true
+unfolding upto range
+in-upto n j h = go 0 (n - 0) j (omega arith) (omega arith)
+  where
+    go : (i f j : ℕ) → i ≤ j → j < i + f → member j (range i f) ≡ true
+    go i zero j a b = absurd (omega arith)
+    go i (suc f) j a b = by (eqb j i) refl (λ c. go (suc i) f j c (omega arith))
+      where
+        by : (x : Bool) → eqb j i ≡ x → (suc i ≤ j → member j (range (suc i) f) ≡ true) → (x || member j (range (suc i) f)) ≡ true
+        by true q r = refl
+        by false q r = let z = eqb-false j i q in r (omega arith)

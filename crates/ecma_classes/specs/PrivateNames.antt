@@ -8,7 +8,7 @@ use lib.Dec.{eqb, ltb}
 use Rattle.common.specs.Upto.{any}
 use Rattle.common.specs.Tests.{within}
 use Rattle.walk.specs.On.{member}
-use Rattle.tables.specs.Table.{kindOf, parentOf, flagsOf, extraOf, nameLenOf, hasFlag}
+use Rattle.tables.specs.Table.{kindOf, parentOf, flagsOf, extraOf, nameLenOf, count, ancestors, hasFlag}
 use Rattle.tables.specs.Kinds as k
 use Rattle.tables.specs.Extras as extra
 use Rattle.tables.specs.NodeFlag as flag
@@ -16,6 +16,8 @@ use Rattle.tables.specs.declared.Found.{Found}
 use Rattle.tables.specs.declared.Found.the-variants.{At, Nothing}
 use Rattle.names.specs.Name.{same, nameOf}
 use Rattle.children.specs.Children.{keep, children, keyOf, valueOf}
+use Rattle.trees.specs.Rose.{Rose, Roses, node, rnil, rcons, treeOf}
+use Rattle.trees.specs.Walk.{walk, only}
 use Rattle.ecma_classes.specs.ClassElements.{found, isDefinition, isStatic, bodyIn}
 
 -- 15.7.8: a ClassElement whose ClassElementName is a PrivateIdentifier
@@ -104,3 +106,73 @@ privateAgain ns names l = keep (λ e. clashIn ns (entries ns names l e) e) l
 -- CONDITION: no name has more than two entries
 abbrev pub OnceOrTwice : List ℕ → List ℕ → List ℕ → Type 0
 OnceOrTwice ns names l = (e : ℕ) → member e l ≡ true → length (entries ns names l e) ≤ 2
+
+-- a list of strings contains a string
+abbrev pub contains : List (List ℕ) → List ℕ → Bool
+contains l x = any (λ y. same y x) l
+
+-- the StringValues of elements
+abbrev pub strings : List ℕ → List ℕ → List ℕ → List (List ℕ)
+strings ns names l = foldr (λ e r. privateName ns names e ∷ r) [] l
+
+abbrev pub isClassBody : List ℕ → ℕ → Bool
+isClassBody ns n = eqb (kindOf ns n) k.ClassBody
+
+-- 15.7.7, for any reading of what uses a private name and what a ClassBody binds
+module _ (ns names : List ℕ) (uses : ℕ → Bool) (bound : ℕ → List ℕ) where
+  -- "ClassBody : ClassElementList": "Let newNames be the list-concatenation of names and the PrivateBoundIdentifiers of ClassBody."
+  abbrev pub newNames : ℕ → List (List ℕ) → List (List ℕ)
+  newNames n l = cond (isClassBody ns n) (strings ns names (bound n) ++ l) l
+
+  unfoldable mutual
+    pub valid : Rose → List (List ℕ) → Bool
+    valid (node n ks) l = cond (uses n) (contains l (nameOf ns names n)) true && allValid ks (newNames n l)
+
+    pub allValid : Roses → List (List ℕ) → Bool
+    allValid rnil l = true
+    allValid (rcons t ts) l = valid t l && allValid ts l
+
+  -- the same, with the list of the PrivateIdentifiers at which it is false
+  unfoldable pub invalid : Rose → List (List ℕ) → List ℕ
+  invalid t l = walk (λ n l. only (uses n && not (contains l (nameOf ns names n))) n) (λ i j l. newNames i l) t l
+
+-- "MemberExpression . PrivateIdentifier", "OptionalChain . PrivateIdentifier" and the like; "PrivateIdentifier in ShiftExpression"
+unfoldable pub isUse : List ℕ → ℕ → Bool
+isUse ns n = eqb (kindOf ns n) k.PrivateIdentifier && within (kindOf ns (parentOf ns n)) k.PrivateField k.PrivateIn
+
+-- 15.7.7 AllPrivateIdentifiersValid; 16.1.1 and 16.2.1.1: "It is a Syntax Error if AllPrivateIdentifiersValid of StatementList [ModuleItemList] with an empty List is false."
+abbrev pub allPrivateIdentifiersValid : List ℕ → List ℕ → Bool
+allPrivateIdentifiersValid ns names = valid ns names (isUse ns) (privateBound ns) (treeOf ns) []
+
+abbrev pub invalidIdentifiers : List ℕ → List ℕ → List ℕ
+invalidIdentifiers ns names = invalid ns names (isUse ns) (privateBound ns) (treeOf ns) []
+
+-- The Rust takes a PrivateIdentifier under any member expression for a use, and a class to bind what it enters.
+unfoldable pub isTableUse : List ℕ → ℕ → Bool
+isTableUse ns n = eqb (kindOf ns n) k.PrivateIdentifier && within (kindOf ns (parentOf ns n)) k.OtherMember k.PrivateIn
+
+-- CHANGED RULE
+abbrev pub invalidInTable : List ℕ → List ℕ → List ℕ
+invalidInTable ns names = invalid ns names (isTableUse ns) (privateEntered ns) (treeOf ns) []
+
+-- CONDITION: no member expression without a private name holds a PrivateIdentifier, and the Rust enters all private elements
+pub record PrivatesPlain (ns : List ℕ) : Type 0 where
+  pub members : (j : ℕ) → j < count ns → kindOf ns j ≡ k.PrivateIdentifier → kindOf ns (parentOf ns j) ≡ k.OtherMember → ⊥
+  pub entered : (b : ℕ) → b < count ns → PrivatesEntered ns b
+
+-- the nearest ClassBody around a node
+unfoldable pub bodyAround : List ℕ → ℕ → Found
+bodyAround ns n = foldr (λ a r. cond (isClassBody ns a) (At (record { 0 = a })) r) Nothing (ancestors ns n)
+
+abbrev pub sameNode : Found → Found → Bool
+sameNode (At a) (At b) = eqb (a .0) (b .0)
+sameNode (At a) Nothing = false
+sameNode Nothing g = false
+
+-- code 7: what is found in no ClassBody; the Rust finds each PrivateIdentifier there, whatever it stands under
+unfoldable pub isOutside : List ℕ → ℕ → Bool
+isOutside ns n = eqb (kindOf ns n) k.PrivateIdentifier && not (found (bodyAround ns n))
+
+-- CONDITION: each PrivateIdentifier outside of ClassBodies is a use
+abbrev pub UsedOutside : List ℕ → Type 0
+UsedOutside ns = (j : ℕ) → j < count ns → isOutside ns j ≡ true → isUse ns j ≡ true

@@ -156,7 +156,7 @@ some-kept q (x ∷ l) = go (q x) (some-kept q l)
     go true h = refl
     go false h = h
 
-both-ways : (a b : Bool) → (a ≡ true → b ≡ true) → (b ≡ true → a ≡ true) → a ≡ b
+pub both-ways : (a b : Bool) → (a ≡ true → b ≡ true) → (b ≡ true → a ≡ true) → a ≡ b
 both-ways true b f g = sym (f refl)
 both-ways false true f g = g refl
 both-ways false false f g = refl
@@ -249,7 +249,7 @@ last-is q (d ∷ l) p = go (q d) (λ (x : Place). last-is q l x)
     go true h = h (here d) ∙ add (keep q l)
     go false h = h p
 
-name-is : (ns names : List ℕ) (e : ℕ) → elementName ns names e ≡ privateName ns names e
+pub name-is : (ns names : List ℕ) (e : ℕ) → elementName ns names e ≡ privateName ns names e
 unfolding elementName privateName
 name-is ns names e = go (keyOf ns e)
   where

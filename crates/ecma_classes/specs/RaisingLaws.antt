@@ -5,7 +5,8 @@ use mathlib.Core.List.{List, [], _∷_, _++_, flatMap}
 use mathlib.Core.Bool.{Bool, true, false, cond, _||_}
 use borrow.Author.Tests.{eq-eqb}
 use native.Mathlib.Omega.{arith}
-use Rattle.common.specs.Upto.{range, upto}
+use native.Mathlib.Numerals.{add-one}
+use Rattle.common.specs.Upto.{range, upto, upto-cons}
 use lib.Dec.{eqb}
 use Rattle.walk.specs.On.{member}
 use Rattle.children.specs.Children.{keep}
@@ -13,6 +14,7 @@ use Rattle.diagnostics.specs.declared.Finding.{Finding}
 use Rattle.diagnostics.specs.declared.Raised.{Raised}
 use Rattle.diagnostics.specs.declared.Raised.the-variants.{Error, Clear}
 use Rattle.diagnostics.specs.Finding.{listed}
+use Rattle.ecma_dispatch.specs.WithCode.{withCode}
 use Rattle.ecma_classes.specs.Raising.{raising}
 
 pub raising-append : (c : ℕ) (fs gs : List Finding) → raising c (fs ++ gs) ≡ raising c fs ++ raising c gs
@@ -65,3 +67,27 @@ keep-upto p q i n h = go i (n - i) (λ x a b. h x a (omega arith))
     go : (i f : ℕ) → ((x : ℕ) → i ≤ x → x < i + f → p x ≡ q x) → keep p (range i f) ≡ keep q (range i f)
     go i zero h = refl
     go i (suc f) h = rw (h i (omega arith) (omega arith), go (suc i) f (λ x a b. h x (omega arith) (omega arith)))
+
+-- the same of the findings with that code alone
+pub raising-code : (c : ℕ) (fs : List Finding) → raising c fs ≡ raising c (withCode c fs)
+unfolding raising withCode
+raising-code c [] = refl
+raising-code c (f ∷ fs) = go (eqb (f .code) c) refl (raising-code c fs)
+  where
+    go : (b : Bool) → eqb (f .code) c ≡ b → raising c fs ≡ raising c (withCode c fs) → cond b (f .node .0 ∷ raising c fs) (raising c fs) ≡ raising c (cond b (f ∷ withCode c fs) (withCode c fs))
+    go true q h = rw (q, h)
+    go false q h = h
+
+pub flat-upto : {A : Type 0} (f g : ℕ → List A) (i n : ℕ) → ((x : ℕ) → i ≤ x → x < n → f x ≡ g x) → flatMap f (upto i n) ≡ flatMap g (upto i n)
+unfolding upto range flatMap
+flat-upto {A} f g i n h = go i (n - i) (λ x a b. h x a (omega arith))
+  where
+    go : (i k : ℕ) → ((x : ℕ) → i ≤ x → x < i + k → f x ≡ g x) → flatMap f (range i k) ≡ flatMap g (range i k)
+    go i zero h = refl
+    go i (suc k) h = rw (h i (omega arith) (omega arith), go (suc i) k (λ x a b. h x (omega arith) (omega arith)))
+
+-- numbers below i that do not pass may be left out
+pub keep-from : (q : ℕ → Bool) (n i : ℕ) → i ≤ n → ((x : ℕ) → x < i → q x ≡ false) → keep q (upto 0 n) ≡ keep q (upto i n)
+unfolding keep
+keep-from q n zero h w = refl
+keep-from q n (suc i) h w = keep-from q n i (omega arith) (λ x l. w x (omega arith)) ∙ rw (upto-cons i n (omega arith), w i (omega arith), add-one i)

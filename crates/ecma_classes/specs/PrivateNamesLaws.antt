@@ -1,0 +1,221 @@
+-- THE FINDINGS WITH CODES 7 AND 8 ARE WHERE AllPrivateIdentifiersValid (15.7.7) IS FALSE.
+use Prim.Native.Nat.{ℕ, zero, suc, _+_, _≤_, _<_}
+use mathlib.Core.Path.{_≡_, refl, ap, sym, subst, _∙_}
+use mathlib.Core.List.{List, [], _∷_, _++_, foldr, flatMap}
+use mathlib.Core.Bool.{Bool, true, false, cond, not, _&&_, _||_}
+use mathlib.Core.Logic.{⊎-elim}
+use native.Mathlib.Nat.{eq-or-lt-of-le}
+use native.Mathlib.Omega.{arith}
+use borrow.Author.Tests.{eq-eqb, ne-eqb, eqb-true, lt-leb, le-leb}
+use lib.Dec.{eqb, leb}
+use Rattle.common.specs.Upto.{upto, any, and-left, and-right}
+use Rattle.common.specs.Tests.{within}
+use Rattle.common.specs.Bools.{never}
+use Rattle.walk.specs.On.{member}
+use Rattle.walk.specs.Preorder.{lt-or-ge}
+use Rattle.tables.specs.Table.{kindOf, parentOf, count, ancestors}
+use Rattle.tables.specs.Facts.{Tree}
+use Rattle.tables.specs.Kinds as k
+use Rattle.tables.specs.declared.Found.{Found}
+use Rattle.tables.specs.declared.Found.the-variants.{At, Nothing}
+use Rattle.names.specs.Name.{same, nameOf}
+use Rattle.children.specs.Children.{keep, classBodyOf}
+use Rattle.children.specs.ChildrenLaws.{keep-keep}
+use Rattle.ancestry.specs.Ancestry.{nearestOf}
+use Rattle.ancestry.specs.AncestryLaws.{ancestors-up, ancestors-root}
+use Rattle.trees.specs.Rose.{Rose, Roses, node, rnil, rcons, treeOf}
+use Rattle.trees.specs.Walk.{each, walk, walkAll, some, only}
+use Rattle.trees.specs.WalkLaws.{foldIs, someAppend, someOnly}
+use Rattle.diagnostics.specs.declared.Finding.{Finding}
+use Rattle.diagnostics.specs.declared.Raised.{Raised}
+use Rattle.diagnostics.specs.declared.Raised.the-variants.{Clear}
+use Rattle.diagnostics.specs.Finding.{listed, errorAt}
+use Rattle.diagnostics.specs.Codes as code
+use Rattle.diagnostics.specs.Contexts as context
+use Rattle.gather.specs.Gather.{flat-keep, listed-cond}
+use Rattle.classes.specs.declared.Current.{Current}
+use Rattle.classes.specs.declared.Current.the-variants.{Class, Outside}
+use Rattle.classes.specs.Classes.{classAt, bodyAbove, currentClass, outerClasses}
+use Rattle.classes.specs.ClassesLaws.{within-one, over, outer-at}
+use Rattle.classes.specs.Elements.{elementName, privates, hasPrivate, isDeclared}
+use Rattle.class_checks.specs.ClassChecks.{outsideBy, privateOutside, isClass, references, undeclaredAt, undeclaredIn, undeclaredBy, privateUndeclared}
+use Rattle.checker.specs.Findings.{findingsAt}
+use Rattle.ecma_dispatch.specs.WithCode.{withCode}
+use Rattle.ecma_dispatch.specs.Dispatch.{at7, at8}
+use Rattle.ecma_classes.specs.Raising.{raising}
+use Rattle.ecma_classes.specs.RaisingLaws.{raising-code, keep-upto, flat-upto, keep-from}
+use Rattle.ecma_classes.specs.ListLaws.{kept-in, in-kept, keep-none, in-upto}
+use Rattle.ecma_classes.specs.ClassElements.{found}
+use Rattle.ecma_classes.specs.PrivateTwiceLaws.{name-is, privates-are, entered-all, both-ways}
+use Rattle.ecma_classes.specs.PrivateNames.{privateName, privateBound, privateEntered, contains, strings, isClassBody, newNames, valid, allValid, invalid, isUse, invalidIdentifiers, isTableUse, invalidInTable, PrivatesPlain, bodyAround, sameNode, isOutside, UsedOutside, allPrivateIdentifiersValid}
+
+module _ (ns names : List ℕ) (uses : ℕ → Bool) (bound : ℕ → List ℕ) where
+  abbrev says : ℕ → List (List ℕ) → List ℕ
+  says n l = only (uses n && not (contains l (nameOf ns names n))) n
+
+  abbrev hands : ℕ → ℕ → List (List ℕ) → List (List ℕ)
+  hands i j l = newNames ns names uses bound i l
+
+  here : (u c : Bool) → cond u c true ≡ not (u && not c)
+  here true true = refl
+  here true false = refl
+  here false c = refl
+
+  neither : (a b : Bool) → not (a || b) ≡ (not a && not b)
+  neither true b = refl
+  neither false b = refl
+
+  -- the operation is false just where it lists something
+  mutual
+    unfolding valid walk
+
+    valid-is : (t : Rose) (l : List (List ℕ)) → valid ns names uses bound t l ≡ not (some (walk says hands t l))
+    valid-is (node n ks) l =
+        rw (all-is ks (newNames ns names uses bound n l), someAppend (says n l) (walkAll says hands ks (λ j. newNames ns names uses bound n l)), someOnly (uses n && not (contains l (nameOf ns names n))) n)
+        (rw (here (uses n) (contains l (nameOf ns names n))) (sym (neither (uses n && not (contains l (nameOf ns names n))) (some (walkAll says hands ks (λ j. newNames ns names uses bound n l))))))
+
+    all-is : (ts : Roses) (l : List (List ℕ)) → allValid ns names uses bound ts l ≡ not (some (walkAll says hands ts (λ j. l)))
+    all-is rnil l = refl
+    all-is (rcons t ts) l =
+        rw (valid-is t l, all-is ts l, someAppend (walk says hands t l) (walkAll says hands ts (λ j. l)))
+        (sym (neither (some (walk says hands t l)) (some (walkAll says hands ts (λ j. l)))))
+
+  pub valid-none : (t : Rose) (l : List (List ℕ)) → valid ns names uses bound t l ≡ not (some (invalid ns names uses bound t l))
+  unfolding invalid
+  valid-none t l = valid-is t l
+
+  -- the names that the operation is handed at a node
+  abbrev boundAt : ℕ → List (List ℕ)
+  boundAt j = foldr (λ a l. newNames ns names uses bound a l) [] (ancestors ns j)
+
+  -- it is false at this node
+  abbrev pub invalidAt : ℕ → Bool
+  invalidAt j = uses j && not (contains (boundAt j) (nameOf ns names j))
+
+  each-only : (q : ℕ → Bool) (l : List ℕ) → each (λ j. only (q j) j) l ≡ keep q l
+  unfolding keep
+  each-only q [] = refl
+  each-only q (x ∷ l) = rw (each-only q l) (go (q x))
+    where
+      go : (b : Bool) → only b x ++ keep q l ≡ cond b (x ∷ keep q l) (keep q l)
+      go true = refl
+      go false = refl
+
+  pub invalid-list : Tree ns → invalid ns names uses bound (treeOf ns) [] ≡ keep invalidAt (upto 0 (count ns))
+  unfolding invalid
+  invalid-list t = foldIs says (λ i l. newNames ns names uses bound i l) [] ns t ∙ each-only invalidAt (upto 0 (count ns))
+
+  -- a name is among them just where a ClassBody around binds it
+  any-append : (p : List ℕ → Bool) (a b : List (List ℕ)) → any p (a ++ b) ≡ (any p a || any p b)
+  any-append p [] b = refl
+  any-append p (x ∷ a) b = rw (any-append p a b) (go (p x))
+    where
+      go : (y : Bool) → (y || (any p a || any p b)) ≡ ((y || any p a) || any p b)
+      go true = refl
+      go false = refl
+
+  in-strings : (l : List ℕ) (x : List ℕ) → contains (strings ns names l) x ≡ any (λ e. same (privateName ns names e) x) l
+  in-strings [] x = refl
+  in-strings (e ∷ l) x = rw (in-strings l x)
+
+  pub bound-is : (as' : List ℕ) (x : List ℕ)
+      → contains (foldr (λ a l. newNames ns names uses bound a l) [] as') x ≡ any (λ d. any (λ e. same (privateName ns names e) x) (bound d)) (keep (isClassBody ns) as')
+  unfolding keep
+  bound-is [] x = refl
+  bound-is (a ∷ as') x = go (isClassBody ns a) (bound-is as' x)
+    where
+      go : (b : Bool)
+          → contains (foldr (λ a l. newNames ns names uses bound a l) [] as') x ≡ any (λ d. any (λ e. same (privateName ns names e) x) (bound d)) (keep (isClassBody ns) as')
+          → contains (cond b (strings ns names (bound a) ++ foldr (λ a l. newNames ns names uses bound a l) [] as') (foldr (λ a l. newNames ns names uses bound a l) [] as')) x
+          ≡ any (λ d. any (λ e. same (privateName ns names e) x) (bound d)) (cond b (a ∷ keep (isClassBody ns) as') (keep (isClassBody ns) as'))
+      go true h =
+          any-append (λ y. same y x) (strings ns names (bound a)) (foldr (λ a l. newNames ns names uses bound a l) [] as') ∙ rw (in-strings (bound a) x, h)
+      go false h = h
+
+-- the nearest ClassBody, as the check finds it
+around-is : (ns : List ℕ) (n : ℕ) → bodyAbove ns n ≡ bodyAround ns n
+unfolding nearestOf bodyAround
+around-is ns n = go (ancestors ns n)
+  where
+    go : (l : List ℕ)
+        → foldr (λ a r. cond (within (kindOf ns a) k.ClassBody k.ClassBody) (At (record { 0 = a })) r) Nothing l ≡ foldr (λ a r. cond (isClassBody ns a) (At (record { 0 = a })) r) Nothing l
+    go [] = refl
+    go (a ∷ l) = rw (within-one (kindOf ns a) k.ClassBody, go l)
+
+current-is : (ns : List ℕ) (m : ℕ) → eqb (kindOf ns m) k.PrivateIdentifier ≡ true → currentClass ns m ≡ classAt (bodyAround ns m)
+unfolding currentClass
+current-is ns m e = let q : kindOf ns m ≡ k.PrivateIdentifier = eqb-true (kindOf ns m) k.PrivateIdentifier e in rw (q, around-is ns m)
+
+-- 7: one finding at each PrivateIdentifier outside of ClassBodies
+module _ (t : ℕ) (ns ss source names : List ℕ) (n : ℕ) where
+  outside-raised : (f : Found) → raising 7 (listed (outsideBy ns n (classAt f))) ≡ only (not (found f)) n
+  unfolding raising
+  outside-raised (At b) = refl
+  outside-raised Nothing = refl
+
+  pub private-outside : raising 7 (findingsAt t ns ss source names n) ≡ only (isOutside ns n) n
+  unfolding isOutside raising
+  private-outside = raising-code 7 (findingsAt t ns ss source names n) ∙ rw (at7 t ns ss source names n) (go (eqb (kindOf ns n) k.PrivateIdentifier) refl)
+    where
+      go : (b : Bool) → eqb (kindOf ns n) k.PrivateIdentifier ≡ b → raising 7 (cond b (listed (privateOutside ns n)) []) ≡ only (b && not (found (bodyAround ns n))) n
+      go true q = rw (current-is ns n q) (outside-raised (bodyAround ns n))
+      go false q = refl
+
+-- a node is listed just where it is kept
+listed-at : (q : ℕ → Bool) (n j : ℕ) → j < n → member j (keep q (upto 0 n)) ≡ q j
+listed-at q n j h =
+    both-ways (member j (keep q (upto 0 n))) (q j) (λ m. kept-in q (upto 0 n) j m .1) (λ e. in-kept q (upto 0 n) j (in-upto n j h) e)
+
+module _ (ns names : List ℕ) (w : Tree ns) where
+  -- no ClassBody around, no name
+  none-around : (l : List ℕ) → found (foldr (λ a r. cond (isClassBody ns a) (At (record { 0 = a })) r) Nothing l) ≡ false → keep (isClassBody ns) l ≡ []
+  unfolding keep
+  none-around [] h = refl
+  none-around (a ∷ l) h = go (isClassBody ns a) h (λ z. none-around l z)
+    where
+      go : (b : Bool) → found (cond b (At (record { 0 = a })) (foldr (λ a r. cond (isClassBody ns a) (At (record { 0 = a })) r) Nothing l)) ≡ false
+          → (found (foldr (λ a r. cond (isClassBody ns a) (At (record { 0 = a })) r) Nothing l) ≡ false → keep (isClassBody ns) l ≡ []) → cond b (a ∷ keep (isClassBody ns) l) (keep (isClassBody ns) l) ≡ []
+      go true e r = never e
+      go false e r = r e
+
+  module _ (j : ℕ) where
+    abbrev handed : List (List ℕ)
+    handed = foldr (λ a l. newNames ns names (isUse ns) (privateBound ns) a l) [] (ancestors ns j)
+
+    bare : found (bodyAround ns j) ≡ false → contains handed (nameOf ns names j) ≡ false
+    unfolding bodyAround
+    bare e = bound-is ns names (isUse ns) (privateBound ns) (ancestors ns j) (nameOf ns names j) ∙ rw (none-around (ancestors ns j) e)
+
+    opens : isUse ns j ≡ true → found (bodyAround ns j) ≡ false → isOutside ns j ≡ true
+    unfolding isUse isOutside
+    opens q e = rw (and-left (eqb (kindOf ns j) k.PrivateIdentifier) (within (kindOf ns (parentOf ns j)) k.PrivateField k.PrivateIn) q, e)
+
+    inside : found (bodyAround ns j) ≡ true → isOutside ns j ≡ false
+    unfolding isOutside
+    inside e = rw e (by (eqb (kindOf ns j) k.PrivateIdentifier))
+      where
+        by : (b : Bool) → (b && false) ≡ false
+        by true = refl
+        by false = refl
+
+  -- where each PrivateIdentifier there is a use, these are the ones that the standard's operation finds outside of ClassBodies
+  pub outside-invalid : UsedOutside ns → (j : ℕ) → j < count ns → isOutside ns j ≡ (member j (invalidIdentifiers ns names) && not (found (bodyAround ns j)))
+  outside-invalid u j h =
+      rw (invalid-list ns names (isUse ns) (privateBound ns) w, listed-at (invalidAt ns names (isUse ns) (privateBound ns)) (count ns) j h)
+      (go (found (bodyAround ns j)) refl)
+    where
+      shuts : isUse ns j ≡ false → (x : Bool) → isOutside ns j ≡ x → isOutside ns j ≡ false
+      shuts q true z = never (sym (u j h z) ∙ q)
+      shuts q false z = z
+
+      off : (x : Bool) → false ≡ (x && false)
+      off true = refl
+      off false = refl
+
+      by : found (bodyAround ns j) ≡ false → (b : Bool) → isUse ns j ≡ b → isOutside ns j ≡ ((b && true) && true)
+      by e true q = opens j q e
+      by e false q = shuts q (isOutside ns j) refl
+
+      go : (b : Bool) → found (bodyAround ns j) ≡ b → isOutside ns j ≡ ((isUse ns j && not (contains (handed j) (nameOf ns names j))) && not b)
+      go true e = inside j e ∙ off (isUse ns j && not (contains (handed j) (nameOf ns names j)))
+      go false e = rw (bare j e) (by e (isUse ns j) refl)
