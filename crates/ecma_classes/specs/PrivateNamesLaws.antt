@@ -20,7 +20,7 @@ use Rattle.tables.specs.declared.Found.{Found}
 use Rattle.tables.specs.declared.Found.the-variants.{At, Nothing}
 use Rattle.names.specs.Name.{same, nameOf}
 use Rattle.children.specs.Children.{keep, classBodyOf}
-use Rattle.children.specs.ChildrenLaws.{keep-keep}
+use Rattle.children.specs.ChildrenLaws.{keep-keep, found-child}
 use Rattle.ancestry.specs.Ancestry.{nearestOf}
 use Rattle.ancestry.specs.AncestryLaws.{ancestors-up, ancestors-root}
 use Rattle.trees.specs.Rose.{Rose, Roses, node, rnil, rcons, treeOf}
@@ -219,3 +219,115 @@ module _ (ns names : List ℕ) (w : Tree ns) where
       go : (b : Bool) → found (bodyAround ns j) ≡ b → isOutside ns j ≡ ((isUse ns j && not (contains (handed j) (nameOf ns names j))) && not b)
       go true e = inside j e ∙ off (isUse ns j && not (contains (handed j) (nameOf ns names j)))
       go false e = rw (bare j e) (by e (isUse ns j) refl)
+
+any-alike : (p q : ℕ → Bool) → ((x : ℕ) → p x ≡ q x) → (l : List ℕ) → any p l ≡ any q l
+any-alike p q h [] = refl
+any-alike p q h (x ∷ l) = rw (h x, any-alike p q h l)
+
+class-same : (c : ℕ) (f : Found) → isClass c (classAt f) ≡ sameNode f (At (record { 0 = c }))
+class-same c (At d) = refl
+class-same c Nothing = refl
+
+same-found : (c : ℕ) (f : Found) → sameNode f (At (record { 0 = c })) ≡ true → f ≡ At (record { 0 = c })
+same-found c (At d) e = ap (λ (x : ℕ). At (record { 0 = x })) (eqb-true (d .0) c e)
+same-found c Nothing e = never (sym e)
+
+-- 8: at a Class, one finding for each PrivateIdentifier that is not valid and whose nearest ClassBody is that class's
+module _ (ns names : List ℕ) (w : Tree ns) where
+  bound-by : (d : ℕ) (x : List ℕ) → hasPrivate ns names d x ≡ any (λ e. same (privateName ns names e) x) (privateEntered ns d)
+  unfolding hasPrivate
+  bound-by d x =
+      any-alike (λ e. same (elementName ns names e) x) (λ e. same (privateName ns names e) x) (λ e. rw (name-is ns names e)) (privates ns d)
+      ∙ ap (λ (l : List ℕ). any (λ e. same (privateName ns names e) x) l) (privates-are ns d)
+
+  abbrev handedIn : ℕ → List (List ℕ)
+  handedIn m = foldr (λ a l. newNames ns names (isTableUse ns) (privateEntered ns) a l) [] (ancestors ns m)
+
+  declared-is : (m c : ℕ) → m < count ns → bodyAround ns m ≡ At (record { 0 = c }) → (x : List ℕ) → isDeclared ns names c x ≡ contains (handedIn m) x
+  unfolding isDeclared outerClasses
+  declared-is m c h e x =
+      ap (any (λ d. hasPrivate ns names d x)) (sym (outer-at ns w m c h (around-is ns m ∙ e)))
+      ∙ any-alike (λ d. hasPrivate ns names d x) (λ d. any (λ e. same (privateName ns names e) x) (privateEntered ns d)) (λ d. bound-by d x) (keep (isClassBody ns) (ancestors ns m))
+      ∙ sym (bound-is ns names (isTableUse ns) (privateEntered ns) (ancestors ns m) x)
+
+  abbrev error8 : ℕ → ℕ → List Finding
+  error8 n m = listed (errorAt ns code.privateFieldUndeclared n m context.none)
+
+  abbrev invalidHere : ℕ → Bool
+  invalidHere m = invalidAt ns names (isTableUse ns) (privateEntered ns) m
+
+  use-kind : (m : ℕ) → isTableUse ns m ≡ true → eqb (kindOf ns m) k.PrivateIdentifier ≡ true
+  unfolding isTableUse
+  use-kind m q = and-left (eqb (kindOf ns m) k.PrivateIdentifier) (within (kindOf ns (parentOf ns m)) k.OtherMember k.PrivateIn) q
+
+  -- what the check raises of one reference
+  piece : (n c m : ℕ) → m < count ns
+      → cond (isTableUse ns m && isClass c (currentClass ns m)) (listed (undeclaredAt ns names n c m)) [] ≡ cond (invalidHere m && sameNode (bodyAround ns m) (At (record { 0 = c }))) (error8 n m) []
+  unfolding undeclaredAt
+  piece n c m h = go (isTableUse ns m) refl
+    where
+      raise : (b : Bool) → listed (cond b Clear (errorAt ns code.privateFieldUndeclared n m context.none)) ≡ cond (not b && true) (error8 n m) []
+      raise true = refl
+      raise false = refl
+
+      off : (b : Bool) → [] ≡ cond (b && false) (error8 n m) []
+      off true = refl
+      off false = refl
+
+      by : (b : Bool) → sameNode (bodyAround ns m) (At (record { 0 = c })) ≡ b
+          → cond b (listed (cond (isDeclared ns names c (nameOf ns names m)) Clear (errorAt ns code.privateFieldUndeclared n m context.none))) [] ≡ cond (not (contains (handedIn m) (nameOf ns names m)) && b) (error8 n m) []
+      by true e = rw (declared-is m c h (same-found c (bodyAround ns m) e) (nameOf ns names m)) (raise (contains (handedIn m) (nameOf ns names m)))
+      by false e = off (not (contains (handedIn m) (nameOf ns names m)))
+
+      go : (a : Bool) → isTableUse ns m ≡ a
+          → cond (a && isClass c (currentClass ns m)) (listed (cond (isDeclared ns names c (nameOf ns names m)) Clear (errorAt ns code.privateFieldUndeclared n m context.none))) []
+          ≡ cond ((a && not (contains (handedIn m) (nameOf ns names m))) && sameNode (bodyAround ns m) (At (record { 0 = c }))) (error8 n m) []
+      go true q = rw (current-is ns m (use-kind m q), class-same c (bodyAround ns m)) (by (sameNode (bodyAround ns m) (At (record { 0 = c }))) refl)
+      go false q = refl
+
+  refs : (n c : ℕ) → undeclaredIn ns names n c ≡ flatMap (λ m. cond (isTableUse ns m && isClass c (currentClass ns m)) (listed (undeclaredAt ns names n c m)) []) (upto (c + 1) (count ns))
+  unfolding undeclaredIn references isTableUse
+  refs n c = flat-keep (λ m. listed (undeclaredAt ns names n c m)) (λ m. isTableUse ns m && isClass c (currentClass ns m)) (upto (c + 1) (count ns))
+
+  early : (c x : ℕ) → c < count ns → x < c + 1 → (invalidHere x && sameNode (bodyAround ns x) (At (record { 0 = c }))) ≡ false
+  early c x h l = go (sameNode (bodyAround ns x) (At (record { 0 = c }))) refl (invalidHere x)
+    where
+      go : (b : Bool) → sameNode (bodyAround ns x) (At (record { 0 = c })) ≡ b → (a : Bool) → (a && sameNode (bodyAround ns x) (At (record { 0 = c }))) ≡ false
+      go true e a =
+          let o = over ns w k.ClassBody k.ClassBody x c (omega arith) (around-is ns x ∙ same-found c (bodyAround ns x) e) .less in
+          absurd (omega arith)
+      go false e true = e
+      go false e false = refl
+
+  in-class : (n c : ℕ) → c < count ns → undeclaredIn ns names n c ≡ flatMap (error8 n) (keep (λ m. sameNode (bodyAround ns m) (At (record { 0 = c }))) (invalidInTable ns names))
+  in-class n c h =
+      refs n c
+      ∙ flat-upto (λ m. cond (isTableUse ns m && isClass c (currentClass ns m)) (listed (undeclaredAt ns names n c m)) []) (λ m. cond (invalidHere m && sameNode (bodyAround ns m) (At (record { 0 = c }))) (error8 n m) [])
+      (c + 1) (count ns) (λ m a b. piece n c m b)
+      ∙ sym (flat-keep (error8 n) (λ m. invalidHere m && sameNode (bodyAround ns m) (At (record { 0 = c }))) (upto (c + 1) (count ns)))
+      ∙ ap (flatMap (error8 n))
+      (sym (keep-from (λ m. invalidHere m && sameNode (bodyAround ns m) (At (record { 0 = c }))) (count ns) (c + 1) (omega arith) (λ x l. early c x h l))
+      ∙ sym (keep-keep (λ m. sameNode (bodyAround ns m) (At (record { 0 = c }))) invalidHere (upto 0 (count ns)))
+      ∙ ap (keep (λ m. sameNode (bodyAround ns m) (At (record { 0 = c })))) (sym (invalid-list ns names (isTableUse ns) (privateEntered ns) w)))
+
+  in-found : (n : ℕ) (f : Found) → classBodyOf ns n ≡ f → undeclaredBy ns names n (classAt f) ≡ flatMap (error8 n) (keep (λ m. sameNode (bodyAround ns m) f) (invalidInTable ns names))
+  unfolding flatMap
+  in-found n (At c) e = in-class n (c .0) (found-child ns n k.ClassBody k.ClassBody 0 7 (n + 1) (c .0) e .below)
+  in-found n Nothing e = sym (ap (flatMap (error8 n)) (keep-none (λ m. sameNode (bodyAround ns m) Nothing) (invalidInTable ns names) (λ x m. go (bodyAround ns x))))
+    where
+      go : (f : Found) → sameNode f Nothing ≡ false
+      go (At a) = refl
+      go Nothing = refl
+
+  at-class : (n : ℕ) → eqb (kindOf ns n) k.Class ≡ true → currentClass ns n ≡ classAt (classBodyOf ns n)
+  unfolding currentClass
+  at-class n e = rw e
+
+  pub private-undeclared : (t : ℕ) (ss source : List ℕ) (n : ℕ)
+      → withCode 8 (findingsAt t ns ss source names n)
+      ≡ cond (eqb (kindOf ns n) k.Class) (flatMap (λ m. listed (errorAt ns code.privateFieldUndeclared n m context.none)) (keep (λ m. sameNode (bodyAround ns m) (classBodyOf ns n)) (invalidInTable ns names))) []
+  private-undeclared t ss source n = at8 t ns ss source names n ∙ go (eqb (kindOf ns n) k.Class) refl
+    where
+      go : (b : Bool) → eqb (kindOf ns n) k.Class ≡ b → cond b (privateUndeclared ns names n) [] ≡ cond b (flatMap (error8 n) (keep (λ m. sameNode (bodyAround ns m) (classBodyOf ns n)) (invalidInTable ns names))) []
+      go true e = ap (undeclaredBy ns names n) (at-class n e) ∙ in-found n (classBodyOf ns n) refl
+      go false e = refl
