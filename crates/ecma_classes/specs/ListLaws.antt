@@ -112,9 +112,9 @@ upto-rising i n = go i (n - i)
     go i zero = tt
     go i (suc f) = ((λ x m. low (suc i) f x m), go (suc i) f)
 
-pub in-upto : (n j : ℕ) → j < n → member j (upto 0 n) ≡ true
+pub upto-in : (i n j : ℕ) → i ≤ j → j < n → member j (upto i n) ≡ true
 unfolding upto range
-in-upto n j h = go 0 (n - 0) j (omega arith) (omega arith)
+upto-in i n j a b = go i (n - i) j a (omega arith)
   where
     go : (i f j : ℕ) → i ≤ j → j < i + f → member j (range i f) ≡ true
     go i zero j a b = absurd (omega arith)
@@ -123,3 +123,6 @@ in-upto n j h = go 0 (n - 0) j (omega arith) (omega arith)
         by : (x : Bool) → eqb j i ≡ x → (suc i ≤ j → member j (range (suc i) f) ≡ true) → (x || member j (range (suc i) f)) ≡ true
         by true q r = refl
         by false q r = let z = eqb-false j i q in r (omega arith)
+
+pub in-upto : (n j : ℕ) → j < n → member j (upto 0 n) ≡ true
+in-upto n j h = upto-in 0 n j (omega arith) h

@@ -8,21 +8,24 @@ use native.Mathlib.Nat.{eq-or-lt-of-le}
 use native.Mathlib.Omega.{arith}
 use borrow.Author.Tests.{eq-eqb, ne-eqb, eqb-true, lt-leb, le-leb}
 use lib.Dec.{eqb, leb}
+use lib.ListN.{length}
 use Rattle.common.specs.Upto.{upto, any, and-left, and-right}
 use Rattle.common.specs.Tests.{within}
 use Rattle.common.specs.Bools.{never}
 use Rattle.walk.specs.On.{member}
 use Rattle.walk.specs.Preorder.{lt-or-ge}
-use Rattle.tables.specs.Table.{kindOf, parentOf, count, ancestors}
+use Rattle.tables.specs.Table.{kindOf, parentOf, roleOf, count, ancestors}
 use Rattle.tables.specs.Facts.{Tree}
 use Rattle.tables.specs.Kinds as k
 use Rattle.tables.specs.declared.Found.{Found}
 use Rattle.tables.specs.declared.Found.the-variants.{At, Nothing}
 use Rattle.names.specs.Name.{same, nameOf}
-use Rattle.children.specs.Children.{keep, classBodyOf}
-use Rattle.children.specs.ChildrenLaws.{keep-keep, found-child}
+use Rattle.children.specs.Children.{keep, isChild, classBodyOf}
+use Rattle.children.specs.ChildrenLaws.{keep-keep, found-child, tally, tally-all}
 use Rattle.ancestry.specs.Ancestry.{nearestOf}
 use Rattle.ancestry.specs.AncestryLaws.{ancestors-up, ancestors-root}
+use Rattle.fields.specs.FieldsLaws.{Listed}
+use Rattle.shape.specs.ShapeLaws.{Shaped}
 use Rattle.trees.specs.Rose.{Rose, Roses, node, rnil, rcons, treeOf}
 use Rattle.trees.specs.Walk.{each, walk, walkAll, some, only}
 use Rattle.trees.specs.WalkLaws.{foldIs, someAppend, someOnly}
@@ -32,7 +35,7 @@ use Rattle.diagnostics.specs.declared.Raised.the-variants.{Clear}
 use Rattle.diagnostics.specs.Finding.{listed, errorAt}
 use Rattle.diagnostics.specs.Codes as code
 use Rattle.diagnostics.specs.Contexts as context
-use Rattle.gather.specs.Gather.{flat-keep, listed-cond}
+use Rattle.gather.specs.Gather.{flat-keep, kept-first, kept-none}
 use Rattle.classes.specs.declared.Current.{Current}
 use Rattle.classes.specs.declared.Current.the-variants.{Class, Outside}
 use Rattle.classes.specs.Classes.{classAt, bodyAbove, currentClass, outerClasses}
@@ -44,7 +47,7 @@ use Rattle.ecma_dispatch.specs.WithCode.{withCode}
 use Rattle.ecma_dispatch.specs.Dispatch.{at7, at8}
 use Rattle.ecma_classes.specs.Raising.{raising}
 use Rattle.ecma_classes.specs.RaisingLaws.{raising-code, keep-upto, flat-upto, keep-from}
-use Rattle.ecma_classes.specs.ListLaws.{kept-in, in-kept, keep-none, in-upto}
+use Rattle.ecma_classes.specs.ListLaws.{kept-in, in-kept, keep-none, in-upto, upto-in}
 use Rattle.ecma_classes.specs.ClassElements.{found}
 use Rattle.ecma_classes.specs.PrivateTwiceLaws.{name-is, privates-are, entered-all, both-ways}
 use Rattle.ecma_classes.specs.PrivateNames.{privateName, privateBound, privateEntered, contains, strings, isClassBody, newNames, valid, allValid, invalid, isUse, invalidIdentifiers, isTableUse, invalidInTable, PrivatesPlain, bodyAround, sameNode, isOutside, UsedOutside, allPrivateIdentifiersValid}
@@ -331,3 +334,89 @@ module _ (ns names : List ℕ) (w : Tree ns) where
       go : (b : Bool) → eqb (kindOf ns n) k.Class ≡ b → cond b (privateUndeclared ns names n) [] ≡ cond b (flatMap (error8 n) (keep (λ m. sameNode (bodyAround ns m) (classBodyOf ns n)) (invalidInTable ns names))) []
       go true e = ap (undeclaredBy ns names n) (at-class n e) ∙ in-found n (classBodyOf ns n) refl
       go false e = refl
+
+  -- on the condition, the Rust's list is the standard's
+  use-same : PrivatesPlain ns → (j : ℕ) → j < count ns → isTableUse ns j ≡ isUse ns j
+  unfolding isTableUse isUse
+  use-same p j h = go (eqb (kindOf ns j) k.PrivateIdentifier) refl
+    where
+      above : (x : ℕ) → (x ≡ k.OtherMember → ⊥) → within x k.OtherMember k.PrivateIn ≡ within x k.PrivateField k.PrivateIn
+      above x n =
+          ⊎-elim (λ (l : x < 40). rw (lt-leb 40 x l, lt-leb 41 x (omega arith)))
+          (λ (l : 40 ≤ x). ⊎-elim (λ (q : 40 ≡ x). absurd (n (sym q))) (λ (q : 40 < x). rw (le-leb 40 x l, le-leb 41 x (omega arith))) (eq-or-lt-of-le l)) (lt-or-ge x 40)
+
+      go : (b : Bool) → eqb (kindOf ns j) k.PrivateIdentifier ≡ b
+          → (b && within (kindOf ns (parentOf ns j)) k.OtherMember k.PrivateIn) ≡ (b && within (kindOf ns (parentOf ns j)) k.PrivateField k.PrivateIn)
+      go true q = above (kindOf ns (parentOf ns j)) (p .members j h (eqb-true (kindOf ns j) k.PrivateIdentifier q))
+      go false q = refl
+
+  abbrev handedAs : ℕ → List (List ℕ)
+  handedAs m = foldr (λ a l. newNames ns names (isUse ns) (privateBound ns) a l) [] (ancestors ns m)
+
+  handed-same : PrivatesPlain ns → (f j : ℕ) → j ≤ f → j < count ns → handedIn j ≡ handedAs j
+  handed-same p zero j hf h =
+      let z : j ≡ 0 = omega arith in
+      rw z (ancestors-root (λ a l. newNames ns names (isTableUse ns) (privateEntered ns) a l) [] ns ∙ sym (ancestors-root (λ a l. newNames ns names (isUse ns) (privateBound ns) a l) [] ns))
+  handed-same p (suc f) j hf h =
+      ⊎-elim (λ (q : 0 ≡ j). handed-same p f j (omega arith) h)
+      (λ (q : 0 < j). let l = w .falls j q h in step q (handed-same p f (parentOf ns j) (omega arith) (omega arith))) (eq-or-lt-of-le (omega arith))
+    where
+      step : 0 < j → handedIn (parentOf ns j) ≡ handedAs (parentOf ns j) → handedIn j ≡ handedAs j
+      step q r =
+          let l = w .falls j q h in
+          ancestors-up (λ a l. newNames ns names (isTableUse ns) (privateEntered ns) a l) [] ns w j q h
+          ∙ ap (λ (x : List (List ℕ)). newNames ns names (isTableUse ns) (privateEntered ns) (parentOf ns j) x) r
+          ∙ ap (λ (b : List ℕ). cond (isClassBody ns (parentOf ns j)) (strings ns names b ++ handedAs (parentOf ns j)) (handedAs (parentOf ns j))) (entered-all ns (parentOf ns j) (p .entered (parentOf ns j) (omega arith)))
+          ∙ sym (ancestors-up (λ a l. newNames ns names (isUse ns) (privateBound ns) a l) [] ns w j q h)
+
+  pub invalid-same : PrivatesPlain ns → invalidInTable ns names ≡ invalidIdentifiers ns names
+  invalid-same p =
+      invalid-list ns names (isTableUse ns) (privateEntered ns) w
+      ∙ keep-upto invalidHere (invalidAt ns names (isUse ns) (privateBound ns)) 0 (count ns)
+      (λ j a b. rw (use-same p j b, handed-same p j j (omega arith) b))
+      ∙ sym (invalid-list ns names (isUse ns) (privateBound ns) w)
+
+-- a ClassBody is that of its Class: so each of these is found at one Class
+module _ (ns : List ℕ) (w : Tree ns) (listed' : Listed ns) (shaped : Shaped ns) (b : ℕ) (h : b < count ns) (e : kindOf ns b ≡ k.ClassBody) where
+  abbrev up : ℕ
+  up = parentOf ns b
+
+  abbrev bodies : List ℕ
+  bodies = keep (isChild ns up k.ClassBody k.ClassBody 0 7) (upto (up + 1) (count ns))
+
+  below-up : (0 < b) × (up < b)
+  below-up = ⊎-elim (λ (q : 0 ≡ b). absurd (let z : kindOf ns 0 ≡ k.ClassBody = subst (λ (x : ℕ). kindOf ns x ≡ k.ClassBody) (sym q) e in let y = w .root in omega arith)) (λ (q : 0 < b). (q, w .falls b q h)) (eq-or-lt-of-le (omega arith))
+
+  pub class-above : kindOf ns up ≡ k.Class
+  class-above = shaped .placed .classBody b h e
+
+  is-body : isChild ns up k.ClassBody k.ClassBody 0 7 b ≡ true
+  unfolding isChild
+  is-body = rw (eq-eqb up up refl, within-one (kindOf ns b) k.ClassBody, eq-eqb (kindOf ns b) k.ClassBody e, le-leb 0 (roleOf ns b) (omega arith), le-leb (roleOf ns b) 7 (listed' .role b h))
+
+  member-body : member b bodies ≡ true
+  member-body = in-kept (isChild ns up k.ClassBody k.ClassBody 0 7) (upto (up + 1) (count ns)) b (let z = below-up .1 in upto-in (up + 1) (count ns) b (omega arith) h) is-body
+
+  one-body : length bodies ≡ 1
+  unfolding tally
+  one-body = let z = below-up .1 in tally-all ns up k.ClassBody k.ClassBody 0 7 ∙ shaped .counted .classBody up (omega arith) class-above
+
+  single : (l : List ℕ) (a : ℕ) → length (a ∷ l) ≡ 1 → member b (a ∷ l) ≡ true → a ≡ b
+  single [] a s m = go (eqb b a) refl m
+    where
+      go : (x : Bool) → eqb b a ≡ x → (x || false) ≡ true → a ≡ b
+      go true q z = sym (eqb-true b a q)
+      go false q z = never (sym z)
+  single (c ∷ l) a s m = absurd (omega arith)
+
+  pub body-of-class : classBodyOf ns up ≡ At (record { 0 = b })
+  body-of-class = go (classBodyOf ns up) refl
+    where
+      go : (f : Found) → classBodyOf ns up ≡ f → f ≡ At (record { 0 = b })
+      go (At a) q =
+          let z = kept-first (isChild ns up k.ClassBody k.ClassBody 0 7) (count ns) (up + 1) (a .0) q in
+          ap (λ (x : ℕ). At (record { 0 = x }))
+          (single (keep (isChild ns up k.ClassBody k.ClassBody 0 7) (upto (a .0 + 1) (count ns))) (a .0) (sym (ap length z) ∙ one-body) (sym (ap (member b) z) ∙ member-body))
+      go Nothing q =
+          let z = kept-none (isChild ns up k.ClassBody k.ClassBody 0 7) (count ns) (up + 1) q in
+          never (sym (sym (ap (member b) z) ∙ member-body))
