@@ -23,6 +23,11 @@ abbrev pub found : Found → Bool
 found (At m) = true
 found Nothing = false
 
+abbrev pub sameNode : Found → Found → Bool
+sameNode (At a) (At b) = eqb (a .0) (b .0)
+sameNode (At a) Nothing = false
+sameNode Nothing g = false
+
 -- 8.6.5 PropName of a PropertyName, which is the key: the name at the key node. A ComputedPropertyName has none: its key node holds the expression. No name is [].
 abbrev pub nameOfKey : List ℕ → List ℕ → Found → List ℕ
 nameOfKey ns names (At m) = cond (found (innerOf ns (m .0))) [] (nameOf ns names (m .0))

@@ -7,3 +7,5 @@ pub mod ObjectsLaws
 pub mod PrivateNames
 pub mod PrivateTwiceLaws
 pub mod PrivateNamesLaws
+pub mod Supers
+pub mod SuperSearchLaws

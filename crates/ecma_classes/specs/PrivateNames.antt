@@ -164,11 +164,6 @@ pub record PrivatesPlain (ns : List ℕ) : Type 0 where
 unfoldable pub bodyAround : List ℕ → ℕ → Found
 bodyAround ns n = foldr (λ a r. cond (isClassBody ns a) (At (record { 0 = a })) r) Nothing (ancestors ns n)
 
-abbrev pub sameNode : Found → Found → Bool
-sameNode (At a) (At b) = eqb (a .0) (b .0)
-sameNode (At a) Nothing = false
-sameNode Nothing g = false
-
 -- code 7: what is found in no ClassBody; the Rust finds each PrivateIdentifier there, whatever it stands under
 unfoldable pub isOutside : List ℕ → ℕ → Bool
 isOutside ns n = eqb (kindOf ns n) k.PrivateIdentifier && not (found (bodyAround ns n))

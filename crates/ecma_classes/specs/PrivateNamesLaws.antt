@@ -48,9 +48,9 @@ use Rattle.ecma_dispatch.specs.Dispatch.{at7, at8}
 use Rattle.ecma_classes.specs.Raising.{raising}
 use Rattle.ecma_classes.specs.RaisingLaws.{raising-code, keep-upto, flat-upto, keep-from}
 use Rattle.ecma_classes.specs.ListLaws.{kept-in, in-kept, keep-none, in-upto, upto-in}
-use Rattle.ecma_classes.specs.ClassElements.{found}
+use Rattle.ecma_classes.specs.ClassElements.{found, sameNode}
 use Rattle.ecma_classes.specs.PrivateTwiceLaws.{name-is, privates-are, entered-all, both-ways}
-use Rattle.ecma_classes.specs.PrivateNames.{privateName, privateBound, privateEntered, contains, strings, isClassBody, newNames, valid, allValid, invalid, isUse, invalidIdentifiers, isTableUse, invalidInTable, PrivatesPlain, bodyAround, sameNode, isOutside, UsedOutside, allPrivateIdentifiersValid}
+use Rattle.ecma_classes.specs.PrivateNames.{privateName, privateBound, privateEntered, contains, strings, isClassBody, newNames, valid, allValid, invalid, isUse, invalidIdentifiers, isTableUse, invalidInTable, PrivatesPlain, bodyAround, isOutside, UsedOutside, allPrivateIdentifiersValid}
 
 module _ (ns names : List ℕ) (uses : ℕ → Bool) (bound : ℕ → List ℕ) where
   abbrev says : ℕ → List (List ℕ) → List ℕ
