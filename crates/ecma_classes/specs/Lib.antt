@@ -9,3 +9,4 @@ pub mod PrivateTwiceLaws
 pub mod PrivateNamesLaws
 pub mod Supers
 pub mod SuperSearchLaws
+pub mod SupersLaws

@@ -58,10 +58,10 @@ module _ (ns ss : List ℕ) (tree : Tree ns) (chained : Chained ss) (scoped : Sc
   unit j = unitOf ns (begins ns) j
 
   -- the class around a node, one step up
-  above-other : (j : ℕ) → 0 < j → j < count ns → (kindOf ns (parentOf ns j) ≡ k.ClassBody → ⊥) → classAbove ns j ≡ classAbove ns (parentOf ns j)
+  pub above-other : (j : ℕ) → 0 < j → j < count ns → (kindOf ns (parentOf ns j) ≡ k.ClassBody → ⊥) → classAbove ns j ≡ classAbove ns (parentOf ns j)
   above-other j z h e = nearest-on ns tree k.ClassBody k.ClassBody j (parentOf ns j) z h refl (within-one (kindOf ns (parentOf ns j)) k.ClassBody ∙ ne-eqb (kindOf ns (parentOf ns j)) k.ClassBody e)
 
-  above-body : (j : ℕ) → 0 < j → j < count ns → kindOf ns (parentOf ns j) ≡ k.ClassBody → classAbove ns j ≡ At (record { 0 = parentOf ns j })
+  pub above-body : (j : ℕ) → 0 < j → j < count ns → kindOf ns (parentOf ns j) ≡ k.ClassBody → classAbove ns j ≡ At (record { 0 = parentOf ns j })
   above-body j z h e = nearest-stop ns tree k.ClassBody k.ClassBody j (parentOf ns j) z h refl (within-one (kindOf ns (parentOf ns j)) k.ClassBody ∙ eq-eqb (kindOf ns (parentOf ns j)) k.ClassBody e)
 
   -- the class that is found above j is a Class, before j, and makes its scope
@@ -119,7 +119,7 @@ module _ (ns ss : List ℕ) (tree : Tree ns) (chained : Chained ss) (scoped : Sc
   unit-up : (j : ℕ) → 0 < j → j < count ns → unit j ≡ cond (begins ns (parentOf ns j) j) (parentOf ns j) (unit (parentOf ns j))
   unit-up j z h = handedLaw ns (λ i j r. cond (begins ns i j) i r) 0 tree j z h
 
-  no-root : (i : ℕ) → (kindOf ns i ≡ 0 → ⊥) → 0 < i
+  pub no-root : (i : ℕ) → (kindOf ns i ≡ 0 → ⊥) → 0 < i
   no-root i e = ⊎-elim (λ (q : 0 ≡ i). absurd (e (subst (λ (x : ℕ). kindOf ns x ≡ 0) q (tree .root)))) (λ (q : 0 < i). q) (eq-or-lt-of-le (omega arith))
 
   unit-plain : (j : ℕ) → 0 < j → j < count ns → (eqb (kindOf ns (parentOf ns j)) k.Function || (eqb (kindOf ns (parentOf ns j)) k.StaticBlock || (within (kindOf ns (parentOf ns j)) k.PropertyDefinition k.AccessorProperty && isValue ns (parentOf ns j) j))) ≡ false
