@@ -10,3 +10,4 @@ pub mod PrivateNamesLaws
 pub mod Supers
 pub mod SuperSearchLaws
 pub mod SupersLaws
+pub mod ContainsLaws

@@ -197,3 +197,70 @@ module _ (ns : List ℕ) (n u : ℕ) where
       go false e true q h false r = never (sym (constructor-takes ns u q) ∙ r)
       go false e false q h true r = refl
       go false e false q h false r = rw e
+
+-- THE THEOREMS: one finding at each Super that breaks a rule, none at any other node
+module _ (ns ss : List ℕ) (tree : Tree ns) (chained : Chained ss) (scoped : Scoped ns ss) (placed : Placed ns) (fit : ScopesFit ns ss) (n : ℕ) (h : n < count ns) where
+  checked : kindOf ns n ≡ k.Super → checkSuper ns ss n ≡ byReach ns n (expected ns (isCall ns n) (unitOf ns (begins ns) n))
+  unfolding checkSuper reachOf
+  checked e =
+      ap (byReach ns n)
+      (search-is ns ss tree chained scoped placed fit n (isCall ns n) h e
+      ∙ at-unit ns ss tree chained scoped placed fit n (isCall ns n) (unitOf ns (begins ns) n) (unit-is ns tree n h))
+
+  module _ (t : ℕ) (source names : List ℕ) where
+    pub super-bare : raising 28 (findingsAt t ns ss source names n) ≡ only (bareCall ns (isTableCall ns) (isTableProperty ns) n) n
+    unfolding bareCall isTableCall raising
+    super-bare = raising-code 28 (findingsAt t ns ss source names n) ∙ rw (at28 t ns ss source names n) (go (eqb (kindOf ns n) k.Super) refl)
+      where
+        go : (b : Bool) → eqb (kindOf ns n) k.Super ≡ b
+            → raising 28 (cond b (withCode 28 (listed (checkSuper ns ss n))) []) ≡ only ((b && isCall ns n) && (isConstructorMethod ns (unitOf ns (begins ns) n) && not (hasHeritage ns (unitOf ns (begins ns) n)))) n
+        go true e = sym (raising-code 28 (listed (checkSuper ns ss n))) ∙ rw (checked (eqb-true (kindOf ns n) k.Super e)) (raised28 ns n (unitOf ns (begins ns) n))
+        go false e = refl
+
+    pub super-call : raising 29 (findingsAt t ns ss source names n) ≡ only (strayCall ns (isTableCall ns) (isTableProperty ns) n) n
+    unfolding strayCall isTableCall raising
+    super-call = raising-code 29 (findingsAt t ns ss source names n) ∙ rw (at29 t ns ss source names n) (go (eqb (kindOf ns n) k.Super) refl)
+      where
+        go : (b : Bool) → eqb (kindOf ns n) k.Super ≡ b
+            → raising 29 (cond b (withCode 29 (listed (checkSuper ns ss n))) []) ≡ only ((b && isCall ns n) && not (isConstructorMethod ns (unitOf ns (begins ns) n))) n
+        go true e = sym (raising-code 29 (listed (checkSuper ns ss n))) ∙ rw (checked (eqb-true (kindOf ns n) k.Super e)) (raised29 ns n (unitOf ns (begins ns) n))
+        go false e = refl
+
+    pub super-property : raising 30 (findingsAt t ns ss source names n) ≡ only (strayProperty ns (isTableCall ns) (isTableProperty ns) n) n
+    unfolding strayProperty isTableProperty raising
+    super-property = raising-code 30 (findingsAt t ns ss source names n) ∙ rw (at30 t ns ss source names n) (go (eqb (kindOf ns n) k.Super) refl)
+      where
+        go : (b : Bool) → eqb (kindOf ns n) k.Super ≡ b
+            → raising 30 (cond b (withCode 30 (listed (checkSuper ns ss n))) []) ≡ only ((b && not (isCall ns n)) && not (takesProperty ns (unitOf ns (begins ns) n))) n
+        go true e = sym (raising-code 30 (listed (checkSuper ns ss n))) ∙ rw (checked (eqb-true (kindOf ns n) k.Super e)) (raised30 ns n (unitOf ns (begins ns) n))
+        go false e = refl
+
+-- where each Super stands in a SuperCall or a SuperProperty, the rules are the standard's
+module _ (ns : List ℕ) (stand : SupersStand ns) (n : ℕ) (h : n < count ns) where
+  call-same : isTableCall ns n ≡ isSuperCall ns n
+  unfolding isTableCall isSuperCall
+  call-same = go (eqb (kindOf ns n) k.Super) refl
+    where
+      go : (b : Bool) → eqb (kindOf ns n) k.Super ≡ b → (b && within (kindOf ns (parentOf ns n)) k.Call k.New) ≡ (b && eqb (kindOf ns (parentOf ns n)) k.Call)
+      go true e = ⊎-elim (λ (q : kindOf ns (parentOf ns n) ≡ k.Call). rw q) (λ (q : kindOf ns (parentOf ns n) ≡ k.OtherMember). rw q) (stand n h (eqb-true (kindOf ns n) k.Super e))
+      go false e = refl
+
+  property-same : isTableProperty ns n ≡ isSuperProperty ns n
+  unfolding isTableProperty isSuperProperty
+  property-same = go (eqb (kindOf ns n) k.Super) refl
+    where
+      go : (b : Bool) → eqb (kindOf ns n) k.Super ≡ b → (b && not (within (kindOf ns (parentOf ns n)) k.Call k.New)) ≡ (b && eqb (kindOf ns (parentOf ns n)) k.OtherMember)
+      go true e = ⊎-elim (λ (q : kindOf ns (parentOf ns n) ≡ k.Call). rw q) (λ (q : kindOf ns (parentOf ns n) ≡ k.OtherMember). rw q) (stand n h (eqb-true (kindOf ns n) k.Super e))
+      go false e = refl
+
+  pub bare-same : bareCall ns (isTableCall ns) (isTableProperty ns) n ≡ bareCall ns (isSuperCall ns) (isSuperProperty ns) n
+  unfolding bareCall
+  bare-same = rw call-same
+
+  pub stray-same : strayCall ns (isTableCall ns) (isTableProperty ns) n ≡ strayCall ns (isSuperCall ns) (isSuperProperty ns) n
+  unfolding strayCall
+  stray-same = rw call-same
+
+  pub property-rule-same : strayProperty ns (isTableCall ns) (isTableProperty ns) n ≡ strayProperty ns (isSuperCall ns) (isSuperProperty ns) n
+  unfolding strayProperty
+  property-rule-same = rw property-same

@@ -1,0 +1,117 @@
+-- 8.5.1 Contains, of a unit, is what the nodes say whose unit it is: so a unit breaks a rule on `super` just where one of its Supers does.
+use Prim.Native.Nat.{ℕ, zero, suc, _+_, _≤_, _<_}
+use mathlib.Core.Path.{_≡_, refl, ap, sym, _∙_}
+use mathlib.Core.List.{List, [], _∷_, _++_, foldr}
+use mathlib.Core.Bool.{Bool, true, false, cond, not, _&&_, _||_, true≢false}
+use lib.Dec.{eqb}
+use borrow.Author.Tests.{eqb-true}
+use Rattle.common.specs.Upto.{upto}
+use Rattle.tables.specs.Table.{count}
+use Rattle.tables.specs.Facts.{Tree}
+use Rattle.trees.specs.Rose.{Rose, Roses, node, rnil, rcons, idx, partsOf}
+use Rattle.trees.specs.Walk.{each, some, only}
+use Rattle.trees.specs.WalkLaws.{eachSame, someAppend, someOnly}
+use Rattle.trees.specs.Unit.{says, saysAll}
+use Rattle.trees.specs.Trail.{unitOf}
+use Rattle.trees.specs.TrailLaws.{unitBridge}
+use Rattle.ecma_classes.specs.Supers.{begins, contains, containsAny, containsIn, isConstructorMethod, hasHeritage, takesProperty, bareCallIn, strayCallIn, strayPropertyIn, bareCall, strayCall, strayProperty}
+
+module _ (ns : List ℕ) (sought : ℕ → Bool) where
+  abbrev tells : ℕ → Unit {0} → List ℕ
+  tells n a = only (sought n) n
+
+  abbrev into : ℕ → ℕ → Bool
+  into i j = not (begins ns i j)
+
+  abbrev hands : ℕ → ℕ → Unit {0} → Unit {0}
+  hands i j a = a
+
+  mutual
+    unfolding contains says
+
+    contains-some : (t : Rose) → contains ns sought t ≡ some (says tells into hands t tt)
+    contains-some (node n ks) =
+        rw (any-some (into n) ks, someAppend (tells n tt) (saysAll tells into hands ks (into n) (λ j. tt)), someOnly (sought n) n)
+
+    any-some : (b : ℕ → Bool) (ts : Roses) → containsAny ns sought b ts ≡ some (saysAll tells into hands ts b (λ j. tt))
+    any-some b rnil = refl
+    any-some b (rcons t ts) =
+        rw (contains-some t, any-some b ts, someAppend (cond (b (idx t)) (says tells into hands t tt) []) (saysAll tells into hands ts b (λ j. tt)))
+        (go (b (idx t)) (some (saysAll tells into hands ts b (λ j. tt))))
+      where
+        go : (x y : Bool) → ((x && some (says tells into hands t tt)) || y) ≡ (some (cond x (says tells into hands t tt) []) || y)
+        go true y = refl
+        go false y = refl
+
+  root : (j : ℕ) → begins ns 0 j ≡ true
+  unfolding begins
+  root j = refl
+
+  pub contains-is : Tree ns → (u : ℕ) → u < count ns → containsIn ns sought u ≡ some (each (λ j. cond (eqb (unitOf ns (begins ns) j) u) (only (sought j) j) []) (upto (u + 1) (count ns)))
+  unfolding containsIn
+  contains-is t u h =
+      any-some (begins ns u) (partsOf ns u)
+      ∙ ap (λ (l : List ℕ). some l)
+      (unitBridge tells into hands ns t (begins ns) (λ i j. tt) tt root (λ i j e. off (begins ns i j) e) (λ i j x e q. absurd (both (begins ns i j) e q)) u h)
+    where
+      off : (b : Bool) → not b ≡ true → b ≡ false
+      off true e = sym e
+      off false e = refl
+
+      both : (b : Bool) → b ≡ false → not b ≡ false → ⊥
+      both true e q = true≢false e
+      both false e q = true≢false q
+
+  -- a rule on the unit and what it contains, node by node
+  unit-rule : Tree ns → (rule : ℕ → Bool) (u : ℕ) → u < count ns
+      → (rule u && containsIn ns sought u) ≡ some (each (λ j. cond (eqb (unitOf ns (begins ns) j) u) (only (sought j && rule (unitOf ns (begins ns) j)) j) []) (upto (u + 1) (count ns)))
+  unit-rule t rule u h = go (rule u) refl
+    where
+      on : rule u ≡ true → (j : ℕ) (b : Bool) → eqb (unitOf ns (begins ns) j) u ≡ b → cond b (only (sought j) j) [] ≡ cond b (only (sought j && rule (unitOf ns (begins ns) j)) j) []
+      on r j true e = rw (eqb-true (unitOf ns (begins ns) j) u e, r) (and (sought j))
+        where
+          and : (x : Bool) → only x j ≡ only (x && true) j
+          and true = refl
+          and false = refl
+      on r j false e = refl
+
+      off : rule u ≡ false → (j : ℕ) (b : Bool) → eqb (unitOf ns (begins ns) j) u ≡ b → [] ≡ cond b (only (sought j && rule (unitOf ns (begins ns) j)) j) []
+      off r j true e = rw (eqb-true (unitOf ns (begins ns) j) u e, r) (and (sought j))
+        where
+          and : (x : Bool) → [] ≡ only (x && false) j
+          and true = refl
+          and false = refl
+      off r j false e = refl
+
+      none : (l : List ℕ) → false ≡ some (each {B = ℕ} (λ j. []) l)
+      none [] = refl
+      none (x ∷ l) = none l
+
+      go : (b : Bool) → rule u ≡ b → (b && containsIn ns sought u) ≡ some (each (λ j. cond (eqb (unitOf ns (begins ns) j) u) (only (sought j && rule (unitOf ns (begins ns) j)) j) []) (upto (u + 1) (count ns)))
+      go true r =
+          contains-is t u h
+          ∙ ap (λ (l : List ℕ). some l)
+          (eachSame (λ j. cond (eqb (unitOf ns (begins ns) j) u) (only (sought j) j) []) (λ j. cond (eqb (unitOf ns (begins ns) j) u) (only (sought j && rule (unitOf ns (begins ns) j)) j) []) (u + 1) (count ns)
+          (λ j a b. on r j (eqb (unitOf ns (begins ns) j) u) refl))
+      go false r =
+          none (upto (u + 1) (count ns))
+          ∙ ap (λ (l : List ℕ). some l)
+          (eachSame (λ j. []) (λ j. cond (eqb (unitOf ns (begins ns) j) u) (only (sought j && rule (unitOf ns (begins ns) j)) j) []) (u + 1) (count ns)
+          (λ j a b. off r j (eqb (unitOf ns (begins ns) j) u) refl))
+
+-- the nodes of a unit that break a rule
+abbrev pub inUnit : List ℕ → (ℕ → Bool) → ℕ → List ℕ
+inUnit ns rule u = each (λ j. cond (eqb (unitOf ns (begins ns) j) u) (only (rule j) j) []) (upto (u + 1) (count ns))
+
+module _ (ns : List ℕ) (call property : ℕ → Bool) (t : Tree ns) (u : ℕ) (h : u < count ns) where
+  pub bare-in : bareCallIn ns call property u ≡ some (inUnit ns (bareCall ns call property) u)
+  unfolding bareCallIn bareCall
+  bare-in = unit-rule ns call t (λ x. isConstructorMethod ns x && not (hasHeritage ns x)) u h
+
+  pub stray-in : strayCallIn ns call property u ≡ some (inUnit ns (strayCall ns call property) u)
+  unfolding strayCallIn strayCall
+  stray-in = unit-rule ns call t (λ x. not (isConstructorMethod ns x)) u h
+
+  pub property-in : strayPropertyIn ns call property u ≡ some (inUnit ns (strayProperty ns call property) u)
+  unfolding strayPropertyIn strayProperty
+  property-in = unit-rule ns property t (λ x. not (takesProperty ns x)) u h
