@@ -11,3 +11,4 @@ pub mod Supers
 pub mod SuperSearchLaws
 pub mod SupersLaws
 pub mod ContainsLaws
+pub mod Theorems

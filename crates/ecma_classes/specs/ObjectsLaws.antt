@@ -26,8 +26,10 @@ use Rattle.fields.specs.FieldsLaws.{Listed}
 use Rattle.trees.specs.Walk.{each, some, only}
 use Rattle.diagnostics.specs.Codes as code
 use Rattle.expressions.specs.Expressions.{properties, isPlain, ifProto, protoKey, toList, protoKeys, repeatsAfter, repeats, checkObjectExpression}
+use Rattle.checker.specs.Findings.{findingsAt}
+use Rattle.ecma_dispatch.specs.Dispatch.{at1}
 use Rattle.ecma_classes.specs.Raising.{raising}
-use Rattle.ecma_classes.specs.RaisingLaws.{keep-upto, keep-alike}
+use Rattle.ecma_classes.specs.RaisingLaws.{raising-code, keep-upto, keep-alike}
 use Rattle.ecma_classes.specs.ClassElements.{found, nameOfKey, propName, namedBy, isKeyedProto, isProto, later, protoAgain, protoTwice, plainBy, KeysPlain}
 
 -- n for each member of a list
@@ -103,12 +105,24 @@ module _ (ns names : List ℕ) where
       (λ p a b. property n p (w .role p b))
       ∙ sym (keep-keep (isKeyedProto ns names) (λ p. eqb (parentOf ns p) n) (upto (n + 1) (count ns)))
 
-  -- 1 at an Object: a finding for each such property but the first
-  pub proto-again : Listed ns → (n : ℕ) → eqb (kindOf ns n) k.Object ≡ true → raising 1 (checkObjectExpression ns names n) ≡ times n (protoAgain ns names n)
+  objects : Listed ns → (n : ℕ) → eqb (kindOf ns n) k.Object ≡ true → raising 1 (checkObjectExpression ns names n) ≡ times n (protoAgain ns names n)
   unfolding checkObjectExpression protoAgain
-  proto-again w n h =
+  objects w n h =
       repeats-times ns n (protoKeys ns names n)
       ∙ rw (keys-made (properties ns n), scanned w n, h) (made-later n (λ p. number (keyOf ns p)) (keep (isKeyedProto ns names) (children ns n)))
+
+  no-object : (n : ℕ) → eqb (kindOf ns n) k.Object ≡ false → protoAgain ns names n ≡ []
+  unfolding protoAgain
+  no-object n e = rw e
+
+  -- 1 at an Object: a finding for each such property but the first
+  pub proto-again : Listed ns → (t : ℕ) (ss source : List ℕ) (n : ℕ) → raising 1 (findingsAt t ns ss source names n) ≡ times n (protoAgain ns names n)
+  unfolding raising
+  proto-again w t ss source n = raising-code 1 (findingsAt t ns ss source names n) ∙ rw (at1 t ns ss source names n) (go (eqb (kindOf ns n) k.Object) refl)
+    where
+      go : (b : Bool) → eqb (kindOf ns n) k.Object ≡ b → raising 1 (cond b (checkObjectExpression ns names n) []) ≡ times n (protoAgain ns names n)
+      go true e = objects w n e
+      go false e = sym (ap (times n) (no-object n e))
 
   key-plain : (f : Found) → plainBy ns names f → namedBy ns names word.proto f ≡ same (nameOfKey ns names f) word.proto
   unfolding same

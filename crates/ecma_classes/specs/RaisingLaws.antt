@@ -11,9 +11,6 @@ use lib.Dec.{eqb}
 use Rattle.walk.specs.On.{member}
 use Rattle.children.specs.Children.{keep}
 use Rattle.diagnostics.specs.declared.Finding.{Finding}
-use Rattle.diagnostics.specs.declared.Raised.{Raised}
-use Rattle.diagnostics.specs.declared.Raised.the-variants.{Error, Clear}
-use Rattle.diagnostics.specs.Finding.{listed}
 use Rattle.ecma_dispatch.specs.WithCode.{withCode}
 use Rattle.ecma_classes.specs.Raising.{raising}
 
@@ -31,17 +28,6 @@ pub raising-flat : (c : ℕ) (f : ℕ → List Finding) (l : List ℕ) → raisi
 unfolding flatMap raising
 raising-flat c f [] = refl
 raising-flat c f (k ∷ l) = raising-append c (f k) (flatMap f l) ∙ rw (raising-flat c f l)
-
-pub raising-none : (c : ℕ) (f : ℕ → List Finding) → ((k : ℕ) → raising c (f k) ≡ []) → (l : List ℕ) → raising c (flatMap f l) ≡ []
-unfolding flatMap raising
-raising-none c f h [] = refl
-raising-none c f h (k ∷ l) = raising-append c (f k) (flatMap f l) ∙ rw (h k, raising-none c f h l)
-
--- no finding is raised where none is
-pub raising-cond : (c : ℕ) (b : Bool) (r : Raised) → raising c (listed (cond b r Clear)) ≡ cond b (raising c (listed r)) []
-unfolding raising
-raising-cond c true r = refl
-raising-cond c false r = refl
 
 pub keep-same : (p q : ℕ → Bool) → ((k : ℕ) → p k ≡ q k) → (l : List ℕ) → keep p l ≡ keep q l
 unfolding keep
