@@ -378,7 +378,7 @@ flat-times n q (x ∷ l) = rw (flat-times n q l) (go (q x))
     go true = refl
     go false = refl
 
-flat-alike : (f g : ℕ → List ℕ) → ((x : ℕ) → f x ≡ g x) → (l : List ℕ) → flatMap f l ≡ flatMap g l
+pub flat-alike : (f g : ℕ → List ℕ) → ((x : ℕ) → f x ≡ g x) → (l : List ℕ) → flatMap f l ≡ flatMap g l
 unfolding flatMap
 flat-alike f g h [] = refl
 flat-alike f g h (x ∷ l) = rw (h x, flat-alike f g h l)

@@ -16,6 +16,7 @@ use Rattle.tables.specs.Kinds as k
 use Rattle.tables.specs.declared.Found.{Found}
 use Rattle.tables.specs.declared.Found.the-variants.{At, Nothing}
 use Rattle.children.specs.Children.{keep, children, classBodyOf}
+use Rattle.trees.specs.Rose.{treeOf}
 use Rattle.trees.specs.Walk.{some, only}
 use Rattle.diagnostics.specs.declared.Finding.{Finding}
 use Rattle.diagnostics.specs.Finding.{listed, errorAt}
@@ -29,11 +30,12 @@ use Rattle.ecma_dispatch.specs.WithCode.{withCode}
 use Rattle.ecma_dispatch.specs.Dispatch.{wholeOne, wholeOther}
 use Rattle.ecma_classes.specs.Raising.{raising}
 use Rattle.ecma_classes.specs.RaisingLaws.{raising-code, raising-append, raising-flat, flat-upto, keep-upto}
+use Rattle.ecma_classes.specs.ListLaws.{Rising}
 use Rattle.ecma_classes.specs.ClassElements.{found, sameNode, nameMissing, builtTwice, constructorTwice, ConstructorsNamed, isProto, protoAgain, protoTwice, KeysPlain}
 use Rattle.ecma_classes.specs.ClassElementsLaws.{class-name, second-constructor, constructors-agree}
 use Rattle.ecma_classes.specs.ObjectsLaws.{times, proto-again, proto-agrees, proto-once}
 use Rattle.ecma_classes.specs.PrivateNames.{privateBound, privateEntered, entries, allowed, privateTwice, privateAgain, PrivatesEntered, OnceOrTwice, isClassBody, isUse, allPrivateIdentifiersValid, invalidIdentifiers, invalidInTable, PrivatesPlain, bodyAround, isOutside, UsedOutside}
-use Rattle.ecma_classes.specs.PrivateTwiceLaws.{private-again, private-twice, again-once, entered-all, entered-rising}
+use Rattle.ecma_classes.specs.PrivateTwiceLaws.{flat-alike, private-again, again-some, again-once, entered-all, entered-rising}
 use Rattle.ecma_classes.specs.PrivateNamesLaws.{valid-none, private-outside, outside-invalid, private-undeclared, invalid-same, class-above, body-of-class}
 use Rattle.ecma_classes.specs.Supers.{isSuperCall, isSuperProperty, isTableCall, isTableProperty, bareCall, strayCall, strayProperty, bareCallIn, strayCallIn, strayPropertyIn, SupersStand, ScopesFit}
 use Rattle.ecma_classes.specs.SupersLaws.{super-bare, super-call, super-property, bare-same, stray-same, property-rule-same}
@@ -76,3 +78,94 @@ module _ (t : ℕ) (ns ss source names : List ℕ) (w : WellFormed t ns ss sourc
 
   pub code27-standard : ((n : ℕ) → n < count ns → ConstructorsNamed ns names n) → raising 27 findings ≡ keep (constructorTwice ns names) nodes
   code27-standard c = code27 ∙ keep-upto (builtTwice ns) (constructorTwice ns names) 0 (count ns) (λ n a b. constructors-agree ns names n (c n b))
+
+  -- 1: changed: each entry of PrivateBoundIdentifiers that clashes with an earlier one (15.7.1), raised at node 0; each `__proto__` of an object but the first (13.2.5.1)
+  pub code1 : raising 1 findings ≡ flatMap (λ b. times 0 (privateAgain ns names (privateEntered ns b))) (keep (isClassBody ns) nodes) ++ flatMap (λ n. times n (protoAgain ns names n)) nodes
+  unfolding duplicateElements classesOf
+  code1 =
+      raising-code 1 findings
+      ∙ ap (raising 1) (wholeOne t ns ss source names)
+      ∙ raising-append 1 (duplicateElements ns names) (flatMap (λ j. withCode 1 (findingsAt t ns ss source names j)) nodes)
+      ∙ rw (raising-flat 1 (duplicatesIn ns names) (keep (isClassBody ns) nodes), raising-flat 1 (λ j. withCode 1 (findingsAt t ns ss source names j)) nodes)
+      (rw (
+        flat-alike (λ b. raising 1 (duplicatesIn ns names b)) (λ b. times 0 (privateAgain ns names (privateEntered ns b))) (λ b. private-again ns names b) (keep (isClassBody ns) nodes),
+        flat-alike (λ j. raising 1 (withCode 1 (findingsAt t ns ss source names j))) (λ n. times n (protoAgain ns names n)) (λ j. sym (raising-code 1 (findingsAt t ns ss source names j)) ∙ proto-again ns names (w .listed) t ss source j) nodes,
+      ))
+
+  -- in a class there are such just where the standard's rule is broken ..
+  pub code1-class : (b : ℕ) → PrivatesEntered ns b → some (privateAgain ns names (privateEntered ns b)) ≡ privateTwice ns names (privateBound ns b)
+  code1-class b p = again-some ns names (privateEntered ns b) (entered-rising ns b) ∙ ap (privateTwice ns names) (entered-all ns b p)
+
+  -- .. and one for each name that breaks it, its second entry, where no name has more than two
+  pub code1-class-once : (b : ℕ) → PrivatesEntered ns b → OnceOrTwice ns names (privateBound ns b)
+      → privateAgain ns names (privateEntered ns b) ≡ keep (λ e. some (keep (λ d. ltb d e) (entries ns names (privateBound ns b) e)) && not (allowed ns (entries ns names (privateBound ns b) e))) (privateBound ns b)
+  code1-class-once b p o =
+      ap (privateAgain ns names) (entered-all ns b p) ∙ again-once ns names (privateBound ns b) (subst (λ (l : List ℕ). Rising l) (entered-all ns b p) (entered-rising ns b)) o
+
+  -- in an object there are such just where the standard's rule is broken, and one, if no more than two properties are named so
+  pub code1-object : (n : ℕ) → KeysPlain ns names n → some (protoAgain ns names n) ≡ protoTwice ns names n
+  code1-object n p = proto-agrees ns names n p
+
+  pub code1-object-once : (n : ℕ) → KeysPlain ns names n → length (keep (isProto ns names) (children ns n)) ≤ 2 → times n (protoAgain ns names n) ≡ only (protoTwice ns names n) n
+  code1-object-once n p l = proto-once ns names n p l
+
+  -- 7: PrivateIdentifiers in no ClassBody; the standard's: those of them at which AllPrivateIdentifiersValid (15.7.7) is false
+  pub code7 : raising 7 findings ≡ keep (isOutside ns) nodes
+  code7 = whole t ns ss source names 7 refl (isOutside ns) (λ j h. private-outside t ns ss source names j)
+
+  pub code7-standard : UsedOutside ns → raising 7 findings ≡ keep (λ j. member j (invalidIdentifiers ns names) && not (found (bodyAround ns j))) nodes
+  code7-standard u =
+      code7 ∙ keep-upto (isOutside ns) (λ j. member j (invalidIdentifiers ns names) && not (found (bodyAround ns j))) 0 (count ns) (λ j a b. outside-invalid ns names (w .input .tree) u j b)
+
+  -- 8: at a Class, one for each PrivateIdentifier at which AllPrivateIdentifiersValid is false and whose nearest ClassBody is the class's; changed: by what the Rust enters
+  abbrev reported : List ℕ → List Finding
+  reported l = flatMap (λ n. cond (eqb (kindOf ns n) k.Class) (flatMap (λ m. listed (errorAt ns code.privateFieldUndeclared n m context.none)) (keep (λ m. sameNode (bodyAround ns m) (classBodyOf ns n)) l)) []) nodes
+
+  pub code8 : withCode 8 findings ≡ reported (invalidInTable ns names)
+  code8 =
+      wholeOther t ns ss source names 8 refl
+      ∙ flat-upto (λ n. withCode 8 (findingsAt t ns ss source names n))
+      (λ n. cond (eqb (kindOf ns n) k.Class) (flatMap (λ m. listed (errorAt ns code.privateFieldUndeclared n m context.none)) (keep (λ m. sameNode (bodyAround ns m) (classBodyOf ns n)) (invalidInTable ns names))) []) 0 (count ns)
+      (λ n a b. private-undeclared ns names (w .input .tree) t ss source n)
+
+  pub code8-standard : PrivatesPlain ns → withCode 8 findings ≡ reported (invalidIdentifiers ns names)
+  code8-standard p = code8 ∙ ap reported (invalid-same ns names (w .input .tree) p)
+
+  -- each at one Class: a ClassBody's parent is a Class, and that Class has no other
+  pub code8-once : (b : ℕ) → b < count ns → kindOf ns b ≡ k.ClassBody → (kindOf ns (parentOf ns b) ≡ k.Class) × (classBodyOf ns (parentOf ns b) ≡ At (record { 0 = b }))
+  code8-once b h e = (class-above ns (w .input .tree) (w .listed) (w .shaped) b h e, body-of-class ns (w .input .tree) (w .listed) (w .shaped) b h e)
+
+  -- the operation of the standard is true just where it lists nothing
+  pub valid-is : allPrivateIdentifiersValid ns names ≡ not (some (invalidIdentifiers ns names))
+  valid-is = valid-none ns names (isUse ns) (privateBound ns) (treeOf ns) []
+
+  -- 28, 29, 30: `super` where an early error forbids it, where the table's scopes are the tree's; changed: by what the Rust takes for a call
+  module _ (fit : ScopesFit ns ss) where
+    pub code28 : raising 28 findings ≡ keep (bareCall ns (isTableCall ns) (isTableProperty ns)) nodes
+    code28 = whole t ns ss source names 28 refl (bareCall ns (isTableCall ns) (isTableProperty ns)) (λ j h. super-bare ns ss (w .input .tree) (w .input .chained) (w .input .scoped) (w .shaped .placed) fit j h t source names)
+
+    pub code29 : raising 29 findings ≡ keep (strayCall ns (isTableCall ns) (isTableProperty ns)) nodes
+    code29 = whole t ns ss source names 29 refl (strayCall ns (isTableCall ns) (isTableProperty ns)) (λ j h. super-call ns ss (w .input .tree) (w .input .chained) (w .input .scoped) (w .shaped .placed) fit j h t source names)
+
+    pub code30 : raising 30 findings ≡ keep (strayProperty ns (isTableCall ns) (isTableProperty ns)) nodes
+    code30 = whole t ns ss source names 30 refl (strayProperty ns (isTableCall ns) (isTableProperty ns)) (λ j h. super-property ns ss (w .input .tree) (w .input .chained) (w .input .scoped) (w .shaped .placed) fit j h t source names)
+
+    module _ (stand : SupersStand ns) where
+      pub code28-standard : raising 28 findings ≡ keep (bareCall ns (isSuperCall ns) (isSuperProperty ns)) nodes
+      code28-standard = code28 ∙ keep-upto (bareCall ns (isTableCall ns) (isTableProperty ns)) (bareCall ns (isSuperCall ns) (isSuperProperty ns)) 0 (count ns) (λ j a b. bare-same ns stand j b)
+
+      pub code29-standard : raising 29 findings ≡ keep (strayCall ns (isSuperCall ns) (isSuperProperty ns)) nodes
+      code29-standard = code29 ∙ keep-upto (strayCall ns (isTableCall ns) (isTableProperty ns)) (strayCall ns (isSuperCall ns) (isSuperProperty ns)) 0 (count ns) (λ j a b. stray-same ns stand j b)
+
+      pub code30-standard : raising 30 findings ≡ keep (strayProperty ns (isSuperCall ns) (isSuperProperty ns)) nodes
+      code30-standard = code30 ∙ keep-upto (strayProperty ns (isTableCall ns) (isTableProperty ns)) (strayProperty ns (isSuperCall ns) (isSuperProperty ns)) 0 (count ns) (λ j a b. property-rule-same ns stand j b)
+
+  -- a unit breaks an early error, by Contains (8.5.1), just where one of its Supers does
+  pub units28 : (u : ℕ) → u < count ns → bareCallIn ns (isSuperCall ns) (isSuperProperty ns) u ≡ some (inUnit ns (bareCall ns (isSuperCall ns) (isSuperProperty ns)) u)
+  units28 u h = bare-in ns (isSuperCall ns) (isSuperProperty ns) (w .input .tree) u h
+
+  pub units29 : (u : ℕ) → u < count ns → strayCallIn ns (isSuperCall ns) (isSuperProperty ns) u ≡ some (inUnit ns (strayCall ns (isSuperCall ns) (isSuperProperty ns)) u)
+  units29 u h = stray-in ns (isSuperCall ns) (isSuperProperty ns) (w .input .tree) u h
+
+  pub units30 : (u : ℕ) → u < count ns → strayPropertyIn ns (isSuperCall ns) (isSuperProperty ns) u ≡ some (inUnit ns (strayProperty ns (isSuperCall ns) (isSuperProperty ns)) u)
+  units30 u h = property-in ns (isSuperCall ns) (isSuperProperty ns) (w .input .tree) u h
