@@ -11,4 +11,5 @@ pub mod Supers
 pub mod SuperSearchLaws
 pub mod SupersLaws
 pub mod ContainsLaws
+pub mod WholeLaws
 pub mod Theorems

@@ -136,7 +136,7 @@ module _ (ns names : List ℕ) (uses : ℕ → Bool) (bound : ℕ → List ℕ) 
       go false h = h
 
 -- the nearest ClassBody, as the check finds it
-around-is : (ns : List ℕ) (n : ℕ) → bodyAbove ns n ≡ bodyAround ns n
+pub around-is : (ns : List ℕ) (n : ℕ) → bodyAbove ns n ≡ bodyAround ns n
 unfolding nearestOf bodyAround
 around-is ns n = go (ancestors ns n)
   where

@@ -147,7 +147,7 @@ module _ (ns : List ℕ) where
       go false m =
           any-hit (clashIn ns (a ∷ b ∷ c ∷ l)) (a ∷ b ∷ c ∷ l) b (member-there b a (b ∷ c ∷ l) (member-here b (c ∷ l))) (clash-second a b (c ∷ l) r ∙ rw m)
 
-some-kept : (q : ℕ → Bool) (l : List ℕ) → some (keep q l) ≡ any q l
+pub some-kept : (q : ℕ → Bool) (l : List ℕ) → some (keep q l) ≡ any q l
 unfolding keep
 some-kept q [] = refl
 some-kept q (x ∷ l) = go (q x) (some-kept q l)

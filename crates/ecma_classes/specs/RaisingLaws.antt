@@ -6,7 +6,7 @@ use mathlib.Core.Bool.{Bool, true, false, cond, _||_}
 use borrow.Author.Tests.{eq-eqb}
 use native.Mathlib.Omega.{arith}
 use native.Mathlib.Numerals.{add-one}
-use Rattle.common.specs.Upto.{range, upto, upto-cons}
+use Rattle.common.specs.Upto.{range, upto, any, upto-cons}
 use lib.Dec.{eqb}
 use Rattle.walk.specs.On.{member}
 use Rattle.children.specs.Children.{keep}
@@ -77,3 +77,11 @@ pub keep-from : (q : ℕ → Bool) (n i : ℕ) → i ≤ n → ((x : ℕ) → x 
 unfolding keep
 keep-from q n zero h w = refl
 keep-from q n (suc i) h w = keep-from q n i (omega arith) (λ x l. w x (omega arith)) ∙ rw (upto-cons i n (omega arith), w i (omega arith), add-one i)
+
+pub any-upto : (p q : ℕ → Bool) (i n : ℕ) → ((x : ℕ) → i ≤ x → x < n → p x ≡ q x) → any p (upto i n) ≡ any q (upto i n)
+unfolding upto range
+any-upto p q i n h = go i (n - i) (λ x a b. h x a (omega arith))
+  where
+    go : (i k : ℕ) → ((x : ℕ) → i ≤ x → x < i + k → p x ≡ q x) → any p (range i k) ≡ any q (range i k)
+    go i zero h = refl
+    go i (suc k) h = rw (h i (omega arith) (omega arith), go (suc i) k (λ x a b. h x (omega arith) (omega arith)))

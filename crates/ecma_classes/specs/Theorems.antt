@@ -29,17 +29,18 @@ use Rattle.input.specs.InputLaws.{WellFormed}
 use Rattle.ecma_dispatch.specs.WithCode.{withCode}
 use Rattle.ecma_dispatch.specs.Dispatch.{wholeOne, wholeOther}
 use Rattle.ecma_classes.specs.Raising.{raising}
-use Rattle.ecma_classes.specs.RaisingLaws.{raising-code, raising-append, raising-flat, flat-upto, keep-upto}
-use Rattle.ecma_classes.specs.ListLaws.{Rising}
+use Rattle.ecma_classes.specs.RaisingLaws.{raising-code, raising-append, raising-flat, flat-upto, keep-upto, any-upto}
+use Rattle.ecma_classes.specs.ListLaws.{Rising, kept-in}
 use Rattle.ecma_classes.specs.ClassElements.{found, sameNode, nameMissing, builtTwice, constructorTwice, ConstructorsNamed, isProto, protoAgain, protoTwice, KeysPlain}
 use Rattle.ecma_classes.specs.ClassElementsLaws.{class-name, second-constructor, constructors-agree}
 use Rattle.ecma_classes.specs.ObjectsLaws.{times, proto-again, proto-agrees, proto-once}
 use Rattle.ecma_classes.specs.PrivateNames.{privateBound, privateEntered, entries, allowed, privateTwice, privateAgain, PrivatesEntered, OnceOrTwice, isClassBody, isUse, allPrivateIdentifiersValid, invalidIdentifiers, invalidInTable, PrivatesPlain, bodyAround, isOutside, UsedOutside}
 use Rattle.ecma_classes.specs.PrivateTwiceLaws.{flat-alike, private-again, again-some, again-once, entered-all, entered-rising}
-use Rattle.ecma_classes.specs.PrivateNamesLaws.{valid-none, private-outside, outside-invalid, private-undeclared, invalid-same, class-above, body-of-class}
+use Rattle.ecma_classes.specs.PrivateNamesLaws.{invalidAt, invalid-list, valid-none, private-outside, outside-invalid, private-undeclared, invalid-same, class-above, body-of-class}
 use Rattle.ecma_classes.specs.Supers.{isSuperCall, isSuperProperty, isTableCall, isTableProperty, bareCall, strayCall, strayProperty, bareCallIn, strayCallIn, strayPropertyIn, SupersStand, ScopesFit}
 use Rattle.ecma_classes.specs.SupersLaws.{super-bare, super-call, super-property, bare-same, stray-same, property-rule-same}
 use Rattle.ecma_classes.specs.ContainsLaws.{inUnit, bare-in, stray-in, property-in}
+use Rattle.ecma_classes.specs.WholeLaws.{below-of, all-raised, units-all}
 
 -- from each node to the whole tree
 module _ (t : ℕ) (ns ss source names : List ℕ) where
@@ -135,9 +136,43 @@ module _ (t : ℕ) (ns ss source names : List ℕ) (w : WellFormed t ns ss sourc
   pub code8-once : (b : ℕ) → b < count ns → kindOf ns b ≡ k.ClassBody → (kindOf ns (parentOf ns b) ≡ k.Class) × (classBodyOf ns (parentOf ns b) ≡ At (record { 0 = b }))
   code8-once b h e = (class-above ns (w .input .tree) (w .listed) (w .shaped) b h e, body-of-class ns (w .input .tree) (w .listed) (w .shaped) b h e)
 
-  -- the operation of the standard is true just where it lists nothing
-  pub valid-is : allPrivateIdentifiersValid ns names ≡ not (some (invalidIdentifiers ns names))
-  valid-is = valid-none ns names (isUse ns) (privateBound ns) (treeOf ns) []
+  -- AllPrivateIdentifiersValid is true just where it lists nothing ..
+  pub valid-lists : allPrivateIdentifiersValid ns names ≡ not (some (invalidIdentifiers ns names))
+  valid-lists = valid-none ns names (isUse ns) (privateBound ns) (treeOf ns) []
+
+  -- .. and just where there is no finding with code 7 or 8
+  pub valid-clean : PrivatesPlain ns → UsedOutside ns → allPrivateIdentifiersValid ns names ≡ not (some (raising 7 findings) || some (raising 8 findings))
+  valid-clean p u =
+      rw (code7-standard u, raising-code 8 findings, code8-standard p)
+      (valid-lists ∙ ap not (all-raised ns (w .input .tree) (w .listed) (w .shaped) (invalidIdentifiers ns names) inside))
+    where
+      inside : (x : ℕ) → member x (invalidIdentifiers ns names) ≡ true → x < count ns
+      inside x m =
+          below-of (count ns) x
+          (kept-in (invalidAt ns names (isUse ns) (privateBound ns)) nodes x (sym (ap (member x) (invalid-list ns names (isUse ns) (privateBound ns) (w .input .tree))) ∙ m) .0)
+
+  -- a unit breaks an early error, by Contains (8.5.1), just where one of its Supers does
+  pub units28 : (u : ℕ) → u < count ns → bareCallIn ns (isSuperCall ns) (isSuperProperty ns) u ≡ some (inUnit ns (bareCall ns (isSuperCall ns) (isSuperProperty ns)) u)
+  units28 u h = bare-in ns (isSuperCall ns) (isSuperProperty ns) (w .input .tree) u h
+
+  pub units29 : (u : ℕ) → u < count ns → strayCallIn ns (isSuperCall ns) (isSuperProperty ns) u ≡ some (inUnit ns (strayCall ns (isSuperCall ns) (isSuperProperty ns)) u)
+  units29 u h = stray-in ns (isSuperCall ns) (isSuperProperty ns) (w .input .tree) u h
+
+  pub units30 : (u : ℕ) → u < count ns → strayPropertyIn ns (isSuperCall ns) (isSuperProperty ns) u ≡ some (inUnit ns (strayProperty ns (isSuperCall ns) (isSuperProperty ns)) u)
+  units30 u h = property-in ns (isSuperCall ns) (isSuperProperty ns) (w .input .tree) u h
+
+  -- the program is no Super
+  no-bare : bareCall ns (isSuperCall ns) (isSuperProperty ns) 0 ≡ false
+  unfolding bareCall isSuperCall
+  no-bare = rw (w .input .tree .root)
+
+  no-stray : strayCall ns (isSuperCall ns) (isSuperProperty ns) 0 ≡ false
+  unfolding strayCall isSuperCall
+  no-stray = rw (w .input .tree .root)
+
+  no-property : strayProperty ns (isSuperCall ns) (isSuperProperty ns) 0 ≡ false
+  unfolding strayProperty isSuperProperty
+  no-property = rw (w .input .tree .root)
 
   -- 28, 29, 30: `super` where an early error forbids it, where the table's scopes are the tree's; changed: by what the Rust takes for a call
   module _ (fit : ScopesFit ns ss) where
@@ -160,12 +195,21 @@ module _ (t : ℕ) (ns ss source names : List ℕ) (w : WellFormed t ns ss sourc
       pub code30-standard : raising 30 findings ≡ keep (strayProperty ns (isSuperCall ns) (isSuperProperty ns)) nodes
       code30-standard = code30 ∙ keep-upto (strayProperty ns (isTableCall ns) (isTableProperty ns)) (strayProperty ns (isSuperCall ns) (isSuperProperty ns)) 0 (count ns) (λ j a b. property-rule-same ns stand j b)
 
-  -- a unit breaks an early error, by Contains (8.5.1), just where one of its Supers does
-  pub units28 : (u : ℕ) → u < count ns → bareCallIn ns (isSuperCall ns) (isSuperProperty ns) u ≡ some (inUnit ns (bareCall ns (isSuperCall ns) (isSuperProperty ns)) u)
-  units28 u h = bare-in ns (isSuperCall ns) (isSuperProperty ns) (w .input .tree) u h
+      -- there is a finding just where some unit breaks the rule
+      pub program28 : some (raising 28 findings) ≡ any (bareCallIn ns (isSuperCall ns) (isSuperProperty ns)) nodes
+      program28 =
+          ap (λ (l : List ℕ). some l) code28-standard
+          ∙ sym (units-all ns (w .input .tree) (bareCall ns (isSuperCall ns) (isSuperProperty ns)) no-bare)
+          ∙ any-upto (λ u. some (inUnit ns (bareCall ns (isSuperCall ns) (isSuperProperty ns)) u)) (bareCallIn ns (isSuperCall ns) (isSuperProperty ns)) 0 (count ns) (λ u a b. sym (units28 u b))
 
-  pub units29 : (u : ℕ) → u < count ns → strayCallIn ns (isSuperCall ns) (isSuperProperty ns) u ≡ some (inUnit ns (strayCall ns (isSuperCall ns) (isSuperProperty ns)) u)
-  units29 u h = stray-in ns (isSuperCall ns) (isSuperProperty ns) (w .input .tree) u h
+      pub program29 : some (raising 29 findings) ≡ any (strayCallIn ns (isSuperCall ns) (isSuperProperty ns)) nodes
+      program29 =
+          ap (λ (l : List ℕ). some l) code29-standard
+          ∙ sym (units-all ns (w .input .tree) (strayCall ns (isSuperCall ns) (isSuperProperty ns)) no-stray)
+          ∙ any-upto (λ u. some (inUnit ns (strayCall ns (isSuperCall ns) (isSuperProperty ns)) u)) (strayCallIn ns (isSuperCall ns) (isSuperProperty ns)) 0 (count ns) (λ u a b. sym (units29 u b))
 
-  pub units30 : (u : ℕ) → u < count ns → strayPropertyIn ns (isSuperCall ns) (isSuperProperty ns) u ≡ some (inUnit ns (strayProperty ns (isSuperCall ns) (isSuperProperty ns)) u)
-  units30 u h = property-in ns (isSuperCall ns) (isSuperProperty ns) (w .input .tree) u h
+      pub program30 : some (raising 30 findings) ≡ any (strayPropertyIn ns (isSuperCall ns) (isSuperProperty ns)) nodes
+      program30 =
+          ap (λ (l : List ℕ). some l) code30-standard
+          ∙ sym (units-all ns (w .input .tree) (strayProperty ns (isSuperCall ns) (isSuperProperty ns)) no-property)
+          ∙ any-upto (λ u. some (inUnit ns (strayProperty ns (isSuperCall ns) (isSuperProperty ns)) u)) (strayPropertyIn ns (isSuperCall ns) (isSuperProperty ns)) 0 (count ns) (λ u a b. sym (units30 u b))
