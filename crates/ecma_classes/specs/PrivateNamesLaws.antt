@@ -121,19 +121,24 @@ module _ (ns names : List ℕ) (uses : ℕ → Bool) (bound : ℕ → List ℕ) 
   in-strings [] x = refl
   in-strings (e ∷ l) x = rw (in-strings l x)
 
+  new-is : (n : ℕ) (l : List (List ℕ)) (x : List ℕ)
+      → contains (newNames ns names uses bound n l) x ≡ ((isClassBody ns n && any (λ e. same (privateName ns names e) x) (bound n)) || contains l x)
+  new-is n l x = go (isClassBody ns n) refl
+    where
+      go : (b : Bool) → isClassBody ns n ≡ b → contains (newNames ns names uses bound n l) x ≡ ((isClassBody ns n && any (λ e. same (privateName ns names e) x) (bound n)) || contains l x)
+      go true e = rw (e, ← in-strings (bound n) x) (any-append (λ y. same y x) (strings ns names (bound n)) l)
+      go false e = rw e
+
   pub bound-is : (as' : List ℕ) (x : List ℕ)
       → contains (foldr (λ a l. newNames ns names uses bound a l) [] as') x ≡ any (λ d. any (λ e. same (privateName ns names e) x) (bound d)) (keep (isClassBody ns) as')
   unfolding keep
   bound-is [] x = refl
-  bound-is (a ∷ as') x = go (isClassBody ns a) (bound-is as' x)
+  bound-is (a ∷ as') x = new-is a (foldr (λ a l. newNames ns names uses bound a l) [] as') x ∙ rw (bound-is as' x) (go (isClassBody ns a))
     where
-      go : (b : Bool)
-          → contains (foldr (λ a l. newNames ns names uses bound a l) [] as') x ≡ any (λ d. any (λ e. same (privateName ns names e) x) (bound d)) (keep (isClassBody ns) as')
-          → contains (cond b (strings ns names (bound a) ++ foldr (λ a l. newNames ns names uses bound a l) [] as') (foldr (λ a l. newNames ns names uses bound a l) [] as')) x
+      go : (b : Bool) → ((b && any (λ e. same (privateName ns names e) x) (bound a)) || any (λ d. any (λ e. same (privateName ns names e) x) (bound d)) (keep (isClassBody ns) as'))
           ≡ any (λ d. any (λ e. same (privateName ns names e) x) (bound d)) (cond b (a ∷ keep (isClassBody ns) as') (keep (isClassBody ns) as'))
-      go true h =
-          any-append (λ y. same y x) (strings ns names (bound a)) (foldr (λ a l. newNames ns names uses bound a l) [] as') ∙ rw (in-strings (bound a) x, h)
-      go false h = h
+      go true = refl
+      go false = refl
 
 -- the nearest ClassBody, as the check finds it
 pub around-is : (ns : List ℕ) (n : ℕ) → bodyAbove ns n ≡ bodyAround ns n
@@ -353,6 +358,9 @@ module _ (ns names : List ℕ) (w : Tree ns) where
   abbrev handedAs : ℕ → List (List ℕ)
   handedAs m = foldr (λ a l. newNames ns names (isUse ns) (privateBound ns) a l) [] (ancestors ns m)
 
+  names-same : PrivatesPlain ns → (i : ℕ) → i < count ns → (l : List (List ℕ)) → newNames ns names (isTableUse ns) (privateEntered ns) i l ≡ newNames ns names (isUse ns) (privateBound ns) i l
+  names-same p i h l = rw (entered-all ns i (p .entered i h))
+
   handed-same : PrivatesPlain ns → (f j : ℕ) → j ≤ f → j < count ns → handedIn j ≡ handedAs j
   handed-same p zero j hf h =
       let z : j ≡ 0 = omega arith in
@@ -366,7 +374,7 @@ module _ (ns names : List ℕ) (w : Tree ns) where
           let l = w .falls j q h in
           ancestors-up (λ a l. newNames ns names (isTableUse ns) (privateEntered ns) a l) [] ns w j q h
           ∙ ap (λ (x : List (List ℕ)). newNames ns names (isTableUse ns) (privateEntered ns) (parentOf ns j) x) r
-          ∙ ap (λ (b : List ℕ). cond (isClassBody ns (parentOf ns j)) (strings ns names b ++ handedAs (parentOf ns j)) (handedAs (parentOf ns j))) (entered-all ns (parentOf ns j) (p .entered (parentOf ns j) (omega arith)))
+          ∙ names-same p (parentOf ns j) (omega arith) (handedAs (parentOf ns j))
           ∙ sym (ancestors-up (λ a l. newNames ns names (isUse ns) (privateBound ns) a l) [] ns w j q h)
 
   pub invalid-same : PrivatesPlain ns → invalidInTable ns names ≡ invalidIdentifiers ns names

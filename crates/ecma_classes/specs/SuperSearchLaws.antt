@@ -45,6 +45,48 @@ value-is ns a x = go (valueOf ns a)
     go (At v) = refl
     go Nothing = refl
 
+-- where a unit begins, and where not
+module _ (ns : List ℕ) (i j : ℕ) where
+  begins-function : kindOf ns i ≡ k.Function → begins ns i j ≡ true
+  unfolding begins
+  begins-function e = rw e (go (eqb i 0))
+    where
+      go : (b : Bool) → (b || true) ≡ true
+      go true = refl
+      go false = refl
+
+  begins-block : kindOf ns i ≡ k.StaticBlock → begins ns i j ≡ true
+  unfolding begins
+  begins-block e = rw e (go (eqb i 0))
+    where
+      go : (b : Bool) → (b || true) ≡ true
+      go true = refl
+      go false = refl
+
+  begins-field : k.PropertyDefinition ≤ kindOf ns i → kindOf ns i ≤ k.AccessorProperty → isValue ns i j ≡ true → begins ns i j ≡ true
+  unfolding begins
+  begins-field a b v = rw (ne-eqb (kindOf ns i) 1 (λ q. omega arith), ne-eqb (kindOf ns i) 3 (λ q. omega arith), in-range (kindOf ns i) 29 30 a b, v) (go (eqb i 0))
+    where
+      go : (b : Bool) → (b || true) ≡ true
+      go true = refl
+      go false = refl
+
+  begins-arrow : (i ≡ 0 → ⊥) → kindOf ns i ≡ k.Arrow → begins ns i j ≡ false
+  unfolding begins
+  begins-arrow z e = rw (ne-eqb i 0 z, e)
+
+  begins-class : (i ≡ 0 → ⊥) → (kindOf ns i ≡ k.Class) ⊎ (kindOf ns i ≡ k.ClassBody) → begins ns i j ≡ false
+  unfolding begins
+  begins-class z w = ⊎-elim (λ (e : kindOf ns i ≡ k.Class). rw (ne-eqb i 0 z, e)) (λ (e : kindOf ns i ≡ k.ClassBody). rw (ne-eqb i 0 z, e)) w
+
+  begins-key : (i ≡ 0 → ⊥) → k.MethodDefinition ≤ kindOf ns i → (within (kindOf ns i) k.PropertyDefinition k.AccessorProperty && isValue ns i j) ≡ false → begins ns i j ≡ false
+  unfolding begins
+  begins-key z a e = rw (ne-eqb i 0 z, ne-eqb (kindOf ns i) 1 (λ q. omega arith), ne-eqb (kindOf ns i) 3 (λ q. omega arith), e)
+
+  begins-other : (i ≡ 0 → ⊥) → (kindOf ns i ≡ k.Function → ⊥) → (kindOf ns i ≡ k.StaticBlock → ⊥) → within (kindOf ns i) k.PropertyDefinition k.AccessorProperty ≡ false → begins ns i j ≡ false
+  unfolding begins
+  begins-other z a b e = rw (ne-eqb i 0 z, ne-eqb (kindOf ns i) 1 a, ne-eqb (kindOf ns i) 3 b, e)
+
 module _ (ns ss : List ℕ) (tree : Tree ns) (chained : Chained ss) (scoped : Scoped ns ss) (placed : Placed ns) (fit : ScopesFit ns ss) (n : ℕ) (call : Bool) where
   -- the search from node j
   abbrev from : ℕ → ℕ → Reach
@@ -122,27 +164,18 @@ module _ (ns ss : List ℕ) (tree : Tree ns) (chained : Chained ss) (scoped : Sc
   pub no-root : (i : ℕ) → (kindOf ns i ≡ 0 → ⊥) → 0 < i
   no-root i e = ⊎-elim (λ (q : 0 ≡ i). absurd (e (subst (λ (x : ℕ). kindOf ns x ≡ 0) q (tree .root)))) (λ (q : 0 < i). q) (eq-or-lt-of-le (omega arith))
 
-  unit-plain : (j : ℕ) → 0 < j → j < count ns → (eqb (kindOf ns (parentOf ns j)) k.Function || (eqb (kindOf ns (parentOf ns j)) k.StaticBlock || (within (kindOf ns (parentOf ns j)) k.PropertyDefinition k.AccessorProperty && isValue ns (parentOf ns j) j))) ≡ false
-      → unit j ≡ unit (parentOf ns j)
-  unfolding begins
-  unit-plain j z h e = unit-up j z h ∙ go (eqb (parentOf ns j) 0) refl
+  unit-plain : (j : ℕ) → 0 < j → j < count ns → ((parentOf ns j ≡ 0 → ⊥) → begins ns (parentOf ns j) j ≡ false) → unit j ≡ unit (parentOf ns j)
+  unit-plain j z h e = unit-up j z h ∙ go (eqb (parentOf ns j) 0) refl (begins ns (parentOf ns j) j) refl
     where
-      go : (b : Bool) → eqb (parentOf ns j) 0 ≡ b
-          → cond (b || (eqb (kindOf ns (parentOf ns j)) k.Function || (eqb (kindOf ns (parentOf ns j)) k.StaticBlock || (within (kindOf ns (parentOf ns j)) k.PropertyDefinition k.AccessorProperty && isValue ns (parentOf ns j) j)))) (parentOf ns j) (unit (parentOf ns j))
-          ≡ unit (parentOf ns j)
-      go true q =
-          let r : parentOf ns j ≡ 0 = eqb-true (parentOf ns j) 0 q in
-          r ∙ sym (ap unit r ∙ handedRoot ns (λ i j r. cond (begins ns i j) i r) 0)
-      go false q = rw e
+      go : (a : Bool) → eqb (parentOf ns j) 0 ≡ a → (b : Bool) → begins ns (parentOf ns j) j ≡ b → cond b (parentOf ns j) (unit (parentOf ns j)) ≡ unit (parentOf ns j)
+      go true q true r =
+          let s : parentOf ns j ≡ 0 = eqb-true (parentOf ns j) 0 q in
+          s ∙ sym (ap unit s ∙ handedRoot ns (λ i j r. cond (begins ns i j) i r) 0)
+      go false q true r = never (sym r ∙ e (eqb-false (parentOf ns j) 0 q))
+      go a q false r = refl
 
-  unit-begins : (j : ℕ) → 0 < j → j < count ns → (eqb (kindOf ns (parentOf ns j)) k.Function || (eqb (kindOf ns (parentOf ns j)) k.StaticBlock || (within (kindOf ns (parentOf ns j)) k.PropertyDefinition k.AccessorProperty && isValue ns (parentOf ns j) j))) ≡ true
-      → unit j ≡ parentOf ns j
-  unfolding begins
-  unit-begins j z h e = unit-up j z h ∙ rw e (go (eqb (parentOf ns j) 0))
-    where
-      go : (b : Bool) → cond (b || true) (parentOf ns j) (unit (parentOf ns j)) ≡ parentOf ns j
-      go true = refl
-      go false = refl
+  unit-begins : (j : ℕ) → 0 < j → j < count ns → begins ns (parentOf ns j) j ≡ true → unit j ≡ parentOf ns j
+  unit-begins j z h e = unit-up j z h ∙ rw e
 
   -- no class's scope
   own-free : (j : ℕ) → 0 < j → j < count ns → (kindOf ns (parentOf ns j) ≡ k.ClassBody → ⊥) → Own ns ss j → isClassScope ns (classAbove ns j) (scopeOf ns j) ≡ false
@@ -169,14 +202,14 @@ module _ (ns ss : List ℕ) (tree : Tree ns) (chained : Chained ss) (scoped : Sc
         let f = fit .function j z h e in
         let r : 0 < p = no-root p (λ q. omega arith) in
         function-step j start z h (f .0) (own-free j z h (λ q. omega arith) (f .0)) (f .1) (f .2) (f .3)
-        ∙ rw (unit-begins j z h (rw e), ne-eqb p 0 (λ q. omega arith), e, above-other j z h (λ q. omega arith))
+        ∙ rw (unit-begins j z h (begins-function ns p j e), ne-eqb p 0 (λ q. omega arith), e, above-other j z h (λ q. omega arith))
 
     in-block : kindOf ns p ≡ k.StaticBlock → from j start ≡ inUnit (unit j)
     in-block e =
         let f = fit .block j z h e in
         let r : 0 < p = no-root p (λ q. omega arith) in
         block-step j start z h (f .0) (own-free j z h (λ q. omega arith) (f .0)) (f .1)
-        ∙ rw (unit-begins j z h (rw e), ne-eqb p 0 (λ q. omega arith), e)
+        ∙ rw (unit-begins j z h (begins-block ns p j e), ne-eqb p 0 (λ q. omega arith), e)
 
     in-arrow : kindOf ns p ≡ k.Arrow → Above j → from j start ≡ inUnit (unit j)
     in-arrow e ih =
@@ -185,7 +218,7 @@ module _ (ns ss : List ℕ) (tree : Tree ns) (chained : Chained ss) (scoped : Sc
         passed j start z h (f .0) (own-free j z h (λ q. omega arith) (f .0))
         (arrow-step j start z h (f .0) (own-free j z h (λ q. omega arith) (f .0)) (f .1) (f .2) (f .3)) (above-other j z h (λ q. omega arith))
         ∙ ih p p l (rw e) (rw e) refl
-        ∙ ap inUnit (sym (unit-plain j z h (rw e)))
+        ∙ ap inUnit (sym (unit-plain j z h (λ x. begins-arrow ns p j x e)))
 
     -- a node that makes no function's and no static block's scope, or none
     in-other : within (kindOf ns p) k.Function k.StaticBlock ≡ false → within (kindOf ns p) k.ClassBody k.AccessorProperty ≡ false → Above j → from j start ≡ inUnit (unit j)
@@ -194,7 +227,7 @@ module _ (ns ss : List ℕ) (tree : Tree ns) (chained : Chained ss) (scoped : Sc
         let no1 : kindOf ns p ≡ k.Function → ⊥ = λ q. never (sym (in-range (kindOf ns p) 1 3 (omega arith) (omega arith)) ∙ e) in
         let no3 : kindOf ns p ≡ k.StaticBlock → ⊥ = λ q. never (sym (in-range (kindOf ns p) 1 3 (omega arith) (omega arith)) ∙ e) in
         let no27 : kindOf ns p ≡ k.ClassBody → ⊥ = λ q. never (sym (in-range (kindOf ns p) 27 30 (omega arith) (omega arith)) ∙ c) in
-        let u : unit j ≡ unit p = unit-plain j z h (rw (ne-eqb (kindOf ns p) 1 no1, ne-eqb (kindOf ns p) 3 no3, narrower (kindOf ns p) 29 c (omega arith))) in
+        let u : unit j ≡ unit p = unit-plain j z h (λ x. begins-other ns p j x no1 no3 (narrower (kindOf ns p) 29 c (omega arith))) in
         ⊎-elim
         (λ (s : Same ns j).
         rw (s, above-other j z h no27)
@@ -268,10 +301,10 @@ module _ (ns ss : List ℕ) (tree : Tree ns) (chained : Chained ss) (scoped : Sc
       unit-class =
           let x = p-later .1 in
           let y = b-later .1 in
-          unit-plain p (p-later .0) (omega arith) (rw b-kind) ∙ unit-plain b (b-later .0) (omega arith) (rw c-kind)
+          unit-plain p (p-later .0) (omega arith) (λ x. begins-class ns b p x (inr b-kind)) ∙ unit-plain b (b-later .0) (omega arith) (λ x. begins-class ns c b x (inl c-kind))
 
       key-unit : (within (kindOf ns p) k.PropertyDefinition k.AccessorProperty && isValue ns p j) ≡ false → unit j ≡ unit c
-      key-unit e = unit-plain j z h (rw (ne-eqb (kindOf ns p) 1 (λ q. omega arith), ne-eqb (kindOf ns p) 3 (λ q. omega arith), e)) ∙ unit-class
+      key-unit e = unit-plain j z h (λ x. begins-key ns p j x (omega arith) e) ∙ unit-class
 
       in-element : Above j → from j start ≡ inUnit (unit j)
       unfolding partOf
@@ -293,7 +326,7 @@ module _ (ns ss : List ℕ) (tree : Tree ns) (chained : Chained ss) (scoped : Sc
           go false q true r =
               let s = eqb-false (kindOf ns p) 28 q in
               in-value (rw (q, value-is ns p j, r))
-              ∙ rw (unit-begins j z h (rw (ne-eqb (kindOf ns p) 1 (λ q. omega arith), ne-eqb (kindOf ns p) 3 (λ q. omega arith), in-range (kindOf ns p) 29 30 (omega arith) e2, r)), ne-eqb p 0 (λ q. let x = p-later .0 in omega arith), ne-eqb (kindOf ns p) 1 (λ q. omega arith))
+              ∙ rw (unit-begins j z h (begins-field ns p j (omega arith) e2 r), ne-eqb p 0 (λ q. let x = p-later .0 in omega arith), ne-eqb (kindOf ns p) 1 (λ q. omega arith))
           go false q false r = out (rw (q, value-is ns p j, r)) (rw r (off (within (kindOf ns p) 29 30)))
 
   in-top : (start : ℕ) → from 0 start ≡ inUnit (unit 0)
