@@ -103,15 +103,15 @@ module _ (ns : List ℕ) (sought : ℕ → Bool) where
 abbrev pub inUnit : List ℕ → (ℕ → Bool) → ℕ → List ℕ
 inUnit ns rule u = each (λ j. cond (eqb (unitOf ns (begins ns) j) u) (only (rule j) j) []) (upto (u + 1) (count ns))
 
-module _ (ns : List ℕ) (call property : ℕ → Bool) (t : Tree ns) (u : ℕ) (h : u < count ns) where
-  pub bare-in : bareCallIn ns call property u ≡ some (inUnit ns (bareCall ns call property) u)
+module _ (ns : List ℕ) (t : Tree ns) (u : ℕ) (h : u < count ns) where
+  pub bare-in : (constructs call : ℕ → Bool) → bareCallIn ns constructs call u ≡ some (inUnit ns (bareCall ns constructs call) u)
   unfolding bareCallIn bareCall
-  bare-in = unit-rule ns call t (λ x. isConstructorMethod ns x && not (hasHeritage ns x)) u h
+  bare-in constructs call = unit-rule ns call t (λ x. isConstructorMethod ns constructs x && not (hasHeritage ns x)) u h
 
-  pub stray-in : strayCallIn ns call property u ≡ some (inUnit ns (strayCall ns call property) u)
+  pub stray-in : (constructs call : ℕ → Bool) → strayCallIn ns constructs call u ≡ some (inUnit ns (strayCall ns constructs call) u)
   unfolding strayCallIn strayCall
-  stray-in = unit-rule ns call t (λ x. not (isConstructorMethod ns x)) u h
+  stray-in constructs call = unit-rule ns call t (λ x. not (isConstructorMethod ns constructs x)) u h
 
-  pub property-in : strayPropertyIn ns call property u ≡ some (inUnit ns (strayProperty ns call property) u)
+  pub property-in : (property : ℕ → Bool) → strayPropertyIn ns property u ≡ some (inUnit ns (strayProperty ns property) u)
   unfolding strayPropertyIn strayProperty
-  property-in = unit-rule ns property t (λ x. not (takesProperty ns x)) u h
+  property-in property = unit-rule ns property t (λ x. not (takesProperty ns x)) u h

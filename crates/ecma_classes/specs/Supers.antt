@@ -15,7 +15,7 @@ use Rattle.tables.specs.declared.Found.the-variants.{At, Nothing}
 use Rattle.children.specs.Children.{valueOf}
 use Rattle.trees.specs.Rose.{Rose, Roses, node, rnil, rcons, idx, partsOf}
 use Rattle.trees.specs.Trail.{unitOf}
-use Rattle.ecma_classes.specs.ClassElements.{sameNode}
+use Rattle.ecma_classes.specs.ClassElements.{sameNode, namesConstructor}
 
 abbrev pub isValue : List ℕ → ℕ → ℕ → Bool
 isValue ns p j = sameNode (valueOf ns p) (At (record { 0 = j }))
@@ -53,11 +53,7 @@ isSuperProperty ns n = eqb (kindOf ns n) k.Super && eqb (kindOf ns (parentOf ns 
 unfoldable pub isMethod : List ℕ → ℕ → Bool
 isMethod ns u = eqb (kindOf ns u) k.Function && (eqb (kindOf ns (parentOf ns u)) k.MethodDefinition && isValue ns (parentOf ns u) u)
 
--- .. its ConstructorMethod (15.7.2, 15.7.3) ..
-unfoldable pub isConstructorMethod : List ℕ → ℕ → Bool
-isConstructorMethod ns u = isMethod ns u && eqb (extraOf ns (parentOf ns u)) extra.Constructor
-
--- .. whose class is around method, ClassBody and Class ..
+-- .. of the class around method, ClassBody and Class ..
 abbrev pub classOf : List ℕ → ℕ → ℕ
 classOf ns u = parentOf ns (parentOf ns (parentOf ns u))
 
@@ -75,39 +71,72 @@ isObjectMethod ns u =
 unfoldable pub takesProperty : List ℕ → ℕ → Bool
 takesProperty ns u = (isMethod ns u || isObjectMethod ns u) || (eqb (kindOf ns u) k.StaticBlock || within (kindOf ns u) k.PropertyDefinition k.AccessorProperty)
 
--- THE EARLY ERRORS, of a unit; call and property are SuperCall and SuperProperty
-module _ (ns : List ℕ) (call property : ℕ → Bool) where
-  -- 15.7.1, "ClassTail : ClassHeritage opt { ClassBody }": "ClassHeritage is not present and .. HasDirectSuper of constructor": code 28
-  unfoldable pub bareCallIn : ℕ → Bool
-  bareCallIn u = (isConstructorMethod ns u && not (hasHeritage ns u)) && containsIn ns call u
+-- the unit that a node is in
+abbrev pub unit : List ℕ → ℕ → ℕ
+unit ns n = unitOf ns (begins ns) n
 
-  -- SuperCall anywhere but in a ConstructorMethod: 13.2.5.1, 15.2.1 and the like, 15.7.1 (methods, FieldDefinition, ClassStaticBlockBody), 16.1.1, 16.2.1.1: code 29
-  unfoldable pub strayCallIn : ℕ → Bool
-  strayCallIn u = not (isConstructorMethod ns u) && containsIn ns call u
+-- THE EARLY ERRORS: of a unit, and at the Super itself. constructs: a MethodDefinition's ClassElementKind is ConstructorMethod (15.7.2); call: SuperCall.
+module _ (ns : List ℕ) (constructs : ℕ → Bool) where
+  unfoldable pub isConstructorMethod : ℕ → Bool
+  isConstructorMethod u = isMethod ns u && constructs (parentOf ns u)
 
+  module _ (call : ℕ → Bool) where
+    -- 15.7.1, "ClassTail : ClassHeritage opt { ClassBody }": "ClassHeritage is not present and .. HasDirectSuper of constructor": code 28
+    unfoldable pub bareCallIn : ℕ → Bool
+    bareCallIn u = (isConstructorMethod u && not (hasHeritage ns u)) && containsIn ns call u
+
+    unfoldable pub bareCall : ℕ → Bool
+    bareCall n = call n && (isConstructorMethod (unit ns n) && not (hasHeritage ns (unit ns n)))
+
+    -- SuperCall anywhere but in a ConstructorMethod: 13.2.5.1, 15.2.1 and the like, 15.7.1 (methods, FieldDefinition, ClassStaticBlockBody), 16.1.1, 16.2.1.1: code 29
+    unfoldable pub strayCallIn : ℕ → Bool
+    strayCallIn u = not (isConstructorMethod u) && containsIn ns call u
+
+    unfoldable pub strayCall : ℕ → Bool
+    strayCall n = call n && not (isConstructorMethod (unit ns n))
+
+-- property: SuperProperty
+module _ (ns : List ℕ) (property : ℕ → Bool) where
   -- SuperProperty in a function that is no method (15.2.1 and the like) or in the program (16.1.1, 16.2.1.1): code 30
   unfoldable pub strayPropertyIn : ℕ → Bool
   strayPropertyIn u = not (takesProperty ns u) && containsIn ns property u
 
-  -- the same at the Super
-  abbrev pub unit : ℕ → ℕ
-  unit n = unitOf ns (begins ns) n
-
-  unfoldable pub bareCall : ℕ → Bool
-  bareCall n = call n && (isConstructorMethod ns (unit n) && not (hasHeritage ns (unit n)))
-
-  unfoldable pub strayCall : ℕ → Bool
-  strayCall n = call n && not (isConstructorMethod ns (unit n))
-
   unfoldable pub strayProperty : ℕ → Bool
-  strayProperty n = property n && not (takesProperty ns (unit n))
+  strayProperty n = property n && not (takesProperty ns (unit ns n))
 
--- The Rust takes `new super()` for a call and every other Super for a SuperProperty. CHANGED RULE: bareCall, strayCall and strayProperty of these.
+-- THE STANDARD'S: by the PropName "constructor", SuperCall and SuperProperty.
+abbrev pub standardBare : List ℕ → List ℕ → ℕ → Bool
+standardBare ns names n = bareCall ns (namesConstructor ns names) (isSuperCall ns) n
+
+abbrev pub standardStray : List ℕ → List ℕ → ℕ → Bool
+standardStray ns names n = strayCall ns (namesConstructor ns names) (isSuperCall ns) n
+
+abbrev pub standardProperty : List ℕ → ℕ → Bool
+standardProperty ns n = strayProperty ns (isSuperProperty ns) n
+
+-- The Rust goes by what the table calls a constructor, takes `new super()` for a call and every other Super for a SuperProperty.
+abbrev pub isTableConstructor : List ℕ → ℕ → Bool
+isTableConstructor ns p = eqb (extraOf ns p) extra.Constructor
+
 unfoldable pub isTableCall : List ℕ → ℕ → Bool
 isTableCall ns n = eqb (kindOf ns n) k.Super && within (kindOf ns (parentOf ns n)) k.Call k.New
 
 unfoldable pub isTableProperty : List ℕ → ℕ → Bool
 isTableProperty ns n = eqb (kindOf ns n) k.Super && not (within (kindOf ns (parentOf ns n)) k.Call k.New)
+
+-- CHANGED RULES: the same of these
+abbrev pub tableBare : List ℕ → ℕ → Bool
+tableBare ns n = bareCall ns (isTableConstructor ns) (isTableCall ns) n
+
+abbrev pub tableStray : List ℕ → ℕ → Bool
+tableStray ns n = strayCall ns (isTableConstructor ns) (isTableCall ns) n
+
+abbrev pub tableProperty : List ℕ → ℕ → Bool
+tableProperty ns n = strayProperty ns (isTableProperty ns) n
+
+-- CONDITION: a MethodDefinition is called "constructor" just where the table calls it one
+abbrev pub MethodsNamed : List ℕ → List ℕ → Type 0
+MethodsNamed ns names = (p : ℕ) → p < count ns → kindOf ns p ≡ k.MethodDefinition → isTableConstructor ns p ≡ namesConstructor ns names p
 
 -- CONDITION: a Super stands only in a SuperCall or a SuperProperty
 abbrev pub SupersStand : List ℕ → Type 0

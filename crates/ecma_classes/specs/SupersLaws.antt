@@ -19,6 +19,7 @@ use Rattle.tables.specs.NodeFlag as flag
 use Rattle.tables.specs.declared.Found.{Found}
 use Rattle.tables.specs.declared.Found.the-variants.{At, Nothing}
 use Rattle.ancestry.specs.Ancestry.{nearestOf}
+use Rattle.ancestry.specs.AncestryLaws.{parent-in}
 use Rattle.standing.specs.StandingLaws.{Placed}
 use Rattle.trees.specs.Walk.{only}
 use Rattle.trees.specs.Trail.{unitOf}
@@ -32,7 +33,8 @@ use Rattle.ecma_dispatch.specs.WithCode.{withCode}
 use Rattle.ecma_dispatch.specs.Dispatch.{at28, at29, at30}
 use Rattle.ecma_classes.specs.Raising.{raising}
 use Rattle.ecma_classes.specs.RaisingLaws.{raising-code}
-use Rattle.ecma_classes.specs.Supers.{isValue, begins, isMethod, isConstructorMethod, classOf, hasHeritage, isObjectMethod, takesProperty, bareCall, strayCall, strayProperty, isSuperCall, isSuperProperty, isTableCall, isTableProperty, SupersStand, ScopesFit}
+use Rattle.ecma_classes.specs.ClassElements.{namesConstructor}
+use Rattle.ecma_classes.specs.Supers.{isValue, begins, isMethod, isConstructorMethod, classOf, hasHeritage, isObjectMethod, takesProperty, bareCall, strayCall, strayProperty, isSuperCall, isSuperProperty, standardBare, standardStray, standardProperty, isTableConstructor, isTableCall, isTableProperty, tableBare, tableStray, tableProperty, MethodsNamed, SupersStand, ScopesFit}
 use Rattle.ecma_classes.specs.SuperSearchLaws.{value-is, inUnit, search-is, no-root, above-other, above-body}
 
 -- a unit is the program, a function, a static block or a field
@@ -79,7 +81,7 @@ module _ (ns : List ℕ) (tree : Tree ns) where
 -- what a unit says, in the words of the rules
 abbrev expected : List ℕ → Bool → ℕ → Reach
 expected ns call u =
-    cond (isConstructorMethod ns u) (cond call (cond (hasHeritage ns u) Legal (Underived (record { 0 = classOf ns u }))) Legal) (cond (takesProperty ns u) (ifCall call) Illegal)
+    cond (isConstructorMethod ns (isTableConstructor ns) u) (cond call (cond (hasHeritage ns u) Legal (Underived (record { 0 = classOf ns u }))) Legal) (cond (takesProperty ns u) (ifCall call) Illegal)
 
 module _ (ns ss : List ℕ) (tree : Tree ns) (chained : Chained ss) (scoped : Scoped ns ss) (placed : Placed ns) (fit : ScopesFit ns ss) (n : ℕ) (call : Bool) where
   at-program : inUnit ns ss tree chained scoped placed fit n call 0 ≡ expected ns call 0
@@ -149,15 +151,15 @@ module _ (ns ss : List ℕ) (tree : Tree ns) (chained : Chained ss) (scoped : Sc
       (λ (q : 0 < u). ⊎-elim (λ (e : u ≡ 0). absurd (omega arith)) (λ e. at-later u q (r .below) e) (r .kind)) (eq-or-lt-of-le (omega arith))
 
 -- a constructor takes SuperProperty
-constructor-takes : (ns : List ℕ) (u : ℕ) → isConstructorMethod ns u ≡ true → takesProperty ns u ≡ true
+constructor-takes : (ns : List ℕ) (u : ℕ) → isConstructorMethod ns (isTableConstructor ns) u ≡ true → takesProperty ns u ≡ true
 unfolding isConstructorMethod takesProperty
 constructor-takes ns u e = rw (and-left (isMethod ns u) (eqb (extraOf ns (parentOf ns u)) extra.Constructor) e)
 
 -- the findings of what is expected
 module _ (ns : List ℕ) (n u : ℕ) where
-  raised28 : raising 28 (listed (byReach ns n (expected ns (isCall ns n) u))) ≡ only (isCall ns n && (isConstructorMethod ns u && not (hasHeritage ns u))) n
+  raised28 : raising 28 (listed (byReach ns n (expected ns (isCall ns n) u))) ≡ only (isCall ns n && (isConstructorMethod ns (isTableConstructor ns) u && not (hasHeritage ns u))) n
   unfolding raising
-  raised28 = go (isCall ns n) refl (isConstructorMethod ns u) (hasHeritage ns u) (takesProperty ns u)
+  raised28 = go (isCall ns n) refl (isConstructorMethod ns (isTableConstructor ns) u) (hasHeritage ns u) (takesProperty ns u)
     where
       go : (c : Bool) → isCall ns n ≡ c → (m h t : Bool)
           → raising 28 (listed (byReach ns n (cond m (cond c (cond h Legal (Underived (record { 0 = classOf ns u }))) Legal) (cond t (ifCall c) Illegal)))) ≡ only (c && (m && not h)) n
@@ -169,9 +171,9 @@ module _ (ns : List ℕ) (n u : ℕ) where
       go false e false h true = refl
       go false e false h false = rw e
 
-  raised29 : raising 29 (listed (byReach ns n (expected ns (isCall ns n) u))) ≡ only (isCall ns n && not (isConstructorMethod ns u)) n
+  raised29 : raising 29 (listed (byReach ns n (expected ns (isCall ns n) u))) ≡ only (isCall ns n && not (isConstructorMethod ns (isTableConstructor ns) u)) n
   unfolding raising
-  raised29 = go (isCall ns n) refl (isConstructorMethod ns u) (hasHeritage ns u) (takesProperty ns u)
+  raised29 = go (isCall ns n) refl (isConstructorMethod ns (isTableConstructor ns) u) (hasHeritage ns u) (takesProperty ns u)
     where
       go : (c : Bool) → isCall ns n ≡ c → (m h t : Bool)
           → raising 29 (listed (byReach ns n (cond m (cond c (cond h Legal (Underived (record { 0 = classOf ns u }))) Legal) (cond t (ifCall c) Illegal)))) ≡ only (c && not m) n
@@ -185,9 +187,9 @@ module _ (ns : List ℕ) (n u : ℕ) where
 
   raised30 : raising 30 (listed (byReach ns n (expected ns (isCall ns n) u))) ≡ only (not (isCall ns n) && not (takesProperty ns u)) n
   unfolding raising
-  raised30 = go (isCall ns n) refl (isConstructorMethod ns u) refl (hasHeritage ns u) (takesProperty ns u) refl
+  raised30 = go (isCall ns n) refl (isConstructorMethod ns (isTableConstructor ns) u) refl (hasHeritage ns u) (takesProperty ns u) refl
     where
-      go : (c : Bool) → isCall ns n ≡ c → (m : Bool) → isConstructorMethod ns u ≡ m → (h t : Bool) → takesProperty ns u ≡ t
+      go : (c : Bool) → isCall ns n ≡ c → (m : Bool) → isConstructorMethod ns (isTableConstructor ns) u ≡ m → (h t : Bool) → takesProperty ns u ≡ t
           → raising 30 (listed (byReach ns n (cond m (cond c (cond h Legal (Underived (record { 0 = classOf ns u }))) Legal) (cond t (ifCall c) Illegal)))) ≡ only (not c && not t) n
       go true e true q true t r = refl
       go true e true q false t r = refl
@@ -208,25 +210,25 @@ module _ (ns ss : List ℕ) (tree : Tree ns) (chained : Chained ss) (scoped : Sc
       ∙ at-unit ns ss tree chained scoped placed fit n (isCall ns n) (unitOf ns (begins ns) n) (unit-is ns tree n h))
 
   module _ (t : ℕ) (source names : List ℕ) where
-    pub super-bare : raising 28 (findingsAt t ns ss source names n) ≡ only (bareCall ns (isTableCall ns) (isTableProperty ns) n) n
+    pub super-bare : raising 28 (findingsAt t ns ss source names n) ≡ only (tableBare ns n) n
     unfolding bareCall isTableCall raising
     super-bare = raising-code 28 (findingsAt t ns ss source names n) ∙ rw (at28 t ns ss source names n) (go (eqb (kindOf ns n) k.Super) refl)
       where
         go : (b : Bool) → eqb (kindOf ns n) k.Super ≡ b
-            → raising 28 (cond b (withCode 28 (listed (checkSuper ns ss n))) []) ≡ only ((b && isCall ns n) && (isConstructorMethod ns (unitOf ns (begins ns) n) && not (hasHeritage ns (unitOf ns (begins ns) n)))) n
+            → raising 28 (cond b (withCode 28 (listed (checkSuper ns ss n))) []) ≡ only ((b && isCall ns n) && (isConstructorMethod ns (isTableConstructor ns) (unitOf ns (begins ns) n) && not (hasHeritage ns (unitOf ns (begins ns) n)))) n
         go true e = sym (raising-code 28 (listed (checkSuper ns ss n))) ∙ rw (checked (eqb-true (kindOf ns n) k.Super e)) (raised28 ns n (unitOf ns (begins ns) n))
         go false e = refl
 
-    pub super-call : raising 29 (findingsAt t ns ss source names n) ≡ only (strayCall ns (isTableCall ns) (isTableProperty ns) n) n
+    pub super-call : raising 29 (findingsAt t ns ss source names n) ≡ only (tableStray ns n) n
     unfolding strayCall isTableCall raising
     super-call = raising-code 29 (findingsAt t ns ss source names n) ∙ rw (at29 t ns ss source names n) (go (eqb (kindOf ns n) k.Super) refl)
       where
         go : (b : Bool) → eqb (kindOf ns n) k.Super ≡ b
-            → raising 29 (cond b (withCode 29 (listed (checkSuper ns ss n))) []) ≡ only ((b && isCall ns n) && not (isConstructorMethod ns (unitOf ns (begins ns) n))) n
+            → raising 29 (cond b (withCode 29 (listed (checkSuper ns ss n))) []) ≡ only ((b && isCall ns n) && not (isConstructorMethod ns (isTableConstructor ns) (unitOf ns (begins ns) n))) n
         go true e = sym (raising-code 29 (listed (checkSuper ns ss n))) ∙ rw (checked (eqb-true (kindOf ns n) k.Super e)) (raised29 ns n (unitOf ns (begins ns) n))
         go false e = refl
 
-    pub super-property : raising 30 (findingsAt t ns ss source names n) ≡ only (strayProperty ns (isTableCall ns) (isTableProperty ns) n) n
+    pub super-property : raising 30 (findingsAt t ns ss source names n) ≡ only (tableProperty ns n) n
     unfolding strayProperty isTableProperty raising
     super-property = raising-code 30 (findingsAt t ns ss source names n) ∙ rw (at30 t ns ss source names n) (go (eqb (kindOf ns n) k.Super) refl)
       where
@@ -235,8 +237,14 @@ module _ (ns ss : List ℕ) (tree : Tree ns) (chained : Chained ss) (scoped : Sc
         go true e = sym (raising-code 30 (listed (checkSuper ns ss n))) ∙ rw (checked (eqb-true (kindOf ns n) k.Super e)) (raised30 ns n (unitOf ns (begins ns) n))
         go false e = refl
 
+method-kind : (ns : List ℕ) (u : ℕ) → isMethod ns u ≡ true → kindOf ns (parentOf ns u) ≡ k.MethodDefinition
+unfolding isMethod
+method-kind ns u e =
+    eqb-true (kindOf ns (parentOf ns u)) k.MethodDefinition
+    (and-left (eqb (kindOf ns (parentOf ns u)) k.MethodDefinition) (isValue ns (parentOf ns u) u) (and-right (eqb (kindOf ns u) k.Function) (eqb (kindOf ns (parentOf ns u)) k.MethodDefinition && isValue ns (parentOf ns u) u) e))
+
 -- where each Super stands in a SuperCall or a SuperProperty, the rules are the standard's
-module _ (ns : List ℕ) (stand : SupersStand ns) (n : ℕ) (h : n < count ns) where
+module _ (ns names : List ℕ) (tree : Tree ns) (stand : SupersStand ns) (n : ℕ) (h : n < count ns) where
   call-same : isTableCall ns n ≡ isSuperCall ns n
   unfolding isTableCall isSuperCall
   call-same = go (eqb (kindOf ns n) k.Super) refl
@@ -253,14 +261,22 @@ module _ (ns : List ℕ) (stand : SupersStand ns) (n : ℕ) (h : n < count ns) w
       go true e = ⊎-elim (λ (q : kindOf ns (parentOf ns n) ≡ k.Call). rw q) (λ (q : kindOf ns (parentOf ns n) ≡ k.OtherMember). rw q) (stand n h (eqb-true (kindOf ns n) k.Super e))
       go false e = refl
 
-  pub bare-same : bareCall ns (isTableCall ns) (isTableProperty ns) n ≡ bareCall ns (isSuperCall ns) (isSuperProperty ns) n
+  constructor-same : MethodsNamed ns names → isConstructorMethod ns (isTableConstructor ns) (unitOf ns (begins ns) n) ≡ isConstructorMethod ns (namesConstructor ns names) (unitOf ns (begins ns) n)
+  unfolding isConstructorMethod
+  constructor-same w = go (isMethod ns (unitOf ns (begins ns) n)) refl
+    where
+      go : (b : Bool) → isMethod ns (unitOf ns (begins ns) n) ≡ b → (b && isTableConstructor ns (parentOf ns (unitOf ns (begins ns) n))) ≡ (b && namesConstructor ns names (parentOf ns (unitOf ns (begins ns) n)))
+      go true e = w (parentOf ns (unitOf ns (begins ns) n)) (parent-in ns tree (unitOf ns (begins ns) n) (unit-is ns tree n h .below)) (method-kind ns (unitOf ns (begins ns) n) e)
+      go false e = refl
+
+  pub bare-same : MethodsNamed ns names → tableBare ns n ≡ standardBare ns names n
   unfolding bareCall
-  bare-same = rw call-same
+  bare-same w = rw (call-same, constructor-same w)
 
-  pub stray-same : strayCall ns (isTableCall ns) (isTableProperty ns) n ≡ strayCall ns (isSuperCall ns) (isSuperProperty ns) n
+  pub stray-same : MethodsNamed ns names → tableStray ns n ≡ standardStray ns names n
   unfolding strayCall
-  stray-same = rw call-same
+  stray-same w = rw (call-same, constructor-same w)
 
-  pub property-rule-same : strayProperty ns (isTableCall ns) (isTableProperty ns) n ≡ strayProperty ns (isSuperCall ns) (isSuperProperty ns) n
+  pub property-rule-same : tableProperty ns n ≡ standardProperty ns n
   unfolding strayProperty
   property-rule-same = rw property-same

@@ -31,13 +31,13 @@ use Rattle.ecma_dispatch.specs.Dispatch.{wholeOne, wholeOther}
 use Rattle.ecma_classes.specs.Raising.{raising}
 use Rattle.ecma_classes.specs.RaisingLaws.{raising-code, raising-append, raising-flat, flat-upto, keep-upto, any-upto}
 use Rattle.ecma_classes.specs.ListLaws.{Rising, kept-in}
-use Rattle.ecma_classes.specs.ClassElements.{found, sameNode, nameMissing, builtTwice, constructorTwice, ConstructorsNamed, isProto, protoAgain, protoTwice, KeysPlain}
+use Rattle.ecma_classes.specs.ClassElements.{found, sameNode, namesConstructor, nameMissing, builtTwice, constructorTwice, ConstructorsNamed, isProto, protoAgain, protoTwice, KeysPlain}
 use Rattle.ecma_classes.specs.ClassElementsLaws.{class-name, second-constructor, constructors-agree}
 use Rattle.ecma_classes.specs.ObjectsLaws.{times, proto-again, proto-agrees, proto-once}
 use Rattle.ecma_classes.specs.PrivateNames.{privateBound, privateEntered, entries, allowed, privateTwice, privateAgain, PrivatesEntered, OnceOrTwice, isClassBody, isUse, allPrivateIdentifiersValid, invalidIdentifiers, invalidInTable, PrivatesPlain, bodyAround, isOutside, UsedOutside}
 use Rattle.ecma_classes.specs.PrivateTwiceLaws.{flat-alike, private-again, again-some, again-once, entered-all, entered-rising}
 use Rattle.ecma_classes.specs.PrivateNamesLaws.{invalidAt, invalid-list, valid-none, private-outside, outside-invalid, private-undeclared, invalid-same, class-above, body-of-class}
-use Rattle.ecma_classes.specs.Supers.{isSuperCall, isSuperProperty, isTableCall, isTableProperty, bareCall, strayCall, strayProperty, bareCallIn, strayCallIn, strayPropertyIn, SupersStand, ScopesFit}
+use Rattle.ecma_classes.specs.Supers.{isSuperCall, isSuperProperty, bareCall, strayCall, strayProperty, bareCallIn, strayCallIn, strayPropertyIn, standardBare, standardStray, standardProperty, tableBare, tableStray, tableProperty, MethodsNamed, SupersStand, ScopesFit}
 use Rattle.ecma_classes.specs.SupersLaws.{super-bare, super-call, super-property, bare-same, stray-same, property-rule-same}
 use Rattle.ecma_classes.specs.ContainsLaws.{inUnit, bare-in, stray-in, property-in}
 use Rattle.ecma_classes.specs.WholeLaws.{below-of, all-raised, units-all}
@@ -152,64 +152,64 @@ module _ (t : ℕ) (ns ss source names : List ℕ) (w : WellFormed t ns ss sourc
           (kept-in (invalidAt ns names (isUse ns) (privateBound ns)) nodes x (sym (ap (member x) (invalid-list ns names (isUse ns) (privateBound ns) (w .input .tree))) ∙ m) .0)
 
   -- a unit breaks an early error, by Contains (8.5.1), just where one of its Supers does
-  pub units28 : (u : ℕ) → u < count ns → bareCallIn ns (isSuperCall ns) (isSuperProperty ns) u ≡ some (inUnit ns (bareCall ns (isSuperCall ns) (isSuperProperty ns)) u)
-  units28 u h = bare-in ns (isSuperCall ns) (isSuperProperty ns) (w .input .tree) u h
+  pub units28 : (u : ℕ) → u < count ns → bareCallIn ns (namesConstructor ns names) (isSuperCall ns) u ≡ some (inUnit ns (standardBare ns names) u)
+  units28 u h = bare-in ns (w .input .tree) u h (namesConstructor ns names) (isSuperCall ns)
 
-  pub units29 : (u : ℕ) → u < count ns → strayCallIn ns (isSuperCall ns) (isSuperProperty ns) u ≡ some (inUnit ns (strayCall ns (isSuperCall ns) (isSuperProperty ns)) u)
-  units29 u h = stray-in ns (isSuperCall ns) (isSuperProperty ns) (w .input .tree) u h
+  pub units29 : (u : ℕ) → u < count ns → strayCallIn ns (namesConstructor ns names) (isSuperCall ns) u ≡ some (inUnit ns (standardStray ns names) u)
+  units29 u h = stray-in ns (w .input .tree) u h (namesConstructor ns names) (isSuperCall ns)
 
-  pub units30 : (u : ℕ) → u < count ns → strayPropertyIn ns (isSuperCall ns) (isSuperProperty ns) u ≡ some (inUnit ns (strayProperty ns (isSuperCall ns) (isSuperProperty ns)) u)
-  units30 u h = property-in ns (isSuperCall ns) (isSuperProperty ns) (w .input .tree) u h
+  pub units30 : (u : ℕ) → u < count ns → strayPropertyIn ns (isSuperProperty ns) u ≡ some (inUnit ns (standardProperty ns) u)
+  units30 u h = property-in ns (w .input .tree) u h (isSuperProperty ns)
 
   -- the program is no Super
-  no-bare : bareCall ns (isSuperCall ns) (isSuperProperty ns) 0 ≡ false
+  no-bare : standardBare ns names 0 ≡ false
   unfolding bareCall isSuperCall
   no-bare = rw (w .input .tree .root)
 
-  no-stray : strayCall ns (isSuperCall ns) (isSuperProperty ns) 0 ≡ false
+  no-stray : standardStray ns names 0 ≡ false
   unfolding strayCall isSuperCall
   no-stray = rw (w .input .tree .root)
 
-  no-property : strayProperty ns (isSuperCall ns) (isSuperProperty ns) 0 ≡ false
+  no-property : standardProperty ns 0 ≡ false
   unfolding strayProperty isSuperProperty
   no-property = rw (w .input .tree .root)
 
-  -- 28, 29, 30: `super` where an early error forbids it, where the table's scopes are the tree's; changed: by what the Rust takes for a call
+  -- 28, 29, 30: `super` where an early error forbids it, where the table's scopes are the tree's; changed: by what the Rust takes for a constructor and for a call
   module _ (fit : ScopesFit ns ss) where
-    pub code28 : raising 28 findings ≡ keep (bareCall ns (isTableCall ns) (isTableProperty ns)) nodes
-    code28 = whole t ns ss source names 28 refl (bareCall ns (isTableCall ns) (isTableProperty ns)) (λ j h. super-bare ns ss (w .input .tree) (w .input .chained) (w .input .scoped) (w .shaped .placed) fit j h t source names)
+    pub code28 : raising 28 findings ≡ keep (tableBare ns) nodes
+    code28 = whole t ns ss source names 28 refl (tableBare ns) (λ j h. super-bare ns ss (w .input .tree) (w .input .chained) (w .input .scoped) (w .shaped .placed) fit j h t source names)
 
-    pub code29 : raising 29 findings ≡ keep (strayCall ns (isTableCall ns) (isTableProperty ns)) nodes
-    code29 = whole t ns ss source names 29 refl (strayCall ns (isTableCall ns) (isTableProperty ns)) (λ j h. super-call ns ss (w .input .tree) (w .input .chained) (w .input .scoped) (w .shaped .placed) fit j h t source names)
+    pub code29 : raising 29 findings ≡ keep (tableStray ns) nodes
+    code29 = whole t ns ss source names 29 refl (tableStray ns) (λ j h. super-call ns ss (w .input .tree) (w .input .chained) (w .input .scoped) (w .shaped .placed) fit j h t source names)
 
-    pub code30 : raising 30 findings ≡ keep (strayProperty ns (isTableCall ns) (isTableProperty ns)) nodes
-    code30 = whole t ns ss source names 30 refl (strayProperty ns (isTableCall ns) (isTableProperty ns)) (λ j h. super-property ns ss (w .input .tree) (w .input .chained) (w .input .scoped) (w .shaped .placed) fit j h t source names)
+    pub code30 : raising 30 findings ≡ keep (tableProperty ns) nodes
+    code30 = whole t ns ss source names 30 refl (tableProperty ns) (λ j h. super-property ns ss (w .input .tree) (w .input .chained) (w .input .scoped) (w .shaped .placed) fit j h t source names)
 
-    module _ (stand : SupersStand ns) where
-      pub code28-standard : raising 28 findings ≡ keep (bareCall ns (isSuperCall ns) (isSuperProperty ns)) nodes
-      code28-standard = code28 ∙ keep-upto (bareCall ns (isTableCall ns) (isTableProperty ns)) (bareCall ns (isSuperCall ns) (isSuperProperty ns)) 0 (count ns) (λ j a b. bare-same ns stand j b)
+    module _ (stand : SupersStand ns) (named : MethodsNamed ns names) where
+      pub code28-standard : raising 28 findings ≡ keep (standardBare ns names) nodes
+      code28-standard = code28 ∙ keep-upto (tableBare ns) (standardBare ns names) 0 (count ns) (λ j a b. bare-same ns names (w .input .tree) stand j b named)
 
-      pub code29-standard : raising 29 findings ≡ keep (strayCall ns (isSuperCall ns) (isSuperProperty ns)) nodes
-      code29-standard = code29 ∙ keep-upto (strayCall ns (isTableCall ns) (isTableProperty ns)) (strayCall ns (isSuperCall ns) (isSuperProperty ns)) 0 (count ns) (λ j a b. stray-same ns stand j b)
+      pub code29-standard : raising 29 findings ≡ keep (standardStray ns names) nodes
+      code29-standard = code29 ∙ keep-upto (tableStray ns) (standardStray ns names) 0 (count ns) (λ j a b. stray-same ns names (w .input .tree) stand j b named)
 
-      pub code30-standard : raising 30 findings ≡ keep (strayProperty ns (isSuperCall ns) (isSuperProperty ns)) nodes
-      code30-standard = code30 ∙ keep-upto (strayProperty ns (isTableCall ns) (isTableProperty ns)) (strayProperty ns (isSuperCall ns) (isSuperProperty ns)) 0 (count ns) (λ j a b. property-rule-same ns stand j b)
+      pub code30-standard : raising 30 findings ≡ keep (standardProperty ns) nodes
+      code30-standard = code30 ∙ keep-upto (tableProperty ns) (standardProperty ns) 0 (count ns) (λ j a b. property-rule-same ns names (w .input .tree) stand j b)
 
       -- there is a finding just where some unit breaks the rule
-      pub program28 : some (raising 28 findings) ≡ any (bareCallIn ns (isSuperCall ns) (isSuperProperty ns)) nodes
+      pub program28 : some (raising 28 findings) ≡ any (bareCallIn ns (namesConstructor ns names) (isSuperCall ns)) nodes
       program28 =
           ap (λ (l : List ℕ). some l) code28-standard
-          ∙ sym (units-all ns (w .input .tree) (bareCall ns (isSuperCall ns) (isSuperProperty ns)) no-bare)
-          ∙ any-upto (λ u. some (inUnit ns (bareCall ns (isSuperCall ns) (isSuperProperty ns)) u)) (bareCallIn ns (isSuperCall ns) (isSuperProperty ns)) 0 (count ns) (λ u a b. sym (units28 u b))
+          ∙ sym (units-all ns (w .input .tree) (standardBare ns names) no-bare)
+          ∙ any-upto (λ u. some (inUnit ns (standardBare ns names) u)) (bareCallIn ns (namesConstructor ns names) (isSuperCall ns)) 0 (count ns) (λ u a b. sym (units28 u b))
 
-      pub program29 : some (raising 29 findings) ≡ any (strayCallIn ns (isSuperCall ns) (isSuperProperty ns)) nodes
+      pub program29 : some (raising 29 findings) ≡ any (strayCallIn ns (namesConstructor ns names) (isSuperCall ns)) nodes
       program29 =
           ap (λ (l : List ℕ). some l) code29-standard
-          ∙ sym (units-all ns (w .input .tree) (strayCall ns (isSuperCall ns) (isSuperProperty ns)) no-stray)
-          ∙ any-upto (λ u. some (inUnit ns (strayCall ns (isSuperCall ns) (isSuperProperty ns)) u)) (strayCallIn ns (isSuperCall ns) (isSuperProperty ns)) 0 (count ns) (λ u a b. sym (units29 u b))
+          ∙ sym (units-all ns (w .input .tree) (standardStray ns names) no-stray)
+          ∙ any-upto (λ u. some (inUnit ns (standardStray ns names) u)) (strayCallIn ns (namesConstructor ns names) (isSuperCall ns)) 0 (count ns) (λ u a b. sym (units29 u b))
 
-      pub program30 : some (raising 30 findings) ≡ any (strayPropertyIn ns (isSuperCall ns) (isSuperProperty ns)) nodes
+      pub program30 : some (raising 30 findings) ≡ any (strayPropertyIn ns (isSuperProperty ns)) nodes
       program30 =
           ap (λ (l : List ℕ). some l) code30-standard
-          ∙ sym (units-all ns (w .input .tree) (strayProperty ns (isSuperCall ns) (isSuperProperty ns)) no-property)
-          ∙ any-upto (λ u. some (inUnit ns (strayProperty ns (isSuperCall ns) (isSuperProperty ns)) u)) (strayPropertyIn ns (isSuperCall ns) (isSuperProperty ns)) 0 (count ns) (λ u a b. sym (units30 u b))
+          ∙ sym (units-all ns (w .input .tree) (standardProperty ns) no-property)
+          ∙ any-upto (λ u. some (inUnit ns (standardProperty ns) u)) (strayPropertyIn ns (isSuperProperty ns)) 0 (count ns) (λ u a b. sym (units30 u b))
