@@ -1,15 +1,14 @@
 -- ECMA-262, 15.7 "Class Definitions" and 13.2.5 "Object Initializer": the early errors on the elements of one class or one object.
 -- Beside a rule stands the rule that the Rust keeps where it differs, and the condition under which the two agree.
-use Prim.Native.Nat.{ℕ, _<_}
+use Prim.Native.Nat.{ℕ}
 use mathlib.Core.Path.{_≡_}
 use mathlib.Core.List.{List, [], _∷_}
-use mathlib.Core.Bool.{Bool, true, false, cond, not, xor, _&&_, _||_}
+use mathlib.Core.Bool.{Bool, true, false, cond, not, _&&_, _||_}
 use lib.Dec.{eqb, ltb}
 use lib.ListN.{length}
-use Rattle.common.specs.Upto.{any}
 use Rattle.common.specs.Tests.{within}
 use Rattle.walk.specs.On.{member}
-use Rattle.tables.specs.Table.{kindOf, parentOf, flagsOf, extraOf, nameLenOf, hasFlag}
+use Rattle.tables.specs.Table.{kindOf, parentOf, flagsOf, extraOf, hasFlag}
 use Rattle.tables.specs.Kinds as k
 use Rattle.tables.specs.Extras as extra
 use Rattle.tables.specs.NodeFlag as flag

@@ -1,5 +1,5 @@
 -- THE FINDINGS ON THE ELEMENTS OF ONE CLASS OR OBJECT ARE BREACHES OF 15.7 AND 13.2.5.1: codes 26 and 27 at a Class, 1 at an Object.
-use Prim.Native.Nat.{ℕ, zero, suc, _+_, _≤_, _<_}
+use Prim.Native.Nat.{ℕ, _+_}
 use mathlib.Core.Path.{_≡_, refl, ap, sym, _∙_}
 use mathlib.Core.List.{List, [], _∷_}
 use mathlib.Core.Bool.{Bool, true, false, cond, not, _&&_, _||_}

@@ -1,12 +1,12 @@
 -- Laws of lists of nodes: members, those kept, rising lists.
 use Prim.Native.Nat.{ℕ, zero, suc, _+_, _-_, _≤_, _<_}
-use mathlib.Core.Path.{_≡_, refl, ap, sym, subst, _∙_}
-use mathlib.Core.List.{List, [], _∷_, _++_, foldr}
-use mathlib.Core.Bool.{Bool, true, false, cond, not, _&&_, _||_}
+use mathlib.Core.Path.{_≡_, refl, sym, subst}
+use mathlib.Core.List.{List, [], _∷_}
+use mathlib.Core.Bool.{Bool, true, false, cond, _||_}
 use native.Mathlib.Omega.{arith}
 use borrow.Author.Tests.{eq-eqb, eqb-true, eqb-false}
 use lib.Dec.{eqb}
-use Rattle.common.specs.Upto.{range, upto, any, and-left, and-right}
+use Rattle.common.specs.Upto.{range, upto, any}
 use Rattle.common.specs.Bools.{never}
 use Rattle.walk.specs.On.{member}
 use Rattle.children.specs.Children.{keep}

@@ -1,30 +1,25 @@
 -- THE FINDINGS WITH CODE 1 AT AN OBJECT ARE BREACHES OF 13.2.5.1.
-use Prim.Native.Nat.{ℕ, zero, suc, _+_, _≤_, _<_}
+use Prim.Native.Nat.{ℕ, _+_, _≤_}
 use mathlib.Core.Path.{_≡_, refl, ap, sym, _∙_}
 use mathlib.Core.List.{List, [], _∷_, _++_, flatMap, foldr}
-use mathlib.Core.Bool.{Bool, true, false, cond, not, _&&_, _||_}
+use mathlib.Core.Bool.{Bool, true, false, cond, _&&_}
 use native.Mathlib.Omega.{arith}
-use borrow.Author.Tests.{lt-ltb, le-leb, eqb-true}
-use lib.Dec.{eqb, ltb, leb}
+use borrow.Author.Tests.{lt-ltb, le-leb}
+use lib.Dec.{eqb, ltb}
 use lib.ListN.{length}
 use Rattle.common.specs.Upto.{upto}
-use Rattle.common.specs.Tests.{within}
-use Rattle.common.specs.Bools.{never}
-use Rattle.walk.specs.On.{member}
-use Rattle.tables.specs.Table.{kindOf, roleOf, parentOf, flagsOf, extraOf, count, hasFlag}
+use Rattle.tables.specs.Table.{kindOf, roleOf, parentOf, flagsOf, count, hasFlag}
 use Rattle.tables.specs.Kinds as k
-use Rattle.tables.specs.Extras as extra
 use Rattle.tables.specs.NodeFlag as flag
 use Rattle.tables.specs.declared.Found.{Found}
 use Rattle.tables.specs.declared.Found.the-variants.{At, Nothing}
 use Rattle.names.specs.Name.{same, nameOf}
 use Rattle.names.specs.Words as word
-use Rattle.children.specs.Children.{keep, children, fits, isChild, keyOf, innerOf}
-use Rattle.children.specs.ChildrenLaws.{keep-keep, child-of, number}
+use Rattle.children.specs.Children.{keep, children, isChild, keyOf, innerOf}
+use Rattle.children.specs.ChildrenLaws.{keep-keep, number}
 use Rattle.classes.specs.ClassesLaws.{within-one}
 use Rattle.fields.specs.FieldsLaws.{Listed}
 use Rattle.trees.specs.Walk.{each, some, only}
-use Rattle.diagnostics.specs.Codes as code
 use Rattle.expressions.specs.Expressions.{properties, isPlain, ifProto, protoKey, toList, protoKeys, repeatsAfter, repeats, checkObjectExpression}
 use Rattle.checker.specs.Findings.{findingsAt}
 use Rattle.ecma_dispatch.specs.Dispatch.{at1}

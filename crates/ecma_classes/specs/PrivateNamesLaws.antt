@@ -6,10 +6,10 @@ use mathlib.Core.Bool.{Bool, true, false, cond, not, _&&_, _||_}
 use mathlib.Core.Logic.{⊎-elim}
 use native.Mathlib.Nat.{eq-or-lt-of-le}
 use native.Mathlib.Omega.{arith}
-use borrow.Author.Tests.{eq-eqb, ne-eqb, eqb-true, lt-leb, le-leb}
-use lib.Dec.{eqb, leb}
+use borrow.Author.Tests.{eq-eqb, eqb-true, lt-leb, le-leb}
+use lib.Dec.{eqb}
 use lib.ListN.{length}
-use Rattle.common.specs.Upto.{upto, any, and-left, and-right}
+use Rattle.common.specs.Upto.{upto, any, and-left}
 use Rattle.common.specs.Tests.{within}
 use Rattle.common.specs.Bools.{never}
 use Rattle.walk.specs.On.{member}
@@ -30,14 +30,12 @@ use Rattle.trees.specs.Rose.{Rose, Roses, node, rnil, rcons, treeOf}
 use Rattle.trees.specs.Walk.{each, walk, walkAll, some, only}
 use Rattle.trees.specs.WalkLaws.{foldIs, someAppend, someOnly}
 use Rattle.diagnostics.specs.declared.Finding.{Finding}
-use Rattle.diagnostics.specs.declared.Raised.{Raised}
 use Rattle.diagnostics.specs.declared.Raised.the-variants.{Clear}
 use Rattle.diagnostics.specs.Finding.{listed, errorAt}
 use Rattle.diagnostics.specs.Codes as code
 use Rattle.diagnostics.specs.Contexts as context
 use Rattle.gather.specs.Gather.{flat-keep, kept-first, kept-none}
-use Rattle.classes.specs.declared.Current.{Current}
-use Rattle.classes.specs.declared.Current.the-variants.{Class, Outside}
+use Rattle.classes.specs.declared.Current.the-variants.{Class}
 use Rattle.classes.specs.Classes.{classAt, bodyAbove, currentClass, outerClasses}
 use Rattle.classes.specs.ClassesLaws.{within-one, over, outer-at}
 use Rattle.classes.specs.Elements.{elementName, privates, hasPrivate, isDeclared}
@@ -50,7 +48,7 @@ use Rattle.ecma_classes.specs.RaisingLaws.{raising-code, keep-upto, flat
 use Rattle.ecma_classes.specs.ListLaws.{kept-in, in-kept, keep-none, in-upto, upto-in}
 use Rattle.ecma_classes.specs.ClassElements.{found, sameNode}
 use Rattle.ecma_classes.specs.PrivateTwiceLaws.{name-is, privates-are, entered-all, both-ways}
-use Rattle.ecma_classes.specs.PrivateNames.{privateName, privateBound, privateEntered, contains, strings, isClassBody, newNames, valid, allValid, invalid, isUse, invalidIdentifiers, isTableUse, invalidInTable, PrivatesPlain, bodyAround, isOutside, UsedOutside, allPrivateIdentifiersValid}
+use Rattle.ecma_classes.specs.PrivateNames.{privateName, privateBound, privateEntered, contains, strings, isClassBody, newNames, valid, allValid, invalid, isUse, invalidIdentifiers, isTableUse, invalidInTable, PrivatesPlain, bodyAround, isOutside, UsedOutside}
 
 module _ (ns names : List ℕ) (uses : ℕ → Bool) (bound : ℕ → List ℕ) where
   abbrev says : ℕ → List (List ℕ) → List ℕ

@@ -1,39 +1,37 @@
 -- THE FINDINGS WITH CODE 1 AT A CLASS ARE BREACHES OF 15.7.1's RULE ON PrivateBoundIdentifiers.
-use Prim.Native.Nat.{ℕ, zero, suc, _+_, _-_, _≤_, _<_}
-use mathlib.Core.Path.{_≡_, refl, ap, sym, subst, _∙_}
+use Prim.Native.Nat.{ℕ, _+_, _-_, _≤_}
+use mathlib.Core.Path.{_≡_, refl, ap, sym, _∙_}
 use mathlib.Core.List.{List, [], _∷_, _++_, foldl, flatMap}
 use mathlib.Core.Bool.{Bool, true, false, cond, not, xor, _&&_, _||_}
-use mathlib.Core.Logic.{⊎-elim}
 use native.Mathlib.Omega.{arith}
-use borrow.Author.Tests.{lt-ltb, le-ltb, eq-eqb, ne-eqb, eqb-true}
+use borrow.Author.Tests.{lt-ltb, le-ltb, eqb-true}
 use lib.Dec.{eqb, ltb}
 use lib.ListN.{length}
-use Rattle.common.specs.Upto.{upto, any, and-left, and-right}
+use Rattle.common.specs.Upto.{upto, any}
 use Rattle.common.specs.Bools.{never}
 use Rattle.walk.specs.On.{member}
-use Rattle.tables.specs.Table.{kindOf, parentOf, flagsOf, extraOf, count, hasFlag}
+use Rattle.tables.specs.Table.{kindOf, parentOf, extraOf, count}
 use Rattle.tables.specs.Kinds as k
-use Rattle.tables.specs.NodeFlag as flag
 use Rattle.tables.specs.declared.Found.{Found}
 use Rattle.tables.specs.declared.Found.the-variants.{At, Nothing}
-use Rattle.names.specs.Name.{same, nameOf}
+use Rattle.names.specs.Name.{same}
 use Rattle.names.specs.NameLaws.{same-self, same-eq}
 use Rattle.children.specs.Children.{keep, children, keyOf, valueOf}
 use Rattle.children.specs.ChildrenLaws.{keep-keep}
-use Rattle.trees.specs.Walk.{each, some, only}
+use Rattle.trees.specs.Walk.{some}
 use Rattle.diagnostics.specs.Finding.{listed}
 use Rattle.diagnostics.specs.declared.Raised.the-variants.{Clear}
-use Rattle.classes.specs.Elements.{nameAt, hasNameAt, hasBodyAt, elementName, isDefinition, isPrivate, enters, elements, privates}
+use Rattle.classes.specs.Elements.{nameAt, hasNameAt, elementName, isDefinition, isPrivate, enters, elements, privates}
 use Rattle.classes.specs.Elements as e
 use Rattle.duplicates.specs.declared.Place.{Place}
-use Rattle.duplicates.specs.Duplicates.{nowhere, here, step, lastOf, sideOf, isEarlier, previousOn, orElse, previousOf, isAccessor, isDuplicate, redeclaration, duplicateBy, duplicateAt, duplicatesIn}
+use Rattle.duplicates.specs.Duplicates.{nowhere, here, step, lastOf, sideOf, isEarlier, previousOn, orElse, previousOf, isDuplicate, redeclaration, duplicateBy, duplicateAt, duplicatesIn}
 use Rattle.ecma_classes.specs.Raising.{raising}
 use Rattle.ecma_classes.specs.RaisingLaws.{raising-flat, keep-same, keep-alike}
 use Rattle.ecma_classes.specs.ListLaws.{member-here, member-there, any-hit, any-find, kept-in, in-kept, keep-none, keep-all, Rising, keep-rising, upto-rising}
-use Rattle.ecma_classes.specs.ClassElements.{isStatic, bodyIn}
+use Rattle.ecma_classes.specs.ClassElements.{isStatic}
 use Rattle.ecma_classes.specs.ClassElementsLaws.{body-in}
 use Rattle.ecma_classes.specs.ObjectsLaws.{times}
-use Rattle.ecma_classes.specs.PrivateNames.{isPrivateBound, nameFound, privateName, privateBound, entries, isGetter, isSetter, matched, allowed, privateTwice, named, bodiless, isEntered, privateEntered, PrivatesEntered, last, orFound, unlike, clashIn, privateAgain, OnceOrTwice}
+use Rattle.ecma_classes.specs.PrivateNames.{isPrivateBound, nameFound, privateName, privateBound, entries, isGetter, isSetter, matched, allowed, privateTwice, named, isEntered, privateEntered, PrivatesEntered, last, orFound, unlike, clashIn, privateAgain, OnceOrTwice}
 
 -- what an entry is: a getter, a setter, or neither
 data Sort (ns : List ℕ) (e : ℕ) : Type 0 where
@@ -400,15 +398,3 @@ entered-all ns b w = keep-alike (λ e. isPrivateBound ns e && isEntered ns e) (i
     go : (e : ℕ) (x : Bool) → isPrivateBound ns e ≡ x → (isPrivateBound ns e ≡ true → isEntered ns e ≡ true) → (isPrivateBound ns e && isEntered ns e) ≡ isPrivateBound ns e
     go e true q h = rw (q, h q)
     go e false q h = rw q
-
--- and there is a finding in a class just where the standard's rule is broken
-pub private-twice : (ns names : List ℕ) (b : ℕ) → PrivatesEntered ns b → some (raising 1 (duplicatesIn ns names b)) ≡ privateTwice ns names (privateBound ns b)
-private-twice ns names b w =
-    ap (λ (l : List ℕ). some l) (private-again ns names b)
-    ∙ go (privateAgain ns names (privateEntered ns b))
-    ∙ again-some ns names (privateEntered ns b) (entered-rising ns b)
-    ∙ ap (privateTwice ns names) (entered-all ns b w)
-  where
-    go : (l : List ℕ) → some (times 0 l) ≡ some l
-    go [] = refl
-    go (x ∷ l) = refl

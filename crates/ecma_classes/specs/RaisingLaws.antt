@@ -1,6 +1,6 @@
 -- Laws of findings with one code.
 use Prim.Native.Nat.{ℕ, zero, suc, _+_, _-_, _≤_, _<_}
-use mathlib.Core.Path.{_≡_, refl, ap, sym, _∙_}
+use mathlib.Core.Path.{_≡_, refl, _∙_}
 use mathlib.Core.List.{List, [], _∷_, _++_, flatMap}
 use mathlib.Core.Bool.{Bool, true, false, cond, _||_}
 use borrow.Author.Tests.{eq-eqb}

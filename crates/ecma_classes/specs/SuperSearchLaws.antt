@@ -1,38 +1,33 @@
 -- The Rust's search through the scopes, where these are the tree's, ends as the unit says in which the Super is.
-use Prim.Native.Nat.{ℕ, zero, suc, _+_, _≤_, _<_}
+use Prim.Native.Nat.{ℕ, zero, suc, _≤_, _<_}
 use mathlib.Core.Path.{_≡_, refl, ap, sym, subst, _∙_}
-use mathlib.Core.List.{List, [], _∷_}
-use mathlib.Core.Bool.{Bool, true, false, cond, not, _&&_, _||_}
+use mathlib.Core.List.{List, _∷_}
+use mathlib.Core.Bool.{Bool, true, false, cond, _&&_, _||_}
 use mathlib.Core.Logic.{_⊎_, inl, inr, ⊎-elim}
 use native.Mathlib.Nat.{eq-or-lt-of-le}
 use native.Mathlib.Omega.{arith}
-use borrow.Author.Tests.{eq-eqb, ne-eqb, eqb-true, eqb-false, leb-true}
-use lib.Dec.{eqb, leb}
-use Rattle.common.specs.Upto.{and-left, and-right}
+use borrow.Author.Tests.{eq-eqb, ne-eqb, eqb-true, eqb-false}
+use lib.Dec.{eqb}
 use Rattle.common.specs.Tests.{within}
-use Rattle.common.specs.Bools.{never, in-range, range-of, either, or-first, or-second}
+use Rattle.common.specs.Bools.{never, in-range, range-of, either}
 use Rattle.walk.specs.Above.{above-root}
-use Rattle.tables.specs.Table.{kindOf, parentOf, flagsOf, extraOf, scopeOf, count, outer, countScopes, scopeParentOf, scopeFlagsOf, scopeNodeOf, hasFlag}
+use Rattle.tables.specs.Table.{kindOf, parentOf, extraOf, scopeOf, count, outer, scopeParentOf, scopeNodeOf}
 use Rattle.tables.specs.Facts.{Tree, Chained, Scoped}
 use Rattle.tables.specs.Kinds as k
-use Rattle.tables.specs.ScopeFlag as scope
 use Rattle.tables.specs.declared.Found.{Found}
 use Rattle.tables.specs.declared.Found.the-variants.{At, Nothing}
 use Rattle.children.specs.Children.{valueOf}
-use Rattle.ancestry.specs.Ancestry.{nearestOf}
 use Rattle.ancestry.specs.AncestryLaws.{nearest-stop, nearest-on, nearest-root}
 use Rattle.classes.specs.ClassesLaws.{within-one, over}
 use Rattle.standing.specs.StandingLaws.{Placed}
 use Rattle.trees.specs.Trail.{unitOf}
 use Rattle.trees.specs.TrailLaws.{handedLaw, handedRoot}
-use Rattle.supers.specs.Super.{ifCall, isNode, isValueOf, partOf, placeOf, functionUse, isClassScope, atClass, stepAt, classAbove, leaveClass, classAfter, orRest, reachFrom, reachOf, isCall}
+use Rattle.supers.specs.Super.{ifCall, isNode, isValueOf, partOf, placeOf, functionUse, isClassScope, atClass, stepAt, classAbove, reachFrom}
 use Rattle.supers.specs.SuperLaws.{place-stop, place-on, reach-stop, reach-leave, reach-on, outer-next}
-use Rattle.supers.specs.declared.ElementPart.{ElementPart}
-use Rattle.supers.specs.declared.ElementPart.the-variants.{Value, Key, NoElement}
+use Rattle.supers.specs.declared.ElementPart.the-variants.{Value, Key}
 use Rattle.supers.specs.declared.Reach.{Reach}
-use Rattle.supers.specs.declared.Reach.the-variants.{Legal, Illegal, Underived, Fails}
-use Rattle.supers.specs.declared.Step.{Step}
-use Rattle.supers.specs.declared.Step.the-variants.{Stop, Leave, On}
+use Rattle.supers.specs.declared.Reach.the-variants.{Illegal}
+use Rattle.supers.specs.declared.Step.the-variants.{On}
 use Rattle.ecma_classes.specs.ClassElements.{sameNode}
 use Rattle.ecma_classes.specs.Supers.{isValue, begins, isFunctionScope, isArrowScope, isBlockScope, Same, Own, ScopesFit}
 

@@ -1,17 +1,17 @@
 -- ECMA-262: where `super` may stand. 8.5.1 Contains, 15.4.2 HasDirectSuper, and the early errors that name SuperCall or SuperProperty.
-use Prim.Native.Nat.{ℕ, _+_, _≤_, _<_}
+use Prim.Native.Nat.{ℕ, _≤_, _<_}
 use mathlib.Core.Path.{_≡_}
 use mathlib.Core.List.{List}
-use mathlib.Core.Bool.{Bool, true, false, cond, not, _&&_, _||_}
+use mathlib.Core.Bool.{Bool, true, false, not, _&&_, _||_}
 use mathlib.Core.Logic.{_⊎_}
 use lib.Dec.{eqb}
 use Rattle.common.specs.Tests.{within}
-use Rattle.tables.specs.Table.{kindOf, parentOf, roleOf, flagsOf, extraOf, scopeOf, count, scopeParentOf, scopeFlagsOf, scopeNodeOf, hasFlag}
+use Rattle.tables.specs.Table.{kindOf, parentOf, flagsOf, extraOf, scopeOf, count, scopeParentOf, scopeFlagsOf, scopeNodeOf, hasFlag}
 use Rattle.tables.specs.Kinds as k
 use Rattle.tables.specs.Extras as extra
 use Rattle.tables.specs.NodeFlag as flag
 use Rattle.tables.specs.ScopeFlag as scope
-use Rattle.tables.specs.declared.Found.the-variants.{At, Nothing}
+use Rattle.tables.specs.declared.Found.the-variants.{At}
 use Rattle.children.specs.Children.{valueOf}
 use Rattle.trees.specs.Rose.{Rose, Roses, node, rnil, rcons, idx, partsOf}
 use Rattle.trees.specs.Trail.{unitOf}

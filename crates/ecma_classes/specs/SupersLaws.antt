@@ -1,33 +1,31 @@
 -- THE FINDINGS WITH CODES 28, 29 AND 30 ARE BREACHES OF THE EARLY ERRORS ON `super`.
-use Prim.Native.Nat.{ℕ, zero, suc, _+_, _≤_, _<_}
+use Prim.Native.Nat.{ℕ, zero, suc, _≤_, _<_}
 use mathlib.Core.Path.{_≡_, refl, ap, sym, subst, _∙_}
-use mathlib.Core.List.{List, [], _∷_, _++_}
+use mathlib.Core.List.{List, []}
 use mathlib.Core.Bool.{Bool, true, false, cond, not, _&&_, _||_}
 use mathlib.Core.Logic.{_⊎_, inl, inr, ⊎-elim}
 use native.Mathlib.Nat.{eq-or-lt-of-le}
 use native.Mathlib.Omega.{arith}
-use borrow.Author.Tests.{eq-eqb, ne-eqb, eqb-true, eqb-false, leb-true}
-use lib.Dec.{eqb, leb}
+use borrow.Author.Tests.{ne-eqb, eqb-true}
+use lib.Dec.{eqb}
 use Rattle.common.specs.Upto.{and-left, and-right}
 use Rattle.common.specs.Tests.{within}
-use Rattle.common.specs.Bools.{never, in-range, range-of, either}
-use Rattle.tables.specs.Table.{kindOf, parentOf, flagsOf, extraOf, scopeOf, count, outer, hasFlag}
+use Rattle.common.specs.Bools.{never}
+use Rattle.tables.specs.Table.{kindOf, parentOf, flagsOf, extraOf, count, hasFlag}
 use Rattle.tables.specs.Facts.{Tree, Chained, Scoped}
 use Rattle.tables.specs.Kinds as k
 use Rattle.tables.specs.Extras as extra
 use Rattle.tables.specs.NodeFlag as flag
-use Rattle.tables.specs.declared.Found.{Found}
-use Rattle.tables.specs.declared.Found.the-variants.{At, Nothing}
-use Rattle.ancestry.specs.Ancestry.{nearestOf}
+use Rattle.tables.specs.declared.Found.the-variants.{At}
 use Rattle.ancestry.specs.AncestryLaws.{parent-in}
 use Rattle.standing.specs.StandingLaws.{Placed}
 use Rattle.trees.specs.Walk.{only}
 use Rattle.trees.specs.Trail.{unitOf}
 use Rattle.trees.specs.TrailLaws.{handedLaw, handedRoot}
 use Rattle.diagnostics.specs.Finding.{listed}
-use Rattle.supers.specs.Super.{ifCall, isValueOf, isMethodLike, heritageUse, derivedUse, objectUse, methodUse, functionUse, classAbove, reachOf, isCall, byReach, checkSuper}
+use Rattle.supers.specs.Super.{ifCall, isMethodLike, objectUse, methodUse, functionUse, classAbove, reachOf, isCall, byReach, checkSuper}
 use Rattle.supers.specs.declared.Reach.{Reach}
-use Rattle.supers.specs.declared.Reach.the-variants.{Legal, Illegal, Underived, Fails}
+use Rattle.supers.specs.declared.Reach.the-variants.{Legal, Illegal, Underived}
 use Rattle.checker.specs.Findings.{findingsAt}
 use Rattle.ecma_dispatch.specs.WithCode.{withCode}
 use Rattle.ecma_dispatch.specs.Dispatch.{at28, at29, at30}

@@ -1,7 +1,7 @@
 -- From nodes to the program: a rule of the standard, which is a test of the tree, holds just where no finding is raised.
 use Prim.Native.Nat.{ℕ, zero, suc, _+_, _-_, _≤_, _<_}
 use mathlib.Core.Path.{_≡_, refl, ap, sym, subst, _∙_}
-use mathlib.Core.List.{List, [], _∷_, _++_, foldr, flatMap}
+use mathlib.Core.List.{List, [], _∷_, flatMap}
 use mathlib.Core.Bool.{Bool, true, false, cond, not, _&&_, _||_}
 use mathlib.Core.Logic.{⊎-elim}
 use native.Mathlib.Nat.{eq-or-lt-of-le}
@@ -20,7 +20,7 @@ use Rattle.children.specs.Children.{keep, classBodyOf}
 use Rattle.classes.specs.ClassesLaws.{within-one, over}
 use Rattle.fields.specs.FieldsLaws.{Listed}
 use Rattle.shape.specs.ShapeLaws.{Shaped}
-use Rattle.trees.specs.Walk.{each, some, only, Says}
+use Rattle.trees.specs.Walk.{some, only}
 use Rattle.trees.specs.WalkLaws.{someAppend, someEach, someOnly}
 use Rattle.trees.specs.Trail.{unitOf}
 use Rattle.trees.specs.TrailLaws.{handedLaw, handedRoot}
