@@ -4,9 +4,12 @@ use mathlib.Core.Path.{_≡_, refl, ap, sym, _∙_}
 use mathlib.Core.List.{List, [], _∷_}
 use mathlib.Core.Bool.{Bool, true, false, cond, not, _&&_, _||_, true≢false}
 use lib.Dec.{eqb}
-use borrow.Author.Tests.{eqb-true}
-use Rattle.common.specs.Upto.{upto}
-use Rattle.tables.specs.Table.{count}
+use borrow.Author.Tests.{eqb-true, ne-eqb}
+use Rattle.common.specs.Upto.{upto, and-left, and-right}
+use Rattle.common.specs.Tests.{within}
+use Rattle.common.specs.Bools.{never}
+use Rattle.tables.specs.Table.{kindOf, parentOf, flagsOf, extraOf, count, hasFlag}
+use Rattle.tables.specs.Kinds as k
 use Rattle.tables.specs.Facts.{Tree}
 use Rattle.trees.specs.Rose.{Rose, Roses, node, rnil, rcons, idx, partsOf}
 use Rattle.trees.specs.Walk.{each, some, only}
@@ -14,7 +17,8 @@ use Rattle.trees.specs.WalkLaws.{eachSame, someAppend, someOnly}
 use Rattle.trees.specs.Unit.{says, saysAll}
 use Rattle.trees.specs.Trail.{unitOf}
 use Rattle.trees.specs.TrailLaws.{unitBridge}
-use Rattle.ecma_classes.specs.Supers.{begins, contains, containsAny, containsIn, isConstructorMethod, hasHeritage, takesProperty, bareCallIn, strayCallIn, strayPropertyIn, bareCall, strayCall, strayProperty}
+use Rattle.ecma_classes.specs.ClassElements.{namesConstructor}
+use Rattle.ecma_classes.specs.Supers.{begins, contains, containsAny, containsIn, isSuperCall, isSuperProperty, isMethod, isConstructorMethod, hasHeritage, isObjectMethod, takesProperty, bareCallIn, strayCallIn, strayPropertyIn, bareCall, strayCall, strayProperty, superError}
 
 module _ (ns : List ℕ) (sought : ℕ → Bool) where
   abbrev tells : ℕ → Unit {0} → List ℕ
@@ -115,3 +119,85 @@ module _ (ns : List ℕ) (t : Tree ns) (u : ℕ) (h : u < count ns) where
   pub property-in : (property : ℕ → Bool) → strayPropertyIn ns property u ≡ some (inUnit ns (strayProperty ns property) u)
   unfolding strayPropertyIn strayProperty
   property-in property = unit-rule ns property t (λ x. not (takesProperty ns x)) u h
+
+-- the early errors, production by production, are the three rules
+module _ (ns names : List ℕ) (tree : Tree ns) (u : ℕ) where
+  abbrev calls : Bool
+  calls = containsIn ns (isSuperCall ns) u
+
+  abbrev properties : Bool
+  properties = containsIn ns (isSuperProperty ns) u
+
+  abbrev constructs : Bool
+  constructs = isConstructorMethod ns (namesConstructor ns names) u
+
+  -- no two of the productions
+  not-program : eqb u 0 ≡ true → (isMethod ns u ≡ false) × (takesProperty ns u ≡ false)
+  unfolding isMethod isObjectMethod takesProperty
+  not-program e = let q : u ≡ 0 = eqb-true u 0 e in (rw (q, tree .root), rw (q, tree .root))
+
+  not-function : (eqb (kindOf ns u) k.StaticBlock || within (kindOf ns u) k.PropertyDefinition k.AccessorProperty) ≡ true → (isMethod ns u ≡ false) × (takesProperty ns u ≡ true)
+  unfolding isMethod takesProperty
+  not-function e = (rw (ne-eqb (kindOf ns u) k.Function (λ q. never (sym e ∙ rw q))), rw e (go (isMethod ns u || isObjectMethod ns u)))
+    where
+      go : (b : Bool) → (b || true) ≡ true
+      go true = refl
+      go false = refl
+
+  not-class : isObjectMethod ns u ≡ true → (isMethod ns u ≡ false) × (takesProperty ns u ≡ true)
+  unfolding isMethod isObjectMethod takesProperty
+  not-class e = (
+    (let q = eqb-true (kindOf ns (parentOf ns u)) k.ObjectProperty (and-left (eqb (kindOf ns (parentOf ns u)) k.ObjectProperty) _ (and-right (eqb (kindOf ns u) k.Function) _ e)) in rw q (off (eqb (kindOf ns u) k.Function))),
+    takes e,
+  )
+    where
+      off : (b : Bool) → (b && false) ≡ false
+      off true = refl
+      off false = refl
+
+      takes : isObjectMethod ns u ≡ true → takesProperty ns u ≡ true
+      takes e = rw e (go (isMethod ns u))
+        where
+          go : (b : Bool) → ((b || true) || (eqb (kindOf ns u) k.StaticBlock || within (kindOf ns u) k.PropertyDefinition k.AccessorProperty)) ≡ true
+          go true = refl
+          go false = refl
+
+  no-constructor : isMethod ns u ≡ false → constructs ≡ false
+  unfolding isConstructorMethod
+  no-constructor e = rw e
+
+  method-takes : isMethod ns u ≡ true → takesProperty ns u ≡ true
+  unfolding takesProperty
+  method-takes e = rw e
+
+  constructor-method : constructs ≡ true → isMethod ns u ≡ true
+  unfolding isConstructorMethod
+  constructor-method e = and-left (isMethod ns u) (namesConstructor ns names (parentOf ns u)) e
+
+  plain-takes : isMethod ns u ≡ false → isObjectMethod ns u ≡ false → (eqb (kindOf ns u) k.StaticBlock || within (kindOf ns u) k.PropertyDefinition k.AccessorProperty) ≡ false → takesProperty ns u ≡ false
+  unfolding takesProperty
+  plain-takes a b c = rw (a, b, c)
+
+  pub error-is : superError ns names u ≡ (bareCallIn ns (namesConstructor ns names) (isSuperCall ns) u || (strayCallIn ns (namesConstructor ns names) (isSuperCall ns) u || strayPropertyIn ns (isSuperProperty ns) u))
+  unfolding superError bareCallIn strayCallIn strayPropertyIn
+  error-is =
+      go (eqb u 0) refl (eqb (kindOf ns u) k.StaticBlock || within (kindOf ns u) k.PropertyDefinition k.AccessorProperty) refl (isObjectMethod ns u) refl constructs refl (isMethod ns u) refl
+    where
+      rest : (c : Bool) → c ≡ (c || false)
+      rest true = refl
+      rest false = refl
+
+      by : (x y : Bool) → constructs ≡ x → takesProperty ns u ≡ y → (z : Bool) → z ≡ (((x && not (hasHeritage ns u)) && calls) || ((not x && calls) || (not y && properties)))
+          → z ≡ (((constructs && not (hasHeritage ns u)) && calls) || ((not constructs && calls) || (not (takesProperty ns u) && properties)))
+      by x y p q z e = rw (p, q) e
+
+      go : (a : Bool) → eqb u 0 ≡ a → (b : Bool) → (eqb (kindOf ns u) k.StaticBlock || within (kindOf ns u) k.PropertyDefinition k.AccessorProperty) ≡ b → (o : Bool) → isObjectMethod ns u ≡ o
+          → (c : Bool) → constructs ≡ c → (m : Bool) → isMethod ns u ≡ m
+          → cond a (calls || properties) (cond b calls (cond o calls (cond c (not (hasHeritage ns u) && calls) (cond m calls (calls || properties)))))
+          ≡ (((constructs && not (hasHeritage ns u)) && calls) || ((not constructs && calls) || (not (takesProperty ns u) && properties)))
+      go true p b q o r c s m t = let x = not-program p in by false false (no-constructor (x .0)) (x .1) (calls || properties) refl
+      go false p true q o r c s m t = let x = not-function q in by false true (no-constructor (x .0)) (x .1) calls (rest calls)
+      go false p false q true r c s m t = let x = not-class r in by false true (no-constructor (x .0)) (x .1) calls (rest calls)
+      go false p false q false r true s m t = by true true s (method-takes (constructor-method s)) (not (hasHeritage ns u) && calls) (rest (not (hasHeritage ns u) && calls))
+      go false p false q false r false s true t = by false true s (method-takes t) calls (rest calls)
+      go false p false q false r false s false t = by false false s (plain-takes t r q) (calls || properties) refl

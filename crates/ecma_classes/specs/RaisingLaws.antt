@@ -85,3 +85,16 @@ any-upto p q i n h = go i (n - i) (λ x a b. h x a (omega arith))
     go : (i k : ℕ) → ((x : ℕ) → i ≤ x → x < i + k → p x ≡ q x) → any p (range i k) ≡ any q (range i k)
     go i zero h = refl
     go i (suc k) h = rw (h i (omega arith) (omega arith), go (suc i) k (λ x a b. h x (omega arith) (omega arith)))
+
+pub any-three : (p q r : ℕ → Bool) (l : List ℕ) → any (λ x. p x || (q x || r x)) l ≡ (any p l || (any q l || any r l))
+any-three p q r [] = refl
+any-three p q r (x ∷ l) = rw (any-three p q r l) (go (p x) (q x) (r x) (any p l) (any q l) (any r l))
+  where
+    go : (a b c d e f : Bool) → ((a || (b || c)) || (d || (e || f))) ≡ ((a || d) || ((b || e) || (c || f)))
+    go true b c d e f = refl
+    go false true c true e f = refl
+    go false true c false e f = refl
+    go false false true true e f = refl
+    go false false true false true f = refl
+    go false false true false false f = refl
+    go false false false d e f = refl

@@ -2,7 +2,7 @@
 use Prim.Native.Nat.{ℕ, _≤_, _<_}
 use mathlib.Core.Path.{_≡_}
 use mathlib.Core.List.{List}
-use mathlib.Core.Bool.{Bool, true, false, not, _&&_, _||_}
+use mathlib.Core.Bool.{Bool, false, true, cond, not, _&&_, _||_}
 use mathlib.Core.Logic.{_⊎_}
 use lib.Dec.{eqb}
 use Rattle.common.specs.Tests.{within}
@@ -104,7 +104,7 @@ module _ (ns : List ℕ) (property : ℕ → Bool) where
   unfoldable pub strayProperty : ℕ → Bool
   strayProperty n = property n && not (takesProperty ns (unit ns n))
 
--- THE STANDARD'S: by the PropName "constructor", SuperCall and SuperProperty.
+-- THE STANDARD'S RULES: by the PropName "constructor", SuperCall and SuperProperty
 abbrev pub standardBare : List ℕ → List ℕ → ℕ → Bool
 standardBare ns names n = bareCall ns (namesConstructor ns names) (isSuperCall ns) n
 
@@ -113,6 +113,22 @@ standardStray ns names n = strayCall ns (namesConstructor ns names) (isSuperCall
 
 abbrev pub standardProperty : List ℕ → ℕ → Bool
 standardProperty ns n = strayProperty ns (isSuperProperty ns) n
+
+-- all of them, production by production; u begins a unit
+unfoldable pub superError : List ℕ → List ℕ → ℕ → Bool
+superError ns names u =
+    -- 16.1.1 ScriptBody, 16.2.1.1 ModuleBody: "Contains super"
+    cond (eqb u 0) (containsIn ns (isSuperCall ns) u || containsIn ns (isSuperProperty ns) u)
+    -- 15.7.1 ClassStaticBlockBody, FieldDefinition: "Contains SuperCall"
+    (cond (eqb (kindOf ns u) k.StaticBlock || within (kindOf ns u) k.PropertyDefinition k.AccessorProperty) (containsIn ns (isSuperCall ns) u)
+    -- 13.2.5.1 PropertyDefinition : MethodDefinition: "HasDirectSuper of MethodDefinition"
+    (cond (isObjectMethod ns u) (containsIn ns (isSuperCall ns) u)
+    -- 15.7.1 ClassTail: "ClassHeritage is not present and .. HasDirectSuper of constructor"
+    (cond (isConstructorMethod ns (namesConstructor ns names) u) (not (hasHeritage ns u) && containsIn ns (isSuperCall ns) u)
+    -- 15.7.1 ClassElement : MethodDefinition and static MethodDefinition: "HasDirectSuper of MethodDefinition"
+    (cond (isMethod ns u) (containsIn ns (isSuperCall ns) u)
+    -- 15.2.1, 15.5.1, 15.6.1, 15.8.1, functions: "Contains SuperProperty", "Contains SuperCall"
+    (containsIn ns (isSuperCall ns) u || containsIn ns (isSuperProperty ns) u)))))
 
 -- The Rust goes by what the table calls a constructor, takes `new super()` for a call and every other Super for a SuperProperty.
 abbrev pub isTableConstructor : List ℕ → ℕ → Bool
@@ -142,7 +158,7 @@ MethodsNamed ns names = (p : ℕ) → p < count ns → kindOf ns p ≡ k.MethodD
 abbrev pub SupersStand : List ℕ → Type 0
 SupersStand ns = (n : ℕ) → n < count ns → kindOf ns n ≡ k.Super → (kindOf ns (parentOf ns n) ≡ k.Call) ⊎ (kindOf ns (parentOf ns n) ≡ k.OtherMember)
 
--- CONDITION, since the Rust goes by scopes: each node's scope is the one that the tree gives it.
+-- CONDITION, since the Rust goes by scopes: each node's scope is the one that its place in the tree gives it, as docs/TREES.md has it.
 abbrev pub isFunctionScope : List ℕ → ℕ → Bool
 isFunctionScope ss s = hasFlag (scopeFlagsOf ss s) scope.FunctionScope
 

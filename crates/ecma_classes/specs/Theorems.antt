@@ -12,6 +12,7 @@ use Rattle.tables.specs.Table.{kindOf, parentOf, count}
 use Rattle.tables.specs.Kinds as k
 use Rattle.tables.specs.declared.Found.the-variants.{At}
 use Rattle.children.specs.Children.{keep, children, classBodyOf}
+use Rattle.children.specs.ChildrenLaws.{found-child}
 use Rattle.trees.specs.Rose.{treeOf}
 use Rattle.trees.specs.Walk.{some, only}
 use Rattle.diagnostics.specs.declared.Finding.{Finding}
@@ -25,7 +26,7 @@ use Rattle.input.specs.InputLaws.{WellFormed}
 use Rattle.ecma_dispatch.specs.WithCode.{withCode}
 use Rattle.ecma_dispatch.specs.Dispatch.{wholeOne, wholeOther}
 use Rattle.ecma_classes.specs.Raising.{raising}
-use Rattle.ecma_classes.specs.RaisingLaws.{raising-code, raising-append, raising-flat, flat-upto, keep-upto, any-upto}
+use Rattle.ecma_classes.specs.RaisingLaws.{raising-code, raising-append, raising-flat, flat-upto, keep-upto, any-upto, any-three}
 use Rattle.ecma_classes.specs.ListLaws.{Rising, kept-in}
 use Rattle.ecma_classes.specs.ClassElements.{found, sameNode, namesConstructor, nameMissing, builtTwice, constructorTwice, ConstructorsNamed, isProto, protoAgain, protoTwice, KeysPlain}
 use Rattle.ecma_classes.specs.ClassElementsLaws.{class-name, second-constructor, constructors-agree}
@@ -33,9 +34,9 @@ use Rattle.ecma_classes.specs.ObjectsLaws.{times, proto-again, proto-agr
 use Rattle.ecma_classes.specs.PrivateNames.{privateBound, privateEntered, entries, allowed, privateTwice, privateAgain, PrivatesEntered, OnceOrTwice, isClassBody, isUse, allPrivateIdentifiersValid, invalidIdentifiers, invalidInTable, PrivatesPlain, bodyAround, isOutside, UsedOutside}
 use Rattle.ecma_classes.specs.PrivateTwiceLaws.{flat-alike, private-again, again-some, again-once, entered-all, entered-rising}
 use Rattle.ecma_classes.specs.PrivateNamesLaws.{invalidAt, invalid-list, valid-none, private-outside, outside-invalid, private-undeclared, invalid-same, class-above, body-of-class}
-use Rattle.ecma_classes.specs.Supers.{isSuperCall, isSuperProperty, bareCall, strayCall, strayProperty, bareCallIn, strayCallIn, strayPropertyIn, standardBare, standardStray, standardProperty, tableBare, tableStray, tableProperty, MethodsNamed, SupersStand, ScopesFit}
+use Rattle.ecma_classes.specs.Supers.{isSuperCall, isSuperProperty, bareCall, strayCall, strayProperty, bareCallIn, strayCallIn, strayPropertyIn, standardBare, standardStray, standardProperty, tableBare, tableStray, tableProperty, MethodsNamed, SupersStand, ScopesFit, superError}
 use Rattle.ecma_classes.specs.SupersLaws.{super-bare, super-call, super-property, bare-same, stray-same, property-rule-same}
-use Rattle.ecma_classes.specs.ContainsLaws.{inUnit, bare-in, stray-in, property-in}
+use Rattle.ecma_classes.specs.ContainsLaws.{inUnit, bare-in, stray-in, property-in, error-is}
 use Rattle.ecma_classes.specs.WholeLaws.{below-of, all-raised, units-all}
 
 -- from each node to the whole tree
@@ -128,9 +129,12 @@ module _ (t : ℕ) (ns ss source names : List ℕ) (w : WellFormed t ns ss sourc
   pub code8-standard : PrivatesPlain ns → withCode 8 findings ≡ reported (invalidIdentifiers ns names)
   code8-standard p = code8 ∙ ap reported (invalid-same ns names (w .input .tree) p)
 
-  -- each at one Class: a ClassBody's parent is a Class, and that Class has no other
+  -- each at one Class: a ClassBody is that of one Class, its parent
   pub code8-once : (b : ℕ) → b < count ns → kindOf ns b ≡ k.ClassBody → (kindOf ns (parentOf ns b) ≡ k.Class) × (classBodyOf ns (parentOf ns b) ≡ At (record { 0 = b }))
   code8-once b h e = (class-above ns (w .input .tree) (w .listed) (w .shaped) b h e, body-of-class ns (w .input .tree) (w .listed) (w .shaped) b h e)
+
+  pub code8-alone : (n b : ℕ) → classBodyOf ns n ≡ At (record { 0 = b }) → n ≡ parentOf ns b
+  code8-alone n b e = sym (found-child ns n k.ClassBody k.ClassBody 0 7 (n + 1) b e .parent)
 
   -- AllPrivateIdentifiersValid is true just where it lists nothing ..
   pub valid-lists : allPrivateIdentifiersValid ns names ≡ not (some (invalidIdentifiers ns names))
@@ -209,3 +213,10 @@ module _ (t : ℕ) (ns ss source names : List ℕ) (w : WellFormed t ns ss sourc
           ap (λ (l : List ℕ). some l) code30-standard
           ∙ sym (units-all ns (w .input .tree) (standardProperty ns) no-property)
           ∙ any-upto (λ u. some (inUnit ns (standardProperty ns) u)) (strayPropertyIn ns (isSuperProperty ns)) 0 (count ns) (λ u a b. sym (units30 u b))
+
+      -- and no finding of the three just where no production's early error on `super` applies
+      pub super-clean : any (superError ns names) nodes ≡ (some (raising 28 findings) || (some (raising 29 findings) || some (raising 30 findings)))
+      super-clean =
+          rw (program28, program29, program30)
+          (any-upto (superError ns names) (λ u. bareCallIn ns (namesConstructor ns names) (isSuperCall ns) u || (strayCallIn ns (namesConstructor ns names) (isSuperCall ns) u || strayPropertyIn ns (isSuperProperty ns) u)) 0 (count ns) (λ u a b. error-is ns names (w .input .tree) u)
+          ∙ any-three (bareCallIn ns (namesConstructor ns names) (isSuperCall ns)) (strayCallIn ns (namesConstructor ns names) (isSuperCall ns)) (strayPropertyIn ns (isSuperProperty ns)) nodes)
