@@ -187,17 +187,12 @@ module _ (ns names : List ℕ) (tree : Tree ns) (u : ℕ) where
       rest true = refl
       rest false = refl
 
-      by : (x y : Bool) → constructs ≡ x → takesProperty ns u ≡ y → (z : Bool) → z ≡ (((x && not (hasHeritage ns u)) && calls) || ((not x && calls) || (not y && properties)))
-          → z ≡ (((constructs && not (hasHeritage ns u)) && calls) || ((not constructs && calls) || (not (takesProperty ns u) && properties)))
-      by x y p q z e = rw (p, q) e
-
       go : (a : Bool) → eqb u 0 ≡ a → (b : Bool) → (eqb (kindOf ns u) k.StaticBlock || within (kindOf ns u) k.PropertyDefinition k.AccessorProperty) ≡ b → (o : Bool) → isObjectMethod ns u ≡ o
           → (c : Bool) → constructs ≡ c → (m : Bool) → isMethod ns u ≡ m
-          → cond a (calls || properties) (cond b calls (cond o calls (cond c (not (hasHeritage ns u) && calls) (cond m calls (calls || properties)))))
-          ≡ (((constructs && not (hasHeritage ns u)) && calls) || ((not constructs && calls) || (not (takesProperty ns u) && properties)))
-      go true p b q o r c s m t = let x = not-program p in by false false (no-constructor (x .0)) (x .1) (calls || properties) refl
-      go false p true q o r c s m t = let x = not-function q in by false true (no-constructor (x .0)) (x .1) calls (rest calls)
-      go false p false q true r c s m t = let x = not-class r in by false true (no-constructor (x .0)) (x .1) calls (rest calls)
-      go false p false q false r true s m t = by true true s (method-takes (constructor-method s)) (not (hasHeritage ns u) && calls) (rest (not (hasHeritage ns u) && calls))
-      go false p false q false r false s true t = by false true s (method-takes t) calls (rest calls)
-      go false p false q false r false s false t = by false false s (plain-takes t r q) (calls || properties) refl
+          → superError ns names u ≡ (bareCallIn ns (namesConstructor ns names) (isSuperCall ns) u || (strayCallIn ns (namesConstructor ns names) (isSuperCall ns) u || strayPropertyIn ns (isSuperProperty ns) u))
+      go true p b q o r c s m t = let x = not-program p in rw (p, no-constructor (x .0), x .1)
+      go false p true q o r c s m t = let x = not-function q in rw (p, q, no-constructor (x .0), x .1) (rest calls)
+      go false p false q true r c s m t = let x = not-class r in rw (p, q, r, no-constructor (x .0), x .1) (rest calls)
+      go false p false q false r true s m t = rw (p, q, r, s, method-takes (constructor-method s)) (rest (not (hasHeritage ns u) && calls))
+      go false p false q false r false s true t = rw (p, q, r, s, t, method-takes t) (rest calls)
+      go false p false q false r false s false t = rw (p, q, r, s, t, plain-takes t r q)
