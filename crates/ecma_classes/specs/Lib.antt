@@ -11,5 +11,6 @@ pub mod Supers
 pub mod SuperSearchLaws
 pub mod SupersLaws
 pub mod ContainsLaws
+pub mod Example
 pub mod WholeLaws
 pub mod Theorems
