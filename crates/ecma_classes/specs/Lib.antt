@@ -11,6 +11,7 @@ pub mod Supers
 pub mod SuperSearchLaws
 pub mod SupersLaws
 pub mod ContainsLaws
+pub mod ScopesFitLaws
 pub mod Example
 pub mod WholeLaws
 pub mod Theorems
