@@ -12,6 +12,6 @@ pub mod SuperSearchLaws
 pub mod SupersLaws
 pub mod ContainsLaws
 pub mod ScopesFitLaws
-pub mod Example
 pub mod WholeLaws
 pub mod Theorems
+pub mod Example
