@@ -1,12 +1,12 @@
 -- Whether a table's scopes are the tree's can be tested, node by node.
 use Prim.Native.Nat.{ℕ, _≤_, _<_}
-use mathlib.Core.Path.{_≡_, refl, sym, subst, _∙_}
+use mathlib.Core.Path.{_≡_, refl, sym, subst}
 use mathlib.Core.List.{List}
 use mathlib.Core.Bool.{Bool, true, false, not, _&&_, _||_}
 use mathlib.Core.Logic.{_⊎_, inl, inr, ⊎-elim}
 use native.Mathlib.Nat.{eq-or-lt-of-le}
 use native.Mathlib.Omega.{arith}
-use borrow.Author.Tests.{eq-eqb, eqb-true, ltb-true, not-true}
+use borrow.Author.Tests.{eq-eqb, eqb-true, ltb-true}
 use lib.Dec.{eqb, ltb}
 use Rattle.common.specs.Upto.{upto, all, all-upto, and-left, and-right}
 use Rattle.common.specs.Tests.{within}
