@@ -1,0 +1,89 @@
+-- THE FINDINGS AGAINST ECMA-262, all codes together: of tables that none of refusals 1 to 6 turns down, the nodes that raise each code, in order, are those at which the rule is
+-- broken, one finding for each breach. A rule that the Rust changes is named with what differs in docs/DIFFERENCES.md; the laws that say where it is the standard's own stand in
+-- each crate's Theorems.antt and Standard.antt.
+use Prim.Native.Nat.{ℕ}
+use mathlib.Core.Path.{_≡_}
+use mathlib.Core.List.{List, [], _++_, flatMap}
+use mathlib.Core.Bool.{cond, not, _&&_}
+use lib.Dec.{eqb}
+use Rattle.common.specs.Upto.{upto}
+use Rattle.tables.specs.Table.{kindOf, count}
+use Rattle.tables.specs.Kinds as k
+use Rattle.children.specs.Children.{keep, classBodyOf}
+use Rattle.diagnostics.specs.declared.Finding.{Finding}
+use Rattle.diagnostics.specs.Finding.{listed, errorAt}
+use Rattle.diagnostics.specs.Codes as code
+use Rattle.diagnostics.specs.Contexts as context
+use Rattle.verdict.specs.declared.Verdict.the-variants.{Passed}
+use Rattle.wellformed.specs.WellFormed.{inputRefusal}
+use Rattle.wellformed.specs.WellFormedLaws.{input-well-formed}
+use Rattle.checker.specs.Findings.{findingsOf}
+use Rattle.ecma_dispatch.specs.WithCode.{withCode}
+use Rattle.ecma_dispatch.specs.NodesOf.{nodesOf}
+use Rattle.ecma_labels.specs.Breaches.{duplicateLabelAt, breakNotNestedAt}
+use Rattle.ecma_labels.specs.Changed.{plainContinueNotNestedAt, noLabelAt, noLoopAt, inProgram}
+use Rattle.ecma_labels.specs.Theorems as labels
+use Rattle.ecma_strict.specs.Theorems.{EarlyErrors, earlyErrors}
+use Rattle.ecma_classes.specs.Raising.{raising}
+use Rattle.ecma_classes.specs.ClassElements.{sameNode, nameMissing, builtTwice, protoAgain}
+use Rattle.ecma_classes.specs.ObjectsLaws.{times}
+use Rattle.ecma_classes.specs.PrivateNames.{privateEntered, privateAgain, isClassBody, isOutside, invalidInTable, bodyAround}
+use Rattle.ecma_classes.specs.Supers.{ScopesFit, tableBare, tableStray, tableProperty}
+use Rattle.ecma_classes.specs.Theorems as classes
+
+-- a finding 8 for each of these nodes, at the Class whose body is nearest
+abbrev pub reported : List ℕ → List ℕ → List Finding
+reported ns l =
+    flatMap (λ n. cond (eqb (kindOf ns n) k.Class) (flatMap (λ m. listed (errorAt ns code.privateFieldUndeclared n m context.none)) (keep (λ m. sameNode (bodyAround ns m) (classBodyOf ns n)) l)) [])
+    (upto 0 (count ns))
+
+pub record Broken (t : ℕ) (ns ss source names : List ℕ) : Type 0 where
+  -- 2 to 6, 9 to 17, 24, 25, 31 to 33
+  pub strict : EarlyErrors t ns ss source names
+  -- 14.9.1: a break without a label in no loop or switch
+  pub code18 : nodesOf (withCode 18 (findingsOf t ns ss source names)) ≡ keep (breakNotNestedAt ns names) (upto 0 (count ns))
+  -- 8.3.2, and 8.3.3 changed: a label that no statement around has, in program code and elsewhere
+  pub code19 : nodesOf (withCode 19 (findingsOf t ns ss source names)) ≡ keep (λ j. noLabelAt ns names j && inProgram ns names j) (upto 0 (count ns))
+  pub code20 : nodesOf (withCode 20 (findingsOf t ns ss source names)) ≡ keep (λ j. noLabelAt ns names j && not (inProgram ns names j)) (upto 0 (count ns))
+  -- 14.8.1 changed: a continue without a label in no loop
+  pub code21 : nodesOf (withCode 21 (findingsOf t ns ss source names)) ≡ keep (plainContinueNotNestedAt ns names) (upto 0 (count ns))
+  -- 8.3.3 changed: a continue whose label is on no loop
+  pub code22 : nodesOf (withCode 22 (findingsOf t ns ss source names)) ≡ keep (noLoopAt ns names) (upto 0 (count ns))
+  -- 8.3.1: a label within itself
+  pub code23 : nodesOf (withCode 23 (findingsOf t ns ss source names)) ≡ keep (duplicateLabelAt ns names) (upto 0 (count ns))
+  -- 15.7.1 changed: PrivateBoundIdentifiers of a class, at node 0; 13.2.5.1: `__proto__` of an object
+  pub code1 : raising 1 (findingsOf t ns ss source names)
+      ≡ flatMap (λ b. times 0 (privateAgain ns names (privateEntered ns b))) (keep (isClassBody ns) (upto 0 (count ns))) ++ flatMap (λ n. times n (protoAgain ns names n)) (upto 0 (count ns))
+  -- 15.7.7 AllPrivateIdentifiersValid: outside of classes; in them, at the class whose body is nearest
+  pub code7 : raising 7 (findingsOf t ns ss source names) ≡ keep (isOutside ns) (upto 0 (count ns))
+  pub code8 : withCode 8 (findingsOf t ns ss source names) ≡ reported ns (invalidInTable ns names)
+  -- 15.7: a declaration that lacks its name
+  pub code26 : raising 26 (findingsOf t ns ss source names) ≡ keep (nameMissing ns) (upto 0 (count ns))
+  -- 15.7.1 changed: a second constructor
+  pub code27 : raising 27 (findingsOf t ns ss source names) ≡ keep (builtTwice ns) (upto 0 (count ns))
+  -- `super` where an early error forbids it (HasDirectSuper, Contains), where the table's scopes are the tree's
+  pub code28 : ScopesFit ns ss → raising 28 (findingsOf t ns ss source names) ≡ keep (tableBare ns) (upto 0 (count ns))
+  pub code29 : ScopesFit ns ss → raising 29 (findingsOf t ns ss source names) ≡ keep (tableStray ns) (upto 0 (count ns))
+  pub code30 : ScopesFit ns ss → raising 30 (findingsOf t ns ss source names) ≡ keep (tableProperty ns) (upto 0 (count ns))
+
+-- THE THEOREM
+pub findings262 : (t : ℕ) (ns ss source names : List ℕ) → inputRefusal t ns ss source names ≡ Passed → Broken t ns ss source names
+findings262 t ns ss source names e =
+    let w = input-well-formed t ns ss source names e in
+    record {
+      strict = earlyErrors t ns ss source names w;
+      code18 = labels.all18Are t ns ss source names w;
+      code19 = labels.all19Are t ns ss source names w;
+      code20 = labels.all20Are t ns ss source names w;
+      code21 = labels.all21Are t ns ss source names w;
+      code22 = labels.all22Are t ns ss source names w;
+      code23 = labels.all23Are t ns ss source names w;
+      code1 = classes.code1 t ns ss source names w;
+      code7 = classes.code7 t ns ss source names w;
+      code8 = classes.code8 t ns ss source names w;
+      code26 = classes.code26 t ns ss source names w;
+      code27 = classes.code27 t ns ss source names w;
+      code28 = λ f. classes.code28 t ns ss source names w f;
+      code29 = λ f. classes.code29 t ns ss source names w f;
+      code30 = λ f. classes.code30 t ns ss source names w f;
+    }
