@@ -1,5 +1,5 @@
 'use strict';
-// rulecheck's lines, its limits, and a view for people.
+// rulecheck's and ruleroute's lines, their limits, and a view for people.
 
 const { KINDS, ROLES, F } = require('./kinds.js');
 
@@ -30,6 +30,11 @@ function linesOf(tree) {
   return Buffer.concat(out);
 }
 
+// with the unit and the answers behind them, for ruleroute
+function routeLinesOf(tree, unit, answers) {
+  return Buffer.concat([linesOf(tree), Buffer.from(`U,${unit}\nA${answers.map((a) => `,${a}`).join('')}\n`)]);
+}
+
 function viewOf(tree) {
   const depth = depthOf(tree.nodes);
   const out = [];
@@ -47,4 +52,4 @@ function viewOf(tree) {
   return out.join('\n') + '\n';
 }
 
-module.exports = { linesOf, viewOf, tooLarge, depthOf };
+module.exports = { linesOf, routeLinesOf, viewOf, tooLarge, depthOf };
