@@ -21,6 +21,15 @@ says() {
     [ "$got" = "$want" ] || { echo "$got"; return 1; }
 }
 
+# each text of a disagreement is told in docs/DIFFERENCES.md
+told() {
+    local text ok=0
+    while read -r text; do
+        grep -qF -- "$text" docs/DIFFERENCES.md || { echo "not told: $text"; ok=1; }
+    done < <(sed -nE 's/^[^#].* \| [sm] \| (.*)$/\1/p' tools/disagreements.txt)
+    return $ok
+}
+
 lines() { tools/treemaker --route 0 "$1" rules/while-switch.js | target/bin/ruleroute; }
 appended() { { tools/treemaker rules/while-switch.js && echo U,0 && echo A,1,0; } | target/bin/ruleroute; }
 
@@ -50,6 +59,8 @@ check "no route of a rule with an error" says 'routeview: no route: the rule has
 
 if [ -d ../shared/test262 ]; then check "test262" tools/test262; else unrun "test262" "its files are not beside the repository"; fi
 check "V8's verdicts" tools/v8-verdicts 1000 3
+check "a text for each disagreement" tools/v8-verdicts --texts
+check "each of them told" told
 # the figures too: every end and every kind of unit is among the runs
 check "V8's routes" says '1000 units (618 programs, 195 functions, 98 arrows, 89 static blocks), 4000 runs: 2689 fell through, 37 returned, 139 threw, 1135 spent their answers; 17900 entries, 9183 answers taken, longest list 59; 0 disagree' \
     tools/v8-routes 1000 3 --quiet
