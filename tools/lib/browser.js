@@ -6,13 +6,22 @@ const fs = require('fs');
 const os = require('os');
 const path = require('path');
 
+const LIMIT = 30000;
+
+// a promise that fails if it takes too long
+function inTime(promise, what) {
+  let timer;
+  const late = new Promise((_, reject) => { timer = setTimeout(() => reject(new Error(`chromium doesn't answer: ${what}`)), LIMIT); });
+  return Promise.race([promise, late]).finally(() => clearTimeout(timer));
+}
+
 class Browser {
   static async open() {
     const b = new Browser();
     b.dir = fs.mkdtempSync(path.join(os.tmpdir(), 'browser-'));
     const flags = ['--headless', '--no-sandbox', '--disable-gpu', '--disable-dev-shm-usage', '--remote-debugging-pipe', `--user-data-dir=${b.dir}`, '--window-size=1200,900'];
     b.child = spawn('chromium', flags, { stdio: ['ignore', 'ignore', 'ignore', 'pipe', 'pipe'] });
-    Object.assign(b, { next: 0, waiting: new Map(), events: [], got: '' });
+    Object.assign(b, { next: 0, waiting: new Map(), got: '' });
     b.child.stdio[4].setEncoding('utf8').on('data', (text) => b.read(text));
     b.child.on('exit', () => { for (const w of b.waiting.values()) w.reject(new Error('chromium ended')); });
     const { targetId } = await b.ask('Target.createTarget', { url: 'about:blank' });
@@ -37,13 +46,13 @@ class Browser {
     const id = ++this.next;
     const answer = new Promise((resolve, reject) => this.waiting.set(id, { resolve, reject }));
     this.child.stdio[3].write(JSON.stringify({ id, method, params, sessionId: this.sessionId }) + '\0');
-    return answer;
+    return inTime(answer, method);
   }
 
   async show(file) {
     const loaded = new Promise((resolve) => { this.loaded = resolve; });
     await this.ask('Page.navigate', { url: `file://${path.resolve(file)}` });
-    await loaded;
+    await inTime(loaded, `loading ${file}`);
   }
 
   // what a function gives in the page
@@ -65,7 +74,7 @@ class Browser {
 
   async close() {
     const ended = new Promise((resolve) => this.child.on('exit', resolve));
-    this.ask('Browser.close').catch(() => {});
+    this.child.kill('SIGKILL');
     await ended;
     fs.rmSync(this.dir, { recursive: true, force: true });
   }

@@ -32,10 +32,12 @@ class Page {
       const brace = this.text(subject.end, n.end).indexOf('{');
       return [[n.start, subject.end + (brace < 0 ? 0 : Buffer.byteLength(this.text(subject.end, n.end).slice(0, brace)))]];
     }
-    if (n.kind === K.DoWhile) return [[nodes[body].end, n.end]];
+    if (n.kind === K.DoWhile) return [[this.pastBlank(nodes[body].end, n.end), n.end]];
     if (body === undefined) return [[n.start, n.end]];
     return [[n.start, nodes[body].start]];
   }
+
+  pastBlank(from, to) { return from + Buffer.byteLength(/^\s*/.exec(this.text(from, to))[0]); }
 
   // every statement of the unit that can be listed, in node order
   statements() {
@@ -111,10 +113,8 @@ class Page {
   // a step's statement in short, and the line on which it is shown
   shown({ node }) {
     const [from, to] = this.headOf(node)[0];
-    const whole = this.text(from, to);
-    const text = whole.replace(/\s+/g, ' ').trim();
-    const blank = Buffer.byteLength(/^\s*/.exec(whole)[0]);
-    return { line: this.lineOf(from + blank), text: text.length > 60 ? `${text.slice(0, 59)}…` : text };
+    const text = this.text(from, to).replace(/\s+/g, ' ').trim();
+    return { line: this.lineOf(from), text: text.length > 60 ? `${text.slice(0, 59)}…` : text };
   }
 
   rows(steps) {
