@@ -62,9 +62,9 @@ check "V8's verdicts" tools/v8-verdicts 1000 3
 check "a text for each disagreement" tools/v8-verdicts --texts
 check "each of them told" told
 # the figures too: every end and every kind of unit is among the runs
-check "V8's routes" says '1000 units (618 programs, 195 functions, 98 arrows, 89 static blocks), 4000 runs: 2689 fell through, 37 returned, 139 threw, 1135 spent their answers; 17900 entries, 9183 answers taken, longest list 59; 0 disagree' \
+check "V8's routes" says '1000 units (618 programs, 195 functions, 93 arrows, 94 static blocks), 4000 runs: 2699 fell through, 30 returned, 148 threw, 1123 spent their answers; 17482 entries, 9202 answers taken, longest list 46; 0 disagree' \
     tools/v8-routes 1000 3 --quiet
-check "V8's routes, with try" says '200 units (119 programs, 47 functions, 19 arrows, 15 static blocks), 800 runs: 471 fell through, 4 returned, 13 threw, 140 spent their answers, 172 turned down for a try; 2490 entries, 1234 answers taken, longest list 52; 0 disagree' \
+check "V8's routes, with try" says '200 units (115 programs, 48 functions, 21 arrows, 16 static blocks), 800 runs: 459 fell through, 4 returned, 15 threw, 138 spent their answers, 184 turned down for a try; 2325 entries, 1105 answers taken, longest list 52; 0 disagree' \
     tools/v8-routes 200 4 --try --quiet
 if tools/setup chromium; then check "pages in Chromium" tools/pages 60 5; else unrun "pages in Chromium" "it can't be installed"; fi
 echo "$passed passed, $failed failed"
