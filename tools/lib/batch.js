@@ -35,13 +35,20 @@ function findingsOf(lines) {
   return { findings: lines.slice(0, -1).map((l) => l.slice(2).split(',').map(Number)) };
 }
 
-// Where a program is looked for: as named, else where the build leaves it.
-function programOf(named, places) {
-  if (named) return named;
-  const root = path.resolve(__dirname, '../..');
-  const found = places.map((p) => path.resolve(root, p)).find((p) => fs.existsSync(p));
-  if (!found) throw new Error(`name the program: none of ${places.join(', ')} is there`);
-  return found;
+// A route: entries, end, how many entries and answers taken; or the line of a refusal or failure.
+function routeOf(lines) {
+  const last = lines[lines.length - 1] || 'C,nothing';
+  if (!last.startsWith('Z,')) return { refused: last };
+  const [end, entries, taken] = last.slice(2).split(',').map(Number);
+  return { list: lines.slice(0, -1).map((l) => Number(l.slice(2))), end, entries, taken };
 }
 
-module.exports = { answersOf, findingsOf, programOf };
+// The program as named, else the proved one where the build leaves it.
+function programOf(named, name) {
+  if (named) return named;
+  const built = path.resolve(__dirname, '../../target/bin', name);
+  if (!fs.existsSync(built)) throw new Error(`${name} is not built: run rt check ${name}, or name a program that reads the same lines`);
+  return built;
+}
+
+module.exports = { answersOf, findingsOf, routeOf, programOf };

@@ -168,21 +168,25 @@ class Text {
     return `try ${this.block()}${caught ? ` catch ${parameter}${this.block()}` : ''}${!caught || this.chance(0.3) ? ` finally ${this.block()}` : ''}`;
   }
 
-  labeled() {
+  // with `held` a loop, or labels around one
+  labeled(held = false) {
     let name = this.one(['p', 'q', 'r', '\\u0070', 'pé']);
     if (this.labels.length > 0 && this.bad()) return `${this.one(this.labels).name}: ;`;
     const taken = () => this.labels.some((l) => l.name === name.replace('\\u0070', 'p'));
     if (taken() && !this.bad()) name = `l${(this.names += 1)}`;
     if (this.bad()) name = this.reserved();
-    const loop = this.chance(0.6);
+    const loop = held || this.chance(0.6);
     const labels = this.labels;
     this.labels = [...labels, { name: name.replace('\\u0070', 'p'), loop }];
     let body;
-    if (loop) body = this.chance(0.1) ? `l${(this.names += 1)}: ${this.loop()}` : this.loop();
-    else body = this.one([() => this.block(), () => this.switches(), () => this.simple(), () => (this.bad() ? this.functionDeclaration() : ';')])();
+    if (loop) body = this.chance(0.1) ? this.chained() : this.loop();
+    else body = this.flat();
     this.labels = labels;
     return `${name}: ${body}`;
   }
+
+  chained() { return `l${(this.names += 1)}: ${this.loop()}`; }
+  flat() { return this.one([() => this.block(), () => this.switches(), () => this.simple(), () => (this.bad() ? this.functionDeclaration() : ';')])(); }
 
   jump() {
     const loops = this.labels.filter((l) => l.loop);
@@ -429,6 +433,11 @@ class RouteText extends Text {
   pattern() { return this.fresh(); }
 
   last() { return this.chance(0.4) ? this.jump() : this.simple(); }
+
+  chained() { return this.labeled(true); }
+  flat() {
+    return this.one([() => this.block(), () => this.switches(), () => this.simple(), () => this.ifs(), () => this.ifs(), () => (this.here.strict ? this.ifs() : `with (a) ${this.held()}`)])();
+  }
 
   list() {
     const n = this.random.below(5);

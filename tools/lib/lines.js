@@ -1,9 +1,10 @@
 'use strict';
-// rulecheck's lines, its limits, and a view for people.
+// rulecheck's and ruleroute's lines, their limits, and a view for people.
 
 const { KINDS, ROLES, F } = require('./kinds.js');
 
 const LIMIT = 1024;
+const LONGEST = 2100;
 
 function depthOf(nodes) {
   const depth = new Array(nodes.length).fill(0);
@@ -30,6 +31,21 @@ function linesOf(tree) {
   return Buffer.concat(out);
 }
 
+const lineOf = (answers) => ['A', ...answers].join();
+
+// Answers as they are written in a call: numbers with commas, nothing for none. Null where ruleroute couldn't read them.
+function answersIn(text) {
+  if (!/^(\d+(,\d+)*)?$/.test(text)) return null;
+  const answers = text === '' ? [] : text.split(',').map(Number);
+  const fits = answers.length <= LIMIT && lineOf(answers).length <= LONGEST && answers.every((a) => a <= 4294967295);
+  return fits ? answers : null;
+}
+
+// with the unit and the answers behind them, for ruleroute
+function routeLinesOf(tree, unit, answers) {
+  return Buffer.concat([linesOf(tree), Buffer.from(`U,${unit}\n${lineOf(answers)}\n`)]);
+}
+
 function viewOf(tree) {
   const depth = depthOf(tree.nodes);
   const out = [];
@@ -47,4 +63,4 @@ function viewOf(tree) {
   return out.join('\n') + '\n';
 }
 
-module.exports = { linesOf, viewOf, tooLarge, depthOf };
+module.exports = { linesOf, routeLinesOf, answersIn, viewOf, tooLarge, depthOf };

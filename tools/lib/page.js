@@ -1,11 +1,11 @@
 'use strict';
-// A route as one page: the rule's text with the statements that ran, in order, the answers where they were taken,
-// and the end in words. No script, nothing from elsewhere.
+// A route as one page, or as lines of text: the rule's text with the statements that ran, in order, the answers where
+// they were taken, and the end in words. No script, nothing from elsewhere.
 
 const { K, R } = require('./kinds.js');
 
 const LOOPS = [K.For, K.ForIn, K.ForOf, K.While, K.DoWhile];
-const ENDS = ['fell through its last statement', 'returned', 'threw', 'stopped, since the answers were spent'];
+const ENDS = ['fell through its last statement', 'returned', 'threw', 'stopped for want of an answer'];
 const UNITS = ['the program', 'the function', 'the arrow function', 'the static block'];
 
 const takesAnswer = (kind) => kind === K.If || kind === K.Switch || LOOPS.includes(kind);
@@ -32,10 +32,12 @@ class Page {
       const brace = this.text(subject.end, n.end).indexOf('{');
       return [[n.start, subject.end + (brace < 0 ? 0 : Buffer.byteLength(this.text(subject.end, n.end).slice(0, brace)))]];
     }
-    if (n.kind === K.DoWhile) return [[nodes[body].end, n.end]];
+    if (n.kind === K.DoWhile) return [[this.pastBlank(nodes[body].end, n.end), n.end]];
     if (body === undefined) return [[n.start, n.end]];
     return [[n.start, nodes[body].start]];
   }
+
+  pastBlank(from, to) { return from + Buffer.byteLength(/^\s*/.exec(this.text(from, to))[0]); }
 
   // every statement of the unit that can be listed, in node order
   statements() {
@@ -108,28 +110,50 @@ class Page {
     return `<a class="step" href="#s${s.number}">${s.number}${answer}</a>`;
   }
 
+  // a step's statement in short, and the line on which it is shown
+  shown({ node }) {
+    const [from, to] = this.headOf(node)[0];
+    const text = this.text(from, to).replace(/\s+/g, ' ').trim();
+    return { line: this.lineOf(from), text: text.length > 60 ? `${text.slice(0, 59)}…` : text };
+  }
+
   rows(steps) {
     return steps.map((s) => {
-      const n = this.tree.nodes[s.node];
-      const [from, to] = this.headOf(s.node)[0];
-      const text = this.text(from, to).replace(/\s+/g, ' ').trim();
-      return `<tr id="s${s.number}"><td>${s.number}</td><td>${this.lineOf(n.start)}</td>`
-        + `<td><a href="#n${s.node}"><code>${escape(text.length > 60 ? `${text.slice(0, 59)}…` : text)}</code></a></td><td>${escape(this.words(s))}</td></tr>`;
+      const { line, text } = this.shown(s);
+      return `<tr id="s${s.number}"><td>${s.number}</td><td>${line}</td>`
+        + `<td><a href="#n${s.node}"><code>${escape(text)}</code></a></td><td>${escape(this.words(s))}</td></tr>`;
     }).join('\n');
+  }
+
+  unitWords() {
+    const { kind, start } = this.tree.nodes[this.unit];
+    return UNITS[kind] + (this.unit === 0 ? '' : ` at line ${this.lineOf(start)}`);
+  }
+
+  left() { return this.answers.slice(this.route.taken); }
+  counted() { return `${count(this.route.list.length, 'entry', 'entries')} and ${count(this.route.taken, 'answer')}`; }
+
+  plain() {
+    const rows = this.steps().map((s) => ({ number: String(s.number), ...this.shown(s), words: this.words(s) }));
+    const wide = (f) => Math.max(0, ...rows.map((r) => String(f(r)).length));
+    const [a, b, c] = [wide((r) => r.number), wide((r) => r.line), wide((r) => r.text)];
+    const lines = rows.map((r) => `${r.number.padStart(a)}  line ${String(r.line).padStart(b)}  ${r.text.padEnd(c)}  ${r.words}`.trimEnd());
+    const left = this.left().length > 0 ? `; left over: ${this.left().join(', ')}` : '';
+    return `route of ${this.unitWords()} with answers ${this.answers.join(', ') || 'none'}\n${lines.map((l) => `${l}\n`).join('')}`
+      + `it ${ENDS[this.route.end]} after ${this.counted()}${left}\n`;
   }
 
   html(title) {
     const steps = this.steps();
-    const { end, taken } = this.route;
-    const left = this.answers.slice(taken);
-    const unit = this.tree.nodes[this.unit];
+    const { end } = this.route;
+    const left = this.left();
     return `<!doctype html>
 <html lang="en"><head><meta charset="utf-8"><title>${escape(title)}</title>
 <meta name="viewport" content="width=device-width, initial-scale=1">
 <style>${STYLE}</style></head><body>
 <h1>${escape(title)}</h1>
-<p>Route of ${UNITS[unit.kind]}${this.unit === 0 ? '' : ` at line ${this.lineOf(unit.start)}`} with answers <code>${this.answers.join(', ') || 'none'}</code>.
-It <b>${ENDS[end]}</b> after ${count(steps.length, 'entry', 'entries')} and ${count(taken, 'answer')}${left.length > 0 ? `; left over: <code>${left.join(', ')}</code>` : ''}.</p>
+<p>Route of ${this.unitWords()} with answers <code>${this.answers.join(', ') || 'none'}</code>.
+It <b>${ENDS[end]}</b> after ${this.counted()}${left.length > 0 ? `; left over: <code>${left.join(', ')}</code>` : ''}.</p>
 <main><pre>
 ${this.source(steps)}</pre>
 <table><thead><tr><th></th><th>line</th><th>statement</th><th>answer</th></tr></thead><tbody>

@@ -44,4 +44,7 @@ function badPattern(node) {
   return Object.keys(node).some((k) => k !== 'loc' && badPattern(node[k]));
 }
 
-module.exports = { classOf };
+// the names of all classes, but for sums of them
+const leftOut = () => [...CLASSES.map(([name]) => name), 'parser:for-head-value'];
+
+module.exports = { classOf, leftOut };

@@ -3,7 +3,7 @@
 // function; what none recognises is a fault.
 
 const { K, F, S } = require('./kinds.js');
-const { classOf } = require('./reasons.js');
+const { classOf, leftOut } = require('./reasons.js');
 
 // The nearest function or program around a node is sloppy, so that only a class makes the code strict.
 function strictByClassAlone(tree, node) {
@@ -150,4 +150,11 @@ function nameOf(list, side, what, item, run) {
   return known ? `${side} only: ${known[0]}` : `fault: ${side} only: ${what}`;
 }
 
-module.exports = { verdictClass, parserClasses };
+// every class but agreement and faults
+function classNames() {
+  const names = (prefix, list) => list.map(([name]) => `${prefix}: ${name}`);
+  return [...names('missed', MISSED), ...names('extra', EXTRA), ...leftOut().map((name) => `left out: ${name}`),
+    ...names('parser only', ONLY_PARSER), ...names('check only', ONLY_CHECK)];
+}
+
+module.exports = { verdictClass, parserClasses, classNames };

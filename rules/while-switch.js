@@ -1,0 +1,1 @@
+a: while(t){ switch(s){ case c: continue a; } x; }
