@@ -162,5 +162,8 @@ pub fn findings(rule: &Rule) -> Result<Vec<Finding>, Refusal> {
         numbers.resize(needed as usize, 0);
         check(rule, &mut numbers)?;
     }
-    Ok(numbers.chunks_exact(FINDING).map(|n| Finding::from_numbers([n[0], n[1], n[2], n[3], n[4], n[5], n[6]])).collect())
+    Ok(numbers
+        .chunks_exact(FINDING)
+        .map(|n| Finding::from_numbers([n[0], n[1], n[2], n[3], n[4], n[5], n[6]]))
+        .collect())
 }

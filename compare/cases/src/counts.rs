@@ -19,6 +19,8 @@ pub struct Counts {
     contexts: [u64; 5],
     ends: [u64; 4],
     route_refusals: [u64; 13],
+    /// Of the proved library, by refusal; 0 is success.
+    proved_checks: [u64; 13],
 }
 
 impl Counts {
@@ -34,6 +36,7 @@ impl Counts {
             contexts: [0; 5],
             ends: [0; 4],
             route_refusals: [0; 13],
+            proved_checks: [0; 13],
         }
     }
 
@@ -66,6 +69,17 @@ impl Counts {
             Err(refusal) => self.route_refusals[refusal.number as usize] += 1,
         }
     }
+
+    #[cfg(feature = "proved")]
+    pub fn proved_check(&mut self, answer: &Result<usize, Refusal>) {
+        self.proved_checks[number(answer)] += 1;
+    }
+}
+
+/// The refusal's number, or 0.
+#[cfg(feature = "proved")]
+fn number<T>(answer: &Result<T, Refusal>) -> usize {
+    answer.as_ref().err().map_or(0, |refusal| refusal.number as usize)
 }
 
 impl fmt::Display for Counts {
@@ -92,6 +106,9 @@ impl fmt::Display for Counts {
         writeln!(f, "contexts 0 to 4: {:?}", self.contexts)?;
         writeln!(f, "routes by end 0 to 3: {:?}, entries {}", self.ends, self.entries)?;
         writeln!(f, "routes refused by 7, 8, 9: {:?}", &self.route_refusals[7..10])?;
+        if cfg!(feature = "proved") {
+            writeln!(f, "check calls of the proved library by refusal 0 to 12: {:?}", self.proved_checks)?;
+        }
         let (codes, refusals) = self.unseen();
         writeln!(f, "not seen: codes {codes:?}, refusals {refusals:?}")?;
         writeln!(f, "{} cases, {} differences", self.cases.iter().sum::<u64>(), self.differences)
