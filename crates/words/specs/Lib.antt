@@ -1,0 +1,5 @@
+pub mod Words
+pub mod Held
+pub mod WordsLaws
+pub mod Tree
+pub mod Steps
