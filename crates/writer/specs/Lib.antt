@@ -1,0 +1,3 @@
+pub mod Laid
+pub mod Numbers
+pub mod Emit
