@@ -3,3 +3,5 @@ pub mod Held
 pub mod WordsLaws
 pub mod Tree
 pub mod Steps
+pub mod MadeLaws
+pub mod Made
