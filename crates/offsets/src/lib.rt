@@ -1,0 +1,1 @@
+// Where each node's words stand.
