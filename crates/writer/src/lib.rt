@@ -1,132 +1,130 @@
 // Writes the flat code of a unit: the words of each of its nodes, in node order, and the ends.
 ghost use mathlib.Core.Path.{_≡_};
 ghost use mathlib.Core.Bool.{true};
-ghost use mathlib.Core.List.{[], _∷_, _++_};
 ghost use Prim.Native.Nat.{_+_, _*_, _<_, _≤_};
-ghost use lib.ListN.{length, drop};
-ghost use Rattle.common.specs.Wrote.{put};
+ghost use lib.ListN.{length};
 ghost use Rattle.tables.specs.Table.{count};
-ghost use Rattle.completion.specs.Sem.{pick};
-ghost use Rattle.unit.specs.Unit.{beforeAt, testAt};
-ghost use Rattle.words.specs.Words.{codeOf};
-ghost use Rattle.words.specs.Held.{Good, Held};
-ghost use Rattle.offsets.specs.Offs.{Offs};
-ghost use Rattle.writer.specs.Arrays.{Arrays};
-ghost use Rattle.writer.specs.Laid.{blockWords, loopWords, ifWords, switchWords, caseWords};
-ghost use Rattle.writer.specs.Emit.{turned};
+ghost use Rattle.words.specs.Words.{live, codeOf};
+ghost use Rattle.words.specs.Held.{Held};
+ghost use Rattle.emits.specs.Arrays.{Arrays};
+ghost use Rattle.emits.specs.Emit.{turned};
+ghost use Rattle.writer.specs.Over.{over, leafAim};
 use tables::NodeId;
-use tables::kinds;
-use tables::node_flag;
-use tables::roles;
 use unit::Shape;
 
-fn choose(t: bool, x: u32, y: u32) -> u32
-    ensures { λ r. ⌜ r ≡ pick t x y ⌝ }
-{
-    if t {
-        return x;
-    }
-    y
-}
-
-fn is_before(nodes: &[u32], n: NodeId) -> bool
-    requires { ⌜ n .0 < count (now nodes) ⌝ }
-    ensures { λ r. ⌜ r ≡ beforeAt (now (nodes .entry)) (n .0) ⌝ }
-{
-    common::not(tables::kind(nodes, n) == kinds::DO_WHILE)
-}
-
-fn has_test(nodes: &[u32], n: NodeId) -> bool
-    requires { ⌜ n .0 < count (now nodes) ⌝ }
-    ensures { λ r. ⌜ r ≡ testAt (now (nodes .entry)) (n .0) ⌝ }
-{
-    let k = tables::kind(nodes, n);
-    let tested = tables::has_flag(tables::flags(nodes, n), node_flag::TEST);
-    common::or(common::not(k == kinds::FOR), tested)
-}
-
-fn emit_block(nodes: &[u32], n: NodeId, o: u32, r: u32, code: &mut [u32])
-    requires { ⌜ Good (now nodes) ⌝ }
-    requires { ⌜ n .0 < count (now nodes) ⌝ }
-    requires { ⌜ o ≤ 1000000 ⌝ }
-    requires { ⌜ o + 10 ≤ length (now code) ⌝ }
-    ensures { λ _. ⌜ now (code .exit) ≡ put (now (code .entry)) o (blockWords (now (nodes .entry)) (n .0) o r) ⌝ }
-{
-    let c = parts::next_part(nodes, n, n.0 + 1);
-    let v = ways::if_zero(c, r, o + 3);
-    stores::put3(code, tables::wide(o), 2, v, 0);
-}
-
-fn emit_loop(nodes: &[u32], n: NodeId, o: u32, r: u32, code: &mut [u32])
-    requires { ⌜ n .0 < count (now nodes) ⌝ }
-    requires { ⌜ o ≤ 1000000 ⌝ }
-    requires { ⌜ o + 10 ≤ length (now code) ⌝ }
-    ensures { λ _. ⌜ now (code .exit) ≡ put (now (code .entry)) o (loopWords (now (nodes .entry)) (n .0) o r) ⌝ }
-{
-    let x = choose(is_before(nodes, n), o + 3, o + 10);
-    let y = choose(has_test(nodes, n), o + 7, o + 10);
-    stores::put10(code, tables::wide(o), 2, x, 0, 3, n.0, o + 10, y, 2, r, 0);
-}
-
-// An alternate may stand before the held statement.
-fn emit_if(nodes: &[u32], b: NodeId, offs: &[u32], n: NodeId, o: u32, r: u32, code: &mut [u32])
-    requires { ⌜ Good (now nodes) ⌝ }
-    requires { ⌜ Offs (now nodes) (b .0) (count (now nodes)) (now offs) ⌝ }
-    requires { ⌜ count (now nodes) < length (now offs) ⌝ }
-    requires { ⌜ n .0 < count (now nodes) ⌝ }
-    requires { ⌜ o ≤ 1000000 ⌝ }
-    requires { ⌜ o + 10 ≤ length (now code) ⌝ }
-    ensures { λ _. ⌜ now (code .exit) ≡ put (now (code .entry)) o (ifWords (now (nodes .entry)) (b .0) (n .0) o r) ⌝ }
-{
-    let c = parts::next_part(nodes, n, n.0 + 1);
-    let d = parts::second_part(nodes, n);
-    let v = offs[tables::wide(d)];
-    let swapped = tables::role(nodes, NodeId(c)) == roles::ALTERNATE;
-    let yes = choose(swapped, v, o + 7);
-    let other = choose(swapped, o + 7, v);
-    let z = ways::if_zero(d, o + 4, other);
-    stores::put7(code, tables::wide(o), 3, n.0, yes, z, 2, r, 0);
-}
-
-fn emit_switch(
+// Where a statement without parts goes on: a jump to its target, a return or throw to its end behind the code, any other on.
+fn target(
     nodes: &[u32],
+    names: &[u8],
     b: NodeId,
     offs: &[u32],
+    nors: &[u32],
     n: NodeId,
-    o: u32,
-    r: u32,
-    code: &mut [u32],
-)
-    requires { ⌜ Good (now nodes) ⌝ }
-    requires { ⌜ Offs (now nodes) (b .0) (count (now nodes)) (now offs) ⌝ }
-    requires { ⌜ count (now nodes) < length (now offs) ⌝ }
+    s: Shape,
+) -> u32
+    requires { ⌜ Held (now nodes) (now names) (b .0) ⌝ }
+    requires { ⌜ Arrays (now nodes) (now names) (b .0) (now offs) (now nors) ⌝ }
     requires { ⌜ n .0 < count (now nodes) ⌝ }
-    requires { ⌜ o ≤ 1000000 ⌝ }
-    requires { ⌜ o + 10 ≤ length (now code) ⌝ }
-    ensures { λ _. ⌜ now (code .exit) ≡ put (now (code .entry)) o (switchWords (now (nodes .entry)) (b .0) (n .0) o r) ⌝ }
+    requires { ⌜ live (now nodes) (b .0) (n .0) ≡ true ⌝ }
+    ensures { λ r. ⌜ r ≡ leafAim (now (nodes .entry)) (now (names .entry)) (b .0) (n .0) s ⌝ }
 {
-    let c = parts::next_part(nodes, n, n.0 + 1);
-    let x = ways::if_zero(c, 0, o + 7);
-    let d = parts::default_part(nodes, n);
-    let v = offs[tables::wide(d)];
-    let y = ways::if_zero(d, o + 4, v);
-    stores::put7(code, tables::wide(o), 4, n.0, x, y, 2, r, 0);
+    match s {
+        Shape::Break => ways::break_target(nodes, names, b, offs, nors, n),
+        Shape::Continue => ways::continue_target(nodes, names, b, offs, n),
+        Shape::Return => offs[tables::wide(tables::size(nodes))] + 2,
+        Shape::Throw => offs[tables::wide(tables::size(nodes))] + 4,
+        Shape::Simple => nors[tables::wide(n.0)],
+        Shape::If => nors[tables::wide(n.0)],
+        Shape::With => nors[tables::wide(n.0)],
+        Shape::Block => nors[tables::wide(n.0)],
+        Shape::Label => nors[tables::wide(n.0)],
+        Shape::Loop => nors[tables::wide(n.0)],
+        Shape::Switch => nors[tables::wide(n.0)],
+        Shape::Case => nors[tables::wide(n.0)],
+    }
 }
 
-fn emit_case(nodes: &[u32], b: NodeId, offs: &[u32], n: NodeId, o: u32, r: u32, code: &mut [u32])
-    requires { ⌜ Good (now nodes) ⌝ }
-    requires { ⌜ Offs (now nodes) (b .0) (count (now nodes)) (now offs) ⌝ }
-    requires { ⌜ count (now nodes) < length (now offs) ⌝ }
-    requires { ⌜ 0 < n .0 ⌝ }
+// Writes the words of a node, if it has any.
+fn emit(
+    nodes: &[u32],
+    names: &[u8],
+    b: NodeId,
+    offs: &[u32],
+    nors: &[u32],
+    n: NodeId,
+    code: &mut [u32],
+)
+    requires { ⌜ Held (now nodes) (now names) (b .0) ⌝ }
+    requires { ⌜ Arrays (now nodes) (now names) (b .0) (now offs) (now nors) ⌝ }
+    requires { ⌜ b .0 < n .0 ⌝ }
     requires { ⌜ n .0 < count (now nodes) ⌝ }
-    requires { ⌜ o ≤ 1000000 ⌝ }
-    requires { ⌜ o + 10 ≤ length (now code) ⌝ }
-    ensures { λ _. ⌜ now (code .exit) ≡ put (now (code .entry)) o (caseWords (now (nodes .entry)) (b .0) (n .0) o r) ⌝ }
+    requires { ⌜ count (now nodes) * 16 ≤ length (now code) ⌝ }
+    ensures { λ _. ⌜ now (code .exit) ≡ turned (now (nodes .entry)) (now (names .entry)) (b .0) (now (code .entry)) (n .0) ⌝ }
 {
-    let m = parts::next_part(nodes, ancestry::up(nodes, n), n.0 + 1);
-    let v = offs[tables::wide(m)];
-    let x = ways::if_zero(m, 0, v);
-    let c = parts::next_part(nodes, n, n.0 + 1);
-    let y = ways::if_zero(c, r, o + 4);
-    stores::put4(code, tables::wide(o), 7, x, y, 0);
+    if !parts::is_live(nodes, b, n) {
+        return;
+    }
+    let s = parts::shape_of(nodes, n);
+    let o = offs[tables::wide(n.0)];
+    let r = target(nodes, names, b, offs, nors, n, s);
+    match s {
+        Shape::Simple => stores::put5(code, tables::wide(o), 1, n.0, 2, r, 0),
+        Shape::Break => stores::put5(code, tables::wide(o), 1, n.0, 2, r, 0),
+        Shape::Continue => stores::put5(code, tables::wide(o), 1, n.0, 2, r, 0),
+        Shape::Return => stores::put5(code, tables::wide(o), 1, n.0, 2, r, 0),
+        Shape::Throw => stores::put5(code, tables::wide(o), 1, n.0, 2, r, 0),
+        Shape::If => emits::emit_if(nodes, b, offs, n, o, r, code),
+        Shape::With => stores::put2(code, tables::wide(o), 1, n.0),
+        Shape::Block => emits::emit_block(nodes, n, o, r, code),
+        Shape::Label => {}
+        Shape::Loop => emits::emit_loop(nodes, n, o, r, code),
+        Shape::Switch => emits::emit_switch(nodes, b, offs, n, o, r, code),
+        Shape::Case => emits::emit_case(nodes, b, offs, n, o, r, code),
+    }
+}
+
+// Writes the words of all nodes, and the ends.
+fn write_code(
+    nodes: &[u32],
+    names: &[u8],
+    b: NodeId,
+    offs: &[u32],
+    nors: &[u32],
+    code: &mut [u32],
+)
+    requires { ⌜ Held (now nodes) (now names) (b .0) ⌝ }
+    requires { ⌜ Arrays (now nodes) (now names) (b .0) (now offs) (now nors) ⌝ }
+    requires { ⌜ count (now nodes) * 16 ≤ length (now code) ⌝ }
+    ensures { λ _. ⌜ now (code .exit) ≡ over (codeOf (now (nodes .entry)) (now (names .entry)) (b .0)) (now (code .entry)) ⌝ }
+{
+    let size = tables::size(nodes);
+    let mut j = b.0 + 1;
+    while j < size {
+        emit(nodes, names, b, offs, nors, NodeId(j), code);
+        j += 1;
+    }
+    let m = offs[tables::wide(size)];
+    stores::put8(code, tables::wide(m), 6, 0, 6, 1, 6, 2, 6, 5);
+}
+
+// The code of the statements that b holds, by way of two arrays; answers its length.
+fn code_by(
+    nodes: &[u32],
+    names: &[u8],
+    b: NodeId,
+    offs: &mut [u32],
+    nors: &mut [u32],
+    code: &mut [u32],
+) -> usize
+    requires { ⌜ Held (now nodes) (now names) (b .0) ⌝ }
+    requires { ⌜ count (now nodes) < length (now offs) ⌝ }
+    requires { ⌜ count (now nodes) < length (now nors) ⌝ }
+    requires { ⌜ count (now nodes) * 16 ≤ length (now code) ⌝ }
+    ensures { λ _. ⌜ now (code .exit) ≡ over (codeOf (now (nodes .entry)) (now (names .entry)) (b .0)) (now (code .entry)) ⌝ }
+    ensures { λ r. ⌜ r ≡ length (codeOf (now (nodes .entry)) (now (names .entry)) (b .0)) ⌝ }
+{
+    offsets::fill_off(nodes, b, offs);
+    ways::fill_nor(nodes, names, b, offs, nors);
+    write_code(nodes, names, b, offs, nors, code);
+    tables::wide(offs[tables::wide(tables::size(nodes))]) + 8
 }

@@ -1,4 +1,4 @@
-use Rattle.writer.specs.ArraysLaws.{default-lt}
+use Rattle.emits.specs.ArraysLaws.{default-lt}
 use Rattle.words.specs.Words.{ifz, off}
 use Rattle.common.specs.Wrote.{put}
 use native.Mathlib.Omega.{arith}
@@ -7,10 +7,10 @@ use Prim.Native.Nat.{_+_}
 use mathlib.Core.List.{[], _∷_}
 use mathlib.Core.Path.{_≡_, ap, _∙_}
 use borrow.Author.Needs.{needs}
-use Rattle.writer.proofs.emit_switch.Statement.{statement}
-use Rattle.writer.proofs.emit_switch.Tie as tie
-use Rattle.writer.proofs.emit_switch.Reads as reads
-use Rattle.writer.proofs.emit_switch.Lts as lts
+use Rattle.emits.proofs.emit_switch.Statement.{statement}
+use Rattle.emits.proofs.emit_switch.Tie as tie
+use Rattle.emits.proofs.emit_switch.Reads as reads
+use Rattle.emits.proofs.emit_switch.Lts as lts
 use Rattle.parts.proofs.default_part.Reads as default-part-reads
 use Rattle.parts.proofs.next_part.Reads as next-part-reads
 use Rattle.stores.proofs.put7.Reads as put7-reads

@@ -1,4 +1,4 @@
-use Rattle.writer.specs.ArraysLaws.{head-lt, second-lt, cond-pick}
+use Rattle.emits.specs.ArraysLaws.{head-lt, second-lt, cond-pick}
 use Rattle.words.specs.Words.{ifz, off, head0, second0}
 use Rattle.unit.specs.Unit.{parts}
 use Rattle.completion.specs.Sem.{pick}
@@ -12,17 +12,17 @@ use mathlib.Core.Bool.{cond}
 use mathlib.Core.List.{[], _∷_}
 use mathlib.Core.Path.{_≡_, ap, sym, _∙_}
 use borrow.Author.Needs.{needs}
-use Rattle.writer.proofs.emit_if.Statement.{statement}
-use Rattle.writer.proofs.emit_if.Tie as tie
-use Rattle.writer.proofs.emit_if.Reads as reads
-use Rattle.writer.proofs.emit_if.Lts as lts
+use Rattle.emits.proofs.emit_if.Statement.{statement}
+use Rattle.emits.proofs.emit_if.Tie as tie
+use Rattle.emits.proofs.emit_if.Reads as reads
+use Rattle.emits.proofs.emit_if.Lts as lts
 use Rattle.parts.proofs.next_part.Reads as next-part-reads
 use Rattle.parts.proofs.second_part.Reads as second-part-reads
 use Rattle.stores.proofs.put7.Reads as put7-reads
 use Rattle.tables.proofs.role.Reads as role-reads
 use Rattle.tables.proofs.wide.Reads as wide-reads
 use Rattle.ways.proofs.if_zero.Reads as if-zero-reads
-use Rattle.writer.proofs.choose.Reads as choose-reads
+use Rattle.emits.proofs.choose.Reads as choose-reads
 
 -- src/lib.rt:81:40
 add-next-part : tie.Need-add-next-part

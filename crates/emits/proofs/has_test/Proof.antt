@@ -3,10 +3,10 @@ use lib.Dec.{eqb}
 use mathlib.Core.Bool.{not, _||_}
 use mathlib.Core.Path.{ap, _∙_}
 use borrow.Author.Needs.{needs}
-use Rattle.writer.proofs.has_test.Statement.{statement}
-use Rattle.writer.proofs.has_test.Tie as tie
-use Rattle.writer.proofs.has_test.Reads as reads
-use Rattle.writer.proofs.has_test.Lts as lts
+use Rattle.emits.proofs.has_test.Statement.{statement}
+use Rattle.emits.proofs.has_test.Tie as tie
+use Rattle.emits.proofs.has_test.Reads as reads
+use Rattle.emits.proofs.has_test.Lts as lts
 use Rattle.common.proofs.not.Reads as not-reads
 use Rattle.common.proofs.or.Reads as or-reads
 use Rattle.tables.proofs.flags.Reads as flags-reads

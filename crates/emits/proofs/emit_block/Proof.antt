@@ -4,10 +4,10 @@ use Prim.Native.Nat.{_+_}
 use mathlib.Core.List.{[], _∷_}
 use mathlib.Core.Path.{ap, _∙_}
 use borrow.Author.Needs.{needs}
-use Rattle.writer.proofs.emit_block.Statement.{statement}
-use Rattle.writer.proofs.emit_block.Tie as tie
-use Rattle.writer.proofs.emit_block.Reads as reads
-use Rattle.writer.proofs.emit_block.Lts as lts
+use Rattle.emits.proofs.emit_block.Statement.{statement}
+use Rattle.emits.proofs.emit_block.Tie as tie
+use Rattle.emits.proofs.emit_block.Reads as reads
+use Rattle.emits.proofs.emit_block.Lts as lts
 use Rattle.parts.proofs.next_part.Reads as next-part-reads
 use Rattle.stores.proofs.put3.Reads as put3-reads
 use Rattle.tables.proofs.wide.Reads as wide-reads

@@ -1,4 +1,4 @@
-use Rattle.writer.specs.ArraysLaws.{head-lt}
+use Rattle.emits.specs.ArraysLaws.{head-lt}
 use Rattle.unit.specs.Unit.{parts}
 use Rattle.words.specs.Words.{ifz, off, head0}
 use Rattle.common.specs.Wrote.{put}
@@ -8,10 +8,10 @@ use Prim.Native.Nat.{_+_}
 use mathlib.Core.List.{[], _∷_}
 use mathlib.Core.Path.{_≡_, ap, _∙_}
 use borrow.Author.Needs.{needs}
-use Rattle.writer.proofs.emit_case.Statement.{statement}
-use Rattle.writer.proofs.emit_case.Tie as tie
-use Rattle.writer.proofs.emit_case.Reads as reads
-use Rattle.writer.proofs.emit_case.Lts as lts
+use Rattle.emits.proofs.emit_case.Statement.{statement}
+use Rattle.emits.proofs.emit_case.Tie as tie
+use Rattle.emits.proofs.emit_case.Reads as reads
+use Rattle.emits.proofs.emit_case.Lts as lts
 use Rattle.ancestry.proofs.up.Reads as up-reads
 use Rattle.parts.proofs.next_part.Reads as next-part-reads
 use Rattle.stores.proofs.put4.Reads as put4-reads

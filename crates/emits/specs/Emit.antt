@@ -17,8 +17,8 @@ use Rattle.words.specs.Words.{ifz, head0, ownBy, Att, live, on, own, off, after
 use Rattle.words.specs.WordsLaws.{on-live, rows-on, rows-off, rows-end, off-on, off-off, on-low}
 use Rattle.words.specs.Held.{Held}
 use Rattle.aims.specs.Aim.{aim}
-use Rattle.writer.specs.Laid.{listWords, blockWords, loopWords, ifWords, switchWords, caseWords}
-use Rattle.writer.specs.Numbers.{words-simple, words-break, words-continue, words-return, words-throw, words-if, words-with, words-label, words-block, words-loop, words-switch, words-case}
+use Rattle.emits.specs.Laid.{listWords, blockWords, loopWords, ifWords, switchWords, caseWords}
+use Rattle.emits.specs.Numbers.{words-simple, words-break, words-continue, words-return, words-throw, words-if, words-with, words-label, words-block, words-loop, words-switch, words-case}
 
 module _ (ns names : List ℕ) (b : ℕ) where
   wordsLength : (s : Shape) (j o : ℕ) (a : Att) (ps : List ℕ) (m : ℕ) → length (wordsBy ns names b s j o a ps m) ≡ ownBy s

@@ -2,10 +2,10 @@ use lib.Dec.{eqb}
 use mathlib.Core.Bool.{not}
 use mathlib.Core.Path.{ap, _∙_}
 use borrow.Author.Needs.{needs}
-use Rattle.writer.proofs.is_before.Statement.{statement}
-use Rattle.writer.proofs.is_before.Tie as tie
-use Rattle.writer.proofs.is_before.Reads as reads
-use Rattle.writer.proofs.is_before.Lts as lts
+use Rattle.emits.proofs.is_before.Statement.{statement}
+use Rattle.emits.proofs.is_before.Tie as tie
+use Rattle.emits.proofs.is_before.Reads as reads
+use Rattle.emits.proofs.is_before.Lts as lts
 use Rattle.common.proofs.not.Reads as not-reads
 use Rattle.tables.proofs.kind.Reads as kind-reads
 

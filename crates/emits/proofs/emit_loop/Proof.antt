@@ -4,15 +4,15 @@ use Prim.Native.Nat.{_+_}
 use mathlib.Core.List.{[], _∷_}
 use mathlib.Core.Path.{ap, _∙_}
 use borrow.Author.Needs.{needs}
-use Rattle.writer.proofs.emit_loop.Statement.{statement}
-use Rattle.writer.proofs.emit_loop.Tie as tie
-use Rattle.writer.proofs.emit_loop.Reads as reads
-use Rattle.writer.proofs.emit_loop.Lts as lts
+use Rattle.emits.proofs.emit_loop.Statement.{statement}
+use Rattle.emits.proofs.emit_loop.Tie as tie
+use Rattle.emits.proofs.emit_loop.Reads as reads
+use Rattle.emits.proofs.emit_loop.Lts as lts
 use Rattle.stores.proofs.put10.Reads as put10-reads
 use Rattle.tables.proofs.wide.Reads as wide-reads
-use Rattle.writer.proofs.choose.Reads as choose-reads
-use Rattle.writer.proofs.has_test.Reads as has-test-reads
-use Rattle.writer.proofs.is_before.Reads as is-before-reads
+use Rattle.emits.proofs.choose.Reads as choose-reads
+use Rattle.emits.proofs.has_test.Reads as has-test-reads
+use Rattle.emits.proofs.is_before.Reads as is-before-reads
 
 -- src/lib.rt:66:20
 is-before-requires : tie.Need-is-before-requires

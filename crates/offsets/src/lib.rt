@@ -1,1 +1,0 @@
-// Where each node's words stand.
