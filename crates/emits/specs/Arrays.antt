@@ -3,7 +3,7 @@ use Prim.Native.Nat.{ℕ, _<_}
 use mathlib.Core.List.{List}
 use lib.ListN.{length}
 use Rattle.tables.specs.Table.{count}
-use Rattle.offsets.specs.Offs.{Offs}
+use Rattle.offsets.specs.Offsets.{Offs}
 use Rattle.ways.specs.Ways.{Nors}
 
 -- where each node's words stand, and where each live node goes on

@@ -1,5 +1,5 @@
 pub mod Laid
 pub mod Arrays
-pub mod ArraysLaws
+pub mod Choice
 pub mod Numbers
 pub mod Emit

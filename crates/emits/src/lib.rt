@@ -8,7 +8,7 @@ ghost use Rattle.tables.specs.Table.{count};
 ghost use Rattle.completion.specs.Sem.{pick};
 ghost use Rattle.unit.specs.Unit.{beforeAt, testAt};
 ghost use Rattle.words.specs.Held.{Good};
-ghost use Rattle.offsets.specs.Offs.{Offs};
+ghost use Rattle.offsets.specs.Offsets.{Offs};
 ghost use Rattle.emits.specs.Laid.{blockWords, loopWords, ifWords, switchWords, caseWords};
 use tables::NodeId;
 use tables::kinds;

@@ -1,17 +1,14 @@
 -- What is shown of a route.
 use Prim.Native.Nat.{ℕ}
-use mathlib.Core.List.{List, _++_}
+use mathlib.Core.List.{List}
 use mathlib.Core.Bool.{cond}
 use lib.Dec.{leb}
-use lib.ListN.{length, drop}
+use lib.ListN.{length}
+use Rattle.stores.specs.Over.{over}
 use Rattle.completion.specs.Route.{Route}
 use Rattle.runner.specs.Ran.{saturated}
 use Rattle.viewer.specs.declared.Routed.{Routed}
 use Rattle.viewer.specs.declared.Routed.the-variants as routed
-
--- a slice with these numbers at its front, and no entry past the last one changed
-abbrev pub over : List ℕ → List ℕ → List ℕ
-over l s = l ++ drop (length l) s
 
 -- 12: "The route slice is shorter than the route", with the length needed; else the end, the list's length and the answers taken
 unfoldable pub shownAnswer : Route → ℕ → Routed

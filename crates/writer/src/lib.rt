@@ -8,7 +8,8 @@ ghost use Rattle.words.specs.Words.{live, codeOf};
 ghost use Rattle.words.specs.Held.{Held};
 ghost use Rattle.emits.specs.Arrays.{Arrays};
 ghost use Rattle.emits.specs.Emit.{turned};
-ghost use Rattle.writer.specs.Over.{over, leafAim};
+ghost use Rattle.stores.specs.Over.{over};
+ghost use Rattle.writer.specs.Leaf.{leafAim};
 use tables::NodeId;
 use unit::Shape;
 

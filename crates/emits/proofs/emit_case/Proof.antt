@@ -1,4 +1,4 @@
-use Rattle.emits.specs.ArraysLaws.{head-lt}
+use Rattle.parts.specs.PartsLaws.{head-lt}
 use Rattle.unit.specs.Unit.{parts}
 use Rattle.words.specs.Words.{ifz, off, head0}
 use Rattle.common.specs.Wrote.{put}

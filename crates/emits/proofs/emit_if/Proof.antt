@@ -1,4 +1,5 @@
-use Rattle.emits.specs.ArraysLaws.{head-lt, second-lt, cond-pick}
+use Rattle.parts.specs.PartsLaws.{head-lt, second-lt}
+use Rattle.emits.specs.Choice.{cond-pick}
 use Rattle.words.specs.Words.{ifz, off, head0, second0}
 use Rattle.unit.specs.Unit.{parts}
 use Rattle.completion.specs.Sem.{pick}

@@ -1,4 +1,4 @@
-use Rattle.emits.specs.ArraysLaws.{default-lt}
+use Rattle.parts.specs.PartsLaws.{default-lt}
 use Rattle.words.specs.Words.{ifz, off}
 use Rattle.common.specs.Wrote.{put}
 use native.Mathlib.Omega.{arith}

@@ -1,16 +1,11 @@
--- What the writing of the code comes to.
+-- Where a node goes on.
 use Prim.Native.Nat.{ℕ}
-use mathlib.Core.List.{List, _++_}
-use lib.ListN.{length, drop}
+use mathlib.Core.List.{List}
 use Rattle.completion.specs.Sem.{normal, breaks, continues, returns, throws}
 use Rattle.unit.specs.Unit.{labAt}
 use Rattle.unit.specs.declared.Shape.{Shape}
 use Rattle.unit.specs.declared.Shape.the-variants.{Simple, Break, Continue, Return, Throw, If, With, Block, Label, Loop, Switch, Case}
 use Rattle.aims.specs.Aim.{aim}
-
--- a slice with these numbers at its front, and no entry past the last one changed
-abbrev pub over : List ℕ → List ℕ → List ℕ
-over l s = l ++ drop (length l) s
 
 -- where the node n, of the shape s, goes on
 abbrev pub leafAim : List ℕ → List ℕ → ℕ → ℕ → Shape → ℕ
