@@ -109,7 +109,7 @@ fn write_code(
 }
 
 // The code of the statements that b holds, by way of two arrays; answers its length.
-fn code_by(
+pub fn code_by(
     nodes: &[u32],
     names: &[u8],
     b: NodeId,
