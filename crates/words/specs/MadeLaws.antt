@@ -1,7 +1,7 @@
 -- Why the words of the nodes, one after the other, are the code of the unit's statements (Made.antt).
 use Prim.Native.Nat.{ℕ, zero, suc, _+_, _-_, _≤_, _<_}
 use mathlib.Core.Path.{_≡_, refl, ap, sym, _∙_, subst}
-use mathlib.Core.Logic.{_⊎_, inl, inr, ⊎-elim}
+use mathlib.Core.Logic.{_⊎_, ⊎-elim}
 use mathlib.Core.List.{List, [], _∷_, _++_, append-assoc, append-nil}
 use mathlib.Core.Bool.{Bool, true, false, cond, _&&_}
 use lib.Dec.{eqb}
@@ -12,7 +12,7 @@ use borrow.Author.Tests.{eq-eqb}
 use Rattle.walk.specs.Above.{Falls}
 use Rattle.tables.specs.Table.{parentOf, roleOf, count}
 use Rattle.tables.specs.Roles as role
-use Rattle.completion.specs.Tree.{Leaf, simple, brk, con, ret, thr, Stmt, Stmts, Cases, leaf, if1, if2, if3, withs, block, label, loop, switch, nil, cons, none, case}
+use Rattle.completion.specs.Tree.{Leaf, simple, brk, con, ret, thr, Stmt, leaf, if2, if3, case}
 use Rattle.completion.specs.Sem.{Comp, normal, pick, noBreak, compOf, defaultAt as defaultIn}
 use Rattle.flat.specs.Code.{Stat, at, goto, caseTo, next, first, link, through, place, size, sizes, sizeCases, code, codes, codeCases, top, ends as endWords, unit}
 use Rattle.unit.specs.Unit.{shapeAt, isPart, partBy, parts, defaultAt, labAt, listOf, casesOf, build, stmtAt, bodyOf}
