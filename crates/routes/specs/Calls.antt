@@ -1,22 +1,23 @@
 -- What `code` and `route` answer and leave, for every input and all slices.
 use Prim.Native.Nat.{ℕ, _*_}
-use mathlib.Core.List.{List, _++_}
+use mathlib.Core.List.{List}
 use mathlib.Core.Bool.{cond}
 use lib.Dec.{leb}
-use lib.ListN.{length, drop}
+use lib.ListN.{length}
 use Rattle.tables.specs.Table.{count}
 use Rattle.verdict.specs.declared.Verdict.{Verdict}
 use Rattle.verdict.specs.declared.Verdict.the-variants as verdict
 use Rattle.wellformed.specs.WellFormed.{inputRefusal}
-use Rattle.completion.specs.Route.{Route, route}
+use Rattle.completion.specs.Route.{route}
 use Rattle.flat.specs.Code.{unit}
-use Rattle.runner.specs.Ran.{saturated}
 use Rattle.unit.specs.Unit.{unitOf}
 use Rattle.targets.specs.Targets.{refusedOr, stateAnswer}
 use Rattle.routes.specs.declared.Coded.{Coded}
 use Rattle.routes.specs.declared.Coded.the-variants as coded
-use Rattle.routes.specs.declared.Routed.{Routed}
-use Rattle.routes.specs.declared.Routed.the-variants as routed
+use Rattle.stores.specs.Over.{over}
+use Rattle.viewer.specs.Shown.{shownAnswer, shownSlice}
+use Rattle.viewer.specs.declared.Routed.{Routed}
+use Rattle.viewer.specs.declared.Routed.the-variants as routed
 
 -- 11: "The code slice is shorter than 16 × the tree's nodes."
 unfoldable pub roomRefusal : List ℕ → ℕ → Verdict
@@ -26,10 +27,6 @@ roomRefusal ns len = cond (leb (16 * count ns) len) verdict.Passed (verdict.Refu
 unfoldable pub codeRefusal : ℕ → List ℕ → List ℕ → List ℕ → List ℕ → ℕ → ℕ → Verdict
 codeRefusal sourceType ns ss source names u len =
     refusedOr (inputRefusal sourceType ns ss source names) (refusedOr (stateAnswer sourceType ns ss source names u) (roomRefusal ns len))
-
--- a slice with these numbers at its front, and no entry past the last one changed
-abbrev pub over : List ℕ → List ℕ → List ℕ
-over l s = l ++ drop (length l) s
 
 -- the answer, or the slice, of a call: by the refusal, or else
 abbrev pub unless : {A : Type 0} → Verdict → (ℕ → ℕ → A) → A → A
@@ -45,13 +42,6 @@ codeAnswer sourceType ns ss source names u len =
 unfoldable pub codeSlice : ℕ → List ℕ → List ℕ → List ℕ → List ℕ → ℕ → List ℕ → List ℕ
 codeSlice sourceType ns ss source names u s =
     unless (codeRefusal sourceType ns ss source names u (length s)) (λ number place. s) (over (unit (unitOf ns names u)) s)
-
--- 12: "The route slice is shorter than the route", with the length needed; else the route's end, its length and the answers taken
-unfoldable pub shownAnswer : Route → ℕ → Routed
-shownAnswer r len = cond (leb (length (r .list)) len) (routed.Route (r .end) (length (r .list)) (r .taken)) (routed.Short (saturated (length (r .list))))
-
-unfoldable pub shownSlice : Route → List ℕ → List ℕ
-shownSlice r s = cond (leb (length (r .list)) (length s)) (over (r .list) s) s
 
 -- "the route call 1-9, 11 and 12": the route is the unit's by the completion rules. Of the code slice it leaves what the code call does, 12 or not.
 unfoldable pub routeAnswer : ℕ → List ℕ → List ℕ → List ℕ → List ℕ → ℕ → List ℕ → ℕ → ℕ → Routed

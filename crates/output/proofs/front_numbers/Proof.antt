@@ -1,10 +1,10 @@
 use lib.Seq.{length-take-le}
 use mathlib.Core.Path.{sym}
 use borrow.Author.Needs.{needs}
-use Rattle.rulecheck.proofs.front_numbers.Statement.{statement}
-use Rattle.rulecheck.proofs.front_numbers.Tie as tie
-use Rattle.rulecheck.proofs.front_numbers.Reads as reads
-use Rattle.rulecheck.proofs.front_numbers.Lts as lts
+use Rattle.output.proofs.front_numbers.Statement.{statement}
+use Rattle.output.proofs.front_numbers.Tie as tie
+use Rattle.output.proofs.front_numbers.Reads as reads
+use Rattle.output.proofs.front_numbers.Lts as lts
 
 -- src/main.rt:21:9
 slice-aggregate-result : tie.Need-slice-aggregate-result

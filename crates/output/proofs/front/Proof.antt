@@ -1,10 +1,10 @@
 use lib.Seq.{length-take-le}
 use mathlib.Core.Path.{sym}
 use borrow.Author.Needs.{needs}
-use Rattle.rulecheck.proofs.front.Statement.{statement}
-use Rattle.rulecheck.proofs.front.Tie as tie
-use Rattle.rulecheck.proofs.front.Reads as reads
-use Rattle.rulecheck.proofs.front.Lts as lts
+use Rattle.output.proofs.front.Statement.{statement}
+use Rattle.output.proofs.front.Tie as tie
+use Rattle.output.proofs.front.Reads as reads
+use Rattle.output.proofs.front.Lts as lts
 
 -- src/main.rt:13:9
 slice-aggregate-result : tie.Need-slice-aggregate-result
