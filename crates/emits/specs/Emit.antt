@@ -50,63 +50,62 @@ module _ (ns names : List ℕ) (b : ℕ) where
       go : (x : Bool) → on ns b j ≡ x → Wrote f₀ (cond x (put f (off ns b j) (wordsAt ns names b j)) f) (off ns b (j + 1)) (rows ns names b (j + 1) ++ rest) whole
       go true e =
           subst (λ w. Wrote f₀ (put f (off ns b j) (wordsAt ns names b j)) w (rows ns names b (j + 1) ++ rest) whole) (words-length j e)
-            (wrote-put f₀ f (off ns b j) (wordsAt ns names b j) (rows ns names b (j + 1) ++ rest) whole
-              (subst (λ l. Wrote f₀ f (off ns b j) l whole) (ap (λ l. l ++ rest) (rows-on ns names b j h e) ∙ append-assoc (wordsAt ns names b j) (rows ns names b (j + 1)) rest) o))
+          (wrote-put f₀ f (off ns b j) (wordsAt ns names b j) (rows ns names b (j + 1) ++ rest) whole
+          (subst (λ l. Wrote f₀ f (off ns b j) l whole) (ap (λ l. l ++ rest) (rows-on ns names b j h e) ∙ append-assoc (wordsAt ns names b j) (rows ns names b (j + 1)) rest) o))
       go false e = subst (λ w. Wrote f₀ f w (rows ns names b (j + 1) ++ rest) whole) (sym (off-off ns b j e)) (subst (λ l. Wrote f₀ f (off ns b j) (l ++ rest) whole) (rows-off ns names b j h e) o)
-
 
 -- What each shape writes, with the numbers that were read.
 module _ (ns names : List ℕ) (b : ℕ) (g : Held ns names b) (n : ℕ) (hb : b < n) (hc : n < count ns) (hl : live ns b n ≡ true) (f : List ℕ) (o r : ℕ) (ho : o ≡ off ns b n)
     (hr : r ≡ aim ns names b n normal)
   where
-  liveOn : on ns b n ≡ true
-  liveOn = on-live ns b (g .good .tree .falls) n hb hc ∙ hl
+    liveOn : on ns b n ≡ true
+    liveOn = on-live ns b (g .good .tree .falls) n hb hc ∙ hl
 
-  wrote-by : (vs : List ℕ) → vs ≡ wordsAt ns names b n → put f o vs ≡ turned ns names b f n
-  unfolding turned
-  wrote-by vs e = (λ i. put f (ho i) (e i)) ∙ rw liveOn
+    wrote-by : (vs : List ℕ) → vs ≡ wordsAt ns names b n → put f o vs ≡ turned ns names b f n
+    unfolding turned
+    wrote-by vs e = (λ i. put f (ho i) (e i)) ∙ rw liveOn
 
-  pub emit-simple : shapeAt ns n ≡ Simple → put f o (listWords n r) ≡ turned ns names b f n
-  emit-simple e = wrote-by _ ((λ i. listWords n (hr i)) ∙ sym (words-simple ns names b (g .good .tree .falls) n hc e))
+    pub emit-simple : shapeAt ns n ≡ Simple → put f o (listWords n r) ≡ turned ns names b f n
+    emit-simple e = wrote-by _ ((λ i. listWords n (hr i)) ∙ sym (words-simple ns names b (g .good .tree .falls) n hc e))
 
-  pub emit-break : shapeAt ns n ≡ Break → (v : ℕ) → v ≡ aim ns names b n (breaks (labAt ns names n)) → put f o (listWords n v) ≡ turned ns names b f n
-  emit-break e v h = wrote-by _ ((λ i. listWords n (h i)) ∙ sym (words-break ns names b (g .good .tree .falls) n hc e))
+    pub emit-break : shapeAt ns n ≡ Break → (v : ℕ) → v ≡ aim ns names b n (breaks (labAt ns names n)) → put f o (listWords n v) ≡ turned ns names b f n
+    emit-break e v h = wrote-by _ ((λ i. listWords n (h i)) ∙ sym (words-break ns names b (g .good .tree .falls) n hc e))
 
-  pub emit-continue : shapeAt ns n ≡ Continue → (v : ℕ) → v ≡ aim ns names b n (continues (labAt ns names n)) → put f o (listWords n v) ≡ turned ns names b f n
-  emit-continue e v h = wrote-by _ ((λ i. listWords n (h i)) ∙ sym (words-continue ns names b (g .good .tree .falls) n hc e))
+    pub emit-continue : shapeAt ns n ≡ Continue → (v : ℕ) → v ≡ aim ns names b n (continues (labAt ns names n)) → put f o (listWords n v) ≡ turned ns names b f n
+    emit-continue e v h = wrote-by _ ((λ i. listWords n (h i)) ∙ sym (words-continue ns names b (g .good .tree .falls) n hc e))
 
-  pub emit-return : shapeAt ns n ≡ Return → (v : ℕ) → v ≡ aim ns names b n returns → put f o (listWords n v) ≡ turned ns names b f n
-  emit-return e v h = wrote-by _ ((λ i. listWords n (h i)) ∙ sym (words-return ns names b (g .good .tree .falls) n hc e))
+    pub emit-return : shapeAt ns n ≡ Return → (v : ℕ) → v ≡ aim ns names b n returns → put f o (listWords n v) ≡ turned ns names b f n
+    emit-return e v h = wrote-by _ ((λ i. listWords n (h i)) ∙ sym (words-return ns names b (g .good .tree .falls) n hc e))
 
-  pub emit-throw : shapeAt ns n ≡ Throw → (v : ℕ) → v ≡ aim ns names b n throws → put f o (listWords n v) ≡ turned ns names b f n
-  emit-throw e v h = wrote-by _ ((λ i. listWords n (h i)) ∙ sym (words-throw ns names b (g .good .tree .falls) n hc e))
+    pub emit-throw : shapeAt ns n ≡ Throw → (v : ℕ) → v ≡ aim ns names b n throws → put f o (listWords n v) ≡ turned ns names b f n
+    emit-throw e v h = wrote-by _ ((λ i. listWords n (h i)) ∙ sym (words-throw ns names b (g .good .tree .falls) n hc e))
 
-  pub emit-if : shapeAt ns n ≡ If → put f o (ifWords ns b n o r) ≡ turned ns names b f n
-  emit-if e = wrote-by _ ((λ i. ifWords ns b n (ho i) (hr i)) ∙ sym (words-if ns names b (g .good .tree .falls) n hc e))
+    pub emit-if : shapeAt ns n ≡ If → put f o (ifWords ns b n o r) ≡ turned ns names b f n
+    emit-if e = wrote-by _ ((λ i. ifWords ns b n (ho i) (hr i)) ∙ sym (words-if ns names b (g .good .tree .falls) n hc e))
 
-  pub emit-with : shapeAt ns n ≡ With → put f o (1 ∷ n ∷ []) ≡ turned ns names b f n
-  emit-with e = wrote-by _ (sym (words-with ns names b (g .good .tree .falls) n hc e))
+    pub emit-with : shapeAt ns n ≡ With → put f o (1 ∷ n ∷ []) ≡ turned ns names b f n
+    emit-with e = wrote-by _ (sym (words-with ns names b (g .good .tree .falls) n hc e))
 
-  pub emit-block : shapeAt ns n ≡ Block → put f o (blockWords ns n o r) ≡ turned ns names b f n
-  emit-block e = wrote-by _ ((λ i. blockWords ns n (ho i) (hr i)) ∙ sym (words-block ns names b (g .good .tree .falls) n hc e))
+    pub emit-block : shapeAt ns n ≡ Block → put f o (blockWords ns n o r) ≡ turned ns names b f n
+    emit-block e = wrote-by _ ((λ i. blockWords ns n (ho i) (hr i)) ∙ sym (words-block ns names b (g .good .tree .falls) n hc e))
 
-  pub emit-label : shapeAt ns n ≡ Label → f ≡ turned ns names b f n
-  unfolding turned
-  emit-label e = sym (rw liveOn (rw (words-label ns names b (g .good .tree .falls) n hc e) putNil))
-    where
-      putNil : put f (off ns b n) [] ≡ f
-      putNil =
-          let q : off ns b n + 0 ≡ off ns b n = omega arith in
-          rw q (ap (λ l. l ++ drop (off ns b n) f) (append-nil (take (off ns b n) f)) ∙ take-append-drop (off ns b n) f)
+    pub emit-label : shapeAt ns n ≡ Label → f ≡ turned ns names b f n
+    unfolding turned
+    emit-label e = sym (rw liveOn (rw (words-label ns names b (g .good .tree .falls) n hc e) putNil))
+      where
+        putNil : put f (off ns b n) [] ≡ f
+        putNil =
+            let q : off ns b n + 0 ≡ off ns b n = omega arith in
+            rw q (ap (λ l. l ++ drop (off ns b n) f) (append-nil (take (off ns b n) f)) ∙ take-append-drop (off ns b n) f)
 
-  pub emit-loop : shapeAt ns n ≡ Loop → put f o (loopWords ns n o r) ≡ turned ns names b f n
-  emit-loop e = wrote-by _ ((λ i. loopWords ns n (ho i) (hr i)) ∙ sym (words-loop ns names b (g .good .tree .falls) n hc e))
+    pub emit-loop : shapeAt ns n ≡ Loop → put f o (loopWords ns n o r) ≡ turned ns names b f n
+    emit-loop e = wrote-by _ ((λ i. loopWords ns n (ho i) (hr i)) ∙ sym (words-loop ns names b (g .good .tree .falls) n hc e))
 
-  pub emit-switch : shapeAt ns n ≡ Switch → put f o (switchWords ns b n o r) ≡ turned ns names b f n
-  emit-switch e = wrote-by _ ((λ i. switchWords ns b n (ho i) (hr i)) ∙ sym (words-switch ns names b (g .good .tree .falls) n hc e))
+    pub emit-switch : shapeAt ns n ≡ Switch → put f o (switchWords ns b n o r) ≡ turned ns names b f n
+    emit-switch e = wrote-by _ ((λ i. switchWords ns b n (ho i) (hr i)) ∙ sym (words-switch ns names b (g .good .tree .falls) n hc e))
 
-  pub emit-case : shapeAt ns n ≡ Case → put f o (caseWords ns b n o r) ≡ turned ns names b f n
-  emit-case e = wrote-by _ ((λ i. caseWords ns b n (ho i) (hr i)) ∙ sym (words-case ns names b (g .good .tree .falls) n hc e))
+    pub emit-case : shapeAt ns n ≡ Case → put f o (caseWords ns b n o r) ≡ turned ns names b f n
+    emit-case e = wrote-by _ ((λ i. caseWords ns b n (ho i) (hr i)) ∙ sym (words-case ns names b (g .good .tree .falls) n hc e))
 
 pub emit-dead : (ns names : List ℕ) (b n : ℕ) (f : List ℕ) → live ns b n ≡ false → f ≡ turned ns names b f n
 unfolding turned on

@@ -108,7 +108,15 @@ pub fn emit_switch(
     stores::put7(code, tables::wide(o), 4, n.0, x, y, 2, r, 0);
 }
 
-pub fn emit_case(nodes: &[u32], b: NodeId, offs: &[u32], n: NodeId, o: u32, r: u32, code: &mut [u32])
+pub fn emit_case(
+    nodes: &[u32],
+    b: NodeId,
+    offs: &[u32],
+    n: NodeId,
+    o: u32,
+    r: u32,
+    code: &mut [u32],
+)
     requires { ⌜ Good (now nodes) ⌝ }
     requires { ⌜ Offs (now nodes) (b .0) (count (now nodes)) (now offs) ⌝ }
     requires { ⌜ count (now nodes) < length (now offs) ⌝ }

@@ -45,9 +45,7 @@ fn route_by(
     code: &mut [u32],
     out: &mut [u32],
 ) {
-    let answer = routes::route(
-        kind, nodes, scopes, source, names, unit, answers, code, out,
-    );
+    let answer = routes::route(kind, nodes, scopes, source, names, unit, answers, code, out);
     print_routed(answer, out);
 }
 
@@ -63,7 +61,15 @@ fn route(
     let mut code = [0u32; 16384];
     let mut out = [0u32; 655360];
     route_by(
-        kind, nodes, scopes, source, names, unit, answers, &mut code, &mut out,
+        kind,
+        nodes,
+        scopes,
+        source,
+        names,
+        unit,
+        answers,
+        &mut code,
+        &mut out,
     );
 }
 

@@ -56,7 +56,18 @@ pub fn put7(code: &mut [u32], w: usize, a: u32, b: u32, c: u32, d: u32, e: u32, 
     code[w + 6] = k;
 }
 
-pub fn put8(code: &mut [u32], w: usize, a: u32, b: u32, c: u32, d: u32, e: u32, h: u32, k: u32, x: u32)
+pub fn put8(
+    code: &mut [u32],
+    w: usize,
+    a: u32,
+    b: u32,
+    c: u32,
+    d: u32,
+    e: u32,
+    h: u32,
+    k: u32,
+    x: u32,
+)
     requires { ⌜ w + 8 ≤ length (now code) ⌝ }
     ensures { λ _. ⌜ now (code .exit) ≡ put (now (code .entry)) w (a ∷ b ∷ c ∷ d ∷ e ∷ h ∷ k ∷ x ∷ []) ⌝ }
 {
@@ -70,7 +81,20 @@ pub fn put8(code: &mut [u32], w: usize, a: u32, b: u32, c: u32, d: u32, e: u32, 
     code[w + 7] = x;
 }
 
-pub fn put10(code: &mut [u32], w: usize, a: u32, b: u32, c: u32, d: u32, e: u32, h: u32, k: u32, x: u32, y: u32, z: u32)
+pub fn put10(
+    code: &mut [u32],
+    w: usize,
+    a: u32,
+    b: u32,
+    c: u32,
+    d: u32,
+    e: u32,
+    h: u32,
+    k: u32,
+    x: u32,
+    y: u32,
+    z: u32,
+)
     requires { ⌜ w + 10 ≤ length (now code) ⌝ }
     ensures { λ _. ⌜ now (code .exit) ≡ put (now (code .entry)) w (a ∷ b ∷ c ∷ d ∷ e ∷ h ∷ k ∷ x ∷ y ∷ z ∷ []) ⌝ }
 {

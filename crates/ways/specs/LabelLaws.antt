@@ -62,6 +62,6 @@ module _ (ns names : List ℕ) where
       go false e =
           ne-eqb (nameId ns names l) (nameId ns names (m .0))
           (λ d.
-            let u : nameOf ns names (m .0) ≡ nameOf ns names l = sym (id-named (m .0) q .1) ∙ ap (nameOf ns names) (sym d) ∙ id-named l h .1 in
-            never (sym (same-self (nameOf ns names l)) ∙ subst (λ w. same w (nameOf ns names l) ≡ false) u e))
+          let u : nameOf ns names (m .0) ≡ nameOf ns names l = sym (id-named (m .0) q .1) ∙ ap (nameOf ns names) (sym d) ∙ id-named l h .1 in
+          never (sym (same-self (nameOf ns names l)) ∙ subst (λ w. same w (nameOf ns names l) ≡ false) u e))
   id-test l h Nothing q = let u = id-named l h .0 in ne-eqb (nameId ns names l) (count ns) (λ d. omega arith)

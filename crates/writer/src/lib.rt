@@ -29,19 +29,21 @@ fn target(
     requires { ⌜ live (now nodes) (b .0) (n .0) ≡ true ⌝ }
     ensures { λ r. ⌜ r ≡ leafAim (now (nodes .entry)) (now (names .entry)) (b .0) (n .0) s ⌝ }
 {
+    let on = nors[tables::wide(n.0)];
+    let end = offs[tables::wide(tables::size(nodes))];
     match s {
         Shape::Break => ways::break_target(nodes, names, b, offs, nors, n),
         Shape::Continue => ways::continue_target(nodes, names, b, offs, n),
-        Shape::Return => offs[tables::wide(tables::size(nodes))] + 2,
-        Shape::Throw => offs[tables::wide(tables::size(nodes))] + 4,
-        Shape::Simple => nors[tables::wide(n.0)],
-        Shape::If => nors[tables::wide(n.0)],
-        Shape::With => nors[tables::wide(n.0)],
-        Shape::Block => nors[tables::wide(n.0)],
-        Shape::Label => nors[tables::wide(n.0)],
-        Shape::Loop => nors[tables::wide(n.0)],
-        Shape::Switch => nors[tables::wide(n.0)],
-        Shape::Case => nors[tables::wide(n.0)],
+        Shape::Return => end + 2,
+        Shape::Throw => end + 4,
+        Shape::Simple => on,
+        Shape::If => on,
+        Shape::With => on,
+        Shape::Block => on,
+        Shape::Label => on,
+        Shape::Loop => on,
+        Shape::Switch => on,
+        Shape::Case => on,
     }
 }
 
@@ -85,14 +87,7 @@ fn emit(
 }
 
 // Writes the words of all nodes, and the ends.
-fn write_code(
-    nodes: &[u32],
-    names: &[u8],
-    b: NodeId,
-    offs: &[u32],
-    nors: &[u32],
-    code: &mut [u32],
-)
+fn write_code(nodes: &[u32], names: &[u8], b: NodeId, offs: &[u32], nors: &[u32], code: &mut [u32])
     requires { ⌜ Held (now nodes) (now names) (b .0) ⌝ }
     requires { ⌜ Arrays (now nodes) (now names) (b .0) (now offs) (now nors) ⌝ }
     requires { ⌜ count (now nodes) * 16 ≤ length (now code) ⌝ }

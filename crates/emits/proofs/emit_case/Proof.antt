@@ -86,7 +86,7 @@ returns c = let a = c .before .before .before .before .before .before .before .b
     let h = head-lt (a .nodes .now) (c .before .before .before .before .before .before .before .before .before .before .before .before .before .before .before .before .before .pre .0 .tree) (c .before .before .before .before .before .before .before .before .before .before .before .before .before .up .result .0) (a .n .0 + 1) (omega arith) in
     let m : c .before .before .before .before .before .before .before .before .before .before .before .next-part .result ≡ head0 (parts (a .nodes .now) (c .before .before .before .before .before .before .before .before .before .before .before .before .before .up .result .0) (a .n .0 + 1)) = c .before .before .before .before .before .before .before .before .before .before .before .next-part .ensures in
     let v : getD (a .offs .now) (c .before .before .before .before .before .before .before .before .before .before .wide .result) 0 ≡ off (a .nodes .now) (a .b .0) (c .before .before .before .before .before .before .before .before .before .before .before .next-part .result) =
-        ap (λ k. getD (a .offs .now) k 0) (c .before .before .before .before .before .before .before .before .before .before .wide .ensures) ∙ c .before .before .before .before .before .before .before .before .before .before .before .before .before .before .before .before .before .pre .1 .0 .is (c .before .before .before .before .before .before .before .before .before .before .before .next-part .result) (omega arith) in
+    ap (λ k. getD (a .offs .now) k 0) (c .before .before .before .before .before .before .before .before .before .before .wide .ensures) ∙ c .before .before .before .before .before .before .before .before .before .before .before .before .before .before .before .before .before .pre .1 .0 .is (c .before .before .before .before .before .before .before .before .before .before .before .next-part .result) (omega arith) in
     c .before .before .put4 .ensures ∙ (λ i. put (a .code .now) (c .before .before .before .wide2 .ensures i) (7
     ∷ (c .before .before .before .before .before .before .before .before .if-zero .ensures ∙ ap (λ w. ifz (c .before .before .before .before .before .before .before .before .before .before .before .next-part .result) 0 w) v
     ∙ ap (λ k. ifz k 0 (off (a .nodes .now) (a .b .0) k)) (m ∙ ap (λ p. head0 (parts (a .nodes .now) p (a .n .0 + 1))) (c .before .before .before .before .before .before .before .before .before .before .before .before .before .up .ensures .0))) i

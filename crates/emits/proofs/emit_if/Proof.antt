@@ -103,7 +103,7 @@ returns c = let a = c .before .before .before .before .before .before .before .b
     let e = roleOf (a .nodes .now) (head0 (parts (a .nodes .now) (a .n .0) (a .n .0 + 1))) in
     let w = off (a .nodes .now) (a .b .0) s in
     let v : getD (a .offs .now) (c .before .before .before .before .before .before .before .before .before .before .wide .result) 0 ≡ w =
-        ap (λ k. getD (a .offs .now) k 0) (c .before .before .before .before .before .before .before .before .before .before .wide .ensures) ∙ c .before .before .before .before .before .before .before .before .before .before .before .before .before .before .before .before .before .pre .1 .0 .is (c .before .before .before .before .before .before .before .before .before .before .before .second-part .result) (omega arith) ∙ ap (off (a .nodes .now) (a .b .0)) d in
+    ap (λ k. getD (a .offs .now) k 0) (c .before .before .before .before .before .before .before .before .before .before .wide .ensures) ∙ c .before .before .before .before .before .before .before .before .before .before .before .before .before .before .before .before .before .pre .1 .0 .is (c .before .before .before .before .before .before .before .before .before .before .before .second-part .result) (omega arith) ∙ ap (off (a .nodes .now) (a .b .0)) d in
     let q : c .before .before .before .before .before .before .before .before .role .result ≡ e = c .before .before .before .before .before .before .before .before .role .ensures ∙ ap (roleOf (a .nodes .now)) (c .before .before .before .before .before .before .before .before .before .before .before .before .next-part .ensures) in
     let y : c .before .before .before .before .before .before .before .choose .result ≡ cond (eqb e 4) w (a .o + 7) = c .before .before .before .before .before .before .before .choose .ensures ∙ (λ i. pick (eqb (q i) 4) (v i) (a .o + 7)) ∙ sym (cond-pick (eqb e 4) w (a .o + 7)) in
     let z : c .before .before .before .before .before .before .choose2 .result ≡ cond (eqb e 4) (a .o + 7) w = c .before .before .before .before .before .before .choose2 .ensures ∙ (λ i. pick (eqb (q i) 4) (a .o + 7) (v i)) ∙ sym (cond-pick (eqb e 4) (a .o + 7) w) in

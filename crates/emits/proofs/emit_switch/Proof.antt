@@ -78,7 +78,7 @@ returns c = let a = c .before .before .before .before .before .before .before .b
     let h = default-lt (a .nodes .now) (c .before .before .before .before .before .before .before .before .before .before .before .before .before .before .before .pre .0 .tree) (a .n .0) in
     let d = c .before .before .before .before .before .before .before .before .default-part .ensures in
     let v : getD (a .offs .now) (c .before .before .before .before .before .before .before .wide .result) 0 ≡ off (a .nodes .now) (a .b .0) (c .before .before .before .before .before .before .before .before .default-part .result) =
-        ap (λ k. getD (a .offs .now) k 0) (c .before .before .before .before .before .before .before .wide .ensures) ∙ c .before .before .before .before .before .before .before .before .before .before .before .before .before .before .before .pre .1 .0 .is (c .before .before .before .before .before .before .before .before .default-part .result) (omega arith) in
+    ap (λ k. getD (a .offs .now) k 0) (c .before .before .before .before .before .before .before .wide .ensures) ∙ c .before .before .before .before .before .before .before .before .before .before .before .before .before .before .before .pre .1 .0 .is (c .before .before .before .before .before .before .before .before .default-part .result) (omega arith) in
     c .before .before .put7 .ensures ∙ (λ i. put (a .code .now) (c .before .before .before .wide2 .ensures i) (4 ∷ a .n .0
     ∷ (c .before .before .before .before .before .before .before .before .before .if-zero .ensures ∙ ap (λ k. ifz k 0 (a .o + 7)) (c .before .before .before .before .before .before .before .before .before .before .next-part .ensures)) i
     ∷ (c .before .before .before .before .before .if-zero2 .ensures ∙ ap (λ w. ifz (c .before .before .before .before .before .before .before .before .default-part .result) (a .o + 4) w) v ∙ ap (λ k. ifz k (a .o + 4) (off (a .nodes .now) (a .b .0) k)) d) i

@@ -19,9 +19,10 @@ run-requires c κs = search needs
 
 -- src/lib.rt:23:9
 returns : tie.Need-returns
-returns c = let a = c .before .before .before .before .before .before .before .before .args in
-    (sym (short-answer (codeRoute (a .code .now) (a .answers .now)) (a .out .now) (omega arith) (c .before .before .before .run .result .entries) (c .before .before .before .run .ensures .1 .0) (omega arith)),
-    sym (short-slice (codeRoute (a .code .now) (a .answers .now)) (a .out .now) (omega arith) (c .before .before .before .run .result .entries) (c .before .before .before .run .ensures .1 .0) (omega arith)))
+returns c = let a = c .before .before .before .before .before .before .before .before .args in (
+  sym (short-answer (codeRoute (a .code .now) (a .answers .now)) (a .out .now) (omega arith) (c .before .before .before .run .result .entries) (c .before .before .before .run .ensures .1 .0) (omega arith)),
+  sym (short-slice (codeRoute (a .code .now) (a .answers .now)) (a .out .now) (omega arith) (c .before .before .before .run .result .entries) (c .before .before .before .run .ensures .1 .0) (omega arith)),
+)
 
 -- src/lib.rt:25:9
 run-requires-2 : tie.Need-run-requires-2
@@ -33,9 +34,10 @@ same-length c = search needs
 
 -- src/lib.rt:16:1
 returns-2 : tie.Need-returns-2
-returns-2 c = let a = c .before .before .before .before .before .before .before .before .before .before .before .before .args in
-    (sym (whole-answer (codeRoute (a .code .now) (a .answers .now)) (a .out .now) (omega arith) (c .before .before .run2 .result .entries) (c .before .before .run2 .ensures .1 .0) (omega arith) (c .before .before .run2 .result .end) (c .before .before .run2 .result .taken) (c .before .before .run2 .ensures .0) (c .before .before .run2 .ensures .1 .1 .0)),
-    c .before .before .run2 .ensures .1 .1 .1 ∙ sym (whole-slice (codeRoute (a .code .now) (a .answers .now)) (a .out .now) (omega arith) (c .before .before .run2 .result .entries) (c .before .before .run2 .ensures .1 .0) (omega arith)))
+returns-2 c = let a = c .before .before .before .before .before .before .before .before .before .before .before .before .args in (
+  sym (whole-answer (codeRoute (a .code .now) (a .answers .now)) (a .out .now) (omega arith) (c .before .before .run2 .result .entries) (c .before .before .run2 .ensures .1 .0) (omega arith) (c .before .before .run2 .result .end) (c .before .before .run2 .result .taken) (c .before .before .run2 .ensures .0) (c .before .before .run2 .ensures .1 .1 .0)),
+  c .before .before .run2 .ensures .1 .1 .1 ∙ sym (whole-slice (codeRoute (a .code .now) (a .answers .now)) (a .out .now) (omega arith) (c .before .before .run2 .result .entries) (c .before .before .run2 .ensures .1 .0) (omega arith)),
+)
 
 pub show-spec : {M : Type 1} → statement M
 show-spec =
