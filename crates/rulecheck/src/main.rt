@@ -1,54 +1,12 @@
 // rulecheck: reads the lines of a rule's tables from standard input, checks them, and prints the findings or the refusal.
-ghost use Prim.Native.Nat.{_≤_};
-ghost use mathlib.Core.Path.{_≡_};
-ghost use lib.ListN.{length};
 use libc::STDIN_FILENO;
-use libc::STDOUT_FILENO;
 use lines::Input;
 use rules::Checked;
-
-// The first n bytes, or all where there are fewer.
-fn front(s: &[u8], n: usize) -> &[u8] {
-    if n <= s.len() {
-        return &s[..n];
-    }
-    s
-}
-
-// The first n numbers, or all where there are fewer.
-fn front_numbers(s: &[u32], n: usize) -> &[u32] {
-    if n <= s.len() {
-        return &s[..n];
-    }
-    s
-}
-
-// Prints one line by way of `out`.
-fn print_by(letter: u8, numbers: &[u32], out: &mut [u8])
-    requires { ⌜ length (now numbers) ≤ 8 ⌝ }
-    requires { ⌜ length (now out) ≡ 256 ⌝ }
-{
-    let end = print::line(letter, numbers, out, 0);
-    io::write_all(STDOUT_FILENO, front(out, end));
-}
-
-// Prints one line of at most eight numbers.
-fn print_line(letter: u8, numbers: &[u32]) {
-    let mut out = [0u8; 256];
-    if numbers.len() <= 8 {
-        print_by(letter, numbers, &mut out);
-    }
-}
-
-fn print_refusal(number: u32, place: u32) {
-    let r = [number, place];
-    print_line(b'R', &r);
-}
 
 // Prints the finding that starts at `at`.
 fn print_finding(findings: &[u32], at: usize) {
     if at <= findings.len() {
-        print_line(b'F', front_numbers(&findings[at..], 7));
+        output::print_line(b'F', output::front_numbers(&findings[at..], 7));
     }
 }
 
@@ -64,15 +22,15 @@ fn print_findings(findings: &[u32], count: usize) {
     }
     if count <= 8192 {
         let e = [count as u32];
-        print_line(b'E', &e);
+        output::print_line(b'E', &e);
     }
 }
 
 fn print_checked(answer: Checked, findings: &[u32]) {
     match answer {
         Checked::Findings(count) => print_findings(findings, count),
-        Checked::Refused(number, place) => print_refusal(number, place),
-        Checked::Short(_) => print_refusal(10, 0),
+        Checked::Refused(number, place) => output::print_refusal(number, place),
+        Checked::Short(_) => output::print_refusal(10, 0),
     }
 }
 
@@ -108,10 +66,10 @@ fn check_front(
 ) {
     check(
         kind,
-        front_numbers(nodes, n),
-        front_numbers(scopes, s),
-        front(source, b),
-        front(names, m),
+        output::front_numbers(nodes, n),
+        output::front_numbers(scopes, s),
+        output::front(source, b),
+        output::front(names, m),
     );
 }
 
@@ -125,7 +83,7 @@ fn run_by(
 ) {
     let read = lines::read(input, nodes, scopes, source, names);
     match read {
-        Input::Unread(line) => print_refusal(0, line),
+        Input::Unread(line) => output::print_refusal(0, line),
         Input::Tables {
             kind,
             nodes: n,
@@ -146,7 +104,7 @@ fn run(input: &[u8]) {
 
 fn read_and_run(input: &mut [u8]) {
     let got = io::read_full(STDIN_FILENO, input);
-    run(front(input, got));
+    run(output::front(input, got));
 }
 
 fn main() {

@@ -6,7 +6,7 @@ use Rattle.rulecheck.proofs.print_findings.Tie as tie
 use Rattle.rulecheck.proofs.print_findings.Reads as reads
 use Rattle.rulecheck.proofs.print_findings.Lts as lts
 use Rattle.rulecheck.proofs.print_finding.Reads as print-finding-reads
-use Rattle.rulecheck.proofs.print_line.Reads as print-line-reads
+use Rattle.output.proofs.print_line.Reads as print-line-reads
 
 abbrev Inv-loop : tie.InvT-loop
 Inv-loop findings count i₀ i = i ≤ count

@@ -1,0 +1,2 @@
+pub mod Aim
+pub mod AimLaws

@@ -1,0 +1,1 @@
+// Where each completion of a node leads, in numbers.

@@ -1,0 +1,5 @@
+pub mod Laid
+pub mod Arrays
+pub mod Choice
+pub mod Numbers
+pub mod Emit

@@ -1,0 +1,5 @@
+pub mod Kinds
+pub mod Parts
+pub mod Rising
+pub mod NoTry
+pub mod Held

@@ -1,0 +1,6 @@
+pub mod Shapes
+pub mod Item
+pub mod ScopeAt
+pub mod Reach
+pub mod UnitScoped
+pub mod Passed

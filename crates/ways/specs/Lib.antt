@@ -1,0 +1,3 @@
+pub mod Ways
+pub mod LabelLaws
+pub mod WaysLaws
