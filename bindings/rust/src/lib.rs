@@ -1,7 +1,9 @@
 //! Safe calls of Velkunshe's proved static library.
 //!
-//! A rule comes as tables of numbers (see [`Rule`]). [`check`] gives its early errors. Whatever the tables hold, a call ends and does
-//! nothing undefined, and its answer is the one that is proved; nothing here asks for `unsafe`.
+//! A rule comes as tables of numbers (see [`Rule`]). [`check`] gives its early errors; [`code`] makes the flat code of one of its units (the
+//! program, a function, an arrow or a static block), and [`route`] lists the statements that the unit comes to on a list of answers.
+//! [`findings`] and [`route_of`] give the same in vectors. Whatever the tables hold, a call ends and does nothing undefined, and its answer
+//! is the one that is proved; nothing here asks for `unsafe`.
 //!
 //! The library is linked as `build.rs` says: from `VELKUNSHE_LIB`, the path of an archive, or from this repository's
 //! `target/staticlib/libexports.a`, which `rt staticlib exports` writes. x86-64 Linux only.
@@ -39,6 +41,46 @@
 //! let refusal = check(&rule, &mut numbers[..6]).unwrap_err();
 //! assert_eq!((refusal.number, refusal.needed), (10, Some(7)));
 //! ```
+//!
+//! # Check a rule and show its route
+//!
+//! `while (t) { if (s) break; x; }`. The `while` and the `if` each take an answer, 0 for no.
+//!
+//! ```
+//! use velkunshe::{findings, route_of, End, Rule};
+//!
+//! let source = b"while (t) { if (s) break; x; }";
+//! let rule = Rule {
+//!     source_type: 0,
+//!     nodes: &[
+//!         0, 0, 0, 0, 30, 0, 0, 0, 0, 0, // 0 Program
+//!         10, 0, 3, 0, 30, 0, 0, 0, 0, 0, // 1 While
+//!         32, 1, 0, 7, 8, 0, 0, 0, 0, 1, // 2 t
+//!         5, 1, 3, 10, 30, 1, 0, 0, 0, 0, // 3 Block
+//!         12, 3, 3, 12, 25, 1, 0, 0, 0, 0, // 4 If
+//!         32, 4, 0, 16, 17, 1, 0, 0, 1, 1, // 5 s
+//!         18, 4, 3, 19, 25, 1, 0, 0, 0, 0, // 6 Break
+//!         22, 3, 3, 26, 28, 1, 0, 0, 0, 0, // 7 x;
+//!     ],
+//!     scopes: &[0, 2, 0, 0, 0, 3],
+//!     source,
+//!     names: b"ts",
+//! };
+//! assert!(findings(&rule).unwrap().is_empty());
+//!
+//! // Once around, then out by the break.
+//! let route = route_of(&rule, 0, &[1, 0, 1, 1]).unwrap();
+//! assert_eq!(route.nodes, [1, 4, 7, 1, 4, 6]);
+//! assert_eq!((route.end, route.taken), (End::FellThrough, 4));
+//!
+//! let shown: Vec<&str> = route.nodes.iter().map(|&n| rule.text(n)).collect();
+//! assert_eq!(shown[2], "x;");
+//! assert_eq!(shown[5], "break;");
+//!
+//! // No answer is left for the second turn.
+//! let route = route_of(&rule, 0, &[1, 0]).unwrap();
+//! assert_eq!((route.nodes, route.end), (vec![1, 4, 7], End::AnswersSpent));
+//! ```
 
 #![warn(missing_docs)]
 
@@ -53,6 +95,8 @@ pub const NODE: usize = 10;
 pub const SCOPE: usize = 3;
 /// How many numbers a finding takes in the slice that [`check`] writes.
 pub const FINDING: usize = 7;
+/// How many numbers the code slice must have for each node of the tree.
+pub const CODE: usize = 16;
 
 /// The tables of a rule. Nothing is asked of the numbers: what is no rule is turned down by a [`Refusal`].
 #[derive(Clone, Copy, Debug)]
@@ -69,15 +113,35 @@ pub struct Rule<'a> {
     pub names: &'a [u8],
 }
 
-/// Why a call turned its input down. The slices are then as they were.
+impl<'a> Rule<'a> {
+    /// How many nodes there are.
+    pub fn node_count(&self) -> usize {
+        self.nodes.len() / NODE
+    }
+
+    /// The text of a node's span, for showing; empty where there is no such text.
+    pub fn text(&self, node: u32) -> &'a str {
+        let record = self.nodes.chunks_exact(NODE).nth(node as usize);
+        let bytes = record.and_then(|r| self.source.get(r[3] as usize..r[4] as usize));
+        bytes.and_then(|b| std::str::from_utf8(b).ok()).unwrap_or("")
+    }
+}
+
+/// Why a call turned its input down. The slices are then as they were, but that after 12 the code slice holds the code.
 #[derive(Clone, Copy, Debug, PartialEq, Eq)]
 pub struct Refusal {
-    /// 1 to 6: the tables; 10: the findings slice is too short.
+    /// 1 to 6: the tables; 7, 8: the unit; 9: the rule has findings; 10, 11, 12: the findings, code or route slice is too short.
     pub number: u32,
-    /// The node or scope that 2 to 6 speak of, else 0.
+    /// The node or scope that 2 to 6 speak of, the unit of 7 and 8, the node of 9, else 0.
     pub place: u32,
-    /// After 10: the length that the slice must have.
+    /// After 10 and 12: the length that the slice must have.
     pub needed: Option<u64>,
+}
+
+impl Refusal {
+    fn new(number: u32, place: u32, needed: u64) -> Refusal {
+        Refusal { number, place, needed: matches!(number, 10 | 12).then_some(needed) }
+    }
 }
 
 impl fmt::Display for Refusal {
@@ -89,7 +153,12 @@ impl fmt::Display for Refusal {
             4 => "a span or a name lies outside its bytes",
             5 => "a scope is missing, broken, or does not belong to the node that uses it",
             6 => "a node stands where it may not, or has too few or too many children",
+            7 => "the unit is no Program, Function, Arrow or StaticBlock",
+            8 => "the unit holds a try",
+            9 => "the rule has findings, or a jump without a target",
             10 => "the findings slice is too short",
+            11 => "the code slice is shorter than 16 numbers a node",
+            12 => "the route slice is too short",
             _ => "turned down",
         };
         write!(f, "refusal {} at {}: {why}", self.number, self.place)?;
@@ -146,7 +215,7 @@ pub fn check(rule: &Rule, out: &mut [u32]) -> Result<usize, Refusal> {
     };
     match answer.refusal {
         0 => Ok(answer.findings as usize),
-        number => Err(Refusal { number, place: answer.place, needed: (number == 10).then_some(answer.needed) }),
+        number => Err(Refusal::new(number, answer.place, answer.needed)),
     }
 }
 
@@ -166,4 +235,127 @@ pub fn findings(rule: &Rule) -> Result<Vec<Finding>, Refusal> {
         .chunks_exact(FINDING)
         .map(|n| Finding::from_numbers([n[0], n[1], n[2], n[3], n[4], n[5], n[6]]))
         .collect())
+}
+
+/// How a route ends.
+#[derive(Clone, Copy, Debug, PartialEq, Eq)]
+pub enum End {
+    /// Past the unit's last statement.
+    FellThrough,
+    /// By a return.
+    Returned,
+    /// By a throw.
+    Thrown,
+    /// No answer was left for an if, a switch or a turn of a loop.
+    AnswersSpent,
+}
+
+/// What [`route`] gives of a route whose nodes it wrote.
+#[derive(Clone, Copy, Debug, PartialEq, Eq)]
+pub struct Shown {
+    /// How many nodes were listed.
+    pub entries: usize,
+    /// How it ended.
+    pub end: End,
+    /// How many answers were taken.
+    pub taken: u64,
+}
+
+/// A route, as [`route_of`] gives it.
+#[derive(Clone, Debug, PartialEq, Eq)]
+pub struct Route {
+    /// The nodes in the order in which they were reached.
+    pub nodes: Vec<u32>,
+    /// How it ended.
+    pub end: End,
+    /// How many answers were taken.
+    pub taken: u64,
+}
+
+/// Makes the flat code of a unit from the start of `out` and gives its length. No entry past the last one written is changed.
+///
+/// # Errors
+///
+/// Refusals 1 to 9, and 11 where `out` is shorter than 16 × the tree's nodes.
+pub fn code(rule: &Rule, unit: u32, out: &mut [u32]) -> Result<usize, Refusal> {
+    // SAFETY: pointers and lengths of live slices; `out` is borrowed alone.
+    let answer = unsafe {
+        ffi::velkunshe_code(
+            rule.source_type,
+            rule.nodes.as_ptr(),
+            rule.nodes.len(),
+            rule.scopes.as_ptr(),
+            rule.scopes.len(),
+            rule.source.as_ptr(),
+            rule.source.len(),
+            rule.names.as_ptr(),
+            rule.names.len(),
+            unit,
+            out.as_mut_ptr(),
+            out.len(),
+        )
+    };
+    match answer.refusal {
+        0 => Ok(answer.length as usize),
+        number => Err(Refusal::new(number, answer.place, 0)),
+    }
+}
+
+/// Makes the flat code of a unit in `code`, runs it over the answers, and lists the nodes from the start of `out`. No entry past the last
+/// one written is changed.
+///
+/// # Errors
+///
+/// Refusals 1 to 9, 11 where `code` is shorter than 16 × the tree's nodes, and 12 with the length needed where `out` is shorter than the
+/// route.
+pub fn route(rule: &Rule, unit: u32, answers: &[u32], code: &mut [u32], out: &mut [u32]) -> Result<Shown, Refusal> {
+    // SAFETY: pointers and lengths of live slices; `code` and `out` are each borrowed alone.
+    let answer = unsafe {
+        ffi::velkunshe_route(
+            rule.source_type,
+            rule.nodes.as_ptr(),
+            rule.nodes.len(),
+            rule.scopes.as_ptr(),
+            rule.scopes.len(),
+            rule.source.as_ptr(),
+            rule.source.len(),
+            rule.names.as_ptr(),
+            rule.names.len(),
+            unit,
+            answers.as_ptr(),
+            answers.len(),
+            code.as_mut_ptr(),
+            code.len(),
+            out.as_mut_ptr(),
+            out.len(),
+        )
+    };
+    if answer.refusal != 0 {
+        return Err(Refusal::new(answer.refusal, answer.place, answer.needed));
+    }
+    let end = match answer.end {
+        0 => End::FellThrough,
+        1 => End::Returned,
+        2 => End::Thrown,
+        _ => End::AnswersSpent,
+    };
+    Ok(Shown { entries: answer.entries as usize, end, taken: answer.taken })
+}
+
+/// The route of a unit, in a vector as long as it needs.
+///
+/// # Errors
+///
+/// Refusals 1 to 9.
+pub fn route_of(rule: &Rule, unit: u32, answers: &[u32]) -> Result<Route, Refusal> {
+    let mut code = vec![0; CODE * rule.node_count()];
+    let mut nodes = Vec::new();
+    let shown = match route(rule, unit, answers, &mut code, &mut nodes) {
+        Err(Refusal { needed: Some(needed), .. }) => {
+            nodes.resize(needed as usize, 0);
+            route(rule, unit, answers, &mut code, &mut nodes)?
+        }
+        answer => answer?,
+    };
+    Ok(Route { nodes, end: shown.end, taken: shown.taken })
 }
