@@ -16,7 +16,7 @@ if ! rt staticlib exports >target/staticlib.log 2>&1 || ! (cd compare && cargo b
 fi
 if (cd compare && cargo test --release --offline -q --features cases/proved >/dev/null 2>&1); then ok; else bad "cargo test in compare"; fi
 answer=$(compare/target/release/compare run 20000 2027)
-if [ "$(tail -n 1 <<<"$answer")" = "20000 cases, 0 differences" ] && grep -q "^check calls of the proved library" <<<"$answer"; then ok; else bad "compare run 20000 2027: $answer"; fi
+if [ "$(tail -n 1 <<<"$answer")" = "20000 cases, 0 differences" ] && grep -q "^route calls of the proved library" <<<"$answer"; then ok; else bad "compare run 20000 2027: $answer"; fi
 
 vectors=$(mktemp -d)
 compare/target/release/compare vectors "$vectors" 400 11 >/dev/null

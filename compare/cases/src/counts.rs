@@ -19,8 +19,8 @@ pub struct Counts {
     contexts: [u64; 5],
     ends: [u64; 4],
     route_refusals: [u64; 13],
-    /// Of the proved library, by refusal; 0 is success.
-    proved_checks: [u64; 13],
+    /// Calls of the proved library, check, code and route, by refusal; 0 is success.
+    proved: [[u64; 13]; 3],
 }
 
 impl Counts {
@@ -36,7 +36,7 @@ impl Counts {
             contexts: [0; 5],
             ends: [0; 4],
             route_refusals: [0; 13],
-            proved_checks: [0; 13],
+            proved: [[0; 13]; 3],
         }
     }
 
@@ -72,7 +72,17 @@ impl Counts {
 
     #[cfg(feature = "proved")]
     pub fn proved_check(&mut self, answer: &Result<usize, Refusal>) {
-        self.proved_checks[number(answer)] += 1;
+        self.proved[0][number(answer)] += 1;
+    }
+
+    #[cfg(feature = "proved")]
+    pub fn proved_code(&mut self, answer: &Result<usize, Refusal>) {
+        self.proved[1][number(answer)] += 1;
+    }
+
+    #[cfg(feature = "proved")]
+    pub fn proved_route(&mut self, answer: &Result<Route, Refusal>) {
+        self.proved[2][number(answer)] += 1;
     }
 }
 
@@ -107,7 +117,9 @@ impl fmt::Display for Counts {
         writeln!(f, "routes by end 0 to 3: {:?}, entries {}", self.ends, self.entries)?;
         writeln!(f, "routes refused by 7, 8, 9: {:?}", &self.route_refusals[7..10])?;
         if cfg!(feature = "proved") {
-            writeln!(f, "check calls of the proved library by refusal 0 to 12: {:?}", self.proved_checks)?;
+            for (call, calls) in ["check", "code", "route"].iter().zip(&self.proved) {
+                writeln!(f, "{call} calls of the proved library by refusal 0 to 12: {calls:?}")?;
+            }
         }
         let (codes, refusals) = self.unseen();
         writeln!(f, "not seen: codes {codes:?}, refusals {refusals:?}")?;

@@ -152,7 +152,7 @@ fn compare(t: &Tables, sort: Sort, rng: &mut Rng, counts: &mut Counts) -> Result
         routes(t, rng, counts)?;
     }
     #[cfg(feature = "proved")]
-    proved::compare(t, counts)?;
+    proved::compare(t, rng, counts)?;
     Ok(())
 }
 

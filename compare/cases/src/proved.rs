@@ -1,22 +1,33 @@
 //! The proved static library beside the plain version: every answer and every entry of every slice. Only with the
 //! feature `proved`.
 
-use plain::{Refusal, Tables};
-use velkunshe::Rule;
+use std::ops::Range;
+
+use cases::rng::Rng;
+use plain::{Refusal, Route, Tables};
+use velkunshe::{End, Rule};
 
 use crate::counts::Counts;
-use crate::same;
+use crate::{answers, same};
 
 /// What an entry holds that nothing was written to.
 const UNTOUCHED: u32 = 0xa5a5_5a5a;
 /// Entries before and behind a lent slice, which must stay as they are.
 const MARGIN: usize = 9;
 
-pub fn compare(t: &Tables, counts: &mut Counts) -> Result<(), String> {
+pub fn compare(t: &Tables, rng: &mut Rng, counts: &mut Counts) -> Result<(), String> {
     let found = if plain::input_refusal(t).is_none() { plain::findings(t).len() } else { 0 };
-    let mut lengths = vec![0, (7 * found).saturating_sub(1), 7 * found, 7 * found + 5];
+    around(7 * found).into_iter().try_for_each(|length| check(t, length, counts))?;
+    let no_unit = rng.below(t.node_count() + 2);
+    let units = (0..t.node_count()).filter(|&n| t.kind(n) <= 3).take(4).chain([no_unit]);
+    units.into_iter().try_for_each(|n| unit(t, n as u32, &answers(rng), counts))
+}
+
+/// No room, one entry too few, exactly enough, and more.
+fn around(length: usize) -> Vec<usize> {
+    let mut lengths = vec![0, length.saturating_sub(1), length, length + 5];
     lengths.dedup();
-    lengths.into_iter().try_for_each(|length| check(t, length, counts))
+    lengths
 }
 
 fn rule<'a>(t: &Tables<'a>) -> Rule<'a> {
@@ -28,7 +39,7 @@ fn refusal(r: velkunshe::Refusal) -> Refusal {
 }
 
 /// A slice of that length within a longer vector.
-fn lent(length: usize) -> (Vec<u32>, std::ops::Range<usize>) {
+fn lent(length: usize) -> (Vec<u32>, Range<usize>) {
     (vec![UNTOUCHED; length + 2 * MARGIN], MARGIN..MARGIN + length)
 }
 
@@ -40,4 +51,74 @@ fn check(t: &Tables, length: usize, counts: &mut Counts) -> Result<(), String> {
     counts.proved_check(&proved);
     same(&format!("check into {length}, plain and proved"), &plain, &proved)?;
     same(&format!("findings slice of {length}, plain and proved"), &expected, &found)
+}
+
+/// Both calls on a unit, or on a number that is none. What 1 to 9 turn down is so whatever the slices are, and is tried
+/// with two lengths only.
+fn unit(t: &Tables, unit: u32, answers: &[u32], counts: &mut Counts) -> Result<(), String> {
+    let room = 16 * t.node_count();
+    if plain::code_refusal(t, unit, room).is_err() {
+        code(t, unit, room, counts)?;
+        code(t, unit, 0, counts)?;
+        return route(t, unit, answers, room, 3, counts);
+    }
+    around(room).into_iter().try_for_each(|length| code(t, unit, length, counts))?;
+    let listed = plain::routes::run(t, unit as usize, answers).list.len();
+    route(t, unit, answers, room - 1, listed, counts)?;
+    around(listed).into_iter().try_for_each(|length| route(t, unit, answers, room, length, counts))
+}
+
+/// The code itself is free: at most 16 numbers per node of the unit, and nothing past them is written.
+fn code(t: &Tables, unit: u32, length: usize, counts: &mut Counts) -> Result<(), String> {
+    let (mut made, part) = lent(length);
+    let plain = plain::code_refusal(t, unit, length);
+    let proved = velkunshe::code(&rule(t), unit, &mut made[part]).map_err(refusal);
+    counts.proved_code(&proved);
+    same(&format!("code of {unit} into {length}, plain and proved"), &plain, &proved.map(|_| ()))?;
+    let written = proved.unwrap_or(0);
+    let nodes = if plain.is_ok() { nodes_of(t, unit as usize) } else { 0 };
+    let others = made[..MARGIN].iter().chain(&made[MARGIN + written..]);
+    if written > 16 * nodes || others.into_iter().any(|&entry| entry != UNTOUCHED) {
+        return Err(format!("code of {unit}: {written} numbers, or more, for {nodes} nodes"));
+    }
+    Ok(())
+}
+
+fn nodes_of(t: &Tables, unit: usize) -> usize {
+    1 + (unit + 1..t.node_count()).take_while(|&n| t.parent(n) >= unit).count()
+}
+
+fn route(
+    t: &Tables,
+    unit: u32,
+    answers: &[u32],
+    code_length: usize,
+    length: usize,
+    counts: &mut Counts,
+) -> Result<(), String> {
+    let what = format!("route of {unit} with {answers:?} into {length}, code into {code_length}, plain and proved");
+    let (mut expected, part) = lent(length);
+    let (mut listed, (mut made, code_part)) = (expected.clone(), lent(code_length));
+    let plain = plain::route(t, unit, answers, code_length, &mut expected[part.clone()]);
+    let proved = velkunshe::route(&rule(t), unit, answers, &mut made[code_part.clone()], &mut listed[part]);
+    let proved = proved.map(shown).map_err(refusal);
+    counts.proved_route(&proved);
+    same(&what, &plain, &proved)?;
+    same(&format!("{what}: slice"), &expected, &listed)?;
+    // After 12, as after success, the code slice holds the code; else it is unchanged.
+    let (mut alone, _) = lent(code_length);
+    if proved.is_ok() || proved.is_err_and(|r| r.number == 12) {
+        let _ = velkunshe::code(&rule(t), unit, &mut alone[code_part]);
+    }
+    same(&format!("{what}: code slice"), &alone, &made)
+}
+
+fn shown(route: velkunshe::Shown) -> Route {
+    let end = match route.end {
+        End::FellThrough => 0,
+        End::Returned => 1,
+        End::Thrown => 2,
+        End::AnswersSpent => 3,
+    };
+    Route { entries: route.entries, end, answers_taken: route.taken as usize }
 }
