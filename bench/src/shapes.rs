@@ -7,25 +7,54 @@ pub struct Shape {
     /// What grows, and how far.
     pub sizes: [usize; 2],
     pub make: fn(usize) -> OwnedTables,
+    /// Whether it is one for code and routes too.
+    pub routes: bool,
 }
 
-pub const SHAPES: [Shape; 16] = [
-    Shape { name: "depth 512", sizes: [8_192, 65_535], make: deep },
-    Shape { name: "one long block", sizes: [8_192, 65_535], make: long_block },
-    Shape { name: "labels nested", sizes: [8_192, 65_535], make: nested_labels },
-    Shape { name: "breaks deep down", sizes: [8_192, 65_535], make: deep_breaks },
-    Shape { name: "labelled breaks deep down", sizes: [8_192, 65_535], make: labelled_breaks },
-    Shape { name: "labels behind bodies, 16 around breaks", sizes: [1_024, 8_192], make: late_labels },
-    Shape { name: "class: private elements", sizes: [2_500, 20_000], make: private_elements },
-    Shape { name: "class: private elements of one name", sizes: [2_500, 20_000], make: one_private_name },
-    Shape { name: "class: private references, one element", sizes: [2_500, 20_000], make: references_to_one },
-    Shape { name: "class: private references, a fourth as many elements", sizes: [2_500, 20_000], make: references },
-    Shape { name: "scopes in one chain", sizes: [8_192, 65_535], make: scope_chain },
-    Shape { name: "await under a chain of scopes", sizes: [2_048, 16_384], make: awaits_in_scopes },
-    Shape { name: "super under a chain of scopes", sizes: [2_048, 16_384], make: supers_in_scopes },
-    Shape { name: "object of properties", sizes: [2_500, 20_000], make: object },
-    Shape { name: "long equal names (labels)", sizes: [8_192, 65_535], make: long_labels },
-    Shape { name: "long names, last byte differs (references)", sizes: [2_500, 20_000], make: long_names },
+pub const SHAPES: [Shape; 18] = [
+    Shape { name: "depth 512", sizes: [8_192, 65_535], make: deep, routes: true },
+    Shape { name: "one long block", sizes: [8_192, 65_535], make: long_block, routes: true },
+    Shape { name: "labels nested", sizes: [8_192, 65_535], make: nested_labels, routes: true },
+    Shape { name: "breaks deep down", sizes: [8_192, 65_535], make: deep_breaks, routes: true },
+    Shape { name: "labelled breaks deep down", sizes: [8_192, 65_535], make: labelled_breaks, routes: true },
+    Shape { name: "labels behind bodies, 16 around breaks", sizes: [1_024, 8_192], make: late_labels, routes: true },
+    Shape { name: "class: private elements", sizes: [2_500, 20_000], make: private_elements, routes: false },
+    Shape {
+        name: "class: private elements of one name",
+        sizes: [2_500, 20_000],
+        make: one_private_name,
+        routes: false,
+    },
+    Shape {
+        name: "class: private references, one element",
+        sizes: [2_500, 20_000],
+        make: references_to_one,
+        routes: false,
+    },
+    Shape {
+        name: "class: private references, a fourth as many elements",
+        sizes: [2_500, 20_000],
+        make: references,
+        routes: false,
+    },
+    Shape { name: "scopes in one chain", sizes: [8_192, 65_535], make: scope_chain, routes: false },
+    Shape { name: "await under a chain of scopes", sizes: [2_048, 16_384], make: awaits_in_scopes, routes: false },
+    Shape { name: "super under a chain of scopes", sizes: [2_048, 16_384], make: supers_in_scopes, routes: false },
+    Shape { name: "object of properties", sizes: [2_500, 20_000], make: object, routes: false },
+    Shape { name: "long equal names (labels)", sizes: [8_192, 65_535], make: long_labels, routes: false },
+    Shape {
+        name: "long names, last byte differs (references)",
+        sizes: [2_500, 20_000],
+        make: long_names,
+        routes: false,
+    },
+    Shape {
+        name: "loop around a switch, 100 turns to its last case",
+        sizes: [8_192, 65_535],
+        make: switch,
+        routes: true,
+    },
+    Shape { name: "nested ifs, one in each branch", sizes: [8_192, 65_535], make: ifs, routes: true },
 ];
 
 /// A name's start and length.
@@ -288,4 +317,41 @@ fn long_names(count: usize) -> OwnedTables {
     }
     m.references(count, name);
     m.t
+}
+
+/// A While around a Switch of cases with a statement each.
+fn switch(nodes: usize) -> OwnedTables {
+    let mut m = Maker::new();
+    m.open(10, 3, NAMELESS);
+    m.open(14, 3, NAMELESS);
+    while m.nodes() + 2 <= nodes {
+        m.open(15, 3, NAMELESS);
+        m.leaf(22, 3, NAMELESS);
+        m.path.pop();
+    }
+    m.t
+}
+
+/// Ifs within both branches of Ifs, 9 deep, one such tree after the other.
+fn ifs(nodes: usize) -> OwnedTables {
+    fn branch(m: &mut Maker, role: u32, deep: usize) {
+        if deep == 0 {
+            return m.leaf(22, role, NAMELESS);
+        }
+        m.open(12, role, NAMELESS);
+        branch(m, 3, deep - 1);
+        branch(m, 4, deep - 1);
+        m.path.pop();
+    }
+    let mut m = Maker::new();
+    while m.nodes() + 1_023 <= nodes {
+        branch(&mut m, 3, 9);
+    }
+    m.t
+}
+
+/// Yes and the number of the last case by turns, for 100 turns, and then no.
+pub fn answers(nodes: usize) -> Vec<u32> {
+    let last = (nodes as u32).saturating_sub(3) / 2 - 1;
+    (0..200).map(|i| if i % 2 == 0 { 1 } else { last }).chain([0]).collect()
 }
