@@ -43,6 +43,26 @@ pub mixed1 : route mixed (0 ∷ 1 ∷ 8 ∷ 0 ∷ 0 ∷ 0 ∷ 0 ∷ 1 ∷ 4 ∷ 
 unfolding exec turns rounds asks
 mixed1 = refl
 
+-- A break with a label leaves the loop that has it, not the nearest one.
+abbrev pub outer : Stmts
+outer = one (label 9 (loop 1 true true (block (two (loop 2 true true (leaf 3 (brk (named 9)))) (leaf 4 simple)))))
+
+pub outer1 : route outer (1 ∷ 1 ∷ []) ≡ gives (1 ∷ 2 ∷ 3 ∷ []) 0 2
+unfolding exec turns rounds asks
+outer1 = refl
+
+-- `default` is counted where it stands, and is taken where there is no such case.
+abbrev pub chosen : Stmts
+chosen = one (switch 1 (case true (one (leaf 2 (brk near))) (case false (one (leaf 3 simple)) none)))
+
+pub chosen1 : route chosen (1 ∷ []) ≡ gives (1 ∷ 3 ∷ []) 0 1
+unfolding exec asks
+chosen1 = refl
+
+pub chosen2 : route chosen (2 ∷ []) ≡ gives (1 ∷ 2 ∷ []) 0 1
+unfolding exec asks
+chosen2 = refl
+
 -- A return in a try waits for its finally; a continue there replaces it, and a throw goes on behind it.
 abbrev pub tried : Stmts
 tried = two (loop 1 true true (tryF (if2 2 (leaf 3 ret) (leaf 4 thr)) (block (one (if1 5 (leaf 6 (con near))))))) (leaf 7 simple)

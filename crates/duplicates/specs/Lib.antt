@@ -1,3 +1,2 @@
 pub mod Duplicates
 pub mod DuplicatesLaws
-pub mod Rows

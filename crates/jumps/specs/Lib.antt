@@ -1,3 +1,2 @@
 pub mod Jumps
 pub mod JumpsLaws
-pub mod Rows

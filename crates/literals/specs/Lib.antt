@@ -1,4 +1,3 @@
 pub mod Escapes
 pub mod Literals
 pub mod EscapeLaws
-pub mod Rows

@@ -52,7 +52,7 @@ room-passed ns len e = leb-true (16 * count ns) len (go (leb (16 * count ns) len
     go true e = refl
     go false e = let z : _≡_ {A = ℕ} 0 1 = cc in absurd (omega arith)
 
-unit-kind : (kind : ℕ) → isUnit kind ≡ true → kind ≤ 3
+pub unit-kind : (kind : ℕ) → isUnit kind ≡ true → kind ≤ 3
 unit-kind kind e = leb-true kind 3 (and-right (leb 0 kind) (leb kind 3) e)
 
 module _ (sourceType : ℕ) (ns ss source names : List ℕ) (u len : ℕ) (e : codeRefusal sourceType ns ss source names u len ≡ Passed) where

@@ -1,6 +1,6 @@
 // Refusal 5: the scopes, and the scope of each node.
 ghost use mathlib.Core.Path.{_≡_};
-ghost use Prim.Native.Nat.{_<_};
+ghost use Prim.Native.Nat.{_≤_, _<_};
 ghost use lib.ListN.{length};
 ghost use Rattle.tables.specs.Table.{count, countScopes, Some};
 ghost use Rattle.places.specs.First.{first};
@@ -73,7 +73,7 @@ pub fn broken(scopes: &[u32]) -> Place
 fn deepest(nodes: &[u32], scopes: &[u32], deep: &mut [u32])
     requires { ⌜ Tree (now nodes) ⌝ }
     requires { ⌜ Chained (now scopes) ⌝ }
-    requires { ⌜ length (now deep) ≡ 65536 ⌝ }
+    requires { ⌜ countScopes (now scopes) ≤ length (now deep) ⌝ }
     ensures { λ r. ⌜ Deep (now (nodes .entry)) (now (scopes .entry)) (now (deep .exit)) (countScopes (now (scopes .entry))) ⌝ }
 {
     let size = tables::scopes_size(scopes);
@@ -95,7 +95,7 @@ fn deepest(nodes: &[u32], scopes: &[u32], deep: &mut [u32])
 fn misscoped_at(nodes: &[u32], scopes: &[u32], deep: &[u32], n: NodeId) -> bool
     requires { ⌜ Tree (now nodes) ⌝ }
     requires { ⌜ Chained (now scopes) ⌝ }
-    requires { ⌜ length (now deep) ≡ 65536 ⌝ }
+    requires { ⌜ countScopes (now scopes) ≤ length (now deep) ⌝ }
     requires { ⌜ Deep (now nodes) (now scopes) (now deep) (countScopes (now scopes)) ⌝ }
     requires { ⌜ n .0 < count (now nodes) ⌝ }
     ensures { λ r. ⌜ r ≡ misscopedAt (now (nodes .entry)) (now (scopes .entry)) (n .0) ⌝ }
@@ -118,7 +118,7 @@ fn misscoped_at(nodes: &[u32], scopes: &[u32], deep: &[u32], n: NodeId) -> bool
 fn misscoped_by(nodes: &[u32], scopes: &[u32], deep: &[u32]) -> Place
     requires { ⌜ Tree (now nodes) ⌝ }
     requires { ⌜ Chained (now scopes) ⌝ }
-    requires { ⌜ length (now deep) ≡ 65536 ⌝ }
+    requires { ⌜ countScopes (now scopes) ≤ length (now deep) ⌝ }
     requires { ⌜ Deep (now nodes) (now scopes) (now deep) (countScopes (now scopes)) ⌝ }
     ensures { λ r. ⌜ r ≡ first (misscopedAt (now (nodes .entry)) (now (scopes .entry))) 0 (count (now (nodes .entry))) ⌝ }
 {
@@ -133,8 +133,20 @@ fn misscoped_by(nodes: &[u32], scopes: &[u32], deep: &[u32]) -> Place
     Place::Nowhere
 }
 
-// The lowest node whose scope is missing or does not fit it.
-pub fn misscoped(nodes: &[u32], scopes: &[u32]) -> Place
+// With an array that serves few scopes: it costs less to clear.
+fn misscoped_few(nodes: &[u32], scopes: &[u32]) -> Place
+    requires { ⌜ Tree (now nodes) ⌝ }
+    requires { ⌜ Chained (now scopes) ⌝ }
+    requires { ⌜ countScopes (now scopes) ≤ 256 ⌝ }
+    ensures { λ r. ⌜ r ≡ first (misscopedAt (now (nodes .entry)) (now (scopes .entry))) 0 (count (now (nodes .entry))) ⌝ }
+{
+    let mut deep = [0; 256];
+    deepest(nodes, scopes, &mut deep);
+    misscoped_by(nodes, scopes, &deep)
+}
+
+// With one that serves all.
+fn misscoped_many(nodes: &[u32], scopes: &[u32]) -> Place
     requires { ⌜ Tree (now nodes) ⌝ }
     requires { ⌜ Chained (now scopes) ⌝ }
     ensures { λ r. ⌜ r ≡ first (misscopedAt (now (nodes .entry)) (now (scopes .entry))) 0 (count (now (nodes .entry))) ⌝ }
@@ -142,4 +154,16 @@ pub fn misscoped(nodes: &[u32], scopes: &[u32]) -> Place
     let mut deep = [0; 65536];
     deepest(nodes, scopes, &mut deep);
     misscoped_by(nodes, scopes, &deep)
+}
+
+// The lowest node whose scope is missing or does not fit it.
+pub fn misscoped(nodes: &[u32], scopes: &[u32]) -> Place
+    requires { ⌜ Tree (now nodes) ⌝ }
+    requires { ⌜ Chained (now scopes) ⌝ }
+    ensures { λ r. ⌜ r ≡ first (misscopedAt (now (nodes .entry)) (now (scopes .entry))) 0 (count (now (nodes .entry))) ⌝ }
+{
+    if tables::scopes_size(scopes) <= 256 {
+        return misscoped_few(nodes, scopes);
+    }
+    misscoped_many(nodes, scopes)
 }

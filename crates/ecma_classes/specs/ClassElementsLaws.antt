@@ -1,0 +1,94 @@
+-- THE FINDINGS ON THE ELEMENTS OF ONE CLASS OR OBJECT ARE BREACHES OF 15.7 AND 13.2.5.1: codes 26 and 27 at a Class, 1 at an Object.
+use Prim.Native.Nat.{ℕ, _+_}
+use mathlib.Core.Path.{_≡_, refl, ap, sym, _∙_}
+use mathlib.Core.List.{List, [], _∷_}
+use mathlib.Core.Bool.{Bool, true, false, cond, not, _&&_, _||_}
+use native.Mathlib.Omega.{arith}
+use borrow.Author.Tests.{lt-ltb}
+use lib.Dec.{eqb, ltb}
+use lib.ListN.{length}
+use Rattle.tables.specs.Table.{kindOf, parentOf, spanStartOf, flagsOf, hasFlag}
+use Rattle.tables.specs.Kinds as k
+use Rattle.tables.specs.NodeFlag as flag
+use Rattle.tables.specs.declared.Found.{Found}
+use Rattle.tables.specs.declared.Found.the-variants.{At, Nothing}
+use Rattle.children.specs.Children.{keep, children, firstChild, valueOf, functionBodyOf, classBodyOf}
+use Rattle.ancestry.specs.AncestryLaws.{isAt}
+use Rattle.trees.specs.Walk.{only}
+use Rattle.diagnostics.specs.declared.Raised.the-variants.{Clear}
+use Rattle.diagnostics.specs.Finding.{listed, errorSpan}
+use Rattle.diagnostics.specs.Codes as code
+use Rattle.diagnostics.specs.Contexts as context
+use Rattle.classes.specs.Elements.{hasBody, hasBodyAt}
+use Rattle.classes.specs.Elements as e
+use Rattle.class_checks.specs.ClassChecks.{requireClassName, constructors, firstPair, secondBy, secondConstructor}
+use Rattle.checker.specs.Findings.{findingsAt}
+use Rattle.ecma_dispatch.specs.Dispatch.{at26, at27}
+use Rattle.ecma_classes.specs.Raising.{raising}
+use Rattle.ecma_classes.specs.RaisingLaws.{raising-code, keep-same, keep-alike}
+use Rattle.ecma_classes.specs.ClassElements.{found, bodyIn, elementsIn, classElements, isConstructor, builtTwice, namesConstructor, constructorTwice, ConstructorsNamed, nameMissing}
+
+found-at : (f : Found) → isAt f ≡ found f
+found-at (At m) = refl
+found-at Nothing = refl
+
+pub body-in : (ns : List ℕ) (f : Found) → hasBodyAt ns f ≡ bodyIn ns f
+body-in ns (At m) = found-at (functionBodyOf ns (m .0))
+body-in ns Nothing = refl
+
+pairs : (ns : List ℕ) (n : ℕ) (l : List ℕ) → raising 27 (listed (firstPair ns n l)) ≡ only (ltb 1 (length l)) n
+unfolding raising
+pairs ns n [] = refl
+pairs ns n (a ∷ []) = refl
+pairs ns n (a ∷ b ∷ l) = rw (lt-ltb 1 (length (a ∷ b ∷ l)) (omega arith))
+
+-- what the check counts
+counted : (ns : List ℕ) (l : List ℕ) → keep (λ x. e.isConstructor ns x && hasBody ns x) l ≡ keep (isConstructor ns) l
+unfolding isConstructor hasBody
+counted ns l = keep-same (λ x. e.isConstructor ns x && hasBody ns x) (isConstructor ns) (λ x. ap (λ (b : Bool). e.isConstructor ns x && b) (body-in ns (valueOf ns x))) l
+
+second-by : (ns : List ℕ) (n : ℕ) (f : Found) → raising 27 (listed (secondBy ns n f)) ≡ only (ltb 1 (length (keep (isConstructor ns) (elementsIn ns f)))) n
+unfolding constructors keep raising
+second-by ns n (At b) = pairs ns n (constructors ns (b .0)) ∙ rw (counted ns (children ns (b .0)))
+second-by ns n Nothing = refl
+
+require-by : (ns : List ℕ) (n : ℕ) → eqb (kindOf ns n) k.Class ≡ true → raising 26 (listed (requireClassName ns n)) ≡ only (nameMissing ns n) n
+unfolding requireClassName nameMissing raising
+require-by ns n h =
+    rw (h, found-at (firstChild ns n k.BindingIdentifier k.BindingIdentifier 0 7))
+    (go (hasFlag (flagsOf ns n) flag.Declaration) (found (firstChild ns n k.BindingIdentifier k.BindingIdentifier 0 7)) (eqb (kindOf ns (parentOf ns n)) k.ExportDefault))
+  where
+    go : (a b x : Bool)
+        → raising 26 (listed (cond (a && (not b && not x)) (errorSpan code.requireClassName n (spanStartOf ns n) (spanStartOf ns n + 5) context.none) Clear)) ≡ only (a && not (b || x)) n
+    go true true x = refl
+    go true false true = refl
+    go true false false = refl
+    go false b x = refl
+
+no-class : (ns : List ℕ) (n : ℕ) → eqb (kindOf ns n) k.Class ≡ false → nameMissing ns n ≡ false
+unfolding nameMissing
+no-class ns n e = rw e
+
+module _ (t : ℕ) (ns ss source names : List ℕ) (n : ℕ) where
+  -- 26: one finding at a class declaration that lacks its name
+  pub class-name : raising 26 (findingsAt t ns ss source names n) ≡ only (nameMissing ns n) n
+  unfolding raising
+  class-name = raising-code 26 (findingsAt t ns ss source names n) ∙ rw (at26 t ns ss source names n) (go (eqb (kindOf ns n) k.Class) refl)
+    where
+      go : (b : Bool) → eqb (kindOf ns n) k.Class ≡ b → raising 26 (cond b (listed (requireClassName ns n)) []) ≡ only (nameMissing ns n) n
+      go true e = require-by ns n e
+      go false e = sym (ap (λ (x : Bool). only x n) (no-class ns n e))
+
+  -- 27: one finding at a class with more than one constructor that has a body
+  pub second-constructor : raising 27 (findingsAt t ns ss source names n) ≡ only (builtTwice ns n) n
+  unfolding builtTwice classElements raising
+  second-constructor = raising-code 27 (findingsAt t ns ss source names n) ∙ rw (at27 t ns ss source names n) (go (eqb (kindOf ns n) k.Class))
+    where
+      go : (b : Bool) → raising 27 (cond b (listed (secondConstructor ns n)) []) ≡ only (b && ltb 1 (length (keep (isConstructor ns) (elementsIn ns (classBodyOf ns n))))) n
+      go true = second-by ns n (classBodyOf ns n)
+      go false = refl
+
+-- where the elements called "constructor" are the constructors, that is the standard's rule
+pub constructors-agree : (ns names : List ℕ) (n : ℕ) → ConstructorsNamed ns names n → builtTwice ns n ≡ constructorTwice ns names n
+unfolding builtTwice constructorTwice
+constructors-agree ns names n w = rw (keep-alike (isConstructor ns) (namesConstructor ns names) (classElements ns n) w)

@@ -1,0 +1,198 @@
+-- 8.5.1 Contains, of a unit, is what the nodes say whose unit it is: so a unit breaks a rule on `super` just where one of its Supers does.
+use Prim.Native.Nat.{ℕ, _+_, _<_}
+use mathlib.Core.Path.{_≡_, refl, ap, sym, _∙_}
+use mathlib.Core.List.{List, [], _∷_}
+use mathlib.Core.Bool.{Bool, true, false, cond, not, _&&_, _||_, true≢false}
+use lib.Dec.{eqb}
+use borrow.Author.Tests.{eqb-true, ne-eqb}
+use Rattle.common.specs.Upto.{upto, and-left, and-right}
+use Rattle.common.specs.Tests.{within}
+use Rattle.common.specs.Bools.{never}
+use Rattle.tables.specs.Table.{kindOf, parentOf, count}
+use Rattle.tables.specs.Kinds as k
+use Rattle.tables.specs.Facts.{Tree}
+use Rattle.trees.specs.Rose.{Rose, Roses, node, rnil, rcons, idx, partsOf}
+use Rattle.trees.specs.Walk.{each, some, only}
+use Rattle.trees.specs.WalkLaws.{eachSame, someAppend, someOnly}
+use Rattle.trees.specs.Unit.{says, saysAll}
+use Rattle.trees.specs.Trail.{unitOf}
+use Rattle.trees.specs.TrailLaws.{unitBridge}
+use Rattle.ecma_classes.specs.ClassElements.{namesConstructor}
+use Rattle.ecma_classes.specs.Supers.{begins, contains, containsAny, containsIn, isSuperCall, isSuperProperty, isMethod, isConstructorMethod, hasHeritage, isObjectMethod, takesProperty, bareCallIn, strayCallIn, strayPropertyIn, bareCall, strayCall, strayProperty, superError}
+
+module _ (ns : List ℕ) (sought : ℕ → Bool) where
+  abbrev tells : ℕ → Unit {0} → List ℕ
+  tells n a = only (sought n) n
+
+  abbrev into : ℕ → ℕ → Bool
+  into i j = not (begins ns i j)
+
+  abbrev hands : ℕ → ℕ → Unit {0} → Unit {0}
+  hands i j a = a
+
+  mutual
+    unfolding contains says
+
+    contains-some : (t : Rose) → contains ns sought t ≡ some (says tells into hands t tt)
+    contains-some (node n ks) =
+        rw (any-some (into n) ks, someAppend (tells n tt) (saysAll tells into hands ks (into n) (λ j. tt)), someOnly (sought n) n)
+
+    any-some : (b : ℕ → Bool) (ts : Roses) → containsAny ns sought b ts ≡ some (saysAll tells into hands ts b (λ j. tt))
+    any-some b rnil = refl
+    any-some b (rcons t ts) =
+        rw (contains-some t, any-some b ts, someAppend (cond (b (idx t)) (says tells into hands t tt) []) (saysAll tells into hands ts b (λ j. tt)))
+        (go (b (idx t)) (some (saysAll tells into hands ts b (λ j. tt))))
+      where
+        go : (x y : Bool) → ((x && some (says tells into hands t tt)) || y) ≡ (some (cond x (says tells into hands t tt) []) || y)
+        go true y = refl
+        go false y = refl
+
+  root : (j : ℕ) → begins ns 0 j ≡ true
+  unfolding begins
+  root j = refl
+
+  pub contains-is : Tree ns → (u : ℕ) → u < count ns → containsIn ns sought u ≡ some (each (λ j. cond (eqb (unitOf ns (begins ns) j) u) (only (sought j) j) []) (upto (u + 1) (count ns)))
+  unfolding containsIn
+  contains-is t u h =
+      any-some (begins ns u) (partsOf ns u)
+      ∙ ap (λ (l : List ℕ). some l)
+      (unitBridge tells into hands ns t (begins ns) (λ i j. tt) tt root (λ i j e. off (begins ns i j) e) (λ i j x e q. absurd (both (begins ns i j) e q)) u h)
+    where
+      off : (b : Bool) → not b ≡ true → b ≡ false
+      off true e = sym e
+      off false e = refl
+
+      both : (b : Bool) → b ≡ false → not b ≡ false → ⊥
+      both true e q = true≢false e
+      both false e q = true≢false q
+
+  -- a rule on the unit and what it contains, node by node
+  unit-rule : Tree ns → (rule : ℕ → Bool) (u : ℕ) → u < count ns
+      → (rule u && containsIn ns sought u) ≡ some (each (λ j. cond (eqb (unitOf ns (begins ns) j) u) (only (sought j && rule (unitOf ns (begins ns) j)) j) []) (upto (u + 1) (count ns)))
+  unit-rule t rule u h = go (rule u) refl
+    where
+      on : rule u ≡ true → (j : ℕ) (b : Bool) → eqb (unitOf ns (begins ns) j) u ≡ b → cond b (only (sought j) j) [] ≡ cond b (only (sought j && rule (unitOf ns (begins ns) j)) j) []
+      on r j true e = rw (eqb-true (unitOf ns (begins ns) j) u e, r) (and (sought j))
+        where
+          and : (x : Bool) → only x j ≡ only (x && true) j
+          and true = refl
+          and false = refl
+      on r j false e = refl
+
+      off : rule u ≡ false → (j : ℕ) (b : Bool) → eqb (unitOf ns (begins ns) j) u ≡ b → [] ≡ cond b (only (sought j && rule (unitOf ns (begins ns) j)) j) []
+      off r j true e = rw (eqb-true (unitOf ns (begins ns) j) u e, r) (and (sought j))
+        where
+          and : (x : Bool) → [] ≡ only (x && false) j
+          and true = refl
+          and false = refl
+      off r j false e = refl
+
+      none : (l : List ℕ) → false ≡ some (each {B = ℕ} (λ j. []) l)
+      none [] = refl
+      none (x ∷ l) = none l
+
+      go : (b : Bool) → rule u ≡ b → (b && containsIn ns sought u) ≡ some (each (λ j. cond (eqb (unitOf ns (begins ns) j) u) (only (sought j && rule (unitOf ns (begins ns) j)) j) []) (upto (u + 1) (count ns)))
+      go true r =
+          contains-is t u h
+          ∙ ap (λ (l : List ℕ). some l)
+          (eachSame (λ j. cond (eqb (unitOf ns (begins ns) j) u) (only (sought j) j) []) (λ j. cond (eqb (unitOf ns (begins ns) j) u) (only (sought j && rule (unitOf ns (begins ns) j)) j) []) (u + 1) (count ns)
+          (λ j a b. on r j (eqb (unitOf ns (begins ns) j) u) refl))
+      go false r =
+          none (upto (u + 1) (count ns))
+          ∙ ap (λ (l : List ℕ). some l)
+          (eachSame (λ j. []) (λ j. cond (eqb (unitOf ns (begins ns) j) u) (only (sought j && rule (unitOf ns (begins ns) j)) j) []) (u + 1) (count ns)
+          (λ j a b. off r j (eqb (unitOf ns (begins ns) j) u) refl))
+
+-- the nodes of a unit that break a rule
+abbrev pub inUnit : List ℕ → (ℕ → Bool) → ℕ → List ℕ
+inUnit ns rule u = each (λ j. cond (eqb (unitOf ns (begins ns) j) u) (only (rule j) j) []) (upto (u + 1) (count ns))
+
+module _ (ns : List ℕ) (t : Tree ns) (u : ℕ) (h : u < count ns) where
+  pub bare-in : (constructs call : ℕ → Bool) → bareCallIn ns constructs call u ≡ some (inUnit ns (bareCall ns constructs call) u)
+  unfolding bareCallIn bareCall
+  bare-in constructs call = unit-rule ns call t (λ x. isConstructorMethod ns constructs x && not (hasHeritage ns x)) u h
+
+  pub stray-in : (constructs call : ℕ → Bool) → strayCallIn ns constructs call u ≡ some (inUnit ns (strayCall ns constructs call) u)
+  unfolding strayCallIn strayCall
+  stray-in constructs call = unit-rule ns call t (λ x. not (isConstructorMethod ns constructs x)) u h
+
+  pub property-in : (property : ℕ → Bool) → strayPropertyIn ns property u ≡ some (inUnit ns (strayProperty ns property) u)
+  unfolding strayPropertyIn strayProperty
+  property-in property = unit-rule ns property t (λ x. not (takesProperty ns x)) u h
+
+-- the early errors, production by production, are the three rules
+module _ (ns names : List ℕ) (tree : Tree ns) (u : ℕ) where
+  abbrev calls : Bool
+  calls = containsIn ns (isSuperCall ns) u
+
+  abbrev properties : Bool
+  properties = containsIn ns (isSuperProperty ns) u
+
+  abbrev constructs : Bool
+  constructs = isConstructorMethod ns (namesConstructor ns names) u
+
+  -- no two of the productions
+  not-program : eqb u 0 ≡ true → (isMethod ns u ≡ false) × (takesProperty ns u ≡ false)
+  unfolding isMethod isObjectMethod takesProperty
+  not-program e = let q : u ≡ 0 = eqb-true u 0 e in (rw (q, tree .root), rw (q, tree .root))
+
+  not-function : (eqb (kindOf ns u) k.StaticBlock || within (kindOf ns u) k.PropertyDefinition k.AccessorProperty) ≡ true → (isMethod ns u ≡ false) × (takesProperty ns u ≡ true)
+  unfolding isMethod takesProperty
+  not-function e = (rw (ne-eqb (kindOf ns u) k.Function (λ q. never (sym e ∙ rw q))), rw e (go (isMethod ns u || isObjectMethod ns u)))
+    where
+      go : (b : Bool) → (b || true) ≡ true
+      go true = refl
+      go false = refl
+
+  not-class : isObjectMethod ns u ≡ true → (isMethod ns u ≡ false) × (takesProperty ns u ≡ true)
+  unfolding isMethod isObjectMethod takesProperty
+  not-class e = (
+    (let q = eqb-true (kindOf ns (parentOf ns u)) k.ObjectProperty (and-left (eqb (kindOf ns (parentOf ns u)) k.ObjectProperty) _ (and-right (eqb (kindOf ns u) k.Function) _ e)) in rw q (off (eqb (kindOf ns u) k.Function))),
+    takes e,
+  )
+    where
+      off : (b : Bool) → (b && false) ≡ false
+      off true = refl
+      off false = refl
+
+      takes : isObjectMethod ns u ≡ true → takesProperty ns u ≡ true
+      takes e = rw e (go (isMethod ns u))
+        where
+          go : (b : Bool) → ((b || true) || (eqb (kindOf ns u) k.StaticBlock || within (kindOf ns u) k.PropertyDefinition k.AccessorProperty)) ≡ true
+          go true = refl
+          go false = refl
+
+  no-constructor : isMethod ns u ≡ false → constructs ≡ false
+  unfolding isConstructorMethod
+  no-constructor e = rw e
+
+  method-takes : isMethod ns u ≡ true → takesProperty ns u ≡ true
+  unfolding takesProperty
+  method-takes e = rw e
+
+  constructor-method : constructs ≡ true → isMethod ns u ≡ true
+  unfolding isConstructorMethod
+  constructor-method e = and-left (isMethod ns u) (namesConstructor ns names (parentOf ns u)) e
+
+  plain-takes : isMethod ns u ≡ false → isObjectMethod ns u ≡ false → (eqb (kindOf ns u) k.StaticBlock || within (kindOf ns u) k.PropertyDefinition k.AccessorProperty) ≡ false → takesProperty ns u ≡ false
+  unfolding takesProperty
+  plain-takes a b c = rw (a, b, c)
+
+  pub error-is : superError ns names u ≡ (bareCallIn ns (namesConstructor ns names) (isSuperCall ns) u || (strayCallIn ns (namesConstructor ns names) (isSuperCall ns) u || strayPropertyIn ns (isSuperProperty ns) u))
+  unfolding superError bareCallIn strayCallIn strayPropertyIn
+  error-is =
+      go (eqb u 0) refl (eqb (kindOf ns u) k.StaticBlock || within (kindOf ns u) k.PropertyDefinition k.AccessorProperty) refl (isObjectMethod ns u) refl constructs refl (isMethod ns u) refl
+    where
+      rest : (c : Bool) → c ≡ (c || false)
+      rest true = refl
+      rest false = refl
+
+      go : (a : Bool) → eqb u 0 ≡ a → (b : Bool) → (eqb (kindOf ns u) k.StaticBlock || within (kindOf ns u) k.PropertyDefinition k.AccessorProperty) ≡ b → (o : Bool) → isObjectMethod ns u ≡ o
+          → (c : Bool) → constructs ≡ c → (m : Bool) → isMethod ns u ≡ m
+          → superError ns names u ≡ (bareCallIn ns (namesConstructor ns names) (isSuperCall ns) u || (strayCallIn ns (namesConstructor ns names) (isSuperCall ns) u || strayPropertyIn ns (isSuperProperty ns) u))
+      go true p b q o r c s m t = let x = not-program p in rw (p, no-constructor (x .0), x .1)
+      go false p true q o r c s m t = let x = not-function q in rw (p, q, no-constructor (x .0), x .1) (rest calls)
+      go false p false q true r c s m t = let x = not-class r in rw (p, q, r, no-constructor (x .0), x .1) (rest calls)
+      go false p false q false r true s m t = rw (p, q, r, s, method-takes (constructor-method s)) (rest (not (hasHeritage ns u) && calls))
+      go false p false q false r false s true t = rw (p, q, r, s, t, method-takes t) (rest calls)
+      go false p false q false r false s false t = rw (p, q, r, s, t, plain-takes t r q)

@@ -1,0 +1,155 @@
+-- A table for which all conditions hold: it is well-formed and its scopes are the tree's, so that the theorems apply. It is that of
+-- `class C { constructor() { super(); } constructor() {} #p; #p; m() { super(); this.#q; } } class { } a.#b; function f() { super.x; } ({ __proto__: 1, __proto__: 2 })`.
+use Prim.Native.Nat.{ℕ}
+use mathlib.Core.Path.{_≡_, refl}
+use mathlib.Core.List.{List, [], _∷_, flatMap}
+use mathlib.Core.Bool.{true, xor}
+use Rattle.common.specs.Upto.{upto, range}
+use Rattle.names.specs.Name.{same, nameOf}
+use Rattle.fields.specs.Fields.{wrongTable, wrongSizes, listedFlags, mostExtra, listedExtra, unlistedAt, strayAt}
+use Rattle.tree.specs.Tree.{misplacedAt, depthFrom, depthIf}
+use Rattle.scopes.specs.Scopes.{brokenAt, chainOn, misscopedAt}
+use Rattle.standing.specs.Standing.{isStatement, mayBeStatement, isHolder, strayStatement, strayHeld, strayAlternate, strayInSwitch, strayCase, tryPart, strayInTry, strayClause, strayInClause, strayFunctionBody, strayClassBody, strayElement, strayValue, misplacedStatement, misplacedPart, misplacedElement, misplaced, misplacedChildAt}
+use Rattle.counts.specs.Counts.{isDefault, defaults, wrongBody, wrongAlternate, wrongDefault, wrongTry, wrongClause, wrongLabel, wrongFunction, wrongClass, wrongValue, wrongElement, wrongStatement, wrongPart, wrongHome, wrongCountAt}
+use Rattle.shape.specs.Shape.{misshapenAt, lower}
+use Rattle.input.specs.Input.{refusalOf}
+use Rattle.wellformed.specs.WellFormed.{inputRefusal}
+use Rattle.places.specs.First.{first}
+use Rattle.children.specs.Children.{keep, children, howMany, isChild, firstNode}
+use Rattle.walk.specs.Above as a
+use Rattle.walk.specs.On.{on}
+use Rattle.ancestry.specs.Ancestry.{nearestOf}
+use Rattle.supers.specs.Super.{isValueOf, partOf, placeOf, objectUse, methodUse, functionUse, stepAt, reachFrom, reachOf, failsAt}
+use Rattle.verdict.specs.declared.Verdict.the-variants.{Passed}
+use Rattle.input.specs.InputLaws.{WellFormed}
+use Rattle.wellformed.specs.WellFormedLaws.{input-well-formed}
+use Rattle.diagnostics.specs.declared.Finding.{Finding}
+use Rattle.checker.specs.Findings.{findingsOf}
+use Rattle.ecma_dispatch.specs.WithCode.{withCode}
+use Rattle.trees.specs.Rose.{kids, others, forest, partsOf}
+use Rattle.trees.specs.Walk.{walk}
+use Rattle.trees.specs.Trail.{trail, climb}
+use Rattle.ecma_classes.specs.Raising.{raising}
+use Rattle.ecma_classes.specs.ClassElements.{classElements, isConstructor, builtTwice, nameMissing, isKeyedProto, protoAgain}
+use Rattle.ecma_classes.specs.PrivateNames.{isPrivateBound, privateName, entries, matched, isEntered, privateEntered, clashIn, privateAgain, invalid, isTableUse, bodyAround, isOutside}
+use Rattle.ecma_classes.specs.Supers.{begins, isTableCall, isTableProperty, isMethod, isObjectMethod, isConstructorMethod, hasHeritage, takesProperty, bareCall, strayCall, strayProperty, ScopesFit}
+use Rattle.ecma_classes.specs.ScopesFitLaws.{fitsAt, scopesFit, fit-of}
+use Rattle.ecma_classes.specs.Theorems.{code1, code7, code8, code26, code27, code28, code29, code30}
+
+abbrev pub table : List ℕ
+table =
+    0 ∷ 0 ∷ 0 ∷ 0 ∷ 164 ∷ 0 ∷ 0 ∷ 0 ∷ 0 ∷ 0 ∷
+    26 ∷ 0 ∷ 3 ∷ 0 ∷ 89 ∷ 0 ∷ 544 ∷ 1 ∷ 0 ∷ 0 ∷
+    31 ∷ 1 ∷ 0 ∷ 6 ∷ 7 ∷ 1 ∷ 0 ∷ 0 ∷ 0 ∷ 1 ∷
+    27 ∷ 1 ∷ 3 ∷ 8 ∷ 89 ∷ 1 ∷ 0 ∷ 0 ∷ 0 ∷ 0 ∷
+    28 ∷ 3 ∷ 0 ∷ 10 ∷ 36 ∷ 1 ∷ 0 ∷ 0 ∷ 0 ∷ 0 ∷
+    55 ∷ 4 ∷ 2 ∷ 10 ∷ 21 ∷ 1 ∷ 0 ∷ 0 ∷ 1 ∷ 11 ∷
+    1 ∷ 4 ∷ 1 ∷ 21 ∷ 36 ∷ 1 ∷ 1024 ∷ 0 ∷ 0 ∷ 0 ∷
+    55 ∷ 6 ∷ 0 ∷ 21 ∷ 23 ∷ 2 ∷ 0 ∷ 0 ∷ 0 ∷ 0 ∷
+    4 ∷ 6 ∷ 3 ∷ 24 ∷ 36 ∷ 2 ∷ 0 ∷ 0 ∷ 0 ∷ 0 ∷
+    22 ∷ 8 ∷ 3 ∷ 26 ∷ 34 ∷ 2 ∷ 0 ∷ 0 ∷ 0 ∷ 0 ∷
+    38 ∷ 9 ∷ 0 ∷ 26 ∷ 33 ∷ 2 ∷ 0 ∷ 0 ∷ 0 ∷ 0 ∷
+    37 ∷ 10 ∷ 0 ∷ 26 ∷ 31 ∷ 2 ∷ 0 ∷ 0 ∷ 0 ∷ 0 ∷
+    28 ∷ 3 ∷ 0 ∷ 37 ∷ 53 ∷ 1 ∷ 0 ∷ 0 ∷ 0 ∷ 0 ∷
+    55 ∷ 12 ∷ 2 ∷ 37 ∷ 48 ∷ 1 ∷ 0 ∷ 0 ∷ 12 ∷ 11 ∷
+    1 ∷ 12 ∷ 1 ∷ 48 ∷ 53 ∷ 1 ∷ 1024 ∷ 0 ∷ 0 ∷ 0 ∷
+    55 ∷ 14 ∷ 0 ∷ 48 ∷ 50 ∷ 3 ∷ 0 ∷ 0 ∷ 0 ∷ 0 ∷
+    4 ∷ 14 ∷ 3 ∷ 51 ∷ 53 ∷ 3 ∷ 0 ∷ 0 ∷ 0 ∷ 0 ∷
+    29 ∷ 3 ∷ 0 ∷ 54 ∷ 57 ∷ 1 ∷ 4 ∷ 0 ∷ 0 ∷ 0 ∷
+    34 ∷ 17 ∷ 2 ∷ 54 ∷ 56 ∷ 1 ∷ 0 ∷ 0 ∷ 23 ∷ 1 ∷
+    29 ∷ 3 ∷ 0 ∷ 58 ∷ 61 ∷ 1 ∷ 4 ∷ 0 ∷ 0 ∷ 0 ∷
+    34 ∷ 19 ∷ 2 ∷ 58 ∷ 60 ∷ 1 ∷ 0 ∷ 0 ∷ 24 ∷ 1 ∷
+    28 ∷ 3 ∷ 0 ∷ 62 ∷ 87 ∷ 1 ∷ 0 ∷ 1 ∷ 0 ∷ 0 ∷
+    55 ∷ 21 ∷ 2 ∷ 62 ∷ 63 ∷ 1 ∷ 0 ∷ 0 ∷ 25 ∷ 1 ∷
+    1 ∷ 21 ∷ 1 ∷ 63 ∷ 87 ∷ 1 ∷ 1024 ∷ 0 ∷ 0 ∷ 0 ∷
+    55 ∷ 23 ∷ 0 ∷ 63 ∷ 65 ∷ 4 ∷ 0 ∷ 0 ∷ 0 ∷ 0 ∷
+    4 ∷ 23 ∷ 3 ∷ 66 ∷ 87 ∷ 4 ∷ 0 ∷ 0 ∷ 0 ∷ 0 ∷
+    22 ∷ 25 ∷ 3 ∷ 68 ∷ 76 ∷ 4 ∷ 0 ∷ 0 ∷ 0 ∷ 0 ∷
+    38 ∷ 26 ∷ 0 ∷ 68 ∷ 75 ∷ 4 ∷ 0 ∷ 0 ∷ 0 ∷ 0 ∷
+    37 ∷ 27 ∷ 0 ∷ 68 ∷ 73 ∷ 4 ∷ 0 ∷ 0 ∷ 0 ∷ 0 ∷
+    22 ∷ 25 ∷ 3 ∷ 77 ∷ 85 ∷ 4 ∷ 0 ∷ 0 ∷ 0 ∷ 0 ∷
+    41 ∷ 29 ∷ 0 ∷ 77 ∷ 84 ∷ 4 ∷ 0 ∷ 0 ∷ 0 ∷ 0 ∷
+    55 ∷ 30 ∷ 0 ∷ 77 ∷ 81 ∷ 4 ∷ 0 ∷ 0 ∷ 0 ∷ 0 ∷
+    34 ∷ 30 ∷ 0 ∷ 82 ∷ 84 ∷ 4 ∷ 0 ∷ 0 ∷ 26 ∷ 1 ∷
+    26 ∷ 0 ∷ 3 ∷ 90 ∷ 99 ∷ 0 ∷ 32 ∷ 5 ∷ 0 ∷ 0 ∷
+    27 ∷ 33 ∷ 3 ∷ 96 ∷ 99 ∷ 5 ∷ 0 ∷ 0 ∷ 0 ∷ 0 ∷
+    22 ∷ 0 ∷ 3 ∷ 100 ∷ 105 ∷ 0 ∷ 0 ∷ 0 ∷ 0 ∷ 0 ∷
+    41 ∷ 35 ∷ 0 ∷ 100 ∷ 104 ∷ 0 ∷ 0 ∷ 0 ∷ 0 ∷ 0 ∷
+    32 ∷ 36 ∷ 0 ∷ 100 ∷ 101 ∷ 0 ∷ 0 ∷ 0 ∷ 27 ∷ 1 ∷
+    34 ∷ 36 ∷ 0 ∷ 102 ∷ 104 ∷ 0 ∷ 0 ∷ 0 ∷ 28 ∷ 1 ∷
+    1 ∷ 0 ∷ 3 ∷ 106 ∷ 131 ∷ 0 ∷ 1568 ∷ 0 ∷ 0 ∷ 0 ∷
+    31 ∷ 39 ∷ 0 ∷ 115 ∷ 116 ∷ 6 ∷ 0 ∷ 0 ∷ 29 ∷ 1 ∷
+    55 ∷ 39 ∷ 0 ∷ 116 ∷ 118 ∷ 6 ∷ 0 ∷ 0 ∷ 0 ∷ 0 ∷
+    4 ∷ 39 ∷ 3 ∷ 119 ∷ 131 ∷ 6 ∷ 0 ∷ 0 ∷ 0 ∷ 0 ∷
+    22 ∷ 42 ∷ 3 ∷ 121 ∷ 129 ∷ 6 ∷ 0 ∷ 0 ∷ 0 ∷ 0 ∷
+    40 ∷ 43 ∷ 0 ∷ 121 ∷ 128 ∷ 6 ∷ 0 ∷ 0 ∷ 0 ∷ 0 ∷
+    37 ∷ 44 ∷ 0 ∷ 121 ∷ 126 ∷ 6 ∷ 0 ∷ 0 ∷ 0 ∷ 0 ∷
+    55 ∷ 44 ∷ 0 ∷ 127 ∷ 128 ∷ 6 ∷ 0 ∷ 0 ∷ 0 ∷ 0 ∷
+    22 ∷ 0 ∷ 3 ∷ 132 ∷ 164 ∷ 0 ∷ 0 ∷ 0 ∷ 0 ∷ 0 ∷
+    55 ∷ 47 ∷ 0 ∷ 132 ∷ 164 ∷ 0 ∷ 0 ∷ 1 ∷ 0 ∷ 0 ∷
+    43 ∷ 48 ∷ 1 ∷ 133 ∷ 163 ∷ 0 ∷ 0 ∷ 0 ∷ 0 ∷ 0 ∷
+    44 ∷ 49 ∷ 0 ∷ 135 ∷ 147 ∷ 0 ∷ 0 ∷ 0 ∷ 0 ∷ 0 ∷
+    55 ∷ 50 ∷ 2 ∷ 135 ∷ 144 ∷ 0 ∷ 0 ∷ 0 ∷ 30 ∷ 9 ∷
+    35 ∷ 50 ∷ 1 ∷ 146 ∷ 147 ∷ 0 ∷ 0 ∷ 0 ∷ 0 ∷ 0 ∷
+    44 ∷ 49 ∷ 0 ∷ 149 ∷ 161 ∷ 0 ∷ 0 ∷ 0 ∷ 0 ∷ 0 ∷
+    55 ∷ 53 ∷ 2 ∷ 149 ∷ 158 ∷ 0 ∷ 0 ∷ 0 ∷ 39 ∷ 9 ∷
+    35 ∷ 53 ∷ 1 ∷ 160 ∷ 161 ∷ 0 ∷ 0 ∷ 0 ∷ 0 ∷ 0 ∷ []
+
+abbrev pub scopes : List ℕ
+scopes = 0 ∷ 2 ∷ 0 ∷ 0 ∷ 1 ∷ 1 ∷ 1 ∷ 5 ∷ 6 ∷ 1 ∷ 5 ∷ 14 ∷ 1 ∷ 5 ∷ 23 ∷ 0 ∷ 1 ∷ 33 ∷ 0 ∷ 4 ∷ 39 ∷ []
+
+abbrev pub bytes : List ℕ
+bytes = 67 ∷ 99 ∷ 111 ∷ 110 ∷ 115 ∷ 116 ∷ 114 ∷ 117 ∷ 99 ∷ 116 ∷ 111 ∷ 114 ∷ 99 ∷ 111 ∷ 110 ∷ 115 ∷ 116 ∷ 114 ∷ 117 ∷ 99 ∷ 116 ∷ 111 ∷ 114 ∷ 112 ∷ 112 ∷ 109 ∷ 113 ∷ 97 ∷ 98 ∷ 102 ∷ 95 ∷ 95 ∷ 112 ∷ 114 ∷ 111 ∷ 116 ∷ 111 ∷ 95 ∷ 95 ∷ 95 ∷ 95 ∷ 112 ∷ 114 ∷ 111 ∷ 116 ∷ 111 ∷ 95 ∷ 95 ∷ []
+
+abbrev pub source : List ℕ
+source = 99 ∷ 108 ∷ 97 ∷ 115 ∷ 115 ∷ 32 ∷ 67 ∷ 32 ∷ 123 ∷ 32 ∷ 99 ∷ 111 ∷ 110 ∷ 115 ∷ 116 ∷ 114 ∷ 117 ∷ 99 ∷ 116 ∷ 111 ∷ 114 ∷ 40 ∷ 41 ∷ 32 ∷ 123 ∷ 32 ∷ 115 ∷ 117 ∷ 112 ∷ 101 ∷ 114 ∷ 40 ∷ 41 ∷ 59 ∷ 32 ∷ 125 ∷ 32 ∷ 99 ∷ 111 ∷ 110 ∷ 115 ∷ 116 ∷ 114 ∷ 117 ∷ 99 ∷ 116 ∷ 111 ∷ 114 ∷ 40 ∷ 41 ∷ 32 ∷ 123 ∷ 125 ∷ 32 ∷ 35 ∷ 112 ∷ 59 ∷ 32 ∷ 35 ∷ 112 ∷ 59 ∷ 32 ∷ 109 ∷ 40 ∷ 41 ∷ 32 ∷ 123 ∷ 32 ∷ 115 ∷ 117 ∷ 112 ∷ 101 ∷ 114 ∷ 40 ∷ 41 ∷ 59 ∷ 32 ∷ 116 ∷ 104 ∷ 105 ∷ 115 ∷ 46 ∷ 35 ∷ 113 ∷ 59 ∷ 32 ∷ 125 ∷ 32 ∷ 125 ∷ 32 ∷ 99 ∷ 108 ∷ 97 ∷ 115 ∷ 115 ∷ 32 ∷ 123 ∷ 32 ∷ 125 ∷ 32 ∷ 97 ∷ 46 ∷ 35 ∷ 98 ∷ 59 ∷ 32 ∷ 102 ∷ 117 ∷ 110 ∷ 99 ∷ 116 ∷ 105 ∷ 111 ∷ 110 ∷ 32 ∷ 102 ∷ 40 ∷ 41 ∷ 32 ∷ 123 ∷ 32 ∷ 115 ∷ 117 ∷ 112 ∷ 101 ∷ 114 ∷ 46 ∷ 120 ∷ 59 ∷ 32 ∷ 125 ∷ 32 ∷ 40 ∷ 123 ∷ 32 ∷ 95 ∷ 95 ∷ 112 ∷ 114 ∷ 111 ∷ 116 ∷ 111 ∷ 95 ∷ 95 ∷ 58 ∷ 32 ∷ 49 ∷ 44 ∷ 32 ∷ 95 ∷ 95 ∷ 112 ∷ 114 ∷ 111 ∷ 116 ∷ 111 ∷ 95 ∷ 95 ∷ 58 ∷ 32 ∷ 50 ∷ 32 ∷ 125 ∷ 41 ∷ []
+
+passes : inputRefusal 0 table scopes source bytes ≡ Passed
+unfolding wrongTable wrongSizes listedFlags mostExtra listedExtra unlistedAt strayAt misplacedAt depthFrom depthIf brokenAt chainOn misscopedAt isStatement mayBeStatement isHolder strayStatement strayHeld strayAlternate strayInSwitch strayCase tryPart strayInTry strayClause strayInClause strayFunctionBody strayClassBody strayElement strayValue misplacedStatement misplacedPart misplacedElement misplaced misplacedChildAt isDefault defaults wrongBody wrongAlternate wrongDefault wrongTry wrongClause wrongLabel wrongFunction wrongClass wrongValue wrongElement wrongStatement wrongPart wrongHome wrongCountAt misshapenAt lower refusalOf inputRefusal first keep children howMany isChild firstNode a.climb a.above on nearestOf isValueOf partOf placeOf objectUse methodUse functionUse stepAt reachFrom reachOf failsAt upto range
+passes = refl
+
+pub well : WellFormed 0 table scopes source bytes
+well = input-well-formed 0 table scopes source bytes passes
+
+fits : scopesFit table scopes ≡ true
+unfolding scopesFit fitsAt upto range
+fits = refl
+
+pub fit : ScopesFit table scopes
+fit = fit-of table scopes (well .input .tree) fits
+
+-- the theorems at this table
+abbrev findings : List Finding
+findings = findingsOf 0 table scopes source bytes
+
+pub found26 : raising 26 findings ≡ 33 ∷ []
+unfolding nameMissing firstNode upto range isChild keep
+found26 = code26 0 table scopes source bytes well
+
+pub found27 : raising 27 findings ≡ 1 ∷ []
+unfolding builtTwice classElements isConstructor children firstNode upto range isChild keep
+found27 = code27 0 table scopes source bytes well
+
+pub found1 : raising 1 findings ≡ 0 ∷ 49 ∷ []
+unfolding privateAgain privateEntered isPrivateBound isEntered clashIn entries privateName matched protoAgain isKeyedProto children firstNode upto range isChild keep flatMap same nameOf xor
+found1 = code1 0 table scopes source bytes well
+
+pub found7 : raising 7 findings ≡ 38 ∷ []
+unfolding isOutside bodyAround a.climb a.above upto range keep
+found7 = code7 0 table scopes source bytes well
+
+pub found8 : withCode 8 findings ≡ record { code = 8; node = record { 0 = 1 }; start = 82; end = 84; start2 = 0; end2 = 0; context = 0 } ∷ []
+unfolding invalid isTableUse privateEntered isPrivateBound isEntered privateName bodyAround walk partsOf forest kids others children firstNode upto range isChild keep flatMap same nameOf a.climb a.above
+found8 = code8 0 table scopes source bytes well
+
+pub found28 : raising 28 findings ≡ 11 ∷ []
+unfolding bareCall isTableCall isConstructorMethod isMethod hasHeritage begins trail climb firstNode upto range isChild keep
+found28 = code28 0 table scopes source bytes well fit
+
+pub found29 : raising 29 findings ≡ 28 ∷ []
+unfolding strayCall isTableCall isConstructorMethod isMethod begins trail climb firstNode upto range isChild keep
+found29 = code29 0 table scopes source bytes well fit
+
+pub found30 : raising 30 findings ≡ 45 ∷ []
+unfolding strayProperty isTableProperty takesProperty isMethod isObjectMethod begins trail climb firstNode upto range isChild keep
+found30 = code30 0 table scopes source bytes well fit

@@ -1,0 +1,17 @@
+pub mod ClassElements
+pub mod ClassElementsLaws
+pub mod ListLaws
+pub mod Raising
+pub mod RaisingLaws
+pub mod ObjectsLaws
+pub mod PrivateNames
+pub mod PrivateTwiceLaws
+pub mod PrivateNamesLaws
+pub mod Supers
+pub mod SuperSearchLaws
+pub mod SupersLaws
+pub mod ContainsLaws
+pub mod ScopesFitLaws
+pub mod WholeLaws
+pub mod Theorems
+pub mod Example

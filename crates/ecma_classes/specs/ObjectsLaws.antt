@@ -1,0 +1,165 @@
+-- THE FINDINGS WITH CODE 1 AT AN OBJECT ARE BREACHES OF 13.2.5.1.
+use Prim.Native.Nat.{ℕ, _+_, _≤_}
+use mathlib.Core.Path.{_≡_, refl, ap, sym, _∙_}
+use mathlib.Core.List.{List, [], _∷_, _++_, flatMap, foldr}
+use mathlib.Core.Bool.{Bool, true, false, cond, _&&_}
+use native.Mathlib.Omega.{arith}
+use borrow.Author.Tests.{lt-ltb, le-leb}
+use lib.Dec.{eqb, ltb}
+use lib.ListN.{length}
+use Rattle.common.specs.Upto.{upto}
+use Rattle.tables.specs.Table.{kindOf, roleOf, parentOf, flagsOf, count, hasFlag}
+use Rattle.tables.specs.Kinds as k
+use Rattle.tables.specs.NodeFlag as flag
+use Rattle.tables.specs.declared.Found.{Found}
+use Rattle.tables.specs.declared.Found.the-variants.{At, Nothing}
+use Rattle.names.specs.Name.{same, nameOf}
+use Rattle.names.specs.Words as word
+use Rattle.children.specs.Children.{keep, children, isChild, keyOf, innerOf}
+use Rattle.children.specs.ChildrenLaws.{keep-keep, number}
+use Rattle.classes.specs.ClassesLaws.{within-one}
+use Rattle.fields.specs.FieldsLaws.{Listed}
+use Rattle.trees.specs.Walk.{each, some, only}
+use Rattle.expressions.specs.Expressions.{properties, isPlain, ifProto, protoKey, toList, protoKeys, repeatsAfter, repeats, checkObjectExpression}
+use Rattle.checker.specs.Findings.{findingsAt}
+use Rattle.ecma_dispatch.specs.Dispatch.{at1}
+use Rattle.ecma_classes.specs.Raising.{raising}
+use Rattle.ecma_classes.specs.RaisingLaws.{raising-code, keep-upto, keep-alike}
+use Rattle.ecma_classes.specs.ClassElements.{found, nameOfKey, propName, namedBy, isKeyedProto, isProto, later, protoAgain, protoTwice, plainBy, KeysPlain}
+
+-- n for each member of a list
+abbrev pub times : ℕ → List ℕ → List ℕ
+times n l = each (λ x. n ∷ []) l
+
+-- what g makes of each member
+abbrev made : (ℕ → ℕ) → List ℕ → List ℕ
+made g l = foldr (λ x r. g x ∷ r) [] l
+
+made-times : (n : ℕ) (g : ℕ → ℕ) (l : List ℕ) → times n (made g l) ≡ times n l
+made-times n g [] = refl
+made-times n g (x ∷ l) = rw (made-times n g l)
+
+made-later : (n : ℕ) (g : ℕ → ℕ) (l : List ℕ) → times n (later (made g l)) ≡ times n (later l)
+made-later n g [] = refl
+made-later n g (x ∷ l) = made-times n g l
+
+flat-made : (f : ℕ → List ℕ) (g : ℕ → ℕ) (q : ℕ → Bool) → ((p : ℕ) → f p ≡ cond (q p) (g p ∷ []) []) → (l : List ℕ) → flatMap f l ≡ made g (keep q l)
+unfolding flatMap keep
+flat-made f g q h [] = refl
+flat-made f g q h (p ∷ l) = rw (h p, flat-made f g q h l) (go (q p))
+  where
+    go : (b : Bool) → cond b (g p ∷ []) [] ++ made g (keep q l) ≡ made g (cond b (p ∷ keep q l) (keep q l))
+    go true = refl
+    go false = refl
+
+after-times : (ns : List ℕ) (n a : ℕ) (l : List ℕ) → raising 1 (repeatsAfter ns n a l) ≡ times n l
+unfolding raising repeatsAfter
+after-times ns n a [] = refl
+after-times ns n a (b ∷ l) = rw (after-times ns n b l)
+
+repeats-times : (ns : List ℕ) (n : ℕ) (l : List ℕ) → raising 1 (repeats ns n l) ≡ times n (later l)
+unfolding raising repeats
+repeats-times ns n [] = refl
+repeats-times ns n (a ∷ l) = after-times ns n a l
+
+module _ (ns names : List ℕ) where
+  key-made : (f : Found) (b : Bool) → toList (cond b (ifProto ns names f) Nothing) ≡ cond (b && namedBy ns names word.proto f) (number f ∷ []) []
+  key-made (At m) true = go (same (nameOf ns names (m .0)) word.proto)
+    where
+      go : (x : Bool) → toList (cond x (At m) Nothing) ≡ cond x (m .0 ∷ []) []
+      go true = refl
+      go false = refl
+  key-made (At m) false = refl
+  key-made Nothing true = refl
+  key-made Nothing false = refl
+
+  -- the properties, by their key alone
+  abbrev keyed : ℕ → Bool
+  keyed p = isPlain ns p && namedBy ns names word.proto (keyOf ns p)
+
+  keys-made : (l : List ℕ) → flatMap (λ p. toList (protoKey ns names p)) l ≡ made (λ p. number (keyOf ns p)) (keep keyed l)
+  unfolding protoKey
+  keys-made l = flat-made (λ p. toList (protoKey ns names p)) (λ p. number (keyOf ns p)) keyed (λ p. key-made (keyOf ns p) (isPlain ns p)) l
+
+  property : (n p : ℕ) → roleOf ns p ≤ 7 → (isChild ns n k.ObjectProperty k.ObjectProperty 0 7 p && keyed p) ≡ (eqb (parentOf ns p) n && isKeyedProto ns names p)
+  unfolding isChild isKeyedProto
+  property n p h =
+      rw (within-one (kindOf ns p) k.ObjectProperty, le-leb (roleOf ns p) 7 h, le-leb 0 (roleOf ns p) (omega arith))
+      (go (eqb (parentOf ns p) n) (eqb (kindOf ns p) k.ObjectProperty) (keyed p))
+    where
+      go : (a b c : Bool) → ((a && (b && true)) && c) ≡ (a && (b && c))
+      go true true c = refl
+      go true false c = refl
+      go false b c = refl
+
+  scanned : Listed ns → (n : ℕ) → keep keyed (properties ns n) ≡ keep (isKeyedProto ns names) (children ns n)
+  unfolding children
+  scanned w n =
+      keep-keep keyed (isChild ns n k.ObjectProperty k.ObjectProperty 0 7) (upto (n + 1) (count ns))
+      ∙ keep-upto (λ p. isChild ns n k.ObjectProperty k.ObjectProperty 0 7 p && keyed p) (λ p. eqb (parentOf ns p) n && isKeyedProto ns names p) (n + 1) (count ns)
+      (λ p a b. property n p (w .role p b))
+      ∙ sym (keep-keep (isKeyedProto ns names) (λ p. eqb (parentOf ns p) n) (upto (n + 1) (count ns)))
+
+  objects : Listed ns → (n : ℕ) → eqb (kindOf ns n) k.Object ≡ true → raising 1 (checkObjectExpression ns names n) ≡ times n (protoAgain ns names n)
+  unfolding checkObjectExpression protoAgain
+  objects w n h =
+      repeats-times ns n (protoKeys ns names n)
+      ∙ rw (keys-made (properties ns n), scanned w n, h) (made-later n (λ p. number (keyOf ns p)) (keep (isKeyedProto ns names) (children ns n)))
+
+  no-object : (n : ℕ) → eqb (kindOf ns n) k.Object ≡ false → protoAgain ns names n ≡ []
+  unfolding protoAgain
+  no-object n e = rw e
+
+  -- 1 at an Object: a finding for each such property but the first
+  pub proto-again : Listed ns → (t : ℕ) (ss source : List ℕ) (n : ℕ) → raising 1 (findingsAt t ns ss source names n) ≡ times n (protoAgain ns names n)
+  unfolding raising
+  proto-again w t ss source n = raising-code 1 (findingsAt t ns ss source names n) ∙ rw (at1 t ns ss source names n) (go (eqb (kindOf ns n) k.Object) refl)
+    where
+      go : (b : Bool) → eqb (kindOf ns n) k.Object ≡ b → raising 1 (cond b (checkObjectExpression ns names n) []) ≡ times n (protoAgain ns names n)
+      go true e = objects w n e
+      go false e = sym (ap (times n) (no-object n e))
+
+  key-plain : (f : Found) → plainBy ns names f → namedBy ns names word.proto f ≡ same (nameOfKey ns names f) word.proto
+  unfolding same
+  key-plain (At m) w = go (same (nameOf ns names (m .0)) word.proto) refl (found (innerOf ns (m .0))) refl
+    where
+      go : (a : Bool) → same (nameOf ns names (m .0)) word.proto ≡ a → (b : Bool) → found (innerOf ns (m .0)) ≡ b
+          → same (nameOf ns names (m .0)) word.proto ≡ same (cond (found (innerOf ns (m .0))) [] (nameOf ns names (m .0))) word.proto
+      go true p b q = rw (w p)
+      go false p true q = rw (q, p)
+      go false p false q = rw q
+  key-plain Nothing w = refl
+
+  proto-same : (p : ℕ) → hasFlag (flagsOf ns p) flag.PrivateKey ≡ false → plainBy ns names (keyOf ns p) → isKeyedProto ns names p ≡ isProto ns names p
+  unfolding isKeyedProto isProto propName
+  proto-same p h w = rw (h, key-plain (keyOf ns p) w)
+
+  some-later : (l : List ℕ) → some (later l) ≡ ltb 1 (length l)
+  some-later [] = refl
+  some-later (a ∷ []) = refl
+  some-later (a ∷ b ∷ l) = sym (lt-ltb 1 (length (a ∷ b ∷ l)) (omega arith))
+
+  module _ (n : ℕ) (w : KeysPlain ns names n) where
+    kept-same : keep (isKeyedProto ns names) (children ns n) ≡ keep (isProto ns names) (children ns n)
+    kept-same = keep-alike (isKeyedProto ns names) (isProto ns names) (children ns n) (λ p m. proto-same p (w .public p m) (w .written p m))
+
+    -- where names at keys are PropNames, there is a finding just where the standard's rule is broken ..
+    pub proto-agrees : some (protoAgain ns names n) ≡ protoTwice ns names n
+    unfolding protoAgain protoTwice
+    proto-agrees = rw (kept-same) (go (eqb (kindOf ns n) k.Object))
+      where
+        go : (b : Bool) → some (cond b (later (keep (isProto ns names) (children ns n))) []) ≡ (b && ltb 1 (length (keep (isProto ns names) (children ns n))))
+        go true = some-later (keep (isProto ns names) (children ns n))
+        go false = refl
+
+    -- .. and exactly one, if there are no more than two such properties
+    pub proto-once : length (keep (isProto ns names) (children ns n)) ≤ 2 → times n (protoAgain ns names n) ≡ only (protoTwice ns names n) n
+    unfolding protoAgain protoTwice
+    proto-once h = rw (kept-same) (go (eqb (kindOf ns n) k.Object) (keep (isProto ns names) (children ns n)) h)
+      where
+        go : (b : Bool) (l : List ℕ) → length l ≤ 2 → times n (cond b (later l) []) ≡ only (b && ltb 1 (length l)) n
+        go true [] h = refl
+        go true (x ∷ []) h = refl
+        go true (x ∷ y ∷ []) h = refl
+        go true (x ∷ y ∷ z ∷ l) h = absurd (omega arith)
+        go false l h = refl

@@ -1,0 +1,280 @@
+-- THE FINDINGS WITH CODES 28, 29 AND 30 ARE BREACHES OF THE EARLY ERRORS ON `super`.
+use Prim.Native.Nat.{ℕ, zero, suc, _≤_, _<_}
+use mathlib.Core.Path.{_≡_, refl, ap, sym, subst, _∙_}
+use mathlib.Core.List.{List, []}
+use mathlib.Core.Bool.{Bool, true, false, cond, not, _&&_, _||_}
+use mathlib.Core.Logic.{_⊎_, inl, inr, ⊎-elim}
+use native.Mathlib.Nat.{eq-or-lt-of-le}
+use native.Mathlib.Omega.{arith}
+use borrow.Author.Tests.{ne-eqb, eqb-true}
+use lib.Dec.{eqb}
+use Rattle.common.specs.Upto.{and-left, and-right}
+use Rattle.common.specs.Tests.{within}
+use Rattle.common.specs.Bools.{never}
+use Rattle.tables.specs.Table.{kindOf, parentOf, flagsOf, extraOf, count, hasFlag}
+use Rattle.tables.specs.Facts.{Tree, Chained, Scoped}
+use Rattle.tables.specs.Kinds as k
+use Rattle.tables.specs.Extras as extra
+use Rattle.tables.specs.NodeFlag as flag
+use Rattle.tables.specs.declared.Found.the-variants.{At}
+use Rattle.ancestry.specs.AncestryLaws.{parent-in}
+use Rattle.standing.specs.StandingLaws.{Placed}
+use Rattle.trees.specs.Walk.{only}
+use Rattle.trees.specs.Trail.{unitOf}
+use Rattle.trees.specs.TrailLaws.{handedLaw, handedRoot}
+use Rattle.diagnostics.specs.Finding.{listed}
+use Rattle.supers.specs.Super.{ifCall, isMethodLike, objectUse, methodUse, functionUse, classAbove, reachOf, isCall, byReach, checkSuper}
+use Rattle.supers.specs.declared.Reach.{Reach}
+use Rattle.supers.specs.declared.Reach.the-variants.{Legal, Illegal, Underived}
+use Rattle.checker.specs.Findings.{findingsAt}
+use Rattle.ecma_dispatch.specs.WithCode.{withCode}
+use Rattle.ecma_dispatch.specs.Dispatch.{at28, at29, at30}
+use Rattle.ecma_classes.specs.Raising.{raising}
+use Rattle.ecma_classes.specs.RaisingLaws.{raising-code}
+use Rattle.ecma_classes.specs.ClassElements.{namesConstructor}
+use Rattle.ecma_classes.specs.Supers.{isValue, begins, isMethod, isConstructorMethod, classOf, hasHeritage, isObjectMethod, takesProperty, bareCall, strayCall, strayProperty, isSuperCall, isSuperProperty, standardBare, standardStray, standardProperty, isTableConstructor, isTableCall, isTableProperty, tableBare, tableStray, tableProperty, MethodsNamed, SupersStand, ScopesFit}
+use Rattle.ecma_classes.specs.SuperSearchLaws.{value-is, inUnit, search-is, no-root, above-other, above-body}
+
+-- a unit is the program, a function, a static block or a field
+abbrev unitKind : List ℕ → ℕ → Bool
+unitKind ns u = eqb (kindOf ns u) k.Function || (eqb (kindOf ns u) k.StaticBlock || within (kindOf ns u) k.PropertyDefinition k.AccessorProperty)
+
+module _ (ns : List ℕ) (tree : Tree ns) where
+  abbrev unit : ℕ → ℕ
+  unit j = unitOf ns (begins ns) j
+
+  begins-kind : (i j : ℕ) → begins ns i j ≡ true → (i ≡ 0) ⊎ (unitKind ns i ≡ true)
+  unfolding begins
+  begins-kind i j e = go (eqb i 0) refl (eqb (kindOf ns i) k.Function) (eqb (kindOf ns i) k.StaticBlock) (within (kindOf ns i) k.PropertyDefinition k.AccessorProperty) (isValue ns i j) e
+    where
+      go : (z : Bool) → eqb i 0 ≡ z → (a b c d : Bool) → (z || (a || (b || (c && d)))) ≡ true → (i ≡ 0) ⊎ ((a || (b || c)) ≡ true)
+      go true q a b c d x = inl (eqb-true i 0 q)
+      go false q true b c d x = inr refl
+      go false q false true c d x = inr refl
+      go false q false false true d x = inr refl
+      go false q false false false d x = never (sym x)
+
+  pub record InUnit (u : ℕ) : Type 0 where
+    pub below : u < count ns
+    pub kind : (u ≡ 0) ⊎ (unitKind ns u ≡ true)
+
+  unit-by : (f j : ℕ) → j ≤ f → j < count ns → InUnit (unit j)
+  unit-by zero j hf h =
+      let q : 0 ≡ j = omega arith in
+      subst (λ (x : ℕ). InUnit (unit x)) q (let r : unit 0 ≡ 0 = handedRoot ns (λ i j r. cond (begins ns i j) i r) 0 in let s = tree .some in record { below = omega arith; kind = inl r })
+  unit-by (suc f) j hf h =
+      ⊎-elim (λ (q : 0 ≡ j). unit-by f j (omega arith) h)
+      (λ (q : 0 < j).
+      let l = tree .falls j q h in
+      subst (λ (x : ℕ). InUnit x) (sym (handedLaw ns (λ i j r. cond (begins ns i j) i r) 0 tree j q h))
+      (go q (begins ns (parentOf ns j) j) refl (unit-by f (parentOf ns j) (omega arith) (omega arith)))) (eq-or-lt-of-le (omega arith))
+    where
+      go : 0 < j → (b : Bool) → begins ns (parentOf ns j) j ≡ b → InUnit (unit (parentOf ns j)) → InUnit (cond b (parentOf ns j) (unit (parentOf ns j)))
+      go q true e r = let l = tree .falls j q h in record { below = omega arith; kind = begins-kind (parentOf ns j) j e }
+      go q false e r = r
+
+  pub unit-is : (j : ℕ) → j < count ns → InUnit (unit j)
+  unit-is j h = unit-by j j (omega arith) h
+
+-- what a unit says, in the words of the rules
+abbrev expected : List ℕ → Bool → ℕ → Reach
+expected ns call u =
+    cond (isConstructorMethod ns (isTableConstructor ns) u) (cond call (cond (hasHeritage ns u) Legal (Underived (record { 0 = classOf ns u }))) Legal) (cond (takesProperty ns u) (ifCall call) Illegal)
+
+module _ (ns ss : List ℕ) (tree : Tree ns) (chained : Chained ss) (scoped : Scoped ns ss) (placed : Placed ns) (fit : ScopesFit ns ss) (n : ℕ) (call : Bool) where
+  at-program : inUnit ns ss tree chained scoped placed fit n call 0 ≡ expected ns call 0
+  unfolding isConstructorMethod isMethod isObjectMethod takesProperty
+  at-program = rw (tree .root)
+
+  module _ (u : ℕ) (z : 0 < u) (h : u < count ns) where
+    at-other : eqb (kindOf ns u) k.Function ≡ false → unitKind ns u ≡ true → inUnit ns ss tree chained scoped placed fit n call u ≡ expected ns call u
+    unfolding isConstructorMethod isMethod isObjectMethod takesProperty
+    at-other e w = rw (ne-eqb u 0 (λ q. omega arith), e, right w)
+      where
+        right : (eqb (kindOf ns u) k.Function || (eqb (kindOf ns u) k.StaticBlock || within (kindOf ns u) k.PropertyDefinition k.AccessorProperty)) ≡ true → (eqb (kindOf ns u) k.StaticBlock || within (kindOf ns u) k.PropertyDefinition k.AccessorProperty) ≡ true
+        right w = sym (rw e) ∙ w
+
+    abbrev p : ℕ
+    p = parentOf ns u
+
+    of-object : kindOf ns u ≡ k.Function → kindOf ns p ≡ k.ObjectProperty → functionUse ns n call (classAbove ns u) u ≡ expected ns call u
+    unfolding functionUse isConstructorMethod isMethod isObjectMethod takesProperty objectUse
+    of-object e q = rw (ne-eqb u 0 (λ q. omega arith), q, value-is ns p u, e) (go (isMethodLike ns p) (isValue ns p u))
+      where
+        go : (m v : Bool) → cond m (cond v (ifCall call) Illegal) Illegal ≡ cond ((m && v) || false) (ifCall call) Illegal
+        go true true = refl
+        go true false = refl
+        go false v = refl
+
+    of-class : kindOf ns u ≡ k.Function → kindOf ns p ≡ k.MethodDefinition → functionUse ns n call (classAbove ns u) u ≡ expected ns call u
+    unfolding functionUse isConstructorMethod isMethod isObjectMethod takesProperty methodUse hasHeritage
+    of-class e q =
+        let l = tree .falls u z h in
+        let r : 0 < p = no-root ns ss tree chained scoped placed fit n call p (λ x. omega arith) in
+        let b : kindOf ns (parentOf ns p) ≡ k.ClassBody = placed .element p (omega arith) (omega arith) (omega arith) in
+        let c : classAbove ns u ≡ At (record { 0 = parentOf ns p }) =
+        above-other ns ss tree chained scoped placed fit n call u z h (λ x. omega arith) ∙ above-body ns ss tree chained scoped placed fit n call p r (omega arith) b in
+        rw (ne-eqb u 0 (λ q. omega arith), c, q, value-is ns p u, e) (go (isValue ns p u) (eqb (extraOf ns p) extra.Constructor) call (hasFlag (flagsOf ns (classOf ns u)) flag.Heritage))
+      where
+        go : (v x c h : Bool)
+            → cond v (cond c (cond x (cond h Legal (Underived (record { 0 = classOf ns u }))) Illegal) Legal) Illegal
+            ≡ cond (v && x) (cond c (cond h Legal (Underived (record { 0 = classOf ns u }))) Legal) (cond ((v || false) || false) (ifCall c) Illegal)
+        go true true c h = refl
+        go true false true h = refl
+        go true false false h = refl
+        go false x c h = refl
+
+    of-none : kindOf ns u ≡ k.Function → eqb (kindOf ns p) k.ObjectProperty ≡ false → eqb (kindOf ns p) k.MethodDefinition ≡ false → functionUse ns n call (classAbove ns u) u ≡ expected ns call u
+    unfolding functionUse isConstructorMethod isMethod isObjectMethod takesProperty
+    of-none e q r = rw (ne-eqb u 0 (λ q. omega arith), q, r, e)
+
+    at-function : kindOf ns u ≡ k.Function → inUnit ns ss tree chained scoped placed fit n call u ≡ expected ns call u
+    at-function e = rw (ne-eqb u 0 (λ q. omega arith), e) (go (eqb (kindOf ns p) k.ObjectProperty) refl (eqb (kindOf ns p) k.MethodDefinition) refl)
+      where
+        go : (o : Bool) → eqb (kindOf ns p) k.ObjectProperty ≡ o → (m : Bool) → eqb (kindOf ns p) k.MethodDefinition ≡ m → functionUse ns n call (classAbove ns u) u ≡ expected ns call u
+        go true q m r = of-object e (eqb-true (kindOf ns p) k.ObjectProperty q)
+        go false q true r = of-class e (eqb-true (kindOf ns p) k.MethodDefinition r)
+        go false q false r = of-none e q r
+
+    at-later : unitKind ns u ≡ true → inUnit ns ss tree chained scoped placed fit n call u ≡ expected ns call u
+    at-later w = go (eqb (kindOf ns u) k.Function) refl
+      where
+        go : (b : Bool) → eqb (kindOf ns u) k.Function ≡ b → inUnit ns ss tree chained scoped placed fit n call u ≡ expected ns call u
+        go true q = at-function (eqb-true (kindOf ns u) k.Function q)
+        go false q = at-other q w
+
+  at-unit : (u : ℕ) → InUnit ns tree u → inUnit ns ss tree chained scoped placed fit n call u ≡ expected ns call u
+  at-unit u r =
+      ⊎-elim (λ (q : 0 ≡ u). subst (λ (x : ℕ). inUnit ns ss tree chained scoped placed fit n call x ≡ expected ns call x) q at-program)
+      (λ (q : 0 < u). ⊎-elim (λ (e : u ≡ 0). absurd (omega arith)) (λ e. at-later u q (r .below) e) (r .kind)) (eq-or-lt-of-le (omega arith))
+
+-- a constructor takes SuperProperty
+constructor-takes : (ns : List ℕ) (u : ℕ) → isConstructorMethod ns (isTableConstructor ns) u ≡ true → takesProperty ns u ≡ true
+unfolding isConstructorMethod takesProperty
+constructor-takes ns u e = rw (and-left (isMethod ns u) (eqb (extraOf ns (parentOf ns u)) extra.Constructor) e)
+
+-- the findings of what is expected
+module _ (ns : List ℕ) (n u : ℕ) where
+  raised28 : raising 28 (listed (byReach ns n (expected ns (isCall ns n) u))) ≡ only (isCall ns n && (isConstructorMethod ns (isTableConstructor ns) u && not (hasHeritage ns u))) n
+  unfolding raising
+  raised28 = go (isCall ns n) refl (isConstructorMethod ns (isTableConstructor ns) u) (hasHeritage ns u) (takesProperty ns u)
+    where
+      go : (c : Bool) → isCall ns n ≡ c → (m h t : Bool)
+          → raising 28 (listed (byReach ns n (cond m (cond c (cond h Legal (Underived (record { 0 = classOf ns u }))) Legal) (cond t (ifCall c) Illegal)))) ≡ only (c && (m && not h)) n
+      go true e true true t = refl
+      go true e true false t = refl
+      go true e false h true = rw e
+      go true e false h false = rw e
+      go false e true h t = refl
+      go false e false h true = refl
+      go false e false h false = rw e
+
+  raised29 : raising 29 (listed (byReach ns n (expected ns (isCall ns n) u))) ≡ only (isCall ns n && not (isConstructorMethod ns (isTableConstructor ns) u)) n
+  unfolding raising
+  raised29 = go (isCall ns n) refl (isConstructorMethod ns (isTableConstructor ns) u) (hasHeritage ns u) (takesProperty ns u)
+    where
+      go : (c : Bool) → isCall ns n ≡ c → (m h t : Bool)
+          → raising 29 (listed (byReach ns n (cond m (cond c (cond h Legal (Underived (record { 0 = classOf ns u }))) Legal) (cond t (ifCall c) Illegal)))) ≡ only (c && not m) n
+      go true e true true t = refl
+      go true e true false t = refl
+      go true e false h true = rw e
+      go true e false h false = rw e
+      go false e true h t = refl
+      go false e false h true = refl
+      go false e false h false = rw e
+
+  raised30 : raising 30 (listed (byReach ns n (expected ns (isCall ns n) u))) ≡ only (not (isCall ns n) && not (takesProperty ns u)) n
+  unfolding raising
+  raised30 = go (isCall ns n) refl (isConstructorMethod ns (isTableConstructor ns) u) refl (hasHeritage ns u) (takesProperty ns u) refl
+    where
+      go : (c : Bool) → isCall ns n ≡ c → (m : Bool) → isConstructorMethod ns (isTableConstructor ns) u ≡ m → (h t : Bool) → takesProperty ns u ≡ t
+          → raising 30 (listed (byReach ns n (cond m (cond c (cond h Legal (Underived (record { 0 = classOf ns u }))) Legal) (cond t (ifCall c) Illegal)))) ≡ only (not c && not t) n
+      go true e true q true t r = refl
+      go true e true q false t r = refl
+      go true e false q h true r = rw e
+      go true e false q h false r = rw e
+      go false e true q h true r = refl
+      go false e true q h false r = never (sym (constructor-takes ns u q) ∙ r)
+      go false e false q h true r = refl
+      go false e false q h false r = rw e
+
+-- THE THEOREMS: one finding at each Super that breaks a rule, none at any other node
+module _ (ns ss : List ℕ) (tree : Tree ns) (chained : Chained ss) (scoped : Scoped ns ss) (placed : Placed ns) (fit : ScopesFit ns ss) (n : ℕ) (h : n < count ns) where
+  checked : kindOf ns n ≡ k.Super → checkSuper ns ss n ≡ byReach ns n (expected ns (isCall ns n) (unitOf ns (begins ns) n))
+  unfolding checkSuper reachOf
+  checked e =
+      ap (byReach ns n)
+      (search-is ns ss tree chained scoped placed fit n (isCall ns n) h e
+      ∙ at-unit ns ss tree chained scoped placed fit n (isCall ns n) (unitOf ns (begins ns) n) (unit-is ns tree n h))
+
+  module _ (t : ℕ) (source names : List ℕ) where
+    pub super-bare : raising 28 (findingsAt t ns ss source names n) ≡ only (tableBare ns n) n
+    unfolding bareCall isTableCall raising
+    super-bare = raising-code 28 (findingsAt t ns ss source names n) ∙ rw (at28 t ns ss source names n) (go (eqb (kindOf ns n) k.Super) refl)
+      where
+        go : (b : Bool) → eqb (kindOf ns n) k.Super ≡ b
+            → raising 28 (cond b (withCode 28 (listed (checkSuper ns ss n))) []) ≡ only ((b && isCall ns n) && (isConstructorMethod ns (isTableConstructor ns) (unitOf ns (begins ns) n) && not (hasHeritage ns (unitOf ns (begins ns) n)))) n
+        go true e = sym (raising-code 28 (listed (checkSuper ns ss n))) ∙ rw (checked (eqb-true (kindOf ns n) k.Super e)) (raised28 ns n (unitOf ns (begins ns) n))
+        go false e = refl
+
+    pub super-call : raising 29 (findingsAt t ns ss source names n) ≡ only (tableStray ns n) n
+    unfolding strayCall isTableCall raising
+    super-call = raising-code 29 (findingsAt t ns ss source names n) ∙ rw (at29 t ns ss source names n) (go (eqb (kindOf ns n) k.Super) refl)
+      where
+        go : (b : Bool) → eqb (kindOf ns n) k.Super ≡ b
+            → raising 29 (cond b (withCode 29 (listed (checkSuper ns ss n))) []) ≡ only ((b && isCall ns n) && not (isConstructorMethod ns (isTableConstructor ns) (unitOf ns (begins ns) n))) n
+        go true e = sym (raising-code 29 (listed (checkSuper ns ss n))) ∙ rw (checked (eqb-true (kindOf ns n) k.Super e)) (raised29 ns n (unitOf ns (begins ns) n))
+        go false e = refl
+
+    pub super-property : raising 30 (findingsAt t ns ss source names n) ≡ only (tableProperty ns n) n
+    unfolding strayProperty isTableProperty raising
+    super-property = raising-code 30 (findingsAt t ns ss source names n) ∙ rw (at30 t ns ss source names n) (go (eqb (kindOf ns n) k.Super) refl)
+      where
+        go : (b : Bool) → eqb (kindOf ns n) k.Super ≡ b
+            → raising 30 (cond b (withCode 30 (listed (checkSuper ns ss n))) []) ≡ only ((b && not (isCall ns n)) && not (takesProperty ns (unitOf ns (begins ns) n))) n
+        go true e = sym (raising-code 30 (listed (checkSuper ns ss n))) ∙ rw (checked (eqb-true (kindOf ns n) k.Super e)) (raised30 ns n (unitOf ns (begins ns) n))
+        go false e = refl
+
+method-kind : (ns : List ℕ) (u : ℕ) → isMethod ns u ≡ true → kindOf ns (parentOf ns u) ≡ k.MethodDefinition
+unfolding isMethod
+method-kind ns u e =
+    eqb-true (kindOf ns (parentOf ns u)) k.MethodDefinition
+    (and-left (eqb (kindOf ns (parentOf ns u)) k.MethodDefinition) (isValue ns (parentOf ns u) u) (and-right (eqb (kindOf ns u) k.Function) (eqb (kindOf ns (parentOf ns u)) k.MethodDefinition && isValue ns (parentOf ns u) u) e))
+
+-- where each Super stands in a SuperCall or a SuperProperty, the rules are the standard's
+module _ (ns names : List ℕ) (tree : Tree ns) (stand : SupersStand ns) (n : ℕ) (h : n < count ns) where
+  call-same : isTableCall ns n ≡ isSuperCall ns n
+  unfolding isTableCall isSuperCall
+  call-same = go (eqb (kindOf ns n) k.Super) refl
+    where
+      go : (b : Bool) → eqb (kindOf ns n) k.Super ≡ b → (b && within (kindOf ns (parentOf ns n)) k.Call k.New) ≡ (b && eqb (kindOf ns (parentOf ns n)) k.Call)
+      go true e = ⊎-elim (λ (q : kindOf ns (parentOf ns n) ≡ k.Call). rw q) (λ (q : kindOf ns (parentOf ns n) ≡ k.OtherMember). rw q) (stand n h (eqb-true (kindOf ns n) k.Super e))
+      go false e = refl
+
+  property-same : isTableProperty ns n ≡ isSuperProperty ns n
+  unfolding isTableProperty isSuperProperty
+  property-same = go (eqb (kindOf ns n) k.Super) refl
+    where
+      go : (b : Bool) → eqb (kindOf ns n) k.Super ≡ b → (b && not (within (kindOf ns (parentOf ns n)) k.Call k.New)) ≡ (b && eqb (kindOf ns (parentOf ns n)) k.OtherMember)
+      go true e = ⊎-elim (λ (q : kindOf ns (parentOf ns n) ≡ k.Call). rw q) (λ (q : kindOf ns (parentOf ns n) ≡ k.OtherMember). rw q) (stand n h (eqb-true (kindOf ns n) k.Super e))
+      go false e = refl
+
+  constructor-same : MethodsNamed ns names → isConstructorMethod ns (isTableConstructor ns) (unitOf ns (begins ns) n) ≡ isConstructorMethod ns (namesConstructor ns names) (unitOf ns (begins ns) n)
+  unfolding isConstructorMethod
+  constructor-same w = go (isMethod ns (unitOf ns (begins ns) n)) refl
+    where
+      go : (b : Bool) → isMethod ns (unitOf ns (begins ns) n) ≡ b → (b && isTableConstructor ns (parentOf ns (unitOf ns (begins ns) n))) ≡ (b && namesConstructor ns names (parentOf ns (unitOf ns (begins ns) n)))
+      go true e = w (parentOf ns (unitOf ns (begins ns) n)) (parent-in ns tree (unitOf ns (begins ns) n) (unit-is ns tree n h .below)) (method-kind ns (unitOf ns (begins ns) n) e)
+      go false e = refl
+
+  pub bare-same : MethodsNamed ns names → tableBare ns n ≡ standardBare ns names n
+  unfolding bareCall
+  bare-same w = rw (call-same, constructor-same w)
+
+  pub stray-same : MethodsNamed ns names → tableStray ns n ≡ standardStray ns names n
+  unfolding strayCall
+  stray-same w = rw (call-same, constructor-same w)
+
+  pub property-rule-same : tableProperty ns n ≡ standardProperty ns n
+  unfolding strayProperty
+  property-rule-same = rw property-same

@@ -1,0 +1,222 @@
+-- THE THEOREMS: in well-formed tables the findings with these codes are the breaches of ECMA-262's rules, one finding for each; where the Rust keeps a changed rule, they are
+-- breaches of that, and a law says on which condition it is the standard's. `raising c fs` is the nodes that raise the findings of fs with code c.
+use Prim.Native.Nat.{ℕ, _+_, _≤_, _<_}
+use mathlib.Core.Path.{_≡_, refl, ap, sym, subst, _∙_}
+use mathlib.Core.List.{List, [], _∷_, _++_, flatMap}
+use mathlib.Core.Bool.{Bool, true, false, cond, not, _&&_, _||_}
+use lib.Dec.{eqb, ltb}
+use lib.ListN.{length}
+use Rattle.common.specs.Upto.{upto, any}
+use Rattle.walk.specs.On.{member}
+use Rattle.tables.specs.Table.{kindOf, parentOf, count}
+use Rattle.tables.specs.Kinds as k
+use Rattle.tables.specs.declared.Found.the-variants.{At}
+use Rattle.children.specs.Children.{keep, children, classBodyOf}
+use Rattle.children.specs.ChildrenLaws.{found-child}
+use Rattle.trees.specs.Rose.{treeOf}
+use Rattle.trees.specs.Walk.{some, only}
+use Rattle.diagnostics.specs.declared.Finding.{Finding}
+use Rattle.diagnostics.specs.Finding.{listed, errorAt}
+use Rattle.diagnostics.specs.Codes as code
+use Rattle.diagnostics.specs.Contexts as context
+use Rattle.classes.specs.Classes.{classesOf}
+use Rattle.duplicates.specs.Duplicates.{duplicatesIn, duplicateElements}
+use Rattle.checker.specs.Findings.{findingsAt, findingsOf}
+use Rattle.input.specs.InputLaws.{WellFormed}
+use Rattle.ecma_dispatch.specs.WithCode.{withCode}
+use Rattle.ecma_dispatch.specs.Dispatch.{wholeOne, wholeOther}
+use Rattle.ecma_classes.specs.Raising.{raising}
+use Rattle.ecma_classes.specs.RaisingLaws.{raising-code, raising-append, raising-flat, flat-upto, keep-upto, any-upto, any-three}
+use Rattle.ecma_classes.specs.ListLaws.{Rising, kept-in}
+use Rattle.ecma_classes.specs.ClassElements.{found, sameNode, namesConstructor, nameMissing, builtTwice, constructorTwice, ConstructorsNamed, isProto, protoAgain, protoTwice, KeysPlain}
+use Rattle.ecma_classes.specs.ClassElementsLaws.{class-name, second-constructor, constructors-agree}
+use Rattle.ecma_classes.specs.ObjectsLaws.{times, proto-again, proto-agrees, proto-once}
+use Rattle.ecma_classes.specs.PrivateNames.{privateBound, privateEntered, entries, allowed, privateTwice, privateAgain, PrivatesEntered, OnceOrTwice, isClassBody, isUse, allPrivateIdentifiersValid, invalidIdentifiers, invalidInTable, PrivatesPlain, bodyAround, isOutside, UsedOutside}
+use Rattle.ecma_classes.specs.PrivateTwiceLaws.{flat-alike, private-again, again-some, again-once, entered-all, entered-rising}
+use Rattle.ecma_classes.specs.PrivateNamesLaws.{invalidAt, invalid-list, valid-none, private-outside, outside-invalid, private-undeclared, invalid-same, class-above, body-of-class}
+use Rattle.ecma_classes.specs.Supers.{isSuperCall, isSuperProperty, bareCall, strayCall, strayProperty, bareCallIn, strayCallIn, strayPropertyIn, standardBare, standardStray, standardProperty, tableBare, tableStray, tableProperty, MethodsNamed, SupersStand, ScopesFit, superError}
+use Rattle.ecma_classes.specs.SupersLaws.{super-bare, super-call, super-property, bare-same, stray-same, property-rule-same}
+use Rattle.ecma_classes.specs.ContainsLaws.{inUnit, bare-in, stray-in, property-in, error-is}
+use Rattle.ecma_classes.specs.WholeLaws.{below-of, all-raised, units-all}
+
+-- from each node to the whole tree
+module _ (t : ℕ) (ns ss source names : List ℕ) where
+  whole : (c : ℕ) → member c (1 ∷ []) ≡ false → (rule : ℕ → Bool) → ((j : ℕ) → j < count ns → raising c (findingsAt t ns ss source names j) ≡ only (rule j) j)
+      → raising c (findingsOf t ns ss source names) ≡ keep rule (upto 0 (count ns))
+  unfolding flatMap keep
+  whole c e rule h =
+      raising-code c (findingsOf t ns ss source names)
+      ∙ ap (raising c) (wholeOther t ns ss source names c e)
+      ∙ raising-flat c (λ j. withCode c (findingsAt t ns ss source names j)) (upto 0 (count ns))
+      ∙ flat-upto (λ j. raising c (withCode c (findingsAt t ns ss source names j))) (λ j. only (rule j) j) 0 (count ns) (λ j a b. sym (raising-code c (findingsAt t ns ss source names j)) ∙ h j b)
+      ∙ flat-only rule (upto 0 (count ns))
+    where
+      put : (b : Bool) (x : ℕ) (l : List ℕ) → only b x ++ l ≡ cond b (x ∷ l) l
+      put true x l = refl
+      put false x l = refl
+
+      flat-only : (q : ℕ → Bool) (l : List ℕ) → flatMap (λ j. only (q j) j) l ≡ keep q l
+      flat-only q [] = refl
+      flat-only q (x ∷ l) = rw (flat-only q l) (put (q x) x (keep q l))
+
+module _ (t : ℕ) (ns ss source names : List ℕ) (w : WellFormed t ns ss source names) where
+  abbrev nodes : List ℕ
+  nodes = upto 0 (count ns)
+
+  abbrev findings : List Finding
+  findings = findingsOf t ns ss source names
+
+  -- 26: class declarations that lack their name (15.7)
+  pub code26 : raising 26 findings ≡ keep (nameMissing ns) nodes
+  code26 = whole t ns ss source names 26 refl (nameMissing ns) (λ j h. class-name t ns ss source names j)
+
+  -- 27: classes with a second constructor (15.7.1); changed: with a body
+  pub code27 : raising 27 findings ≡ keep (builtTwice ns) nodes
+  code27 = whole t ns ss source names 27 refl (builtTwice ns) (λ j h. second-constructor t ns ss source names j)
+
+  pub code27-standard : ((n : ℕ) → n < count ns → ConstructorsNamed ns names n) → raising 27 findings ≡ keep (constructorTwice ns names) nodes
+  code27-standard c = code27 ∙ keep-upto (builtTwice ns) (constructorTwice ns names) 0 (count ns) (λ n a b. constructors-agree ns names n (c n b))
+
+  -- 1: changed: each entry of PrivateBoundIdentifiers that clashes with an earlier one (15.7.1), raised at node 0; each `__proto__` of an object but the first (13.2.5.1)
+  pub code1 : raising 1 findings ≡ flatMap (λ b. times 0 (privateAgain ns names (privateEntered ns b))) (keep (isClassBody ns) nodes) ++ flatMap (λ n. times n (protoAgain ns names n)) nodes
+  unfolding duplicateElements classesOf
+  code1 =
+      raising-code 1 findings
+      ∙ ap (raising 1) (wholeOne t ns ss source names)
+      ∙ raising-append 1 (duplicateElements ns names) (flatMap (λ j. withCode 1 (findingsAt t ns ss source names j)) nodes)
+      ∙ rw (raising-flat 1 (duplicatesIn ns names) (keep (isClassBody ns) nodes), raising-flat 1 (λ j. withCode 1 (findingsAt t ns ss source names j)) nodes)
+      (rw (
+        flat-alike (λ b. raising 1 (duplicatesIn ns names b)) (λ b. times 0 (privateAgain ns names (privateEntered ns b))) (λ b. private-again ns names b) (keep (isClassBody ns) nodes),
+        flat-alike (λ j. raising 1 (withCode 1 (findingsAt t ns ss source names j))) (λ n. times n (protoAgain ns names n)) (λ j. sym (raising-code 1 (findingsAt t ns ss source names j)) ∙ proto-again ns names (w .listed) t ss source j) nodes,
+      ))
+
+  -- in a class there are such just where the standard's rule is broken ..
+  pub code1-class : (b : ℕ) → PrivatesEntered ns b → some (privateAgain ns names (privateEntered ns b)) ≡ privateTwice ns names (privateBound ns b)
+  code1-class b p = again-some ns names (privateEntered ns b) (entered-rising ns b) ∙ ap (privateTwice ns names) (entered-all ns b p)
+
+  -- .. and one for each name that breaks it, its second entry, where no name has more than two
+  pub code1-class-once : (b : ℕ) → PrivatesEntered ns b → OnceOrTwice ns names (privateBound ns b)
+      → privateAgain ns names (privateEntered ns b) ≡ keep (λ e. some (keep (λ d. ltb d e) (entries ns names (privateBound ns b) e)) && not (allowed ns (entries ns names (privateBound ns b) e))) (privateBound ns b)
+  code1-class-once b p o =
+      ap (privateAgain ns names) (entered-all ns b p) ∙ again-once ns names (privateBound ns b) (subst (λ (l : List ℕ). Rising l) (entered-all ns b p) (entered-rising ns b)) o
+
+  -- in an object there are such just where the standard's rule is broken, and one, if no more than two properties are named so
+  pub code1-object : (n : ℕ) → KeysPlain ns names n → some (protoAgain ns names n) ≡ protoTwice ns names n
+  code1-object n p = proto-agrees ns names n p
+
+  pub code1-object-once : (n : ℕ) → KeysPlain ns names n → length (keep (isProto ns names) (children ns n)) ≤ 2 → times n (protoAgain ns names n) ≡ only (protoTwice ns names n) n
+  code1-object-once n p l = proto-once ns names n p l
+
+  -- 7: PrivateIdentifiers in no ClassBody; the standard's: those of them at which AllPrivateIdentifiersValid (15.7.7) is false
+  pub code7 : raising 7 findings ≡ keep (isOutside ns) nodes
+  code7 = whole t ns ss source names 7 refl (isOutside ns) (λ j h. private-outside t ns ss source names j)
+
+  pub code7-standard : UsedOutside ns → raising 7 findings ≡ keep (λ j. member j (invalidIdentifiers ns names) && not (found (bodyAround ns j))) nodes
+  code7-standard u =
+      code7 ∙ keep-upto (isOutside ns) (λ j. member j (invalidIdentifiers ns names) && not (found (bodyAround ns j))) 0 (count ns) (λ j a b. outside-invalid ns names (w .input .tree) u j b)
+
+  -- 8: at a Class, one for each PrivateIdentifier at which AllPrivateIdentifiersValid is false and whose nearest ClassBody is the class's; changed: by what the Rust enters
+  abbrev reported : List ℕ → List Finding
+  reported l = flatMap (λ n. cond (eqb (kindOf ns n) k.Class) (flatMap (λ m. listed (errorAt ns code.privateFieldUndeclared n m context.none)) (keep (λ m. sameNode (bodyAround ns m) (classBodyOf ns n)) l)) []) nodes
+
+  pub code8 : withCode 8 findings ≡ reported (invalidInTable ns names)
+  code8 =
+      wholeOther t ns ss source names 8 refl
+      ∙ flat-upto (λ n. withCode 8 (findingsAt t ns ss source names n))
+      (λ n. cond (eqb (kindOf ns n) k.Class) (flatMap (λ m. listed (errorAt ns code.privateFieldUndeclared n m context.none)) (keep (λ m. sameNode (bodyAround ns m) (classBodyOf ns n)) (invalidInTable ns names))) []) 0 (count ns)
+      (λ n a b. private-undeclared ns names (w .input .tree) t ss source n)
+
+  pub code8-standard : PrivatesPlain ns → withCode 8 findings ≡ reported (invalidIdentifiers ns names)
+  code8-standard p = code8 ∙ ap reported (invalid-same ns names (w .input .tree) p)
+
+  -- each at one Class: a ClassBody is that of one Class, its parent
+  pub code8-once : (b : ℕ) → b < count ns → kindOf ns b ≡ k.ClassBody → (kindOf ns (parentOf ns b) ≡ k.Class) × (classBodyOf ns (parentOf ns b) ≡ At (record { 0 = b }))
+  code8-once b h e = (class-above ns (w .input .tree) (w .listed) (w .shaped) b h e, body-of-class ns (w .input .tree) (w .listed) (w .shaped) b h e)
+
+  pub code8-alone : (n b : ℕ) → classBodyOf ns n ≡ At (record { 0 = b }) → n ≡ parentOf ns b
+  code8-alone n b e = sym (found-child ns n k.ClassBody k.ClassBody 0 7 (n + 1) b e .parent)
+
+  -- AllPrivateIdentifiersValid is true just where it lists nothing ..
+  pub valid-lists : allPrivateIdentifiersValid ns names ≡ not (some (invalidIdentifiers ns names))
+  valid-lists = valid-none ns names (isUse ns) (privateBound ns) (treeOf ns) []
+
+  -- .. and just where there is no finding with code 7 or 8
+  pub valid-clean : PrivatesPlain ns → UsedOutside ns → allPrivateIdentifiersValid ns names ≡ not (some (raising 7 findings) || some (raising 8 findings))
+  valid-clean p u =
+      rw (code7-standard u, raising-code 8 findings, code8-standard p)
+      (valid-lists ∙ ap not (all-raised ns (w .input .tree) (w .listed) (w .shaped) (invalidIdentifiers ns names) inside))
+    where
+      inside : (x : ℕ) → member x (invalidIdentifiers ns names) ≡ true → x < count ns
+      inside x m =
+          below-of (count ns) x
+          (kept-in (invalidAt ns names (isUse ns) (privateBound ns)) nodes x (sym (ap (member x) (invalid-list ns names (isUse ns) (privateBound ns) (w .input .tree))) ∙ m) .0)
+
+  -- a unit breaks an early error, by Contains (8.5.1), just where one of its Supers does
+  pub units28 : (u : ℕ) → u < count ns → bareCallIn ns (namesConstructor ns names) (isSuperCall ns) u ≡ some (inUnit ns (standardBare ns names) u)
+  units28 u h = bare-in ns (w .input .tree) u h (namesConstructor ns names) (isSuperCall ns)
+
+  pub units29 : (u : ℕ) → u < count ns → strayCallIn ns (namesConstructor ns names) (isSuperCall ns) u ≡ some (inUnit ns (standardStray ns names) u)
+  units29 u h = stray-in ns (w .input .tree) u h (namesConstructor ns names) (isSuperCall ns)
+
+  pub units30 : (u : ℕ) → u < count ns → strayPropertyIn ns (isSuperProperty ns) u ≡ some (inUnit ns (standardProperty ns) u)
+  units30 u h = property-in ns (w .input .tree) u h (isSuperProperty ns)
+
+  -- the program is no Super
+  no-bare : standardBare ns names 0 ≡ false
+  unfolding bareCall isSuperCall
+  no-bare = rw (w .input .tree .root)
+
+  no-stray : standardStray ns names 0 ≡ false
+  unfolding strayCall isSuperCall
+  no-stray = rw (w .input .tree .root)
+
+  no-property : standardProperty ns 0 ≡ false
+  unfolding strayProperty isSuperProperty
+  no-property = rw (w .input .tree .root)
+
+  -- 28, 29, 30: `super` where an early error forbids it, where the table's scopes are the tree's; changed: by what the Rust takes for a constructor and for a call
+  module _ (fit : ScopesFit ns ss) where
+    pub code28 : raising 28 findings ≡ keep (tableBare ns) nodes
+    code28 = whole t ns ss source names 28 refl (tableBare ns) (λ j h. super-bare ns ss (w .input .tree) (w .input .chained) (w .input .scoped) (w .shaped .placed) fit j h t source names)
+
+    pub code29 : raising 29 findings ≡ keep (tableStray ns) nodes
+    code29 = whole t ns ss source names 29 refl (tableStray ns) (λ j h. super-call ns ss (w .input .tree) (w .input .chained) (w .input .scoped) (w .shaped .placed) fit j h t source names)
+
+    pub code30 : raising 30 findings ≡ keep (tableProperty ns) nodes
+    code30 = whole t ns ss source names 30 refl (tableProperty ns) (λ j h. super-property ns ss (w .input .tree) (w .input .chained) (w .input .scoped) (w .shaped .placed) fit j h t source names)
+
+    module _ (stand : SupersStand ns) (named : MethodsNamed ns names) where
+      pub code28-standard : raising 28 findings ≡ keep (standardBare ns names) nodes
+      code28-standard = code28 ∙ keep-upto (tableBare ns) (standardBare ns names) 0 (count ns) (λ j a b. bare-same ns names (w .input .tree) stand j b named)
+
+      pub code29-standard : raising 29 findings ≡ keep (standardStray ns names) nodes
+      code29-standard = code29 ∙ keep-upto (tableStray ns) (standardStray ns names) 0 (count ns) (λ j a b. stray-same ns names (w .input .tree) stand j b named)
+
+      pub code30-standard : raising 30 findings ≡ keep (standardProperty ns) nodes
+      code30-standard = code30 ∙ keep-upto (tableProperty ns) (standardProperty ns) 0 (count ns) (λ j a b. property-rule-same ns names (w .input .tree) stand j b)
+
+      -- there is a finding just where some unit breaks the rule
+      pub program28 : some (raising 28 findings) ≡ any (bareCallIn ns (namesConstructor ns names) (isSuperCall ns)) nodes
+      program28 =
+          ap (λ (l : List ℕ). some l) code28-standard
+          ∙ sym (units-all ns (w .input .tree) (standardBare ns names) no-bare)
+          ∙ any-upto (λ u. some (inUnit ns (standardBare ns names) u)) (bareCallIn ns (namesConstructor ns names) (isSuperCall ns)) 0 (count ns) (λ u a b. sym (units28 u b))
+
+      pub program29 : some (raising 29 findings) ≡ any (strayCallIn ns (namesConstructor ns names) (isSuperCall ns)) nodes
+      program29 =
+          ap (λ (l : List ℕ). some l) code29-standard
+          ∙ sym (units-all ns (w .input .tree) (standardStray ns names) no-stray)
+          ∙ any-upto (λ u. some (inUnit ns (standardStray ns names) u)) (strayCallIn ns (namesConstructor ns names) (isSuperCall ns)) 0 (count ns) (λ u a b. sym (units29 u b))
+
+      pub program30 : some (raising 30 findings) ≡ any (strayPropertyIn ns (isSuperProperty ns)) nodes
+      program30 =
+          ap (λ (l : List ℕ). some l) code30-standard
+          ∙ sym (units-all ns (w .input .tree) (standardProperty ns) no-property)
+          ∙ any-upto (λ u. some (inUnit ns (standardProperty ns) u)) (strayPropertyIn ns (isSuperProperty ns)) 0 (count ns) (λ u a b. sym (units30 u b))
+
+      -- and no finding of the three just where no production's early error on `super` applies
+      pub super-clean : any (superError ns names) nodes ≡ (some (raising 28 findings) || (some (raising 29 findings) || some (raising 30 findings)))
+      super-clean =
+          rw (program28, program29, program30)
+          (any-upto (superError ns names) (λ u. bareCallIn ns (namesConstructor ns names) (isSuperCall ns) u || (strayCallIn ns (namesConstructor ns names) (isSuperCall ns) u || strayPropertyIn ns (isSuperProperty ns) u)) 0 (count ns) (λ u a b. error-is ns names (w .input .tree) u)
+          ∙ any-three (bareCallIn ns (namesConstructor ns names) (isSuperCall ns)) (strayCallIn ns (namesConstructor ns names) (isSuperCall ns)) (strayPropertyIn ns (isSuperProperty ns)) nodes)

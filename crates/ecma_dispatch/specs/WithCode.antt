@@ -1,0 +1,10 @@
+-- The findings of a list that have a code.
+use Prim.Native.Nat.{ℕ}
+use mathlib.Core.List.{List, [], _∷_}
+use mathlib.Core.Bool.{cond}
+use lib.Dec.{eqb}
+use Rattle.diagnostics.specs.declared.Finding.{Finding}
+
+unfoldable pub withCode : ℕ → List Finding → List Finding
+withCode c [] = []
+withCode c (f ∷ fs) = cond (eqb (f .code) c) (f ∷ withCode c fs) (withCode c fs)

@@ -1,0 +1,1 @@
+// The findings of a node by their code: definitions and laws only.

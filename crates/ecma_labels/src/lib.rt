@@ -1,0 +1,1 @@
+// Labels, break and continue as ECMA-262 has them, and the findings: definitions and laws only.

@@ -1,0 +1,160 @@
+-- THE RULES AS THE RUST HAS THEM, where they are not the standard's, and the conditions on which they are: in the order of the
+-- files Literals, Delete, Statements, Identifiers, Contains and Functions.
+use Prim.Native.Nat.{ℕ, _+_}
+use mathlib.Core.Path.{_≡_}
+use mathlib.Core.List.{List, [], _∷_, foldr}
+use mathlib.Core.Bool.{Bool, true, false, cond, not, _&&_, _||_}
+use lib.Dec.{eqb}
+use lib.ListN.{length}
+use Rattle.common.specs.Upto.{all, any}
+use Rattle.common.specs.Tests.{within}
+use Rattle.tables.specs.Table.{kindOf, parentOf, extraOf, scopeOf, scopeFlagsOf, scopeNodeOf, outer, hasFlag, ancestors}
+use Rattle.tables.specs.Kinds as k
+use Rattle.tables.specs.Extras as extra
+use Rattle.tables.specs.ScopeFlag as scope
+use Rattle.children.specs.Children.{valueOf}
+use Rattle.trees.specs.Trail.{unitOf}
+use Rattle.ecma_strict.specs.Strict.{strictCode}
+use Rattle.ecma_strict.specs.Scopes.{mayMakeScope, blockScope, topScope}
+use Rattle.ecma_strict.specs.Literals.{textOf, decimalDigit, next, legacyOctalInteger, nonOctalDecimalInteger, numericLiteral, legacyOctalEscape, nonOctalDecimalEscape, escapes, stringLiteral}
+use Rattle.ecma_strict.specs.Delete.{privateReference, derives, deleteExpression}
+use Rattle.ecma_strict.specs.Statements.{declaratorsOf, plainName, single, badHead, headOf, ofHead, usingDeclaration, heldUsing}
+use Rattle.ecma_strict.specs.Identifiers.{goalModule, assignsEval, useStrictDirective, simpleParameters}
+use Rattle.ecma_strict.specs.Contains.{isNode, staticBlock, awaitNameEdge, awaitName, argumentsReference, parameter, awaitOrYield, lexicalDeclaration, letName}
+use Rattle.ecma_strict.specs.Functions.{endsInStatement, labelsFunction, labelEdge}
+
+-- 9, 10, 11: literals
+
+-- of a number's text only "0 and a digit" is looked at; its base is the table's
+abbrev pub zeroThenDigit : List ℕ → Bool
+zeroThenDigit [] = false
+zeroThenDigit (z ∷ l) = eqb z 48 && next decimalDigit l
+
+unfoldable pub toldOctal : List ℕ → List ℕ → List ℕ → ℕ → Bool
+toldOctal ns ss source n = numericLiteral ns n && (strictCode ns ss n && (zeroThenDigit (textOf ns source n) && eqb (extraOf ns n) extra.Octal))
+
+unfoldable pub toldNonOctal : List ℕ → List ℕ → List ℕ → ℕ → Bool
+toldNonOctal ns ss source n =
+    numericLiteral ns n && (strictCode ns ss n && (zeroThenDigit (textOf ns source n) && (eqb (extraOf ns n) extra.Decimal || eqb (extraOf ns n) extra.Float)))
+
+-- a string gives one finding, for its first such escape, ..
+unfoldable pub octalFirst : List (List ℕ) → Bool
+octalFirst [] = false
+octalFirst (e ∷ es) = legacyOctalEscape e || (not (nonOctalDecimalEscape e) && octalFirst es)
+
+unfoldable pub nonOctalFirst : List (List ℕ) → Bool
+nonOctalFirst [] = false
+nonOctalFirst (e ∷ es) = nonOctalDecimalEscape e || (not (legacyOctalEscape e) && nonOctalFirst es)
+
+-- .. and none where its text is two bytes longer than its value, since it is not looked at then
+abbrev pub looksPlain : List ℕ → List ℕ → ℕ → Bool
+looksPlain ns source n = eqb (length (textOf ns source n)) (extraOf ns n + 2)
+
+unfoldable pub firstOctalEscape : List ℕ → List ℕ → List ℕ → ℕ → Bool
+firstOctalEscape ns ss source n = stringLiteral ns n && (strictCode ns ss n && (not (looksPlain ns source n) && octalFirst (escapes (textOf ns source n))))
+
+unfoldable pub firstNonOctalEscape : List ℕ → List ℕ → List ℕ → ℕ → Bool
+firstNonOctalEscape ns ss source n = stringLiteral ns n && (strictCode ns ss n && (not (looksPlain ns source n) && nonOctalFirst (escapes (textOf ns source n))))
+
+-- the table's base of a number that begins with 0 and a digit is that of its text: of NumericLiterals, only these two begin so
+pub record BaseTold (ns source : List ℕ) (n : ℕ) : Type 0 where
+  pub octal : zeroThenDigit (textOf ns source n) ≡ true → eqb (extraOf ns n) extra.Octal ≡ legacyOctalInteger (textOf ns source n)
+  pub decimal : zeroThenDigit (textOf ns source n) ≡ true → (eqb (extraOf ns n) extra.Decimal || eqb (extraOf ns n) extra.Float) ≡ nonOctalDecimalInteger (textOf ns source n)
+
+-- a string whose text is two bytes longer than its value has no such escape, and no string has both
+pub record EscapesTold (ns source : List ℕ) (n : ℕ) : Type 0 where
+  pub plain : looksPlain ns source n ≡ true → any (λ e. legacyOctalEscape e || nonOctalDecimalEscape e) (escapes (textOf ns source n)) ≡ false
+  pub one : (any legacyOctalEscape (escapes (textOf ns source n)) && any nonOctalDecimalEscape (escapes (textOf ns source n))) ≡ false
+
+-- 32: delete of a private reference
+
+-- strict code is not asked for, since a private name stands in a class only
+unfoldable pub deletesPrivateAnywhere : List ℕ → ℕ → Bool
+deletesPrivateAnywhere ns n = deleteExpression ns n && derives ns (privateReference ns) (valueOf ns n)
+
+-- 24: heads of for-in and for-of; 13: using
+
+-- nothing is said of several declarations, nor of a `let` or `const` in a for-in whose name is plain
+abbrev pub unsaid : List ℕ → ℕ → ℕ → Bool
+unsaid ns n d =
+    not (single (declaratorsOf ns d)) || ((eqb (kindOf ns n) k.ForIn && not (eqb (extraOf ns d) extra.Var)) && all (plainName ns) (declaratorsOf ns d))
+
+unfoldable pub saidHead : List ℕ → List ℕ → ℕ → Bool
+saidHead ns ss n = within (kindOf ns n) k.ForIn k.ForOf && ofHead (λ d. badHead ns ss n d && not (unsaid ns n d)) (headOf ns n)
+
+-- in a script, where the scope is the top one
+unfoldable pub topUsing : ℕ → List ℕ → List ℕ → ℕ → Bool
+topUsing sourceType ns ss n = usingDeclaration ns n && (eqb sourceType 0 && topScope ns ss n)
+
+-- something else stands around it that makes a scope: a switch, and what no text has there
+unfoldable pub otherScope : List ℕ → ℕ → Bool
+otherScope ns n = any (λ a. within (kindOf ns a) k.Function k.Arrow || mayMakeScope (kindOf ns a)) (ancestors ns n)
+
+-- where they agree: the scope is the top one just where none of these contains the declaration, and it is in no clause of a switch
+pub record UsingTold (ns ss : List ℕ) (n : ℕ) : Type 0 where
+  pub top : topScope ns ss n ≡ not (heldUsing ns n)
+  pub clause : eqb (kindOf ns (parentOf ns n)) k.SwitchCase ≡ false
+
+-- 12: "use strict"
+
+-- the function is the one whose scope is the directive's
+unfoldable pub useStrictScoped : List ℕ → List ℕ → List ℕ → ℕ → Bool
+useStrictScoped ns ss names n =
+    useStrictDirective ns names n
+    && (hasFlag (scopeFlagsOf ss (scopeOf ns n)) scope.FunctionScope
+    && (within (kindOf ns (scopeNodeOf ss (scopeOf ns n))) k.Function k.Arrow && not (simpleParameters ns (scopeNodeOf ss (scopeOf ns n)))))
+
+-- a directive stands in the prologue of a Script, a Module or a FunctionBody
+abbrev pub directivePlaced : List ℕ → ℕ → Bool
+directivePlaced ns n = eqb (kindOf ns (parentOf ns n)) k.Program || eqb (kindOf ns (parentOf ns n)) k.FunctionBody
+
+-- where they agree: a directive in the body of a function has that function's scope, and no other directive has one of a function
+pub record DirectiveTold (ns ss : List ℕ) (n : ℕ) : Type 0 where
+  pub function : hasFlag (scopeFlagsOf ss (scopeOf ns n)) scope.FunctionScope ≡ eqb (kindOf ns (parentOf ns n)) k.FunctionBody
+  pub whose : kindOf ns (parentOf ns n) ≡ k.FunctionBody → scopeNodeOf ss (scopeOf ns n) ≡ parentOf ns (parentOf ns n)
+
+-- 3, 5, 6, 14, 25, 33: what goes down
+
+-- 3, 14, 25 go by scopes: among the scope of n and those around it, nearest first, that of a static block comes before that of a function
+unfoldable pub scopedInBlock : List ℕ → List ℕ → ℕ → Bool
+scopedInBlock ns ss n =
+    foldr (λ t r. cond (hasFlag (scopeFlagsOf ss t) scope.StaticBlockScope) true (cond (hasFlag (scopeFlagsOf ss t) scope.FunctionScope) false r)) false (scopeOf ns n ∷ outer ss (scopeOf ns n))
+
+-- 3 at a name: only where the name's own scope is a static block's, and not in a module, where 2 is raised
+unfoldable pub awaitNameScoped : ℕ → List ℕ → List ℕ → List ℕ → ℕ → Bool
+awaitNameScoped sourceType ns ss names n = awaitName ns names n && (not (goalModule sourceType) && hasFlag (scopeFlagsOf ss (scopeOf ns n)) scope.StaticBlockScope)
+
+-- 5: not in strict code, where 2 is raised; and the name of a class in the Initializer counts as bound
+abbrev pub letEdge : List ℕ → ℕ → ℕ → Bool
+letEdge ns i j = within (kindOf ns i) k.Program k.Arrow || eqb (kindOf ns i) k.VariableDeclaration
+
+unfoldable pub letBoundSaid : List ℕ → List ℕ → List ℕ → ℕ → Bool
+letBoundSaid ns ss names n = letName ns names n && (not (strictCode ns ss n) && lexicalDeclaration ns (unitOf ns (letEdge ns) n))
+
+-- 6: the Initializer of an auto-accessor is passed over; and a reference at which 4 is raised is left
+abbrev pub fieldEdge : List ℕ → ℕ → ℕ → Bool
+fieldEdge ns i j = (within (kindOf ns i) k.Program k.Function || eqb (kindOf ns i) k.StaticBlock) || (eqb (kindOf ns i) k.PropertyDefinition && isNode (valueOf ns i) j)
+
+abbrev pub fieldHome : List ℕ → ℕ → Bool
+fieldHome ns u = eqb (kindOf ns u) k.StaticBlock || eqb (kindOf ns u) k.PropertyDefinition
+
+unfoldable pub argumentsSaid : List ℕ → List ℕ → List ℕ → ℕ → Bool
+argumentsSaid ns ss names n = argumentsReference ns names n && (not (assignsEval ns ss names n) && fieldHome ns (unitOf ns (fieldEdge ns) n))
+
+-- 33: static blocks and the Initializers of fields within a parameter count as its parts
+abbrev pub throughClassEdge : List ℕ → ℕ → ℕ → Bool
+throughClassEdge ns i j = within (kindOf ns i) k.Program k.Arrow || parameter ns i
+
+unfoldable pub awaitInParameterSaid : List ℕ → ℕ → Bool
+awaitInParameterSaid ns n = awaitOrYield ns n && parameter ns (unitOf ns (throughClassEdge ns) n)
+
+-- the scope of the name n is that of the node where its [Await] parameter comes from, and is flagged as a static block's if it is one
+pub record AwaitNameTold (ns ss : List ℕ) (n : ℕ) : Type 0 where
+  pub flagged : blockScope ns ss n ≡ staticBlock ns (scopeNodeOf ss (scopeOf ns n))
+  pub whose : scopeNodeOf ss (scopeOf ns n) ≡ unitOf ns (awaitNameEdge ns) n
+
+-- 16: labelled functions
+
+-- not in strict code, where the labelled function itself is raised
+unfoldable pub labelledFunctionSaid : List ℕ → List ℕ → ℕ → Bool
+labelledFunctionSaid ns ss n = labelsFunction ns n && (not (strictCode ns ss n) && endsInStatement ns (unitOf ns (labelEdge ns) n))

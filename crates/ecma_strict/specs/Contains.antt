@@ -1,0 +1,142 @@
+-- ECMA-262, 8.5.1 Contains, 15.7.9 ContainsArguments, 8.2.1 BoundNames: operations that begin at a node of one kind, go down, and end at others.
+use Prim.Native.Nat.{ℕ}
+use mathlib.Core.List.{List}
+use mathlib.Core.Bool.{Bool, false, not, _&&_, _||_}
+use lib.Dec.{eqb}
+use Rattle.common.specs.Tests.{within}
+use Rattle.tables.specs.Table.{kindOf, parentOf, flagsOf, extraOf, hasFlag}
+use Rattle.tables.specs.Kinds as k
+use Rattle.tables.specs.Extras as extra
+use Rattle.tables.specs.NodeFlag as flag
+use Rattle.tables.specs.declared.Found.{Found}
+use Rattle.tables.specs.declared.Found.the-variants.{At, Nothing}
+use Rattle.names.specs.Name.{nameIs}
+use Rattle.names.specs.Words as word
+use Rattle.children.specs.Children.{valueOf}
+use Rattle.trees.specs.Rose.{Rose, Roses, node, rnil, rcons, idx, partsOf}
+use Rattle.trees.specs.Trail.{unitOf}
+
+-- "For each child node child of this Parse Node: if child is an instance of symbol, return true; if child is an instance of a nonterminal, let contained be the result
+-- of child Contains symbol. If contained is true, return true. Return false." It goes into the part j of the node i where `into i j` says so.
+module _ (sought : ℕ → Bool) (into : ℕ → ℕ → Bool) where
+  unfoldable mutual
+    pub contains : Rose → Bool
+    contains (node n ks) = sought n || containsAny ks (into n)
+
+    pub containsAny : Roses → (ℕ → Bool) → Bool
+    containsAny rnil b = false
+    containsAny (rcons t ts) b = (b (idx t) && contains t) || containsAny ts b
+
+-- The operation of a node u: it begins at those parts of u of which `begin` says so.
+abbrev pub containsFrom : List ℕ → (ℕ → Bool) → (ℕ → ℕ → Bool) → (ℕ → ℕ → Bool) → ℕ → Bool
+containsFrom ns sought into begin u = containsAny sought into (partsOf ns u) (begin u)
+
+-- FieldDefinition : ClassElementName Initializer: j is the Initializer of i
+abbrev pub isNode : Found → ℕ → Bool
+isNode (At m) j = eqb (m .0) j
+isNode Nothing j = false
+
+abbrev pub initializer : List ℕ → ℕ → ℕ → Bool
+initializer ns i j = within (kindOf ns i) k.PropertyDefinition k.AccessorProperty && isNode (valueOf ns i) j
+
+-- 8.5.1 Contains: of functions, arrows and static blocks it is false; of a class it looks at the heritage and the computed keys, so not into the Initializer of a field
+abbrev pub containsInto : List ℕ → ℕ → ℕ → Bool
+containsInto ns i j = not (within (kindOf ns i) k.Function k.StaticBlock || initializer ns i j)
+
+-- 15.7.1: "It is a Syntax Error if ClassStaticBlockStatementList Contains await is true."
+abbrev pub staticBlock : List ℕ → ℕ → Bool
+staticBlock ns u = eqb (kindOf ns u) k.StaticBlock
+
+abbrev pub blockBegin : List ℕ → ℕ → ℕ → Bool
+blockBegin ns i j = staticBlock ns i
+
+-- AwaitExpression; for await ( .. of .. ); await using
+abbrev pub awaitExpression : List ℕ → ℕ → Bool
+awaitExpression ns n = eqb (kindOf ns n) k.Await
+
+abbrev pub forAwait : List ℕ → ℕ → Bool
+forAwait ns n = eqb (kindOf ns n) k.ForOf && hasFlag (flagsOf ns n) flag.ForAwait
+
+abbrev pub awaitUsing : List ℕ → ℕ → Bool
+awaitUsing ns n = eqb (kindOf ns n) k.VariableDeclaration && eqb (extraOf ns n) extra.AwaitUsing
+
+-- 13.1.1: "this production has an [Await] parameter and the StringValue of Identifier is "await"": so in the statements of a static block, but not in the bodies of functions and
+-- arrows, nor in a function's parameters and a FunctionExpression's name, nor in the Initializer of a field.
+abbrev pub awaitNameEdge : List ℕ → ℕ → ℕ → Bool
+awaitNameEdge ns i j =
+    (eqb (kindOf ns i) k.Program || eqb (kindOf ns i) k.StaticBlock)
+    || ((eqb (kindOf ns i) k.Function && not (hasFlag (flagsOf ns i) flag.Declaration && eqb (kindOf ns j) k.BindingIdentifier))
+    || ((eqb (kindOf ns i) k.Arrow && eqb (kindOf ns j) k.FunctionBody) || initializer ns i j))
+
+abbrev pub awaitName : List ℕ → List ℕ → ℕ → Bool
+awaitName ns names n = within (kindOf ns n) k.BindingIdentifier k.LabelIdentifier && nameIs ns names n word.awaitWord
+
+-- IdentifierReference : Identifier: "If the StringValue of Identifier is "arguments", return true."
+abbrev pub argumentsReference : List ℕ → List ℕ → ℕ → Bool
+argumentsReference ns names n = eqb (kindOf ns n) k.IdentifierReference && nameIs ns names n word.argumentsWord
+
+-- 15.7.1: "It is a Syntax Error if Initializer is present and ContainsArguments of Initializer is true", and "if ContainsArguments of ClassStaticBlockStatementList is true":
+-- where the operation begins
+abbrev pub argumentsBegin : List ℕ → ℕ → ℕ → Bool
+argumentsBegin ns i j = eqb (kindOf ns i) k.StaticBlock || initializer ns i j
+
+-- 15.7.9: of a function it is false (of a method it looks at the ClassElementName: what else the method has is a function); else it goes into every child, arrows and fields too
+abbrev pub argumentsInto : List ℕ → ℕ → ℕ → Bool
+argumentsInto ns i j = not (eqb (kindOf ns i) k.Function || eqb (kindOf ns i) k.StaticBlock)
+
+-- 15.3.1, 15.4.1, 15.5.1, 15.6.1, 15.8.1, 15.9.1: "It is a Syntax Error if FormalParameters Contains YieldExpression is true", "Contains AwaitExpression".
+-- FormalParameter, FunctionRestParameter : BindingRestElement
+abbrev pub parameter : List ℕ → ℕ → Bool
+parameter ns i = eqb (kindOf ns i) k.FormalParameter || (eqb (kindOf ns i) k.BindingRestElement && eqb (kindOf ns (parentOf ns i)) k.FormalParameterRest)
+
+abbrev pub parameterBegin : List ℕ → ℕ → ℕ → Bool
+parameterBegin ns i j = parameter ns i
+
+abbrev pub awaitOrYield : List ℕ → ℕ → Bool
+awaitOrYield ns n = within (kindOf ns n) k.Await k.Yield
+
+-- 14.3.1.1: LexicalDeclaration : LetOrConst BindingList: "It is a Syntax Error if the BoundNames of BindingList contains "let"."; the same of using, and of a ForDeclaration (14.7.5.1).
+abbrev pub lexicalDeclaration : List ℕ → ℕ → Bool
+lexicalDeclaration ns u = eqb (kindOf ns u) k.VariableDeclaration && not (eqb (extraOf ns u) extra.Var)
+
+abbrev pub boundBegin : List ℕ → ℕ → ℕ → Bool
+boundBegin ns i j = lexicalDeclaration ns i
+
+-- 8.2.1 BoundNames: the BindingIdentifiers below the declaration, but not those of functions, arrows and classes in an Initializer, nor of another declaration
+abbrev pub boundInto : List ℕ → ℕ → ℕ → Bool
+boundInto ns i j = not (within (kindOf ns i) k.Function k.Arrow || (eqb (kindOf ns i) k.Class || eqb (kindOf ns i) k.VariableDeclaration))
+
+abbrev pub letName : List ℕ → List ℕ → ℕ → Bool
+letName ns names n = eqb (kindOf ns n) k.BindingIdentifier && nameIs ns names n word.letWord
+
+-- THE RULES AT A NODE: it is one of those that make such an operation true. On the way up from it, the first place where one begins or ends is where this one begins.
+
+abbrev pub awaitEdge : List ℕ → ℕ → ℕ → Bool
+awaitEdge ns i j = within (kindOf ns i) k.Program k.StaticBlock || initializer ns i j
+
+abbrev pub argumentsEdge : List ℕ → ℕ → ℕ → Bool
+argumentsEdge ns i j = (within (kindOf ns i) k.Program k.Function || eqb (kindOf ns i) k.StaticBlock) || initializer ns i j
+
+abbrev pub argumentsHome : List ℕ → ℕ → Bool
+argumentsHome ns u = eqb (kindOf ns u) k.StaticBlock || within (kindOf ns u) k.PropertyDefinition k.AccessorProperty
+
+abbrev pub parameterEdge : List ℕ → ℕ → ℕ → Bool
+parameterEdge ns i j = (within (kindOf ns i) k.Program k.StaticBlock || parameter ns i) || initializer ns i j
+
+abbrev pub boundEdge : List ℕ → ℕ → ℕ → Bool
+boundEdge ns i j = (within (kindOf ns i) k.Program k.Arrow || eqb (kindOf ns i) k.Class) || eqb (kindOf ns i) k.VariableDeclaration
+
+unfoldable pub awaitInBlock : List ℕ → ℕ → Bool
+awaitInBlock ns n = staticBlock ns (unitOf ns (awaitEdge ns) n)
+
+unfoldable pub awaitNameInBlock : List ℕ → List ℕ → ℕ → Bool
+awaitNameInBlock ns names n = awaitName ns names n && staticBlock ns (unitOf ns (awaitNameEdge ns) n)
+
+unfoldable pub argumentsInClass : List ℕ → List ℕ → ℕ → Bool
+argumentsInClass ns names n = argumentsReference ns names n && argumentsHome ns (unitOf ns (argumentsEdge ns) n)
+
+unfoldable pub awaitInParameter : List ℕ → ℕ → Bool
+awaitInParameter ns n = awaitOrYield ns n && parameter ns (unitOf ns (parameterEdge ns) n)
+
+unfoldable pub letBound : List ℕ → List ℕ → ℕ → Bool
+letBound ns names n = letName ns names n && lexicalDeclaration ns (unitOf ns (boundEdge ns) n)

@@ -1,0 +1,66 @@
+-- ECMA-262, functions in statement position: 14.6, 14.7, 14.11, 14.13 with B.3.1 and B.3.3.
+use Prim.Native.Nat.{ℕ}
+use mathlib.Core.List.{List}
+use mathlib.Core.Bool.{Bool, false, cond, not, _&&_, _||_}
+use lib.Dec.{eqb}
+use Rattle.common.specs.Tests.{within}
+use Rattle.tables.specs.Table.{kindOf, roleOf}
+use Rattle.tables.specs.Kinds as k
+use Rattle.tables.specs.Roles as role
+use Rattle.tables.specs.declared.Found.{Found}
+use Rattle.tables.specs.declared.Found.the-variants.{At, Nothing}
+use Rattle.children.specs.Children.{heldOf, alternateOf}
+use Rattle.trees.specs.Rose.{Rose, Roses, node, rnil, rcons, idx, partsOf}
+use Rattle.trees.specs.Trail.{unitOf}
+use Rattle.ecma_strict.specs.Strict.{strictCode}
+
+-- a FunctionDeclaration: a function that is held as a statement is one
+abbrev pub isFunction : List ℕ → Found → Bool
+isFunction ns (At m) = eqb (kindOf ns (m .0)) k.Function
+isFunction ns Nothing = false
+
+-- the statements that end in a Statement: if, the loops, with
+abbrev pub endsInStatement : List ℕ → ℕ → Bool
+endsInStatement ns n = within (kindOf ns n) k.For k.With
+
+-- 14.6, 14.7, 14.11: no Statement is a FunctionDeclaration. 14.13.1 with B.3.1, LabelledItem : FunctionDeclaration: an error in strict mode code.
+unfoldable pub strictFunction : List ℕ → List ℕ → ℕ → Bool
+strictFunction ns ss n = (endsInStatement ns n || eqb (kindOf ns n) k.Labeled) && (strictCode ns ss n && isFunction ns (heldOf ns n))
+
+-- 14.6: the same of the Statement behind else
+unfoldable pub strictFunctionElse : List ℕ → List ℕ → ℕ → Bool
+strictFunctionElse ns ss n = eqb (kindOf ns n) k.If && (strictCode ns ss n && isFunction ns (alternateOf ns n))
+
+-- B.3.3: in code that is not strict the Statement of an if may be one, and by B.3.1 a LabelledItem
+unfoldable pub sloppyFunction : List ℕ → List ℕ → ℕ → Bool
+sloppyFunction ns ss n = (endsInStatement ns n && not (eqb (kindOf ns n) k.If)) && (not (strictCode ns ss n) && isFunction ns (heldOf ns n))
+
+-- IsLabelledFunction(stmt): "1. If stmt is not a LabelledStatement, return false. 2. Let item be the LabelledItem of stmt. 3. If item is LabelledItem : FunctionDeclaration,
+-- return true. 4. Let subStmt be the Statement of item. 5. Return IsLabelledFunction(subStmt)."
+module _ (ns : List ℕ) where
+  unfoldable mutual
+    pub isLabelledFunction : Rose → Bool
+    isLabelledFunction (node n ks) = eqb (kindOf ns n) k.Labeled && labelledItem ks
+
+    pub labelledItem : Roses → Bool
+    labelledItem rnil = false
+    labelledItem (rcons t ts) = cond (eqb (roleOf ns (idx t)) role.Held) (eqb (kindOf ns (idx t)) k.Function || isLabelledFunction t) (labelledItem ts)
+
+  -- of one of the Statements among the parts of a node
+  unfoldable pub labelledAmong : Roses → Bool
+  labelledAmong rnil = false
+  labelledAmong (rcons t ts) = (within (roleOf ns (idx t)) role.Held role.Alternate && isLabelledFunction t) || labelledAmong ts
+
+-- 14.6.1, 14.7.2.1, 14.7.3.1, 14.7.4.1, 14.7.5.1, 14.11.1: "It is a Syntax Error if IsLabelledFunction(Statement) is true."
+unfoldable pub endsInLabelled : List ℕ → ℕ → Bool
+endsInLabelled ns n = endsInStatement ns n && labelledAmong ns (partsOf ns n)
+
+-- THE RULE AT THE LABEL: n labels a function, and the statement that it is labelled statement by labelled statement part of ends in it
+abbrev pub labelsFunction : List ℕ → ℕ → Bool
+labelsFunction ns n = eqb (kindOf ns n) k.Labeled && isFunction ns (heldOf ns n)
+
+abbrev pub labelEdge : List ℕ → ℕ → ℕ → Bool
+labelEdge ns i j = not (eqb (kindOf ns i) k.Labeled)
+
+unfoldable pub labelledFunctionAt : List ℕ → ℕ → Bool
+labelledFunctionAt ns n = labelsFunction ns n && endsInStatement ns (unitOf ns (labelEdge ns) n)

@@ -1,0 +1,74 @@
+-- ECMA-262, 13.1.1 Identifiers; 8.6.4 AssignmentTargetType; 15.2.1 "use strict" with parameters that are not simple.
+use Prim.Native.Nat.{ℕ}
+use mathlib.Core.List.{List, [], _∷_}
+use mathlib.Core.Bool.{Bool, not, _&&_, _||_}
+use lib.Dec.{eqb}
+use Rattle.common.specs.Upto.{any}
+use Rattle.common.specs.Tests.{within}
+use Rattle.tables.specs.Table.{kindOf, parentOf, flagsOf, hasFlag}
+use Rattle.tables.specs.Kinds as k
+use Rattle.tables.specs.NodeFlag as flag
+use Rattle.children.specs.Children.{children}
+use Rattle.names.specs.Name.{nameIs}
+use Rattle.names.specs.Words as word
+use Rattle.ecma_strict.specs.Strict.{strictCode}
+
+-- the goal symbol of the syntactic grammar is Module
+abbrev pub goalModule : ℕ → Bool
+goalModule sourceType = eqb sourceType 1
+
+-- BindingIdentifier, IdentifierReference, LabelIdentifier
+abbrev pub identifier : List ℕ → ℕ → Bool
+identifier ns n = within (kindOf ns n) k.BindingIdentifier k.LabelIdentifier
+
+abbrev pub strictReserved : List (List ℕ)
+strictReserved =
+    word.implementsWord
+    ∷ word.interfaceWord
+    ∷ word.letWord
+    ∷ word.packageWord
+    ∷ word.privateWord
+    ∷ word.protectedWord
+    ∷ word.publicWord
+    ∷ word.staticWord
+    ∷ word.yieldWord
+    ∷ []
+
+-- 13.1.1, Identifier: "It is a Syntax Error if IsStrict(this phrase) is true and the StringValue of IdentifierName is one of" these, and "if the goal symbol of the syntactic
+-- grammar is Module and the StringValue of IdentifierName is "await"." Not here: a word that is reserved everywhere (no tree has it as a name), and `yield` and `await` where the
+-- production has the parameter [Yield] or [Await], since the tables don't tell which functions are generators or async. For `await` in a static block see Contains.
+unfoldable pub reservedName : ℕ → List ℕ → List ℕ → List ℕ → ℕ → Bool
+reservedName sourceType ns ss names n =
+    identifier ns n && ((strictCode ns ss n && any (λ w. nameIs ns names n w) strictReserved) || (goalModule sourceType && nameIs ns names n word.awaitWord))
+
+abbrev pub evalOrArguments : List ℕ → List ℕ → ℕ → Bool
+evalOrArguments ns names n = nameIs ns names n word.evalWord || nameIs ns names n word.argumentsWord
+
+-- 13.1.1, BindingIdentifier : Identifier: "It is a Syntax Error if IsStrict(this production) is true and the StringValue of Identifier is either "arguments" or "eval"."
+unfoldable pub bindsEval : List ℕ → List ℕ → List ℕ → ℕ → Bool
+bindsEval ns ss names n = eqb (kindOf ns n) k.BindingIdentifier && (evalOrArguments ns names n && strictCode ns ss n)
+
+-- 8.6.4, IdentifierReference : Identifier: "If IsStrict(this IdentifierReference) is true and the StringValue of Identifier is either "eval" or "arguments", return invalid."
+-- 13.4.1, 13.15.1, 14.7.5.1: an error where it is the target of an assignment.
+unfoldable pub assignsEval : List ℕ → List ℕ → List ℕ → ℕ → Bool
+assignsEval ns ss names n = eqb (kindOf ns n) k.IdentifierReference && (evalOrArguments ns names n && (strictCode ns ss n && hasFlag (flagsOf ns n) flag.Written))
+
+-- 11.2.1: a Use Strict Directive
+abbrev pub useStrictDirective : List ℕ → List ℕ → ℕ → Bool
+useStrictDirective ns names n = eqb (kindOf ns n) k.Directive && nameIs ns names n word.useStrict
+
+-- IsSimpleParameterList
+abbrev pub simpleParameters : List ℕ → ℕ → Bool
+simpleParameters ns f = hasFlag (flagsOf ns f) flag.SimpleParameters
+
+-- 15.2.2 FunctionBodyContainsUseStrict: "If the Directive Prologue of FunctionStatementList contains a Use Strict Directive, return true": b is the FunctionBody
+abbrev pub containsUseStrict : List ℕ → List ℕ → ℕ → Bool
+containsUseStrict ns names b = any (useStrictDirective ns names) (children ns b)
+
+-- 15.2.1, 15.3.1, 15.4.1 and others: "It is a Syntax Error if FunctionBodyContainsUseStrict of FunctionBody is true and IsSimpleParameterList of FormalParameters is false."
+-- At the directive: n is one in the FunctionBody of such a function or arrow.
+unfoldable pub useStrictThere : List ℕ → List ℕ → ℕ → Bool
+useStrictThere ns names n =
+    useStrictDirective ns names n
+    && (eqb (kindOf ns (parentOf ns n)) k.FunctionBody
+    && (within (kindOf ns (parentOf ns (parentOf ns n))) k.Function k.Arrow && not (simpleParameters ns (parentOf ns (parentOf ns n)))))

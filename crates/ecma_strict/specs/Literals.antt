@@ -1,0 +1,91 @@
+-- ECMA-262, 12.9.3 Numeric Literals and 12.9.4 String Literals: what strict mode code may not have. A literal's text is the bytes of its span.
+use Prim.Native.Nat.{ℕ, _-_}
+use mathlib.Core.List.{List, [], _∷_}
+use mathlib.Core.Bool.{Bool, false, cond, not, _&&_, _||_}
+use lib.Dec.{eqb}
+use lib.ListN.{take, drop}
+use Rattle.common.specs.Upto.{all, any}
+use Rattle.common.specs.Tests.{within}
+use Rattle.tables.specs.Table.{kindOf, parentOf, spanStartOf, spanEndOf}
+use Rattle.tables.specs.Kinds as k
+use Rattle.ecma_strict.specs.Strict.{strictCode}
+
+unfoldable pub textOf : List ℕ → List ℕ → ℕ → List ℕ
+textOf ns source n = take (spanEndOf ns n - spanStartOf ns n) (drop (spanStartOf ns n) source)
+
+-- DecimalDigit, OctalDigit, NonOctalDigit
+abbrev pub decimalDigit : ℕ → Bool
+decimalDigit b = within b 48 57
+
+abbrev pub octalDigit : ℕ → Bool
+octalDigit b = within b 48 55
+
+abbrev pub nonOctalDigit : ℕ → Bool
+nonOctalDigit b = within b 56 57
+
+-- the next character is one of these: [lookahead ∈ ..]
+abbrev pub next : (ℕ → Bool) → List ℕ → Bool
+next p [] = false
+next p (b ∷ l) = p b
+
+-- 12.9.3: LegacyOctalIntegerLiteral :: 0 OctalDigit, LegacyOctalIntegerLiteral OctalDigit
+unfoldable pub legacyOctalInteger : List ℕ → Bool
+legacyOctalInteger [] = false
+legacyOctalInteger (z ∷ l) = eqb z 48 && (next octalDigit l && all octalDigit l)
+
+-- OctalDigits, if any, and then a NonOctalDigit
+unfoldable pub octalsThenNonOctal : List ℕ → Bool
+octalsThenNonOctal [] = false
+octalsThenNonOctal (b ∷ l) = nonOctalDigit b || (octalDigit b && octalsThenNonOctal l)
+
+-- the text begins with a NonOctalDecimalIntegerLiteral :: 0 NonOctalDigit, LegacyOctalLikeDecimalIntegerLiteral NonOctalDigit, NonOctalDecimalIntegerLiteral DecimalDigit
+unfoldable pub nonOctalDecimalInteger : List ℕ → Bool
+nonOctalDecimalInteger [] = false
+nonOctalDecimalInteger (z ∷ l) = eqb z 48 && octalsThenNonOctal l
+
+abbrev pub numericLiteral : List ℕ → ℕ → Bool
+numericLiteral ns n = eqb (kindOf ns n) k.NumericLiteral
+
+-- 12.9.3.1: NumericLiteral :: LegacyOctalIntegerLiteral: "It is a Syntax Error if IsStrict(this production) is true."
+unfoldable pub strictOctal : List ℕ → List ℕ → List ℕ → ℕ → Bool
+strictOctal ns ss source n = numericLiteral ns n && (strictCode ns ss n && legacyOctalInteger (textOf ns source n))
+
+-- 12.9.3.1: DecimalIntegerLiteral :: NonOctalDecimalIntegerLiteral: the same
+unfoldable pub strictNonOctal : List ℕ → List ℕ → List ℕ → ℕ → Bool
+strictNonOctal ns ss source n = numericLiteral ns n && (strictCode ns ss n && nonOctalDecimalInteger (textOf ns source n))
+
+-- 12.9.4: LegacyOctalEscapeSequence, of what stands behind the backslash
+unfoldable pub legacyOctalEscape : List ℕ → Bool
+legacyOctalEscape [] = false
+legacyOctalEscape (c ∷ l) =
+    -- 0 [lookahead ∈ { 8, 9 }]
+    (eqb c 48 && next nonOctalDigit l)
+    -- NonZeroOctalDigit [lookahead ∉ OctalDigit]
+    || ((within c 49 55 && not (next octalDigit l))
+    -- ZeroToThree OctalDigit, with another OctalDigit or without
+    || ((within c 48 51 && next octalDigit l)
+    -- FourToSeven OctalDigit
+    || (within c 52 55 && next octalDigit l)))
+
+-- 12.9.4: NonOctalDecimalEscapeSequence :: one of 8 9
+unfoldable pub nonOctalDecimalEscape : List ℕ → Bool
+nonOctalDecimalEscape [] = false
+nonOctalDecimalEscape (c ∷ l) = nonOctalDigit c
+
+-- the escape sequences of a string, each with all that stands behind its backslash. A character that a backslash precedes begins no escape itself.
+unfoldable pub escapes : List ℕ → List (List ℕ)
+escapes [] = []
+escapes (b ∷ []) = []
+escapes (b ∷ c ∷ l) = cond (eqb b 92) ((c ∷ l) ∷ escapes l) (escapes (c ∷ l))
+
+-- a StringLiteral; an attribute of JSX has strings of its own, without escapes
+abbrev pub stringLiteral : List ℕ → ℕ → Bool
+stringLiteral ns n = eqb (kindOf ns n) k.StringLiteral && not (eqb (kindOf ns (parentOf ns n)) k.JSXAttribute)
+
+-- 12.9.4.1: EscapeSequence :: LegacyOctalEscapeSequence: "It is a Syntax Error if IsStrict(this production) is true."
+unfoldable pub strictOctalEscape : List ℕ → List ℕ → List ℕ → ℕ → Bool
+strictOctalEscape ns ss source n = stringLiteral ns n && (strictCode ns ss n && any legacyOctalEscape (escapes (textOf ns source n)))
+
+-- 12.9.4.1: EscapeSequence :: NonOctalDecimalEscapeSequence: the same
+unfoldable pub strictNonOctalEscape : List ℕ → List ℕ → List ℕ → ℕ → Bool
+strictNonOctalEscape ns ss source n = stringLiteral ns n && (strictCode ns ss n && any nonOctalDecimalEscape (escapes (textOf ns source n)))

@@ -1,0 +1,218 @@
+-- THE RULES AT A NODE ARE THE STANDARD'S OPERATIONS: the rule holds at n exactly if there is a node above, of the kind where the operation begins, from which the operation comes to n.
+use Prim.Native.Nat.{ℕ, _<_}
+use mathlib.Core.Path.{_≡_, refl, ap, sym, _∙_}
+use mathlib.Core.List.{List}
+use mathlib.Core.Bool.{Bool, true, false, cond, not, _&&_, _||_}
+use mathlib.Core.Logic.{⊎-elim, _↔_}
+use native.Mathlib.Nat.{eq-or-lt-of-le}
+use native.Mathlib.Omega.{arith}
+use borrow.Author.Tests.{eq-eqb, ne-eqb, eqb-true, not-true}
+use lib.Dec.{eqb}
+use Rattle.common.specs.Upto.{and-left}
+use Rattle.common.specs.Tests.{within}
+use Rattle.common.specs.Bools.{never, or-first, or-second, either, in-range, range-of}
+use Rattle.tables.specs.Table.{kindOf, parentOf, count, extraOf}
+use Rattle.tables.specs.Facts.{Tree}
+use Rattle.tables.specs.Extras as extra
+use Rattle.children.specs.Children.{valueOf}
+use Rattle.trees.specs.Trail.{unitOf}
+use Rattle.trees.specs.TrailLaws.{handedLaw}
+use Rattle.ecma_strict.specs.Contains.{isNode, initializer, containsInto, staticBlock, blockBegin, awaitEdge, argumentsBegin, argumentsInto, argumentsEdge, argumentsHome, parameter, parameterBegin, parameterEdge, lexicalDeclaration, boundBegin, boundInto, boundEdge}
+use Rattle.ecma_strict.specs.ContainsLaws.{upward, unitUp, unitRoot, comes, comesHome}
+use Rattle.ecma_strict.specs.SearchLaws.{positive}
+
+-- an operation that begins at a node of which `home` holds comes to n
+pub record Reached (ns : List ℕ) (into begin : ℕ → ℕ → Bool) (home : ℕ → Bool) (n : ℕ) : Type 0 where
+  pub at : ℕ
+  pub here : home at ≡ true
+  pub to : comes ns begin into at n ≡ true
+
+module _ (ns : List ℕ) (t : Tree ns) (into begin edge : ℕ → ℕ → Bool) (home : ℕ → Bool)
+    (first : (u j : ℕ) → home u ≡ true → begin u j ≡ true → edge u j ≡ true)
+    (on' : (i j : ℕ) → (kindOf ns i ≡ 0 → ⊥) → into i j ≡ true → edge i j ≡ true → home i ≡ true)
+    (back : (u j : ℕ) → home u ≡ true → edge u j ≡ true → begin u j ≡ true)
+    (through : (i j : ℕ) → edge i j ≡ false → into i j ≡ true)
+    (program : home 0 ≡ false)
+  where
+    -- the first edge on the way up is at a node above
+    before : (j : ℕ) → j < count ns → 0 < j → unitOf ns edge j < j
+    before = upward ns t (λ j. 0 < j → unitOf ns edge j < j) (λ z. absurd (omega arith)) step
+      where
+        step : (j : ℕ) → 0 < j → j < count ns → (0 < parentOf ns j → unitOf ns edge (parentOf ns j) < parentOf ns j) → 0 < j → unitOf ns edge j < j
+        step j z h r y = go (edge (parentOf ns j) j) refl
+          where
+            f : parentOf ns j < j
+            f = t .falls j z h
+
+            go : (b : Bool) → edge (parentOf ns j) j ≡ b → unitOf ns edge j < j
+            go true e = let u : unitOf ns edge j ≡ parentOf ns j = unitUp ns t edge j z h ∙ rw e in let g = f in omega arith
+            go false e =
+                let u : unitOf ns edge j ≡ unitOf ns edge (parentOf ns j) = unitUp ns t edge j z h ∙ rw e in
+                let g = f in
+                ⊎-elim (λ (q : 0 ≡ parentOf ns j). let v : unitOf ns edge (parentOf ns j) ≡ 0 = ap (λ (x : ℕ). unitOf ns edge x) (sym q) ∙ unitRoot ns t edge in omega arith)
+                (λ (q : 0 < parentOf ns j). let v = r q in omega arith) (eq-or-lt-of-le (omega arith))
+
+    comesBack : (u : ℕ) → home u ≡ true → (j : ℕ) → j < count ns → 0 < j → unitOf ns edge j ≡ u → comes ns begin into u j ≡ true
+    comesBack u a = upward ns t (λ j. 0 < j → unitOf ns edge j ≡ u → comes ns begin into u j ≡ true) (λ z. absurd (omega arith)) step
+      where
+        law : (j : ℕ) → 0 < j → j < count ns → comes ns begin into u j ≡ cond (eqb (parentOf ns j) u) (begin (parentOf ns j) j) (comes ns begin into u (parentOf ns j) && into (parentOf ns j) j)
+        law j z h = handedLaw ns (λ i k r. cond (eqb i u) (begin i k) (r && into i k)) false t j z h
+
+        step : (j : ℕ) → 0 < j → j < count ns → (0 < parentOf ns j → unitOf ns edge (parentOf ns j) ≡ u → comes ns begin into u (parentOf ns j) ≡ true) → 0 < j → unitOf ns edge j ≡ u → comes ns begin into u j ≡ true
+        step j z h r y e = law j z h ∙ go (edge (parentOf ns j) j) refl
+          where
+            -- the way up ends at the program, where nothing begins
+            later : unitOf ns edge (parentOf ns j) ≡ u → 0 < parentOf ns j
+            later q =
+                ⊎-elim (λ (o : 0 ≡ parentOf ns j).
+                let v : 0 ≡ u = sym (unitRoot ns t edge) ∙ ap (λ (x : ℕ). unitOf ns edge x) o ∙ q in
+                never (sym a ∙ ap home (sym v) ∙ program))
+                (λ (o : 0 < parentOf ns j). o) (eq-or-lt-of-le (omega arith))
+
+            go : (b : Bool) → edge (parentOf ns j) j ≡ b → cond (eqb (parentOf ns j) u) (begin (parentOf ns j) j) (comes ns begin into u (parentOf ns j) && into (parentOf ns j) j) ≡ true
+            go true b =
+                let q : parentOf ns j ≡ u = sym (unitUp ns t edge j z h ∙ rw b) ∙ e in
+                rw (eq-eqb (parentOf ns j) u q) (back (parentOf ns j) j (ap home q ∙ a) b)
+            go false b =
+                let q : unitOf ns edge (parentOf ns j) ≡ u = sym (unitUp ns t edge j z h ∙ rw b) ∙ e in
+                let p = later q in
+                let f = t .falls j z h in
+                let v = before (parentOf ns j) (omega arith) p in
+                rw (ne-eqb (parentOf ns j) u (λ x. omega arith), r p q, through (parentOf ns j) j b)
+
+    pub nodeRule : (n : ℕ) → n < count ns → (home (unitOf ns edge n) ≡ true) ↔ Reached ns into begin home n
+    nodeRule n h = (up, down)
+      where
+        up : home (unitOf ns edge n) ≡ true → Reached ns into begin home n
+        up e = record { at = unitOf ns edge n; here = e; to = comesBack (unitOf ns edge n) e n h later refl }
+          where
+            later : 0 < n
+            later = ⊎-elim (λ (o : 0 ≡ n). never (sym e ∙ ap home (ap (λ (x : ℕ). unitOf ns edge x) (sym o) ∙ unitRoot ns t edge) ∙ program)) (λ (o : 0 < n). o) (eq-or-lt-of-le (omega arith))
+
+        down : Reached ns into begin home n → home (unitOf ns edge n) ≡ true
+        down r = comesHome ns t into begin edge home (r .at) (r .here) (λ j. first (r .at) j (r .here)) on' n h (r .to)
+
+clash : {A : Type 0} → false ≡ true → A
+clash e = never (sym e)
+
+fewer : (a lo hi : ℕ) → within a 0 hi ≡ false → within a lo hi ≡ false
+fewer a lo hi e = go (within a lo hi) refl
+  where
+    go : (b : Bool) → within a lo hi ≡ b → b ≡ false
+    go true q = let r = range-of a lo hi q in let r1 = r .1 in clash (sym e ∙ in-range a 0 hi (omega arith) r1)
+    go false q = refl
+
+-- a kind from 0 on that is not 0
+above : (a hi : ℕ) → (a ≡ 0 → ⊥) → within a 0 hi ≡ true → within a 1 hi ≡ true
+above a hi n e = let r = range-of a 0 hi e in in-range a 1 hi (positive a n) (r .1)
+
+module _ (ns : List ℕ) (t : Tree ns) (n : ℕ) (h : n < count ns) where
+  -- 15.7.1, Contains
+  pub awaitRule : (staticBlock ns (unitOf ns (awaitEdge ns) n) ≡ true) ↔ Reached ns (containsInto ns) (blockBegin ns) (staticBlock ns) n
+  awaitRule = nodeRule ns t (containsInto ns) (blockBegin ns) (awaitEdge ns) (staticBlock ns) first on (λ u j a e. a) through (rw (t .root)) n h
+    where
+      first : (u j : ℕ) → staticBlock ns u ≡ true → blockBegin ns u j ≡ true → awaitEdge ns u j ≡ true
+      first u j a e = rw (eqb-true (kindOf ns u) 3 a)
+
+      on : (i j : ℕ) → (kindOf ns i ≡ 0 → ⊥) → containsInto ns i j ≡ true → awaitEdge ns i j ≡ true → staticBlock ns i ≡ true
+      on i j z x y = clash (sym (not-true (within (kindOf ns i) 1 3 || initializer ns i j) x) ∙ by (within (kindOf ns i) 0 3) refl (initializer ns i j) y)
+        where
+          by : (a : Bool) → within (kindOf ns i) 0 3 ≡ a → (b : Bool) → (a || b) ≡ true → (within (kindOf ns i) 1 3 || b) ≡ true
+          by true q b e = rw (above (kindOf ns i) 3 z q)
+          by false q b e = rw (fewer (kindOf ns i) 1 3 q) e
+
+      through : (i j : ℕ) → awaitEdge ns i j ≡ false → containsInto ns i j ≡ true
+      through i j e =
+          rw (fewer (kindOf ns i) 1 3 (or-first (within (kindOf ns i) 0 3) (initializer ns i j) e), or-second (within (kindOf ns i) 0 3) (initializer ns i j) e)
+
+  -- 15.7.1, ContainsArguments
+  pub argumentsRule : (argumentsHome ns (unitOf ns (argumentsEdge ns) n) ≡ true) ↔ Reached ns (argumentsInto ns) (argumentsBegin ns) (argumentsHome ns) n
+  argumentsRule = nodeRule ns t (argumentsInto ns) (argumentsBegin ns) (argumentsEdge ns) (argumentsHome ns) first on back through (rw (t .root)) n h
+    where
+      first : (u j : ℕ) → argumentsHome ns u ≡ true → argumentsBegin ns u j ≡ true → argumentsEdge ns u j ≡ true
+      first u j a e = by (within (kindOf ns u) 0 1) (eqb (kindOf ns u) 3) (initializer ns u j) e
+        where
+          by : (x y z : Bool) → (y || z) ≡ true → ((x || y) || z) ≡ true
+          by true y z e = refl
+          by false y z e = e
+
+      on : (i j : ℕ) → (kindOf ns i ≡ 0 → ⊥) → argumentsInto ns i j ≡ true → argumentsEdge ns i j ≡ true → argumentsHome ns i ≡ true
+      on i j z x y = by (within (kindOf ns i) 0 1) refl (eqb (kindOf ns i) 3) (within (kindOf ns i) 29 30) (isNode (valueOf ns i) j) y
+        where
+          by : (a : Bool) → within (kindOf ns i) 0 1 ≡ a → (b c d : Bool) → ((a || b) || (c && d)) ≡ true → (b || c) ≡ true
+          by true q b c d e =
+              let r = range-of (kindOf ns i) 0 1 q in
+              let r1 = r .1 in
+              let p = positive (kindOf ns i) z in
+              clash (sym (or-first (eqb (kindOf ns i) 1) (eqb (kindOf ns i) 3) (not-true (eqb (kindOf ns i) 1 || eqb (kindOf ns i) 3) x)) ∙ eq-eqb (kindOf ns i) 1 (omega arith))
+          by false q true c d e = refl
+          by false q false true d e = refl
+          by false q false false d e = e
+
+      back : (u j : ℕ) → argumentsHome ns u ≡ true → argumentsEdge ns u j ≡ true → argumentsBegin ns u j ≡ true
+      back u j a e = by (within (kindOf ns u) 0 1) refl (eqb (kindOf ns u) 3) refl (initializer ns u j) e
+        where
+          by : (x : Bool) → within (kindOf ns u) 0 1 ≡ x → (y : Bool) → eqb (kindOf ns u) 3 ≡ y → (z : Bool) → ((x || y) || z) ≡ true → (y || z) ≡ true
+          by true p true q z e = refl
+          by true p false q z e =
+              let r = range-of (kindOf ns u) 0 1 p in
+              let r1 = r .1 in
+              let s = range-of (kindOf ns u) 29 30 (⊎-elim (λ v. clash (sym q ∙ v)) (λ v. v) (either (eqb (kindOf ns u) 3) (within (kindOf ns u) 29 30) a)) in
+              let s0 = s .0 in
+              absurd (omega arith)
+          by false p y q z e = e
+
+      through : (i j : ℕ) → argumentsEdge ns i j ≡ false → argumentsInto ns i j ≡ true
+      through i j e =
+          let o = or-first (within (kindOf ns i) 0 1 || eqb (kindOf ns i) 3) (initializer ns i j) e in
+          rw (ne-eqb (kindOf ns i) 1 (λ q. clash (sym (or-first (within (kindOf ns i) 0 1) (eqb (kindOf ns i) 3) o) ∙ in-range (kindOf ns i) 0 1 (omega arith) (omega arith))), or-second (within (kindOf ns i) 0 1) (eqb (kindOf ns i) 3) o)
+
+  -- 15.3.1 and others, Contains
+  pub parameterRule : (parameter ns (unitOf ns (parameterEdge ns) n) ≡ true) ↔ Reached ns (containsInto ns) (parameterBegin ns) (parameter ns) n
+  parameterRule = nodeRule ns t (containsInto ns) (parameterBegin ns) (parameterEdge ns) (parameter ns) first on (λ u j a e. a) through (rw (t .root)) n h
+    where
+      first : (u j : ℕ) → parameter ns u ≡ true → parameterBegin ns u j ≡ true → parameterEdge ns u j ≡ true
+      first u j a e = by (within (kindOf ns u) 0 3) (parameter ns u) (initializer ns u j) a
+        where
+          by : (x y z : Bool) → y ≡ true → ((x || y) || z) ≡ true
+          by true y z e = refl
+          by false true z e = refl
+          by false false z e = clash e
+
+      on : (i j : ℕ) → (kindOf ns i ≡ 0 → ⊥) → containsInto ns i j ≡ true → parameterEdge ns i j ≡ true → parameter ns i ≡ true
+      on i j z x y = by (within (kindOf ns i) 0 3) refl (parameter ns i) (initializer ns i j) (not-true (within (kindOf ns i) 1 3 || initializer ns i j) x) y
+        where
+          by : (a : Bool) → within (kindOf ns i) 0 3 ≡ a → (b c : Bool) → (within (kindOf ns i) 1 3 || c) ≡ false → ((a || b) || c) ≡ true → b ≡ true
+          by true q b c o e = clash (sym (or-first (within (kindOf ns i) 1 3) c o) ∙ above (kindOf ns i) 3 z q)
+          by false q true c o e = refl
+          by false q false c o e = clash (sym (or-second (within (kindOf ns i) 1 3) c o) ∙ e)
+
+      through : (i j : ℕ) → parameterEdge ns i j ≡ false → containsInto ns i j ≡ true
+      through i j e =
+          let o = or-first (within (kindOf ns i) 0 3 || parameter ns i) (initializer ns i j) e in
+          rw (fewer (kindOf ns i) 1 3 (or-first (within (kindOf ns i) 0 3) (parameter ns i) o), or-second (within (kindOf ns i) 0 3 || parameter ns i) (initializer ns i j) e)
+
+  -- 14.3.1.1, BoundNames
+  pub letRule : (lexicalDeclaration ns (unitOf ns (boundEdge ns) n) ≡ true) ↔ Reached ns (boundInto ns) (boundBegin ns) (lexicalDeclaration ns) n
+  letRule = nodeRule ns t (boundInto ns) (boundBegin ns) (boundEdge ns) (lexicalDeclaration ns) first on (λ u j a e. a) through (rw (t .root)) n h
+    where
+      first : (u j : ℕ) → lexicalDeclaration ns u ≡ true → boundBegin ns u j ≡ true → boundEdge ns u j ≡ true
+      first u j a e = by (within (kindOf ns u) 0 2) (eqb (kindOf ns u) 26) (eqb (kindOf ns u) 24) (and-left (eqb (kindOf ns u) 24) (not (eqb (extraOf ns u) extra.Var)) a)
+        where
+          by : (x y z : Bool) → z ≡ true → ((x || y) || z) ≡ true
+          by true y z e = refl
+          by false true z e = refl
+          by false false z e = e
+
+      on : (i j : ℕ) → (kindOf ns i ≡ 0 → ⊥) → boundInto ns i j ≡ true → boundEdge ns i j ≡ true → lexicalDeclaration ns i ≡ true
+      on i j z x y =
+          clash (sym (not-true (within (kindOf ns i) 1 2 || (eqb (kindOf ns i) 26 || eqb (kindOf ns i) 24)) x) ∙ by (within (kindOf ns i) 0 2) refl (eqb (kindOf ns i) 26) (eqb (kindOf ns i) 24) y)
+        where
+          by : (a : Bool) → within (kindOf ns i) 0 2 ≡ a → (b c : Bool) → ((a || b) || c) ≡ true → (within (kindOf ns i) 1 2 || (b || c)) ≡ true
+          by true q b c e = rw (above (kindOf ns i) 2 z q)
+          by false q b c e = rw (fewer (kindOf ns i) 1 2 q) e
+
+      through : (i j : ℕ) → boundEdge ns i j ≡ false → boundInto ns i j ≡ true
+      through i j e =
+          let o = or-first (within (kindOf ns i) 0 2 || eqb (kindOf ns i) 26) (eqb (kindOf ns i) 24) e in
+          rw (fewer (kindOf ns i) 1 2 (or-first (within (kindOf ns i) 0 2) (eqb (kindOf ns i) 26) o), or-second (within (kindOf ns i) 0 2) (eqb (kindOf ns i) 26) o, or-second (within (kindOf ns i) 0 2 || eqb (kindOf ns i) 26) (eqb (kindOf ns i) 24) e)

@@ -1,0 +1,54 @@
+-- Tables whose scopes follow the tree, as tree makers write them (docs/TREES.md): the condition under which rules that go by scopes are the standard's, which go by the tree.
+use Prim.Native.Nat.{ℕ}
+use mathlib.Core.List.{List}
+use mathlib.Core.Bool.{Bool, cond, not, _&&_, _||_}
+use lib.Dec.{eqb, ltb}
+use Rattle.common.specs.Upto.{upto, all}
+use Rattle.common.specs.Tests.{within}
+use Rattle.tables.specs.Table.{kindOf, parentOf, count, scopeOf, scopeParentOf, scopeFlagsOf, scopeNodeOf, hasFlag}
+use Rattle.tables.specs.Kinds as k
+use Rattle.tables.specs.ScopeFlag as scope
+
+-- what makes a scope for all that stands in it: functions, arrows, static blocks, Blocks, the three kinds of for
+abbrev pub makesScope : ℕ → Bool
+makesScope kind = within kind k.Function k.StaticBlock || (eqb kind k.Block || within kind k.For k.ForOf)
+
+-- what makes one for some of its parts: With, Switch, CatchClause, Class
+abbrev pub mayMakeScope : ℕ → Bool
+mayMakeScope kind = within kind k.With k.Switch || (eqb kind k.CatchClause || eqb kind k.Class)
+
+-- the scope of i is its parent's, or one that its parent makes
+abbrev pub sameScope : List ℕ → ℕ → Bool
+sameScope ns i = eqb (scopeOf ns i) (scopeOf ns (parentOf ns i))
+
+abbrev pub newScope : List ℕ → List ℕ → ℕ → Bool
+newScope ns ss i = ltb 0 (scopeOf ns i) && (eqb (scopeParentOf ss (scopeOf ns i)) (scopeOf ns (parentOf ns i)) && eqb (scopeNodeOf ss (scopeOf ns i)) (parentOf ns i))
+
+unfoldable pub followsAt : List ℕ → List ℕ → ℕ → Bool
+followsAt ns ss i =
+    cond (makesScope (kindOf ns (parentOf ns i))) (newScope ns ss i) (sameScope ns i || (mayMakeScope (kindOf ns (parentOf ns i)) && newScope ns ss i))
+
+-- the scope of i is flagged as what its node is: a static block's, a function's or an arrow's, the program's
+abbrev pub iff : Bool → Bool → Bool
+iff a b = cond a b (not b)
+
+abbrev pub blockScope : List ℕ → List ℕ → ℕ → Bool
+blockScope ns ss i = hasFlag (scopeFlagsOf ss (scopeOf ns i)) scope.StaticBlockScope
+
+abbrev pub functionScope : List ℕ → List ℕ → ℕ → Bool
+functionScope ns ss i = hasFlag (scopeFlagsOf ss (scopeOf ns i)) scope.FunctionScope
+
+abbrev pub topScope : List ℕ → List ℕ → ℕ → Bool
+topScope ns ss i = hasFlag (scopeFlagsOf ss (scopeOf ns i)) scope.Top
+
+abbrev pub scopeKind : List ℕ → List ℕ → ℕ → ℕ
+scopeKind ns ss i = kindOf ns (scopeNodeOf ss (scopeOf ns i))
+
+unfoldable pub flaggedAt : List ℕ → List ℕ → ℕ → Bool
+flaggedAt ns ss i =
+    iff (blockScope ns ss i) (eqb (scopeKind ns ss i) k.StaticBlock)
+    && (iff (functionScope ns ss i) (within (scopeKind ns ss i) k.Function k.Arrow) && iff (topScope ns ss i) (eqb (scopeOf ns i) 0))
+
+unfoldable pub scopesFollow : List ℕ → List ℕ → Bool
+scopesFollow ns ss =
+    (eqb (scopeOf ns 0) 0 && eqb (scopeNodeOf ss 0) 0) && (all (flaggedAt ns ss) (upto 0 (count ns)) && all (followsAt ns ss) (upto 1 (count ns)))

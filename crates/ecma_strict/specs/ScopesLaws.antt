@@ -1,0 +1,290 @@
+-- What is known where the scopes follow the tree.
+use Prim.Native.Nat.{ℕ, _≤_, _<_}
+use mathlib.Core.Path.{_≡_, refl, ap, sym, _∙_}
+use mathlib.Core.List.{List}
+use mathlib.Core.Bool.{Bool, true, false, not, _&&_, _||_}
+use mathlib.Core.Logic.{_⊎_, inl, inr, ⊎-elim}
+use native.Mathlib.Nat.{eq-or-lt-of-le}
+use native.Mathlib.Omega.{arith}
+use borrow.Author.Tests.{eq-eqb, ne-eqb, eqb-true, eqb-false, ltb-true}
+use lib.Dec.{eqb, ltb}
+use Rattle.common.specs.Upto.{upto, all, all-upto, and-left, and-right}
+use Rattle.common.specs.Tests.{within}
+use Rattle.common.specs.Bools.{never, or-first, or-second, either, in-range, range-of}
+use Rattle.tables.specs.Table.{kindOf, parentOf, count, scopeOf, scopeParentOf, scopeNodeOf}
+use Rattle.tables.specs.Facts.{Tree}
+use Rattle.tables.specs.Kinds as k
+use Rattle.ancestry.specs.AncestryLaws.{parent-in, ancestors-up, ancestors-root}
+use Rattle.standing.specs.StandingLaws.{Placed}
+use Rattle.ecma_strict.specs.Scopes.{makesScope, mayMakeScope, sameScope, newScope, followsAt, iff, blockScope, functionScope, topScope, scopeKind, flaggedAt, scopesFollow}
+use Rattle.ecma_strict.specs.Statements.{holdsUsing, heldUsing}
+use Rattle.ecma_strict.specs.Contains.{awaitNameEdge}
+use Rattle.ecma_strict.specs.AgreeLaws.{ScopesTold}
+use Rattle.ecma_strict.specs.ContainsLaws.{rootOnly, upward}
+use Rattle.trees.specs.Trail.{unitOf}
+use Rattle.ecma_strict.specs.Changed.{otherScope, UsingTold, directivePlaced, DirectiveTold, AwaitNameTold}
+
+-- the holders of a using declaration, but for FunctionBody, make a scope; what is no holder, no function and no arrow makes none
+holdersMake : (a : ℕ) → holdsUsing a ≡ true → eqb a 4 ≡ false → makesScope a ≡ true
+holdersMake a e q =
+    ⊎-elim (λ x.
+    let r = range-of a 3 5 x in
+    let r0 = r .0 in
+    let r1 = r .1 in
+    ⊎-elim (λ (y : 3 ≡ a). rw (sym y)) (λ (y : 3 < a). ⊎-elim (λ (u : a ≡ 5). rw u) (λ (u : a < 5). absurd (eqb-false a 4 q (omega arith))) (eq-or-lt-of-le r1)) (eq-or-lt-of-le r0))
+    (λ x. orLast (within a 1 3) (eqb a 5) (within a 7 9) x)
+    (either (within a 3 5) (within a 7 9) e)
+  where
+    orLast : (x y z : Bool) → z ≡ true → (x || (y || z)) ≡ true
+    orLast true y z e = refl
+    orLast false true z e = refl
+    orLast false false z e = e
+
+makeNone : (a : ℕ) → holdsUsing a ≡ false → within a 1 2 ≡ false → makesScope a ≡ false
+makeNone a e f = go (makesScope a) refl
+  where
+    low : within a 3 5 ≡ false
+    low = or-first (within a 3 5) (within a 7 9) e
+
+    go : (x : Bool) → makesScope a ≡ x → x ≡ false
+    go true q =
+        ⊎-elim (λ x.
+        let r = range-of a 1 3 x in
+        let r0 = r .0 in
+        let r1 = r .1 in
+        ⊎-elim (λ (y : a ≡ 3). never (sym (in-range a 3 5 (omega arith) (omega arith)) ∙ low)) (λ (y : a < 3). never (sym (in-range a 1 2 r0 (omega arith)) ∙ f)) (eq-or-lt-of-le r1))
+        (λ x. ⊎-elim (λ y. let u = eqb-true a 5 y in never (sym (in-range a 3 5 (omega arith) (omega arith)) ∙ low)) (λ y. never (sym y ∙ or-second (within a 3 5) (within a 7 9) e)) (either (eqb a 5) (within a 7 9) x))
+        (either (within a 1 3) (eqb a 5 || within a 7 9) q)
+    go false q = refl
+
+pub notProgram : (ns : List ℕ) → Tree ns → (i : ℕ) → (kindOf ns i ≡ 0 → ⊥) → 0 < i
+notProgram ns t i n = ⊎-elim (λ (q : 0 ≡ i). absurd (n (ap (λ (x : ℕ). kindOf ns x) (sym q) ∙ t .root))) (λ (h : 0 < i). h) (eq-or-lt-of-le (omega arith))
+
+same : (a b : Bool) → iff a b ≡ true → a ≡ b
+same true true e = refl
+same true false e = sym e
+same false true e = e
+same false false e = refl
+
+-- a scope that the parent p of i makes
+pub record Made (ns ss : List ℕ) (i : ℕ) : Type 0 where
+  pub later : 0 < scopeOf ns i
+  pub around : scopeParentOf ss (scopeOf ns i) ≡ scopeOf ns (parentOf ns i)
+  pub whose : scopeNodeOf ss (scopeOf ns i) ≡ parentOf ns i
+
+module _ (ns ss : List ℕ) (t : Tree ns) (w : scopesFollow ns ss ≡ true) where
+  abbrev start : Bool
+  start = eqb (scopeOf ns 0) 0 && eqb (scopeNodeOf ss 0) 0
+
+  pub root : scopeOf ns 0 ≡ 0
+  unfolding scopesFollow
+  root = eqb-true (scopeOf ns 0) 0 (and-left (eqb (scopeOf ns 0) 0) (eqb (scopeNodeOf ss 0) 0) (and-left start (all (flaggedAt ns ss) (upto 0 (count ns)) && all (followsAt ns ss) (upto 1 (count ns))) w))
+
+  rootNode : scopeNodeOf ss 0 ≡ 0
+  unfolding scopesFollow
+  rootNode = eqb-true (scopeNodeOf ss 0) 0 (and-right (eqb (scopeOf ns 0) 0) (eqb (scopeNodeOf ss 0) 0) (and-left start (all (flaggedAt ns ss) (upto 0 (count ns)) && all (followsAt ns ss) (upto 1 (count ns))) w))
+
+  tests : (all (flaggedAt ns ss) (upto 0 (count ns)) && all (followsAt ns ss) (upto 1 (count ns))) ≡ true
+  unfolding scopesFollow
+  tests = and-right start (all (flaggedAt ns ss) (upto 0 (count ns)) && all (followsAt ns ss) (upto 1 (count ns))) w
+
+  flagged : (i : ℕ) → i < count ns → flaggedAt ns ss i ≡ true
+  flagged i h = all-upto (flaggedAt ns ss) 0 (count ns) (and-left (all (flaggedAt ns ss) (upto 0 (count ns))) (all (followsAt ns ss) (upto 1 (count ns))) tests) i (omega arith) h
+
+  follows : (i : ℕ) → 0 < i → i < count ns → followsAt ns ss i ≡ true
+  follows i z h = all-upto (followsAt ns ss) 1 (count ns) (and-right (all (flaggedAt ns ss) (upto 0 (count ns))) (all (followsAt ns ss) (upto 1 (count ns))) tests) i (omega arith) h
+
+  -- the three flags
+  abbrev b : ℕ → Bool
+  b i = iff (blockScope ns ss i) (eqb (scopeKind ns ss i) k.StaticBlock)
+
+  abbrev f : ℕ → Bool
+  f i = iff (functionScope ns ss i) (within (scopeKind ns ss i) k.Function k.Arrow)
+
+  abbrev p : ℕ → Bool
+  p i = iff (topScope ns ss i) (eqb (scopeOf ns i) 0)
+
+  pub blockFlag : (i : ℕ) → i < count ns → blockScope ns ss i ≡ eqb (scopeKind ns ss i) k.StaticBlock
+  unfolding flaggedAt
+  blockFlag i h = same (blockScope ns ss i) (eqb (scopeKind ns ss i) k.StaticBlock) (and-left (b i) (f i && p i) (flagged i h))
+
+  pub functionFlag : (i : ℕ) → i < count ns → functionScope ns ss i ≡ within (scopeKind ns ss i) k.Function k.Arrow
+  unfolding flaggedAt
+  functionFlag i h = same (functionScope ns ss i) (within (scopeKind ns ss i) k.Function k.Arrow) (and-left (f i) (p i) (and-right (b i) (f i && p i) (flagged i h)))
+
+  pub topFlag : (i : ℕ) → i < count ns → topScope ns ss i ≡ eqb (scopeOf ns i) 0
+  unfolding flaggedAt
+  topFlag i h = same (topScope ns ss i) (eqb (scopeOf ns i) 0) (and-right (f i) (p i) (and-right (b i) (f i && p i) (flagged i h)))
+
+  new : (i : ℕ) → newScope ns ss i ≡ true → Made ns ss i
+  new i e =
+      record {
+        later = ltb-true 0 (scopeOf ns i) (and-left (ltb 0 (scopeOf ns i)) (eqb (scopeParentOf ss (scopeOf ns i)) (scopeOf ns (parentOf ns i)) && eqb (scopeNodeOf ss (scopeOf ns i)) (parentOf ns i)) e);
+        around = eqb-true (scopeParentOf ss (scopeOf ns i)) (scopeOf ns (parentOf ns i))
+            (and-left (eqb (scopeParentOf ss (scopeOf ns i)) (scopeOf ns (parentOf ns i))) (eqb (scopeNodeOf ss (scopeOf ns i)) (parentOf ns i))
+            (and-right (ltb 0 (scopeOf ns i)) (eqb (scopeParentOf ss (scopeOf ns i)) (scopeOf ns (parentOf ns i)) && eqb (scopeNodeOf ss (scopeOf ns i)) (parentOf ns i)) e));
+        whose = eqb-true (scopeNodeOf ss (scopeOf ns i)) (parentOf ns i)
+            (and-right (eqb (scopeParentOf ss (scopeOf ns i)) (scopeOf ns (parentOf ns i))) (eqb (scopeNodeOf ss (scopeOf ns i)) (parentOf ns i))
+            (and-right (ltb 0 (scopeOf ns i)) (eqb (scopeParentOf ss (scopeOf ns i)) (scopeOf ns (parentOf ns i)) && eqb (scopeNodeOf ss (scopeOf ns i)) (parentOf ns i)) e));
+      }
+
+  pub made : (i : ℕ) → 0 < i → i < count ns → makesScope (kindOf ns (parentOf ns i)) ≡ true → Made ns ss i
+  unfolding followsAt
+  made i z h e = new i (rw e at (follows i z h))
+
+  pub sameOrMade : (i : ℕ) → 0 < i → i < count ns → (scopeOf ns i ≡ scopeOf ns (parentOf ns i)) ⊎ Made ns ss i
+  unfolding followsAt
+  sameOrMade i z h = go (makesScope (kindOf ns (parentOf ns i))) refl
+    where
+      go : (x : Bool) → makesScope (kindOf ns (parentOf ns i)) ≡ x → (scopeOf ns i ≡ scopeOf ns (parentOf ns i)) ⊎ Made ns ss i
+      go true e = inr (made i z h e)
+      go false e =
+          ⊎-elim (λ q. inl (eqb-true (scopeOf ns i) (scopeOf ns (parentOf ns i)) q)) (λ q. inr (new i (and-right (mayMakeScope (kindOf ns (parentOf ns i))) (newScope ns ss i) q)))
+          (either (sameScope ns i) (mayMakeScope (kindOf ns (parentOf ns i)) && newScope ns ss i) (rw e at (follows i z h)))
+
+  pub sameOnly : (i : ℕ) → 0 < i → i < count ns → makesScope (kindOf ns (parentOf ns i)) ≡ false → mayMakeScope (kindOf ns (parentOf ns i)) ≡ false → scopeOf ns i ≡ scopeOf ns (parentOf ns i)
+  unfolding followsAt
+  sameOnly i z h e g =
+      ⊎-elim (λ q. eqb-true (scopeOf ns i) (scopeOf ns (parentOf ns i)) q) (λ q. never (sym (and-left (mayMakeScope (kindOf ns (parentOf ns i))) (newScope ns ss i) q) ∙ g))
+      (either (sameScope ns i) (mayMakeScope (kindOf ns (parentOf ns i)) && newScope ns ss i) (rw e at (follows i z h)))
+
+  -- the kind of the node of a scope that i's parent makes is its parent's
+  pub madeKind : (i : ℕ) → Made ns ss i → scopeKind ns ss i ≡ kindOf ns (parentOf ns i)
+  madeKind i m = ap (λ (x : ℕ). kindOf ns x) (m .whose)
+
+  -- the scope of what no parent makes a scope for is the program's
+  rootKind : (i : ℕ) → scopeOf ns i ≡ 0 → scopeKind ns ss i ≡ 0
+  rootKind i e = ap (λ (x : ℕ). kindOf ns (scopeNodeOf ss x)) e ∙ ap (λ (x : ℕ). kindOf ns x) rootNode ∙ t .root
+
+  -- `within` has one less: a kind from 1 to 3 that is not 3
+  functionOrBlock : (a : ℕ) → within a 1 3 ≡ true → within a 1 2 ≡ not (eqb a 3)
+  functionOrBlock a e = go (eqb a 3) refl
+    where
+      go : (x : Bool) → eqb a 3 ≡ x → within a 1 2 ≡ not x
+      go true q = rw (eqb-true a 3 q)
+      go false q =
+          let r = range-of a 1 3 e in
+          let r0 = r .0 in
+          let r1 = r .1 in
+          in-range a 1 2 r0 (⊎-elim (λ (y : a ≡ 3). absurd (eqb-false a 3 q y)) (λ (y : a < 3). omega arith) (eq-or-lt-of-le r1))
+
+  fewer : (a lo hi : ℕ) → within a 1 3 ≡ false → 1 ≤ lo → hi ≤ 3 → within a lo hi ≡ false
+  fewer a lo hi e l h = go (within a lo hi) refl
+    where
+      go : (x : Bool) → within a lo hi ≡ x → x ≡ false
+      go true q = let r = range-of a lo hi q in let r0 = r .0 in let r1 = r .1 in never (sym (in-range a 1 3 (omega arith) (omega arith)) ∙ e)
+      go false q = refl
+
+  notThree : (a : ℕ) → within a 1 3 ≡ false → eqb a 3 ≡ false
+  notThree a e = ne-eqb a 3 (λ q. never (sym (in-range a 1 3 (omega arith) (omega arith)) ∙ e))
+
+  pub scopesTold : ScopesTold ns ss
+  scopesTold = record {
+    top = root;
+    neither = (blockFlag 0 (t .some) ∙ rw (rootKind 0 root), functionFlag 0 (t .some) ∙ rw (rootKind 0 root));
+    inside = λ i z h e.
+        let m = made i z h (ap (λ b. b || (eqb (kindOf ns (parentOf ns i)) k.Block || within (kindOf ns (parentOf ns i)) k.For k.ForOf)) e) in
+        (blockFlag i h ∙ ap (λ (x : ℕ). eqb x 3) (madeKind i m), functionFlag i h ∙ ap (λ (x : ℕ). within x 1 2) (madeKind i m) ∙ functionOrBlock (kindOf ns (parentOf ns i)) e);
+    elsewhere = λ i z h e.
+        ⊎-elim (λ q. inl q)
+        (λ m. inr (
+          m .later,
+          m .around,
+          blockFlag i h ∙ ap (λ (x : ℕ). eqb x 3) (madeKind i m) ∙ notThree (kindOf ns (parentOf ns i)) e,
+          functionFlag i h ∙ ap (λ (x : ℕ). within x 1 2) (madeKind i m) ∙ fewer (kindOf ns (parentOf ns i)) 1 2 e (omega arith) (omega arith),
+        ))
+        (sameOrMade i z h);
+  }
+
+  -- a name whose scope is that of the node where its [Await] comes from
+  pub awaitNameTold : (n : ℕ) → n < count ns → scopeNodeOf ss (scopeOf ns n) ≡ unitOf ns (awaitNameEdge ns) n → AwaitNameTold ns ss n
+  awaitNameTold n h e = record { flagged = blockFlag n h; whose = e }
+
+  module _ (v : Placed ns) where
+    -- a directive under the program or in the body of a function
+    pub directiveTold : (n : ℕ) → 0 < n → n < count ns → directivePlaced ns n ≡ true → DirectiveTold ns ss n
+    directiveTold n z h e =
+        ⊎-elim (λ q. program (eqb-true (kindOf ns (parentOf ns n)) 0 q)) (λ q. body (eqb-true (kindOf ns (parentOf ns n)) 4 q))
+        (either (eqb (kindOf ns (parentOf ns n)) 0) (eqb (kindOf ns (parentOf ns n)) 4) e)
+      where
+        program : kindOf ns (parentOf ns n) ≡ 0 → DirectiveTold ns ss n
+        program q =
+            let o : parentOf ns n ≡ 0 = rootOnly ns t (parentOf ns n) (parent-in ns t n h) q in
+            let s : scopeOf ns n ≡ 0 = sameOnly n z h (rw q) (rw q) ∙ ap (λ (x : ℕ). scopeOf ns x) o ∙ root in
+            record { function = functionFlag n h ∙ rw (rootKind n s, q); whose = λ y. absurd (omega arith) }
+
+        body : kindOf ns (parentOf ns n) ≡ 4 → DirectiveTold ns ss n
+        body q =
+            let l = parent-in ns t n h in
+            let y : 0 < parentOf ns n = notProgram ns t (parentOf ns n) (λ (c : kindOf ns (parentOf ns n) ≡ 0). omega arith) in
+            let r = v .functionBody (parentOf ns n) l q in
+            let r0 = r .0 in
+            let r1 = r .1 in
+            let i : within (kindOf ns (parentOf ns (parentOf ns n))) 1 2 ≡ true = in-range (kindOf ns (parentOf ns (parentOf ns n))) 1 2 r0 r1 in
+            let j : within (kindOf ns (parentOf ns (parentOf ns n))) 1 3 ≡ true = in-range (kindOf ns (parentOf ns (parentOf ns n))) 1 3 r0 (omega arith) in
+            let m = made (parentOf ns n) y l (ap (λ b. b || (eqb (kindOf ns (parentOf ns (parentOf ns n))) k.Block || within (kindOf ns (parentOf ns (parentOf ns n))) k.For k.ForOf)) j) in
+            let s : scopeOf ns n ≡ scopeOf ns (parentOf ns n) = sameOnly n z h (rw q) (rw q) in
+            let o : scopeNodeOf ss (scopeOf ns n) ≡ parentOf ns (parentOf ns n) = ap (λ (x : ℕ). scopeNodeOf ss x) s ∙ m .whose in
+            record { function = functionFlag n h ∙ ap (λ (x : ℕ). within (kindOf ns x) 1 2) o ∙ rw (q, i); whose = λ c. o }
+
+    -- using
+    heldUp : (i : ℕ) → 0 < i → i < count ns → heldUsing ns i ≡ (holdsUsing (kindOf ns (parentOf ns i)) || heldUsing ns (parentOf ns i))
+    unfolding heldUsing
+    heldUp i z h = ancestors-up (λ a r. holdsUsing (kindOf ns a) || r) false ns t i z h
+
+    otherUp : (i : ℕ) → 0 < i → i < count ns → otherScope ns i ≡ ((within (kindOf ns (parentOf ns i)) k.Function k.Arrow || mayMakeScope (kindOf ns (parentOf ns i))) || otherScope ns (parentOf ns i))
+    unfolding otherScope
+    otherUp i z h = ancestors-up (λ a r. (within (kindOf ns a) k.Function k.Arrow || mayMakeScope (kindOf ns a)) || r) false ns t i z h
+
+    -- where a Block and the like holds it, the scope is not the program's
+    held : (i : ℕ) → i < count ns → heldUsing ns i ≡ true → 0 < scopeOf ns i
+    unfolding heldUsing
+    held = upward ns t (λ i. heldUsing ns i ≡ true → 0 < scopeOf ns i) first step
+      where
+        first : heldUsing ns 0 ≡ true → 0 < scopeOf ns 0
+        first e = never (sym e ∙ ancestors-root (λ a r. holdsUsing (kindOf ns a) || r) false ns)
+
+        step : (i : ℕ) → 0 < i → i < count ns → (heldUsing ns (parentOf ns i) ≡ true → 0 < scopeOf ns (parentOf ns i)) → heldUsing ns i ≡ true → 0 < scopeOf ns i
+        step i z h r e = ⊎-elim (λ q. here q) (λ q. below (r q)) (either (holdsUsing (kindOf ns (parentOf ns i))) (heldUsing ns (parentOf ns i)) (sym (heldUp i z h) ∙ e))
+          where
+            below : 0 < scopeOf ns (parentOf ns i) → 0 < scopeOf ns i
+            below l = ⊎-elim (λ (q : scopeOf ns i ≡ scopeOf ns (parentOf ns i)). omega arith) (λ m. m .later) (sameOrMade i z h)
+
+            here : holdsUsing (kindOf ns (parentOf ns i)) ≡ true → 0 < scopeOf ns i
+            here q = go (eqb (kindOf ns (parentOf ns i)) 4) refl
+              where
+                go : (x : Bool) → eqb (kindOf ns (parentOf ns i)) 4 ≡ x → 0 < scopeOf ns i
+                go true x =
+                    let c = eqb-true (kindOf ns (parentOf ns i)) 4 x in
+                    let l = parent-in ns t i h in
+                    let r = v .functionBody (parentOf ns i) l c in
+                    let r0 = r .0 in
+                    let r1 = r .1 in
+                    let j : within (kindOf ns (parentOf ns (parentOf ns i))) 1 3 ≡ true = in-range (kindOf ns (parentOf ns (parentOf ns i))) 1 3 r0 (omega arith) in
+                    below (made (parentOf ns i) (notProgram ns t (parentOf ns i) (λ (y : kindOf ns (parentOf ns i) ≡ 0). omega arith)) l
+                    (ap (λ b. b || (eqb (kindOf ns (parentOf ns (parentOf ns i))) k.Block || within (kindOf ns (parentOf ns (parentOf ns i))) k.For k.ForOf)) j) .later)
+                go false x = made i z h (holdersMake (kindOf ns (parentOf ns i)) q x) .later
+
+    free : (i : ℕ) → i < count ns → heldUsing ns i ≡ false → otherScope ns i ≡ false → scopeOf ns i ≡ 0
+    free = upward ns t (λ i. heldUsing ns i ≡ false → otherScope ns i ≡ false → scopeOf ns i ≡ 0) (λ e o. root) step
+      where
+        step : (i : ℕ) → 0 < i → i < count ns → (heldUsing ns (parentOf ns i) ≡ false → otherScope ns (parentOf ns i) ≡ false → scopeOf ns (parentOf ns i) ≡ 0)
+            → heldUsing ns i ≡ false → otherScope ns i ≡ false → scopeOf ns i ≡ 0
+        step i z h r e o =
+            let x = sym (heldUp i z h) ∙ e in
+            let y = sym (otherUp i z h) ∙ o in
+            let a = or-first (holdsUsing (kindOf ns (parentOf ns i))) (heldUsing ns (parentOf ns i)) x in
+            let c = or-first (within (kindOf ns (parentOf ns i)) k.Function k.Arrow || mayMakeScope (kindOf ns (parentOf ns i))) (otherScope ns (parentOf ns i)) y in
+            sameOnly i z h (makeNone (kindOf ns (parentOf ns i)) a (or-first (within (kindOf ns (parentOf ns i)) k.Function k.Arrow) (mayMakeScope (kindOf ns (parentOf ns i))) c))
+            (or-second (within (kindOf ns (parentOf ns i)) k.Function k.Arrow) (mayMakeScope (kindOf ns (parentOf ns i))) c)
+            ∙ r (or-second (holdsUsing (kindOf ns (parentOf ns i))) (heldUsing ns (parentOf ns i)) x)
+            (or-second (within (kindOf ns (parentOf ns i)) k.Function k.Arrow || mayMakeScope (kindOf ns (parentOf ns i))) (otherScope ns (parentOf ns i)) y)
+
+    -- a declaration in no other scope and in no clause of a switch
+    pub usingTold : (n : ℕ) → n < count ns → (otherScope ns n && not (heldUsing ns n)) ≡ false → eqb (kindOf ns (parentOf ns n)) k.SwitchCase ≡ false → UsingTold ns ss n
+    usingTold n h o c = record { top = topFlag n h ∙ go (heldUsing ns n) refl (otherScope ns n) refl; clause = c }
+      where
+        go : (x : Bool) → heldUsing ns n ≡ x → (y : Bool) → otherScope ns n ≡ y → eqb (scopeOf ns n) 0 ≡ not x
+        go true e y d = ne-eqb (scopeOf ns n) 0 (λ z. let l = held n h e in omega arith)
+        go false e true d = never (sym (rw (d, e)) ∙ o)
+        go false e false d = eq-eqb (scopeOf ns n) 0 (free n h e d)

@@ -1,0 +1,121 @@
+-- THE STANDARD'S RULES WHERE THE RUST'S DIFFER: off each named condition the findings of a node with the code are one where the rule of ECMA-262 is broken, and none elsewhere.
+-- (2, 4, 15, 17 and 31 need no condition: Theorems.)
+use Prim.Native.Nat.{ℕ, _<_}
+use mathlib.Core.Path.{_≡_, refl, ap, _∙_}
+use mathlib.Core.List.{List}
+use mathlib.Core.Bool.{Bool, true, false, not, _&&_, _||_}
+use native.Mathlib.Omega.{arith}
+use borrow.Author.Tests.{eqb-true}
+use lib.Dec.{eqb}
+use Rattle.common.specs.Tests.{within}
+use Rattle.tables.specs.Table.{kindOf, parentOf, count, scopeOf, scopeNodeOf}
+use Rattle.tables.specs.Kinds as k
+use Rattle.checker.specs.Findings.{findingsAt}
+use Rattle.input.specs.InputLaws.{WellFormed}
+use Rattle.trees.specs.Walk.{only}
+use Rattle.trees.specs.Trail.{unitOf}
+use Rattle.ecma_strict.specs.Nodes.{raised}
+use Rattle.ecma_strict.specs.Strict.{strictCode}
+use Rattle.ecma_strict.specs.Literals.{strictOctal, strictNonOctal, strictOctalEscape, strictNonOctalEscape}
+use Rattle.ecma_strict.specs.LiteralsLaws.{octalAgrees, nonOctalAgrees, octalEscapeAgrees, nonOctalEscapeAgrees}
+use Rattle.ecma_strict.specs.Delete.{deletesPrivate}
+use Rattle.ecma_strict.specs.DeleteLaws.{deletePrivateAgrees}
+use Rattle.ecma_strict.specs.Statements.{headOf, ofHead, initializedHead, heldUsing, badUsing}
+use Rattle.ecma_strict.specs.StatementsLaws.{headAgrees, usingAgrees}
+use Rattle.ecma_strict.specs.Identifiers.{goalModule, assignsEval, useStrictThere}
+use Rattle.ecma_strict.specs.IdentifiersLaws.{useStrictAgrees}
+use Rattle.ecma_strict.specs.Contains.{awaitEdge, argumentsEdge, parameterEdge, boundEdge, awaitExpression, forAwait, awaitUsing, awaitInBlock, awaitName, awaitNameInBlock, argumentsInClass, awaitInParameter, letBound, awaitNameEdge}
+use Rattle.ecma_strict.specs.Scopes.{scopesFollow}
+use Rattle.ecma_strict.specs.ScopesLaws.{scopesTold, awaitNameTold, directiveTold, usingTold, notProgram}
+use Rattle.ecma_strict.specs.AgreeLaws.{letAgrees, argumentsAgree, classPart, parameterAgrees, blockAgrees, awaitNameAgrees}
+use Rattle.ecma_strict.specs.Functions.{sloppyFunction, labelledFunctionAt}
+use Rattle.ecma_strict.specs.FunctionsLaws.{labelledAgrees}
+use Rattle.ecma_strict.specs.Theorems.{code3, code5, code6, code9, code10, code11, code12, code13, code14, code16, code24, code25, code32, code33}
+use Rattle.ecma_strict.specs.Changed.{firstOctalEscape, BaseTold, EscapesTold, unsaid, otherScope, useStrictScoped, directivePlaced, awaitNameScoped, scopedInBlock}
+
+module _ (t : ℕ) (ns ss source names : List ℕ) (w : WellFormed t ns ss source names) (n : ℕ) (h : n < count ns) where
+  abbrev at : ℕ → List ℕ
+  at c = raised c (findingsAt t ns ss source names n)
+
+  abbrev Rule : ℕ → Bool → Type 0
+  Rule c rule = at c ≡ only rule n
+
+  -- at a name: in a script, where its scope is that of the node where its [Await] comes from; at an AwaitExpression: where the scopes follow the tree, and no Initializer of a
+  -- field stands between
+  pub standard3 : (awaitName ns names n ≡ true → (goalModule t ≡ false) × (scopesFollow ns ss ≡ true) × (scopeNodeOf ss (scopeOf ns n) ≡ unitOf ns (awaitNameEdge ns) n))
+      → (awaitExpression ns n ≡ true → (scopesFollow ns ss ≡ true) × (within (kindOf ns (unitOf ns (awaitEdge ns) n)) k.PropertyDefinition k.AccessorProperty ≡ false))
+      → Rule 3 (awaitNameInBlock ns names n || (awaitExpression ns n && awaitInBlock ns n))
+  unfolding awaitNameScoped awaitNameInBlock
+  standard3 f g = code3 t ns ss source names w n h ∙ ap (λ x. only x n) (both (name (awaitName ns names n) refl) (expression (awaitExpression ns n) refl))
+    where
+      both : {a b c d : Bool} → a ≡ b → c ≡ d → (a || c) ≡ (b || d)
+      both p q = rw (p, q)
+
+      name : (b : Bool) → awaitName ns names n ≡ b → awaitNameScoped t ns ss names n ≡ awaitNameInBlock ns names n
+      name true e = awaitNameAgrees t ns ss names n (f e .0) (awaitNameTold ns ss (w .input .tree) (f e .1) n h (f e .2))
+      name false e = rw e
+
+      expression : (b : Bool) → awaitExpression ns n ≡ b → (awaitExpression ns n && scopedInBlock ns ss n) ≡ (awaitExpression ns n && awaitInBlock ns n)
+      expression true e = ap (λ x. awaitExpression ns n && x) (blockAgrees ns ss (w .input .tree) (w .input .chained) (w .input .scoped) (scopesTold ns ss (w .input .tree) (g e .0)) n h (g e .1))
+      expression false e = rw e
+
+  -- in sloppy code, not as the name of a class in an Initializer
+  pub standard5 : strictCode ns ss n ≡ false → eqb (kindOf ns (unitOf ns (boundEdge ns) n)) k.Class ≡ false → Rule 5 (letBound ns names n)
+  standard5 s e = code5 t ns ss source names w n h ∙ ap (λ x. only x n) (letAgrees ns ss names n (w .input .tree) h s e)
+
+  -- where `arguments` is not assigned to in strict code, and in no auto-accessor
+  pub standard6 : assignsEval ns ss names n ≡ false → eqb (kindOf ns (unitOf ns (argumentsEdge ns) n)) k.AccessorProperty ≡ false → Rule 6 (argumentsInClass ns names n)
+  standard6 s e = code6 t ns ss source names w n h ∙ ap (λ x. only x n) (argumentsAgree ns ss names n (w .input .tree) h s e)
+
+  -- where the table's base is that of the text, the value's length tells of escapes, and no string has both kinds of escape
+  pub standard9 : BaseTold ns source n → EscapesTold ns source n → Rule 9 (strictOctal ns ss source n || strictOctalEscape ns ss source n)
+  standard9 b e =
+      code9 t ns ss source names w n h ∙ ap (λ x. only (x || firstOctalEscape ns ss source n) n) (octalAgrees ns ss source n b)
+      ∙ ap (λ x. only (strictOctal ns ss source n || x) n) (octalEscapeAgrees ns ss source n e)
+
+  pub standard10 : BaseTold ns source n → Rule 10 (strictNonOctal ns ss source n)
+  standard10 b = code10 t ns ss source names w n h ∙ ap (λ x. only x n) (nonOctalAgrees ns ss source n b)
+
+  pub standard11 : EscapesTold ns source n → Rule 11 (strictNonOctalEscape ns ss source n)
+  standard11 e = code11 t ns ss source names w n h ∙ ap (λ x. only x n) (nonOctalEscapeAgrees ns ss source n e)
+
+  -- where the scopes follow the tree, and a directive stands in the prologue of a program or a function
+  pub standard12 : scopesFollow ns ss ≡ true → (kindOf ns n ≡ k.Directive → directivePlaced ns n ≡ true) → Rule 12 (useStrictThere ns names n)
+  unfolding useStrictScoped useStrictThere
+  standard12 s d = code12 t ns ss source names w n h ∙ ap (λ x. only x n) (go (eqb (kindOf ns n) k.Directive) refl)
+    where
+      go : (b : Bool) → eqb (kindOf ns n) k.Directive ≡ b → useStrictScoped ns ss names n ≡ useStrictThere ns names n
+      go true e =
+          let q = eqb-true (kindOf ns n) 23 e in
+          useStrictAgrees ns ss names n
+          (directiveTold ns ss (w .input .tree) s (w .shaped .placed) n (notProgram ns (w .input .tree) n (λ (c : kindOf ns n ≡ 0). omega arith)) h (d q))
+      go false e = rw e
+
+  -- where the scopes follow the tree, no clause of a switch holds the declaration, and nothing around it makes a scope but a Block and the like
+  pub standard13 : scopesFollow ns ss ≡ true → eqb (kindOf ns (parentOf ns n)) k.SwitchCase ≡ false → (otherScope ns n && not (heldUsing ns n)) ≡ false → Rule 13 (badUsing t ns n)
+  standard13 s c o = code13 t ns ss source names w n h ∙ ap (λ x. only x n) (usingAgrees t ns ss n (usingTold ns ss (w .input .tree) s (w .shaped .placed) n h o c))
+
+  -- where the scopes follow the tree, and no Initializer of a field stands between
+  pub standard14 : scopesFollow ns ss ≡ true → within (kindOf ns (unitOf ns (awaitEdge ns) n)) k.PropertyDefinition k.AccessorProperty ≡ false → Rule 14 (awaitUsing ns n && awaitInBlock ns n)
+  standard14 s e =
+      code14 t ns ss source names w n h ∙ ap (λ x. only (awaitUsing ns n && x) n) (blockAgrees ns ss (w .input .tree) (w .input .chained) (w .input .scoped) (scopesTold ns ss (w .input .tree) s) n h e)
+
+  -- in sloppy code: in strict code 15 is raised at the label
+  pub standard16 : strictCode ns ss n ≡ false → Rule 16 (sloppyFunction ns ss n || labelledFunctionAt ns n)
+  standard16 s = code16 t ns ss source names w n h ∙ ap (λ x. only (sloppyFunction ns ss n || x) n) (labelledAgrees ns ss n s)
+
+  -- where the head has one declaration, and it is no `let` or `const` with a plain name in a for-in
+  pub standard24 : ofHead (unsaid ns n) (headOf ns n) ≡ false → Rule 24 (initializedHead ns ss n)
+  standard24 u = code24 t ns ss source names w n h ∙ ap (λ x. only x n) (headAgrees ns ss n u)
+
+  pub standard25 : scopesFollow ns ss ≡ true → within (kindOf ns (unitOf ns (awaitEdge ns) n)) k.PropertyDefinition k.AccessorProperty ≡ false → Rule 25 (forAwait ns n && awaitInBlock ns n)
+  standard25 s e =
+      code25 t ns ss source names w n h ∙ ap (λ x. only (forAwait ns n && x) n) (blockAgrees ns ss (w .input .tree) (w .input .chained) (w .input .scoped) (scopesTold ns ss (w .input .tree) s) n h e)
+
+  -- in strict code
+  pub standard32 : strictCode ns ss n ≡ true → Rule 32 (deletesPrivate ns ss n)
+  standard32 s = code32 t ns ss source names w n h ∙ ap (λ x. only x n) (deletePrivateAgrees ns ss n s)
+
+  -- where neither a static block nor the Initializer of a field stands between
+  pub standard33 : classPart ns (unitOf ns (parameterEdge ns) n) ≡ false → Rule 33 (awaitInParameter ns n)
+  standard33 e = code33 t ns ss source names w n h ∙ ap (λ x. only x n) (parameterAgrees ns n (w .input .tree) h e)

@@ -1,0 +1,132 @@
+-- What the checks of statements raise is what the rules say.
+use Prim.Native.Nat.{ℕ, _+_}
+use mathlib.Core.Path.{_≡_, refl, ap, sym, _∙_}
+use mathlib.Core.List.{List, [], _∷_}
+use mathlib.Core.Bool.{Bool, true, false, cond, not, _&&_, _||_}
+use native.Mathlib.Omega.{arith}
+use borrow.Author.Tests.{eq-eqb, lt-leb}
+use lib.Dec.{eqb}
+use lib.ListN.{length}
+use Rattle.common.specs.Upto.{upto}
+use Rattle.common.specs.Tests.{within}
+use Rattle.tables.specs.Table.{kindOf, count, extraOf, spanStartOf, spanEndOf}
+use Rattle.tables.specs.Kinds as k
+use Rattle.tables.specs.Extras as extra
+use Rattle.tables.specs.declared.Found.{Found}
+use Rattle.tables.specs.declared.Found.the-variants.{At, Nothing}
+use Rattle.children.specs.Children.{keep, isChild}
+use Rattle.children.specs.ChildrenLaws.{tally, tally-all}
+use Rattle.gather.specs.Gather.{kept-first, kept-none}
+use Rattle.diagnostics.specs.Finding.{errorSpan, errorAt}
+use Rattle.diagnostics.specs.Codes as code
+use Rattle.diagnostics.specs.Contexts as context
+use Rattle.diagnostics.specs.declared.Raised.the-variants.{Clear}
+use Rattle.statements.specs.Statements.{checkFound, checkWithStatement, declaratorOf, declarators, checkInitialiser, checkLeft, checkForStatementLeft, checkUsing}
+use Rattle.trees.specs.Walk.{only}
+use Rattle.ecma_strict.specs.Nodes.{nodesOf}
+use Rattle.ecma_strict.specs.Strict.{strictCode}
+use Rattle.ecma_strict.specs.Statements.{strictWith, declaratorsOf, initialized, plainName, single, annexHead, badHead, headOf, ofHead, initializedHead, heldUsing, badUsing}
+use Rattle.ecma_strict.specs.Scopes.{topScope}
+use Rattle.ecma_strict.specs.Changed.{unsaid, saidHead, topUsing, UsingTold}
+
+-- one finding where a test says so
+pub ifOnly : (c s e n x : ℕ) (b : Bool) → nodesOf c (cond b (errorSpan c n s e x) Clear) ≡ only b n
+ifOnly c s e n x true = rw (eq-eqb c c refl)
+ifOnly c s e n x false = refl
+
+-- CODE 17
+pub withIs : (ns ss : List ℕ) (n : ℕ) → kindOf ns n ≡ k.With → nodesOf code.withStatement (checkWithStatement ns ss n) ≡ only (strictWith ns ss n) n
+unfolding checkWithStatement strictWith
+withIs ns ss n q = rw (eq-eqb (kindOf ns n) k.With q) (ifOnly 17 (spanStartOf ns n) (spanStartOf ns n + 4) n context.none (strictCode ns ss n))
+
+-- CODE 24
+-- what the Rust says of a head with one declaration: i an initialiser, s strict code, v a `var`, f a for-in, p a plain name
+oneHead : (i s v f p : Bool) → (i && ((s && v) || (not f || not p))) ≡ ((i && not ((f && v) && (p && not s))) && not ((f && not v) && p))
+oneHead true true true true true = refl
+oneHead true true true true false = refl
+oneHead true true true false true = refl
+oneHead true true true false false = refl
+oneHead true true false true true = refl
+oneHead true true false true false = refl
+oneHead true true false false true = refl
+oneHead true true false false false = refl
+oneHead true false true true true = refl
+oneHead true false true true false = refl
+oneHead true false true false true = refl
+oneHead true false true false false = refl
+oneHead true false false true true = refl
+oneHead true false false true false = refl
+oneHead true false false false true = refl
+oneHead true false false false false = refl
+oneHead false s v f p = refl
+
+orFalse : (b : Bool) → (b || false) ≡ b
+orFalse true = refl
+orFalse false = refl
+
+andTrue : (b : Bool) → (b && true) ≡ b
+andTrue true = refl
+andTrue false = refl
+
+andFalse : (b : Bool) → (b && false) ≡ false
+andFalse true = refl
+andFalse false = refl
+
+howManyIs : (ns : List ℕ) (d : ℕ) → declarators ns d ≡ length (declaratorsOf ns d)
+unfolding tally
+howManyIs ns d = sym (tally-all ns d 25 25 0 7)
+
+module _ (ns ss : List ℕ) (n : ℕ) (f : Bool) (e : eqb (kindOf ns n) k.ForIn ≡ f) where
+  several : (d a b : ℕ) (l : List ℕ) → declaratorsOf ns d ≡ a ∷ b ∷ l → (badHead ns ss n d && not (unsaid ns n d)) ≡ false
+  several d a b l q = rw (q, lt-leb (length (a ∷ b ∷ l)) 1 (omega arith)) (andFalse (badHead ns ss n d))
+
+  headLeft : (d : ℕ) → (x : Bool) → eqb (kindOf ns d) k.VariableDeclaration ≡ x → (r : Found) → declaratorOf ns d ≡ r
+      → nodesOf 24 (cond x (cond (single (declaratorsOf ns d)) (checkFound r (checkInitialiser ns ss n f d)) Clear) Clear) ≡ only (badHead ns ss n d && not (unsaid ns n d)) n
+  unfolding badHead annexHead checkInitialiser
+  headLeft d false x r q = rw x
+  headLeft d true x Nothing q =
+      let z : declaratorsOf ns d ≡ [] = kept-none (isChild ns d 25 25 0 7) (count ns) (d + 1) q in
+      rw (x, z)
+  headLeft d true x (At v) q = go (keep (isChild ns d 25 25 0 7) (upto (v .0 + 1) (count ns))) (kept-first (isChild ns d 25 25 0 7) (count ns) (d + 1) (v .0) q)
+    where
+      go : (l : List ℕ) → declaratorsOf ns d ≡ v .0 ∷ l
+          → nodesOf 24 (cond true (cond (single (declaratorsOf ns d)) (checkInitialiser ns ss n f d (v .0)) Clear) Clear) ≡ only (badHead ns ss n d && not (unsaid ns n d)) n
+      go [] z =
+          rw (x, z, orFalse (initialized ns (v .0)), andTrue (plainName ns (v .0)), e)
+          (ap (λ b. nodesOf 24 (cond b (errorAt ns code.unexpectedInitializerInForLoopHead n d context.none) Clear))
+          (oneHead (initialized ns (v .0)) (strictCode ns ss n) (eqb (extraOf ns d) extra.Var) f (plainName ns (v .0)))
+          ∙ ifOnly 24 (spanStartOf ns d) (spanEndOf ns d) n context.none
+          ((initialized ns (v .0) && not ((f && eqb (extraOf ns d) extra.Var) && (plainName ns (v .0) && not (strictCode ns ss n)))) && not ((f && not (eqb (extraOf ns d) extra.Var)) && plainName ns (v .0))))
+      go (b ∷ l) z =
+          let y : single (declaratorsOf ns d) ≡ false = ap (λ (m : List ℕ). single m) z ∙ lt-leb (length (v .0 ∷ b ∷ l)) 1 (omega arith) in
+          ap (λ b. nodesOf 24 (cond true (cond b (checkInitialiser ns ss n f d (v .0)) Clear) Clear)) y ∙ ap (λ y. only y n) (sym (several d (v .0) b l z))
+
+  headBy : (r : Found) → nodesOf 24 (checkFound r (checkLeft ns ss n f)) ≡ only (ofHead (λ d. badHead ns ss n d && not (unsaid ns n d)) r) n
+  unfolding checkLeft
+  headBy (At d) = rw (howManyIs ns (d .0)) (headLeft (d .0) (eqb (kindOf ns (d .0)) k.VariableDeclaration) refl (declaratorOf ns (d .0)) refl)
+  headBy Nothing = refl
+
+  pub headIs : within (kindOf ns n) k.ForIn k.ForOf ≡ true → nodesOf code.unexpectedInitializerInForLoopHead (checkForStatementLeft ns ss n f) ≡ only (saidHead ns ss n) n
+  unfolding saidHead
+  headIs q = rw q (headBy (headOf ns n))
+
+-- where nothing is left unsaid the changed rule is the standard's
+pub headAgrees : (ns ss : List ℕ) (n : ℕ) → ofHead (unsaid ns n) (headOf ns n) ≡ false → saidHead ns ss n ≡ initializedHead ns ss n
+unfolding saidHead initializedHead
+headAgrees ns ss n e = ap (λ b. within (kindOf ns n) k.ForIn k.ForOf && b) (go (headOf ns n) e)
+  where
+    go : (r : Found) → ofHead (unsaid ns n) r ≡ false → ofHead (λ d. badHead ns ss n d && not (unsaid ns n d)) r ≡ ofHead (badHead ns ss n) r
+    go (At d) q = rw q (andTrue (badHead ns ss n (d .0)))
+    go Nothing q = refl
+
+-- CODE 13
+pub usingIs : (sourceType : ℕ) (ns ss : List ℕ) (n : ℕ) → kindOf ns n ≡ k.VariableDeclaration
+    → nodesOf code.usingDeclarationNotAllowedInScript (checkUsing sourceType ns ss n) ≡ only (topUsing sourceType ns ss n) n
+unfolding checkUsing topUsing
+usingIs sourceType ns ss n q =
+    rw (eq-eqb (kindOf ns n) k.VariableDeclaration q)
+    (ifOnly 13 (spanStartOf ns n) (spanEndOf ns n) n context.none (within (extraOf ns n) extra.Using extra.AwaitUsing && (eqb sourceType 0 && topScope ns ss n)))
+
+pub usingAgrees : (sourceType : ℕ) (ns ss : List ℕ) (n : ℕ) → UsingTold ns ss n → topUsing sourceType ns ss n ≡ badUsing sourceType ns n
+unfolding topUsing badUsing
+usingAgrees sourceType ns ss n w = rw (w .top, w .clause, orFalse (eqb sourceType 0 && not (heldUsing ns n)))

@@ -1,0 +1,1 @@
+// Specs only: document 01's rows, one table with one statement.

@@ -1,0 +1,10 @@
+pub mod Rose
+pub mod RoseLaws
+pub mod Walk
+pub mod WalkLaws
+pub mod Unit
+pub mod UnitLaws
+pub mod ProgramLaws
+pub mod Trail
+pub mod TrailLaws
+pub mod Rule
