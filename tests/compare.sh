@@ -1,19 +1,22 @@
 #!/usr/bin/env bash
-# The judges in Rust: their own tests, seeded tables on which they must agree, and rulecheck on lines whose answers the plain version wrote.
+# The judges in Rust: their own tests, seeded tables on which they and the proved library must agree, and rulecheck on lines whose answers the plain version wrote.
 set -u
 cd "$(dirname "$0")/.." || exit 1
+export PATH="$PATH:/opt/rattle/bin"
 passed=0
 failed=0
 ok() { passed=$((passed + 1)); }
 bad() { failed=$((failed + 1)); echo "FAILED: $1"; }
 
 command -v cargo >/dev/null 2>&1 || { apt-get update -qq && apt-get install -y -qq cargo; } >/dev/null 2>&1
-if ! (cd compare && cargo build --release --offline -q); then
+if ! rt staticlib exports >target/staticlib.log 2>&1 || ! (cd compare && cargo build --release --offline -q --features cases/proved); then
+    tail -n 20 target/staticlib.log
     echo "0 passed, 1 failed"
     exit 1
 fi
-if (cd compare && cargo test --release --offline -q >/dev/null 2>&1); then ok; else bad "cargo test in compare"; fi
-if compare/target/release/compare run 20000 2027 | tail -n 1 | grep -qx '20000 cases, 0 differences'; then ok; else bad "compare run 20000 2027"; fi
+if (cd compare && cargo test --release --offline -q --features cases/proved >/dev/null 2>&1); then ok; else bad "cargo test in compare"; fi
+answer=$(compare/target/release/compare run 20000 2027)
+if [ "$(tail -n 1 <<<"$answer")" = "20000 cases, 0 differences" ] && grep -q "^route calls of the proved library" <<<"$answer"; then ok; else bad "compare run 20000 2027: $answer"; fi
 
 vectors=$(mktemp -d)
 compare/target/release/compare vectors "$vectors" 400 11 >/dev/null

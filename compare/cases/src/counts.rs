@@ -19,6 +19,8 @@ pub struct Counts {
     contexts: [u64; 5],
     ends: [u64; 4],
     route_refusals: [u64; 13],
+    /// Calls of the proved library, check, code and route, by refusal; 0 is success.
+    proved: [[u64; 13]; 3],
 }
 
 impl Counts {
@@ -34,6 +36,7 @@ impl Counts {
             contexts: [0; 5],
             ends: [0; 4],
             route_refusals: [0; 13],
+            proved: [[0; 13]; 3],
         }
     }
 
@@ -66,6 +69,27 @@ impl Counts {
             Err(refusal) => self.route_refusals[refusal.number as usize] += 1,
         }
     }
+
+    #[cfg(feature = "proved")]
+    pub fn proved_check(&mut self, answer: &Result<usize, Refusal>) {
+        self.proved[0][number(answer)] += 1;
+    }
+
+    #[cfg(feature = "proved")]
+    pub fn proved_code(&mut self, answer: &Result<usize, Refusal>) {
+        self.proved[1][number(answer)] += 1;
+    }
+
+    #[cfg(feature = "proved")]
+    pub fn proved_route(&mut self, answer: &Result<Route, Refusal>) {
+        self.proved[2][number(answer)] += 1;
+    }
+}
+
+/// The refusal's number, or 0.
+#[cfg(feature = "proved")]
+fn number<T>(answer: &Result<T, Refusal>) -> usize {
+    answer.as_ref().err().map_or(0, |refusal| refusal.number as usize)
 }
 
 impl fmt::Display for Counts {
@@ -92,6 +116,11 @@ impl fmt::Display for Counts {
         writeln!(f, "contexts 0 to 4: {:?}", self.contexts)?;
         writeln!(f, "routes by end 0 to 3: {:?}, entries {}", self.ends, self.entries)?;
         writeln!(f, "routes refused by 7, 8, 9: {:?}", &self.route_refusals[7..10])?;
+        if cfg!(feature = "proved") {
+            for (call, calls) in ["check", "code", "route"].iter().zip(&self.proved) {
+                writeln!(f, "{call} calls of the proved library by refusal 0 to 12: {calls:?}")?;
+            }
+        }
         let (codes, refusals) = self.unseen();
         writeln!(f, "not seen: codes {codes:?}, refusals {refusals:?}")?;
         writeln!(f, "{} cases, {} differences", self.cases.iter().sum::<u64>(), self.differences)

@@ -5,21 +5,19 @@
 //!     compare vectors DIR CASES SEED   write NAME.in and NAME.out for rulecheck and ruleroute
 
 mod counts;
-mod edits;
-mod grammar;
 #[cfg(feature = "proved")]
 mod proved;
-mod rng;
 mod second;
 
 use std::panic;
 
+use cases::rng::Rng;
+use cases::{edits, grammar};
 use judge::{Verdict, judge};
 use plain::reader::{OwnedTables, rulecheck, ruleroute};
 use plain::{Refusal, Tables};
 
 use counts::Counts;
-use rng::Rng;
 
 fn main() {
     let args: Vec<String> = std::env::args().skip(1).collect();
@@ -154,7 +152,7 @@ fn compare(t: &Tables, sort: Sort, rng: &mut Rng, counts: &mut Counts) -> Result
         routes(t, rng, counts)?;
     }
     #[cfg(feature = "proved")]
-    proved::compare(t, rng)?;
+    proved::compare(t, rng, counts)?;
     Ok(())
 }
 

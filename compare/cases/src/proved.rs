@@ -1,128 +1,124 @@
 //! The proved static library beside the plain version: every answer and every entry of every slice. Only with the
-//! feature `proved`; the names and shapes below are what the library exports.
+//! feature `proved`.
 
+use std::ops::Range;
+
+use cases::rng::Rng;
 use plain::{Refusal, Route, Tables};
+use velkunshe::{End, Rule};
 
-use crate::rng::Rng;
+use crate::counts::Counts;
 use crate::{answers, same};
-
-// An answer is five numbers: refusal (0 for none), place, length needed or written, end, answers taken. A slice is
-// passed as pointer and length.
-#[expect(improper_ctypes)]
-unsafe extern "C" {
-    safe fn check(
-        source_type: u32,
-        nodes: &[u32],
-        scopes: &[u32],
-        source: &[u8],
-        names: &[u8],
-        findings: &mut [u32],
-        answer: &mut [u64],
-    );
-    safe fn code(
-        source_type: u32,
-        nodes: &[u32],
-        scopes: &[u32],
-        source: &[u8],
-        names: &[u8],
-        unit: u32,
-        code: &mut [u32],
-        answer: &mut [u64],
-    );
-    safe fn route(
-        source_type: u32,
-        nodes: &[u32],
-        scopes: &[u32],
-        source: &[u8],
-        names: &[u8],
-        unit: u32,
-        answers: &[u32],
-        code: &mut [u32],
-        route: &mut [u32],
-        answer: &mut [u64],
-    );
-}
 
 /// What an entry holds that nothing was written to.
 const UNTOUCHED: u32 = 0xa5a5_5a5a;
+/// Entries before and behind a lent slice, which must stay as they are.
+const MARGIN: usize = 9;
 
-pub fn compare(t: &Tables, rng: &mut Rng) -> Result<(), String> {
+pub fn compare(t: &Tables, rng: &mut Rng, counts: &mut Counts) -> Result<(), String> {
     let found = if plain::input_refusal(t).is_none() { plain::findings(t).len() } else { 0 };
-    for length in [0, (7 * found).saturating_sub(1), 7 * found, 7 * found + 5] {
-        check_with(t, length)?;
-    }
-    if t.node_count() == 0 {
-        return Ok(());
-    }
+    around(7 * found).into_iter().try_for_each(|length| check(t, length, counts))?;
     let no_unit = rng.below(t.node_count() + 2);
-    let units: Vec<usize> = (0..t.node_count()).filter(|&n| t.kind(n) <= 3).take(4).chain([no_unit]).collect();
-    for unit in units {
-        let answers = answers(rng);
-        for code_length in [16 * t.node_count() - 1, 16 * t.node_count(), 16 * t.node_count() + 3] {
-            code_with(t, unit as u32, code_length)?;
-            route_with(t, unit as u32, &answers, code_length)?;
-        }
+    let units = (0..t.node_count()).filter(|&n| t.kind(n) <= 3).take(4).chain([no_unit]);
+    units.into_iter().try_for_each(|n| unit(t, n as u32, &answers(rng), counts))
+}
+
+/// No room, one entry too few, exactly enough, and more.
+fn around(length: usize) -> Vec<usize> {
+    let mut lengths = vec![0, length.saturating_sub(1), length, length + 5];
+    lengths.dedup();
+    lengths
+}
+
+fn rule<'a>(t: &Tables<'a>) -> Rule<'a> {
+    Rule { source_type: t.source_type, nodes: t.nodes, scopes: t.scopes, source: t.source, names: t.names }
+}
+
+fn refusal(r: velkunshe::Refusal) -> Refusal {
+    Refusal { number: r.number, place: r.place as usize, needed: r.needed }
+}
+
+/// A slice of that length within a longer vector.
+fn lent(length: usize) -> (Vec<u32>, Range<usize>) {
+    (vec![UNTOUCHED; length + 2 * MARGIN], MARGIN..MARGIN + length)
+}
+
+fn check(t: &Tables, length: usize, counts: &mut Counts) -> Result<(), String> {
+    let (mut expected, part) = lent(length);
+    let mut found = expected.clone();
+    let plain = plain::check(t, &mut expected[part.clone()]);
+    let proved = velkunshe::check(&rule(t), &mut found[part]).map_err(refusal);
+    counts.proved_check(&proved);
+    same(&format!("check into {length}, plain and proved"), &plain, &proved)?;
+    same(&format!("findings slice of {length}, plain and proved"), &expected, &found)
+}
+
+/// Both calls on a unit, or on a number that is none. What 1 to 9 turn down is so whatever the slices are, and is tried
+/// with two lengths only.
+fn unit(t: &Tables, unit: u32, answers: &[u32], counts: &mut Counts) -> Result<(), String> {
+    let room = 16 * t.node_count();
+    if plain::code_refusal(t, unit, room).is_err() {
+        code(t, unit, room, counts)?;
+        code(t, unit, 0, counts)?;
+        return route(t, unit, answers, room, 3, counts);
     }
-    Ok(())
-}
-
-/// Refusal, place and length needed.
-fn refusal_of(answer: &[u64]) -> Refusal {
-    let needed = matches!(answer[0], 10 | 12).then_some(answer[2]);
-    Refusal { number: answer[0] as u32, place: answer[1] as usize, needed }
-}
-
-fn check_with(t: &Tables, length: usize) -> Result<(), String> {
-    let (mut expected, mut found, mut answer) = (vec![UNTOUCHED; length], vec![UNTOUCHED; length], [0; 5]);
-    let plain = plain::check(t, &mut expected);
-    check(t.source_type, t.nodes, t.scopes, t.source, t.names, &mut found, &mut answer);
-    let proved = if answer[0] == 0 { Ok(answer[2] as usize) } else { Err(refusal_of(&answer)) };
-    same("check, plain and proved", &plain, &proved)?;
-    same("findings slice, plain and proved", &expected, &found)
+    around(room).into_iter().try_for_each(|length| code(t, unit, length, counts))?;
+    let listed = plain::routes::run(t, unit as usize, answers).list.len();
+    route(t, unit, answers, room - 1, listed, counts)?;
+    around(listed).into_iter().try_for_each(|length| route(t, unit, answers, room, length, counts))
 }
 
 /// The code itself is free: at most 16 numbers per node of the unit, and nothing past them is written.
-fn code_with(t: &Tables, unit: u32, length: usize) -> Result<(), String> {
-    let (mut made, mut answer) = (vec![UNTOUCHED; length], [0; 5]);
+fn code(t: &Tables, unit: u32, length: usize, counts: &mut Counts) -> Result<(), String> {
+    let (mut made, part) = lent(length);
     let plain = plain::code_refusal(t, unit, length);
-    code(t.source_type, t.nodes, t.scopes, t.source, t.names, unit, &mut made, &mut answer);
-    let proved = if answer[0] == 0 { Ok(()) } else { Err(refusal_of(&answer)) };
-    same("code, plain and proved", &plain, &proved)?;
-    let written = if answer[0] == 0 { answer[2] as usize } else { 0 };
+    let proved = velkunshe::code(&rule(t), unit, &mut made[part]).map_err(refusal);
+    counts.proved_code(&proved);
+    same(&format!("code of {unit} into {length}, plain and proved"), &plain, &proved.map(|_| ()))?;
+    let written = proved.unwrap_or(0);
     let nodes = if plain.is_ok() { nodes_of(t, unit as usize) } else { 0 };
-    if written > 16 * nodes || made[written..].iter().any(|&entry| entry != UNTOUCHED) {
-        return Err(format!("code of {written} numbers, or more, for {nodes} nodes"));
+    let others = made[..MARGIN].iter().chain(&made[MARGIN + written..]);
+    if written > 16 * nodes || others.into_iter().any(|&entry| entry != UNTOUCHED) {
+        return Err(format!("code of {unit}: {written} numbers, or more, for {nodes} nodes"));
     }
     Ok(())
 }
 
-fn nodes_of(t: &Tables, n: usize) -> usize {
-    1 + t.children(n).map(|c| nodes_of(t, c)).sum::<usize>()
+fn nodes_of(t: &Tables, unit: usize) -> usize {
+    1 + (unit + 1..t.node_count()).take_while(|&n| t.parent(n) >= unit).count()
 }
 
-fn route_with(t: &Tables, unit: u32, answers: &[u32], code_length: usize) -> Result<(), String> {
-    let whole = match plain::code_refusal(t, unit, code_length) {
-        Ok(()) => plain::routes::run(t, unit as usize, answers).list.len(),
-        Err(_) => 3,
+fn route(
+    t: &Tables,
+    unit: u32,
+    answers: &[u32],
+    code_length: usize,
+    length: usize,
+    counts: &mut Counts,
+) -> Result<(), String> {
+    let what = format!("route of {unit} with {answers:?} into {length}, code into {code_length}, plain and proved");
+    let (mut expected, part) = lent(length);
+    let (mut listed, (mut made, code_part)) = (expected.clone(), lent(code_length));
+    let plain = plain::route(t, unit, answers, code_length, &mut expected[part.clone()]);
+    let proved = velkunshe::route(&rule(t), unit, answers, &mut made[code_part.clone()], &mut listed[part]);
+    let proved = proved.map(shown).map_err(refusal);
+    counts.proved_route(&proved);
+    same(&what, &plain, &proved)?;
+    same(&format!("{what}: slice"), &expected, &listed)?;
+    // After 12, as after success, the code slice holds the code; else it is unchanged.
+    let (mut alone, _) = lent(code_length);
+    if proved.is_ok() || proved.is_err_and(|r| r.number == 12) {
+        let _ = velkunshe::code(&rule(t), unit, &mut alone[code_part]);
+    }
+    same(&format!("{what}: code slice"), &alone, &made)
+}
+
+fn shown(route: velkunshe::Shown) -> Route {
+    let end = match route.end {
+        End::FellThrough => 0,
+        End::Returned => 1,
+        End::Thrown => 2,
+        End::AnswersSpent => 3,
     };
-    for length in [0, whole.saturating_sub(1), whole, whole + 2] {
-        let (mut expected, mut listed) = (vec![UNTOUCHED; length], vec![UNTOUCHED; length]);
-        let (mut made, mut answer) = (vec![UNTOUCHED; code_length], [0; 5]);
-        let plain = plain::route(t, unit, answers, code_length, &mut expected);
-        route(t.source_type, t.nodes, t.scopes, t.source, t.names, unit, answers, &mut made, &mut listed, &mut answer);
-        let proved = if answer[0] == 0 {
-            Ok(Route { entries: answer[2] as usize, end: answer[3] as u32, answers_taken: answer[4] as usize })
-        } else {
-            Err(refusal_of(&answer))
-        };
-        same("route, plain and proved", &plain, &proved)?;
-        same("route slice, plain and proved", &expected, &listed)?;
-        // After 12, as after success, the code slice holds the code; else it is unchanged.
-        let mut code_alone = vec![UNTOUCHED; code_length];
-        if matches!(answer[0], 0 | 12) {
-            code(t.source_type, t.nodes, t.scopes, t.source, t.names, unit, &mut code_alone, &mut [0; 5]);
-        }
-        same("code slice of the route call", &code_alone, &made)?;
-    }
-    Ok(())
+    Route { entries: route.entries, end, answers_taken: route.taken as usize }
 }

@@ -1,0 +1,77 @@
+//! What `include/velkunshe.h` declares. Each pointer comes from a Rust slice, so it is neither null nor misaligned, and a `&mut` slice
+//! overlaps no other: all that the header asks of a caller.
+
+#[repr(C)]
+pub struct CheckAnswer {
+    pub refusal: u32,
+    pub place: u32,
+    pub findings: u64,
+    pub needed: u64,
+}
+
+#[repr(C)]
+pub struct CodeAnswer {
+    pub refusal: u32,
+    pub place: u32,
+    pub length: u64,
+}
+
+#[repr(C)]
+pub struct RouteAnswer {
+    pub refusal: u32,
+    pub place: u32,
+    pub entries: u64,
+    pub needed: u64,
+    pub taken: u64,
+    pub end: u32,
+}
+
+extern "C" {
+    pub fn velkunshe_check(
+        source_type: u32,
+        nodes: *const u32,
+        nodes_length: usize,
+        scopes: *const u32,
+        scopes_length: usize,
+        source: *const u8,
+        source_length: usize,
+        names: *const u8,
+        names_length: usize,
+        findings: *mut u32,
+        findings_length: usize,
+    ) -> CheckAnswer;
+
+    pub fn velkunshe_code(
+        source_type: u32,
+        nodes: *const u32,
+        nodes_length: usize,
+        scopes: *const u32,
+        scopes_length: usize,
+        source: *const u8,
+        source_length: usize,
+        names: *const u8,
+        names_length: usize,
+        unit: u32,
+        code: *mut u32,
+        code_length: usize,
+    ) -> CodeAnswer;
+
+    pub fn velkunshe_route(
+        source_type: u32,
+        nodes: *const u32,
+        nodes_length: usize,
+        scopes: *const u32,
+        scopes_length: usize,
+        source: *const u8,
+        source_length: usize,
+        names: *const u8,
+        names_length: usize,
+        unit: u32,
+        answers: *const u32,
+        answers_length: usize,
+        code: *mut u32,
+        code_length: usize,
+        route: *mut u32,
+        route_length: usize,
+    ) -> RouteAnswer;
+}

@@ -1,0 +1,361 @@
+//! Safe calls of Velkunshe's proved static library.
+//!
+//! A rule comes as tables of numbers (see [`Rule`]). [`check`] gives its early errors; [`code`] makes the flat code of one of its units (the
+//! program, a function, an arrow or a static block), and [`route`] lists the statements that the unit comes to on a list of answers.
+//! [`findings`] and [`route_of`] give the same in vectors. Whatever the tables hold, a call ends and does nothing undefined, and its answer
+//! is the one that is proved; nothing here asks for `unsafe`.
+//!
+//! The library is linked as `build.rs` says: from `VELKUNSHE_LIB`, the path of an archive, or from this repository's
+//! `target/staticlib/libexports.a`, which `rt staticlib exports` writes. x86-64 Linux only.
+//!
+//! # Check a rule
+//!
+//! The tables of `a: { continue a; }`, a `continue` to a label that no loop has:
+//!
+//! ```
+//! use velkunshe::{check, findings, Finding, Rule};
+//!
+//! let rule = Rule {
+//!     source_type: 0,
+//!     nodes: &[
+//!         // kind, parent, role, span, scope, flags, extra, name
+//!         0, 0, 0, 0, 18, 0, 0, 0, 0, 0, // Program
+//!         6, 0, 3, 0, 18, 0, 0, 0, 0, 0, // Labeled
+//!         33, 1, 6, 0, 1, 0, 0, 0, 0, 1, // its label
+//!         5, 1, 3, 3, 18, 0, 0, 0, 0, 0, // Block
+//!         19, 3, 3, 5, 16, 1, 0, 0, 0, 0, // Continue
+//!         33, 4, 6, 14, 15, 1, 0, 0, 0, 1, // its label
+//!     ],
+//!     scopes: &[0, 2, 0, 0, 0, 3],
+//!     source: b"a: { continue a; }",
+//!     names: b"a",
+//! };
+//!
+//! let found = findings(&rule).unwrap();
+//! assert_eq!(found, [Finding { code: 22, node: 4, first: (0, 1), second: (14, 15), context: 0 }]);
+//!
+//! // The same into a slice of one's own, which may be too short:
+//! let mut numbers = [0; 7];
+//! assert_eq!(check(&rule, &mut numbers), Ok(1));
+//! assert_eq!(numbers, [22, 4, 0, 1, 14, 15, 0]);
+//! let refusal = check(&rule, &mut numbers[..6]).unwrap_err();
+//! assert_eq!((refusal.number, refusal.needed), (10, Some(7)));
+//! ```
+//!
+//! # Check a rule and show its route
+//!
+//! `while (t) { if (s) break; x; }`. The `while` and the `if` each take an answer, 0 for no.
+//!
+//! ```
+//! use velkunshe::{findings, route_of, End, Rule};
+//!
+//! let source = b"while (t) { if (s) break; x; }";
+//! let rule = Rule {
+//!     source_type: 0,
+//!     nodes: &[
+//!         0, 0, 0, 0, 30, 0, 0, 0, 0, 0, // 0 Program
+//!         10, 0, 3, 0, 30, 0, 0, 0, 0, 0, // 1 While
+//!         32, 1, 0, 7, 8, 0, 0, 0, 0, 1, // 2 t
+//!         5, 1, 3, 10, 30, 1, 0, 0, 0, 0, // 3 Block
+//!         12, 3, 3, 12, 25, 1, 0, 0, 0, 0, // 4 If
+//!         32, 4, 0, 16, 17, 1, 0, 0, 1, 1, // 5 s
+//!         18, 4, 3, 19, 25, 1, 0, 0, 0, 0, // 6 Break
+//!         22, 3, 3, 26, 28, 1, 0, 0, 0, 0, // 7 x;
+//!     ],
+//!     scopes: &[0, 2, 0, 0, 0, 3],
+//!     source,
+//!     names: b"ts",
+//! };
+//! assert!(findings(&rule).unwrap().is_empty());
+//!
+//! // Once around, then out by the break.
+//! let route = route_of(&rule, 0, &[1, 0, 1, 1]).unwrap();
+//! assert_eq!(route.nodes, [1, 4, 7, 1, 4, 6]);
+//! assert_eq!((route.end, route.taken), (End::FellThrough, 4));
+//!
+//! let shown: Vec<&str> = route.nodes.iter().map(|&n| rule.text(n)).collect();
+//! assert_eq!(shown[2], "x;");
+//! assert_eq!(shown[5], "break;");
+//!
+//! // No answer is left for the second turn.
+//! let route = route_of(&rule, 0, &[1, 0]).unwrap();
+//! assert_eq!((route.nodes, route.end), (vec![1, 4, 7], End::AnswersSpent));
+//! ```
+
+#![warn(missing_docs)]
+
+mod ffi;
+
+use std::error::Error;
+use std::fmt;
+
+/// How many numbers a node takes in [`Rule::nodes`].
+pub const NODE: usize = 10;
+/// How many numbers a scope takes in [`Rule::scopes`].
+pub const SCOPE: usize = 3;
+/// How many numbers a finding takes in the slice that [`check`] writes.
+pub const FINDING: usize = 7;
+/// How many numbers the code slice must have for each node of the tree.
+pub const CODE: usize = 16;
+
+/// The tables of a rule. Nothing is asked of the numbers: what is no rule is turned down by a [`Refusal`].
+#[derive(Clone, Copy, Debug)]
+pub struct Rule<'a> {
+    /// 0 script, 1 module.
+    pub source_type: u32,
+    /// Ten numbers a node: kind, parent, role, span start, span end, scope, flags, extra, name start, name length.
+    pub nodes: &'a [u32],
+    /// Three numbers a scope: parent, flags, node.
+    pub scopes: &'a [u32],
+    /// The rule's text; spans are half-open byte ranges of it.
+    pub source: &'a [u8],
+    /// The bytes of all names.
+    pub names: &'a [u8],
+}
+
+impl<'a> Rule<'a> {
+    /// How many nodes there are.
+    pub fn node_count(&self) -> usize {
+        self.nodes.len() / NODE
+    }
+
+    /// The text of a node's span, for showing; empty where there is no such text.
+    pub fn text(&self, node: u32) -> &'a str {
+        let record = self.nodes.chunks_exact(NODE).nth(node as usize);
+        let bytes = record.and_then(|r| self.source.get(r[3] as usize..r[4] as usize));
+        bytes.and_then(|b| std::str::from_utf8(b).ok()).unwrap_or("")
+    }
+}
+
+/// Why a call turned its input down. The slices are then as they were, but that after 12 the code slice holds the code.
+#[derive(Clone, Copy, Debug, PartialEq, Eq)]
+pub struct Refusal {
+    /// 1 to 6: the tables; 7, 8: the unit; 9: the rule has findings; 10, 11, 12: the findings, code or route slice is too short.
+    pub number: u32,
+    /// The node or scope that 2 to 6 speak of, the unit of 7 and 8, the node of 9, else 0.
+    pub place: u32,
+    /// After 10 and 12: the length that the slice must have.
+    pub needed: Option<u64>,
+}
+
+impl Refusal {
+    fn new(number: u32, place: u32, needed: u64) -> Refusal {
+        Refusal { number, place, needed: matches!(number, 10 | 12).then_some(needed) }
+    }
+}
+
+impl fmt::Display for Refusal {
+    fn fmt(&self, f: &mut fmt::Formatter<'_>) -> fmt::Result {
+        let why = match self.number {
+            1 => "a table is empty, not whole or too long, a text is too long, or there is no such source type",
+            2 => "a node's kind, role, flags or extra is not listed",
+            3 => "the nodes are no tree in preorder, or it is deeper than 512",
+            4 => "a span or a name lies outside its bytes",
+            5 => "a scope is missing, broken, or does not belong to the node that uses it",
+            6 => "a node stands where it may not, or has too few or too many children",
+            7 => "the unit is no Program, Function, Arrow or StaticBlock",
+            8 => "the unit holds a try",
+            9 => "the rule has findings, or a jump without a target",
+            10 => "the findings slice is too short",
+            11 => "the code slice is shorter than 16 numbers a node",
+            12 => "the route slice is too short",
+            _ => "turned down",
+        };
+        write!(f, "refusal {} at {}: {why}", self.number, self.place)?;
+        self.needed.map_or(Ok(()), |needed| write!(f, " (length needed: {needed})"))
+    }
+}
+
+impl Error for Refusal {}
+
+/// One early error.
+#[derive(Clone, Copy, Debug, PartialEq, Eq)]
+pub struct Finding {
+    /// What is wrong, 1 to 33.
+    pub code: u32,
+    /// The node that raises it.
+    pub node: u32,
+    /// A byte range of the source.
+    pub first: (u32, u32),
+    /// A second one, or 0,0.
+    pub second: (u32, u32),
+    /// 0 none, 1 strict code, 2 in a class, 3 in a module, 4 `await` in a module.
+    pub context: u32,
+}
+
+impl Finding {
+    /// A finding from its seven numbers.
+    pub fn from_numbers(n: [u32; FINDING]) -> Finding {
+        Finding { code: n[0], node: n[1], first: (n[2], n[3]), second: (n[4], n[5]), context: n[6] }
+    }
+}
+
+/// Checks a rule: writes its findings from the start of `out`, seven numbers each, and gives how many there are. No entry past the last
+/// one written is changed.
+///
+/// # Errors
+///
+/// Refusals 1 to 6, and 10 with the length needed where `out` is shorter than 7 × findings.
+pub fn check(rule: &Rule, out: &mut [u32]) -> Result<usize, Refusal> {
+    // SAFETY: pointers and lengths of live slices; `out` is borrowed alone.
+    let answer = unsafe {
+        ffi::velkunshe_check(
+            rule.source_type,
+            rule.nodes.as_ptr(),
+            rule.nodes.len(),
+            rule.scopes.as_ptr(),
+            rule.scopes.len(),
+            rule.source.as_ptr(),
+            rule.source.len(),
+            rule.names.as_ptr(),
+            rule.names.len(),
+            out.as_mut_ptr(),
+            out.len(),
+        )
+    };
+    match answer.refusal {
+        0 => Ok(answer.findings as usize),
+        number => Err(Refusal::new(number, answer.place, answer.needed)),
+    }
+}
+
+/// The findings of a rule, in a vector as long as they need.
+///
+/// # Errors
+///
+/// Refusals 1 to 6.
+pub fn findings(rule: &Rule) -> Result<Vec<Finding>, Refusal> {
+    let mut numbers = Vec::new();
+    if let Err(refusal) = check(rule, &mut numbers) {
+        let Some(needed) = refusal.needed else { return Err(refusal) };
+        numbers.resize(needed as usize, 0);
+        check(rule, &mut numbers)?;
+    }
+    Ok(numbers
+        .chunks_exact(FINDING)
+        .map(|n| Finding::from_numbers([n[0], n[1], n[2], n[3], n[4], n[5], n[6]]))
+        .collect())
+}
+
+/// How a route ends.
+#[derive(Clone, Copy, Debug, PartialEq, Eq)]
+pub enum End {
+    /// Past the unit's last statement.
+    FellThrough,
+    /// By a return.
+    Returned,
+    /// By a throw.
+    Thrown,
+    /// No answer was left for an if, a switch or a turn of a loop.
+    AnswersSpent,
+}
+
+/// What [`route`] gives of a route whose nodes it wrote.
+#[derive(Clone, Copy, Debug, PartialEq, Eq)]
+pub struct Shown {
+    /// How many nodes were listed.
+    pub entries: usize,
+    /// How it ended.
+    pub end: End,
+    /// How many answers were taken.
+    pub taken: u64,
+}
+
+/// A route, as [`route_of`] gives it.
+#[derive(Clone, Debug, PartialEq, Eq)]
+pub struct Route {
+    /// The nodes in the order in which they were reached.
+    pub nodes: Vec<u32>,
+    /// How it ended.
+    pub end: End,
+    /// How many answers were taken.
+    pub taken: u64,
+}
+
+/// Makes the flat code of a unit from the start of `out` and gives its length. No entry past the last one written is changed.
+///
+/// # Errors
+///
+/// Refusals 1 to 9, and 11 where `out` is shorter than 16 × the tree's nodes.
+pub fn code(rule: &Rule, unit: u32, out: &mut [u32]) -> Result<usize, Refusal> {
+    // SAFETY: pointers and lengths of live slices; `out` is borrowed alone.
+    let answer = unsafe {
+        ffi::velkunshe_code(
+            rule.source_type,
+            rule.nodes.as_ptr(),
+            rule.nodes.len(),
+            rule.scopes.as_ptr(),
+            rule.scopes.len(),
+            rule.source.as_ptr(),
+            rule.source.len(),
+            rule.names.as_ptr(),
+            rule.names.len(),
+            unit,
+            out.as_mut_ptr(),
+            out.len(),
+        )
+    };
+    match answer.refusal {
+        0 => Ok(answer.length as usize),
+        number => Err(Refusal::new(number, answer.place, 0)),
+    }
+}
+
+/// Makes the flat code of a unit in `code`, runs it over the answers, and lists the nodes from the start of `out`. No entry past the last
+/// one written is changed.
+///
+/// # Errors
+///
+/// Refusals 1 to 9, 11 where `code` is shorter than 16 × the tree's nodes, and 12 with the length needed where `out` is shorter than the
+/// route.
+pub fn route(rule: &Rule, unit: u32, answers: &[u32], code: &mut [u32], out: &mut [u32]) -> Result<Shown, Refusal> {
+    // SAFETY: pointers and lengths of live slices; `code` and `out` are each borrowed alone.
+    let answer = unsafe {
+        ffi::velkunshe_route(
+            rule.source_type,
+            rule.nodes.as_ptr(),
+            rule.nodes.len(),
+            rule.scopes.as_ptr(),
+            rule.scopes.len(),
+            rule.source.as_ptr(),
+            rule.source.len(),
+            rule.names.as_ptr(),
+            rule.names.len(),
+            unit,
+            answers.as_ptr(),
+            answers.len(),
+            code.as_mut_ptr(),
+            code.len(),
+            out.as_mut_ptr(),
+            out.len(),
+        )
+    };
+    if answer.refusal != 0 {
+        return Err(Refusal::new(answer.refusal, answer.place, answer.needed));
+    }
+    let end = match answer.end {
+        0 => End::FellThrough,
+        1 => End::Returned,
+        2 => End::Thrown,
+        _ => End::AnswersSpent,
+    };
+    Ok(Shown { entries: answer.entries as usize, end, taken: answer.taken })
+}
+
+/// The route of a unit, in a vector as long as it needs.
+///
+/// # Errors
+///
+/// Refusals 1 to 9.
+pub fn route_of(rule: &Rule, unit: u32, answers: &[u32]) -> Result<Route, Refusal> {
+    let mut code = vec![0; CODE * rule.node_count()];
+    let mut nodes = Vec::new();
+    let shown = match route(rule, unit, answers, &mut code, &mut nodes) {
+        Err(Refusal { needed: Some(needed), .. }) => {
+            nodes.resize(needed as usize, 0);
+            route(rule, unit, answers, &mut code, &mut nodes)?
+        }
+        answer => answer?,
+    };
+    Ok(Route { nodes, end: shown.end, taken: shown.taken })
+}

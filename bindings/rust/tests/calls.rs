@@ -1,0 +1,129 @@
+//! The calls on slices of every length: nothing but what is promised is written.
+
+use velkunshe::{check, code, findings, route, route_of, End, Refusal, Rule, Shown, CODE, FINDING};
+
+/// A script with nothing in it.
+const EMPTY: Rule = Rule { source_type: 0, nodes: &[0; 10], scopes: &[0, 2, 0], source: b"", names: b"" };
+
+/// `with (a) ;` in strict code, twice: two findings of code 17.
+const TWO: Rule = Rule {
+    source_type: 1,
+    nodes: &[
+        0, 0, 0, 0, 20, 0, 0, 0, 0, 0, //
+        13, 0, 3, 0, 10, 0, 0, 0, 0, 0, 22, 1, 3, 9, 10, 0, 0, 0, 0, 0, //
+        13, 0, 3, 10, 20, 0, 0, 0, 0, 0, 22, 3, 3, 19, 20, 0, 0, 0, 0, 0,
+    ],
+    scopes: &[0, 3, 0],
+    source: b"with (a) ;with (a) ;",
+    names: b"",
+};
+
+/// `a: while(t){ switch(s){ case c: continue a; } x; }`
+const ROUTED: Rule = Rule {
+    source_type: 0,
+    nodes: &[
+        0, 0, 0, 0, 0, 0, 0, 0, 0, 0, // 0 Program
+        6, 0, 3, 0, 0, 0, 0, 0, 0, 0, 33, 1, 6, 0, 0, 0, 0, 0, 0, 1, // 1 Labeled, a
+        10, 1, 3, 0, 0, 0, 0, 0, 0, 0, 32, 3, 0, 0, 0, 0, 0, 0, 1, 1, // 3 While, t
+        5, 3, 3, 0, 0, 1, 0, 0, 0, 0, // 5 Block
+        14, 5, 3, 0, 0, 1, 0, 0, 0, 0, 32, 6, 0, 0, 0, 1, 0, 0, 2, 1, // 6 Switch, s
+        15, 6, 3, 0, 0, 2, 0, 0, 0, 0, 32, 8, 0, 0, 0, 2, 0, 0, 3, 1, // 8 SwitchCase, c
+        19, 8, 3, 0, 0, 2, 0, 0, 0, 0, 33, 10, 6, 0, 0, 2, 0, 0, 0, 1, // 10 Continue, a
+        22, 5, 3, 0, 0, 1, 0, 0, 0, 0, // 12 x;
+    ],
+    scopes: &[0, 2, 0, 0, 0, 5, 1, 0, 6],
+    source: b"",
+    names: b"atsc",
+};
+
+#[test]
+fn nothing_found() {
+    assert_eq!(check(&EMPTY, &mut []), Ok(0));
+    assert_eq!(findings(&EMPTY), Ok(vec![]));
+}
+
+#[test]
+fn slices_of_every_length() {
+    let found = findings(&TWO).unwrap();
+    assert_eq!(found.iter().map(|f| (f.code, f.node)).collect::<Vec<_>>(), [(17, 1), (17, 3)]);
+    for length in 0..20 {
+        let mut out = vec![77; length];
+        let answer = check(&TWO, &mut out);
+        if length < 2 * FINDING {
+            assert_eq!(answer, Err(Refusal { number: 10, place: 0, needed: Some(14) }));
+            assert!(out.iter().all(|&n| n == 77));
+        } else {
+            assert_eq!(answer, Ok(2));
+            assert_eq!((out[0], out[7]), (17, 17));
+            assert!(out[14..].iter().all(|&n| n == 77));
+        }
+    }
+}
+
+#[test]
+fn refusals() {
+    let refused = |rule: Rule| {
+        let mut out = [77; 7];
+        let refusal = check(&rule, &mut out).unwrap_err();
+        assert_eq!(out, [77; 7]);
+        assert_eq!(refusal.needed, None);
+        (refusal.number, refusal.place)
+    };
+    assert_eq!(refused(Rule { nodes: &[], ..EMPTY }), (1, 0));
+    assert_eq!(refused(Rule { nodes: &[0; 9], ..EMPTY }), (1, 0));
+    assert_eq!(refused(Rule { source_type: 2, ..EMPTY }), (1, 0));
+    assert_eq!(refused(Rule { nodes: &[56, 0, 0, 0, 0, 0, 0, 0, 0, 0], ..EMPTY }), (2, 0));
+    assert_eq!(refused(Rule { nodes: &[5, 0, 0, 0, 0, 0, 0, 0, 0, 0], ..EMPTY }), (3, 0));
+    assert_eq!(refused(Rule { nodes: &[0, 0, 0, 0, 1, 0, 0, 0, 0, 0], ..EMPTY }), (4, 0));
+    assert_eq!(refused(Rule { scopes: &[1, 2, 0], ..EMPTY }), (5, 0));
+    let text = findings(&Rule { nodes: &[], ..EMPTY }).unwrap_err().to_string();
+    assert!(text.starts_with("refusal 1 at 0: "));
+}
+
+#[test]
+fn routes() {
+    let of = |answers: &[u32]| route_of(&ROUTED, 0, answers).map(|r| (r.nodes, r.end, r.taken)).unwrap();
+    assert_eq!(of(&[1, 0, 0]), (vec![3, 6, 10, 3], End::FellThrough, 3));
+    assert_eq!(of(&[1, 5, 0]), (vec![3, 6, 12, 3], End::FellThrough, 3));
+    assert_eq!(of(&[1]), (vec![3], End::AnswersSpent, 1));
+    assert_eq!(of(&[]), (vec![], End::AnswersSpent, 0));
+}
+
+#[test]
+fn route_slices_of_every_length() {
+    let mut expected = vec![77; CODE * ROUTED.node_count() + 2];
+    let length = code(&ROUTED, 0, &mut expected).unwrap();
+    assert!(length <= CODE * ROUTED.node_count());
+    assert!(expected[length..].iter().all(|&n| n == 77));
+    for room in 0..7 {
+        let (mut made, mut out) = (vec![77; expected.len()], vec![77; room]);
+        let answer = route(&ROUTED, 0, &[1, 0, 0], &mut made, &mut out);
+        assert_eq!(made, expected);
+        if room < 4 {
+            assert_eq!(answer, Err(Refusal { number: 12, place: 0, needed: Some(4) }));
+            assert!(out.iter().all(|&n| n == 77));
+        } else {
+            assert_eq!(answer, Ok(Shown { entries: 4, end: End::FellThrough, taken: 3 }));
+            assert_eq!(out[..4], [3, 6, 10, 3]);
+            assert!(out[4..].iter().all(|&n| n == 77));
+        }
+    }
+}
+
+#[test]
+fn refusals_of_units() {
+    let refused = |rule: &Rule, unit: u32, room: usize| {
+        let (mut made, mut out) = (vec![77; room], [77; 9]);
+        let refusal = route(rule, unit, &[], &mut made, &mut out).unwrap_err();
+        assert_eq!(code(rule, unit, &mut made), Err(refusal));
+        assert!(made.iter().chain(&out).all(|&n| n == 77));
+        (refusal.number, refusal.place)
+    };
+    let room = CODE * ROUTED.node_count();
+    assert_eq!(refused(&ROUTED, 1, room), (7, 1));
+    assert_eq!(refused(&ROUTED, 4_294_967_295, room), (7, 4_294_967_295));
+    assert_eq!(refused(&TWO, 0, room), (9, 1));
+    assert_eq!(refused(&ROUTED, 0, room - 1), (11, 0));
+    assert_eq!(refused(&ROUTED, 0, 0), (11, 0));
+    assert_eq!(refused(&Rule { nodes: &[], ..ROUTED }, 0, room), (1, 0));
+}

@@ -1,0 +1,29 @@
+use Rattle.exports.specs.Numbers.{codeNumbers}
+use Rattle.routes.specs.declared.Coded.{Coded}
+use mathlib.Core.Path.{_≡_, ap, sym, _∙_}
+use borrow.Author.Needs.{needs}
+use Rattle.exports.proofs.code_numbers.Statement.{statement}
+use Rattle.exports.proofs.code_numbers.Tie as tie
+use Rattle.exports.proofs.code_numbers.Reads as reads
+use Rattle.exports.proofs.code_numbers.Lts as lts
+
+enum-known-answer : tie.Need-enum-known-answer
+enum-known-answer c = search needs
+
+enum-known-answer-2 : tie.Need-enum-known-answer-2
+enum-known-answer-2 c = search needs
+
+returns : tie.Need-returns
+returns c = sym (ap (λ (v : Coded). codeNumbers v) (c .before .answer .given .1))
+
+returns-2 : tie.Need-returns-2
+returns-2 c = sym (ap (λ (v : Coded). codeNumbers v) (c .before .answer2 .given .1))
+
+pub code-numbers-spec : {M : Type 1} → statement M
+code-numbers-spec =
+    tie.close
+    (tie.spec
+    enum-known-answer
+    enum-known-answer-2
+    returns
+    returns-2)

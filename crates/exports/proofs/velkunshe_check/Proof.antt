@@ -1,0 +1,26 @@
+use Rattle.exports.specs.Numbers.{checkNumbers}
+use Rattle.rules.specs.declared.Checked.{Checked}
+use mathlib.Core.Path.{_≡_, ap, sym, _∙_}
+use borrow.Author.Needs.{needs}
+use Rattle.exports.proofs.velkunshe_check.Statement.{statement}
+use Rattle.exports.proofs.velkunshe_check.Tie as tie
+use Rattle.exports.proofs.velkunshe_check.Reads as reads
+use Rattle.exports.proofs.velkunshe_check.Lts as lts
+use Rattle.exports.proofs.check_numbers.Reads as check-numbers-reads
+use Rattle.rules.proofs.check.Reads as check-reads
+
+check-requires : tie.Need-check-requires
+check-requires c κs = search needs
+
+check-numbers-requires : tie.Need-check-numbers-requires
+check-numbers-requires c κs = search needs
+
+same-length : tie.Need-same-length
+same-length c = search needs
+
+returns : tie.Need-returns
+returns c = (c .check-numbers .ensures ∙ ap (λ (v : Checked). checkNumbers v) (c .before .before .before .check .ensures .0), c .before .before .before .check .ensures .1)
+
+pub velkunshe-check-spec : {M : Type 1} → statement M
+velkunshe-check-spec =
+    tie.close (tie.spec check-requires check-numbers-requires same-length returns)

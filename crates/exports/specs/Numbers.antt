@@ -1,0 +1,24 @@
+-- Document 01's numbers for each case of an answer: the refusal's number, 0 where there is none, its place, and the length that 10 and 12 give beside.
+use Rattle.rules.specs.declared.Checked.{Checked}
+use Rattle.rules.specs.declared.Checked.the-variants as checked
+use Rattle.routes.specs.declared.Coded.{Coded}
+use Rattle.routes.specs.declared.Coded.the-variants as coded
+use Rattle.viewer.specs.declared.Routed.{Routed}
+use Rattle.viewer.specs.declared.Routed.the-variants as routed
+use Rattle.exports.specs.declared.CheckAnswer.{CheckAnswer}
+use Rattle.exports.specs.declared.CodeAnswer.{CodeAnswer}
+use Rattle.exports.specs.declared.RouteAnswer.{RouteAnswer}
+
+abbrev pub checkNumbers : Checked → CheckAnswer
+checkNumbers (checked.Findings n) = record { refusal = 0; place = 0; findings = n; needed = 0 }
+checkNumbers (checked.Refused number place) = record { refusal = number; place = place; findings = 0; needed = 0 }
+checkNumbers (checked.Short needed) = record { refusal = 10; place = 0; findings = 0; needed = needed }
+
+abbrev pub codeNumbers : Coded → CodeAnswer
+codeNumbers (coded.Code n) = record { refusal = 0; place = 0; length = n }
+codeNumbers (coded.Refused number place) = record { refusal = number; place = place; length = 0 }
+
+abbrev pub routeNumbers : Routed → RouteAnswer
+routeNumbers (routed.Route end entries taken) = record { refusal = 0; place = 0; entries = entries; needed = 0; taken = taken; end = end }
+routeNumbers (routed.Refused number place) = record { refusal = number; place = place; entries = 0; needed = 0; taken = 0; end = 0 }
+routeNumbers (routed.Short needed) = record { refusal = 12; place = 0; entries = 0; needed = needed; taken = 0; end = 0 }

@@ -1,0 +1,173 @@
+// The calls for programs in C and Rust: numbers and slices in, document 01's numbers out.
+ghost use mathlib.Core.Path.{_≡_};
+ghost use lib.ListN.{length};
+ghost use Rattle.rules.specs.Check.{checkAnswer, checkSlice};
+ghost use Rattle.routes.specs.Calls.{codeAnswer, codeSlice, routeAnswer, routeSlice};
+ghost use Rattle.exports.specs.Numbers.{checkNumbers, codeNumbers, routeNumbers};
+use routes::Coded;
+use rules::Checked;
+use viewer::Routed;
+
+// A check's answer: the refusal's number (0 where there is none) and place, how many findings were written, and after 10 the length needed.
+#[repr(C)]
+pub struct CheckAnswer {
+    pub refusal: u32,
+    pub place: u32,
+    pub findings: u64,
+    pub needed: u64,
+}
+
+// The code call's answer: the refusal's number and place, and how many numbers of code were written.
+#[repr(C)]
+pub struct CodeAnswer {
+    pub refusal: u32,
+    pub place: u32,
+    pub length: u64,
+}
+
+// The route call's answer: the refusal's number and place, how many entries were written, after 12 the length needed, how many answers were taken, and the end.
+#[repr(C)]
+pub struct RouteAnswer {
+    pub refusal: u32,
+    pub place: u32,
+    pub entries: u64,
+    pub needed: u64,
+    pub taken: u64,
+    pub end: u32,
+}
+
+fn check_numbers(answer: Checked) -> CheckAnswer
+    ensures { λ r. ⌜ r ≡ checkNumbers answer ⌝ }
+{
+    match answer {
+        Checked::Findings(count) => CheckAnswer {
+            refusal: 0,
+            place: 0,
+            findings: count as u64,
+            needed: 0,
+        },
+        Checked::Refused(number, place) => CheckAnswer {
+            refusal: number,
+            place: place,
+            findings: 0,
+            needed: 0,
+        },
+        Checked::Short(needed) => CheckAnswer {
+            refusal: 10,
+            place: 0,
+            findings: 0,
+            needed: needed as u64,
+        },
+    }
+}
+
+// Checks the tables of a rule.
+#[no_mangle]
+pub extern "C" fn velkunshe_check(
+    source_type: u32,
+    nodes: &[u32],
+    scopes: &[u32],
+    source: &[u8],
+    names: &[u8],
+    findings: &mut [u32],
+) -> CheckAnswer
+    ensures { λ r. ⌜ r ≡ checkNumbers (checkAnswer «source_type» (now (nodes .entry)) (now (scopes .entry)) (now (source .entry)) (now (names .entry)) (length (now (findings .entry)))) ⌝ }
+    ensures { λ _. ⌜ now (findings .exit) ≡ checkSlice «source_type» (now (nodes .entry)) (now (scopes .entry)) (now (source .entry)) (now (names .entry)) (now (findings .entry)) ⌝ }
+{
+    check_numbers(rules::check(source_type, nodes, scopes, source, names, findings))
+}
+
+fn code_numbers(answer: Coded) -> CodeAnswer
+    ensures { λ r. ⌜ r ≡ codeNumbers answer ⌝ }
+{
+    match answer {
+        Coded::Code(length) => CodeAnswer {
+            refusal: 0,
+            place: 0,
+            length: length as u64,
+        },
+        Coded::Refused(number, place) => CodeAnswer {
+            refusal: number,
+            place: place,
+            length: 0,
+        },
+    }
+}
+
+// Makes the flat code of a unit.
+#[no_mangle]
+pub extern "C" fn velkunshe_code(
+    source_type: u32,
+    nodes: &[u32],
+    scopes: &[u32],
+    source: &[u8],
+    names: &[u8],
+    unit: u32,
+    code: &mut [u32],
+) -> CodeAnswer
+    ensures { λ r. ⌜ r ≡ codeNumbers (codeAnswer «source_type» (now (nodes .entry)) (now (scopes .entry)) (now (source .entry)) (now (names .entry)) unit (length (now (code .entry)))) ⌝ }
+    ensures { λ _. ⌜ now (code .exit) ≡ codeSlice «source_type» (now (nodes .entry)) (now (scopes .entry)) (now (source .entry)) (now (names .entry)) unit (now (code .entry)) ⌝ }
+{
+    code_numbers(routes::code(source_type, nodes, scopes, source, names, unit, code))
+}
+
+fn route_numbers(answer: Routed) -> RouteAnswer
+    ensures { λ r. ⌜ r ≡ routeNumbers answer ⌝ }
+{
+    match answer {
+        Routed::Route(end, entries, taken) => RouteAnswer {
+            refusal: 0,
+            place: 0,
+            entries: entries as u64,
+            needed: 0,
+            taken: taken,
+            end: end,
+        },
+        Routed::Refused(number, place) => RouteAnswer {
+            refusal: number,
+            place: place,
+            entries: 0,
+            needed: 0,
+            taken: 0,
+            end: 0,
+        },
+        Routed::Short(needed) => RouteAnswer {
+            refusal: 12,
+            place: 0,
+            entries: 0,
+            needed: needed,
+            taken: 0,
+            end: 0,
+        },
+    }
+}
+
+// Makes the flat code of a unit, runs it over the answers, and shows the route.
+#[no_mangle]
+pub extern "C" fn velkunshe_route(
+    source_type: u32,
+    nodes: &[u32],
+    scopes: &[u32],
+    source: &[u8],
+    names: &[u8],
+    unit: u32,
+    answers: &[u32],
+    code: &mut [u32],
+    route: &mut [u32],
+) -> RouteAnswer
+    ensures { λ r. ⌜ r ≡ routeNumbers (routeAnswer «source_type» (now (nodes .entry)) (now (scopes .entry)) (now (source .entry)) (now (names .entry)) unit (now (answers .entry)) (length (now (code .entry))) (length (now (route .entry)))) ⌝ }
+    ensures { λ _. ⌜ now (code .exit) ≡ codeSlice «source_type» (now (nodes .entry)) (now (scopes .entry)) (now (source .entry)) (now (names .entry)) unit (now (code .entry)) ⌝ }
+    ensures { λ _. ⌜ now (route .exit) ≡ routeSlice «source_type» (now (nodes .entry)) (now (scopes .entry)) (now (source .entry)) (now (names .entry)) unit (now (answers .entry)) (length (now (code .entry))) (now (route .entry)) ⌝ }
+{
+    route_numbers(routes::route(
+        source_type,
+        nodes,
+        scopes,
+        source,
+        names,
+        unit,
+        answers,
+        code,
+        route,
+    ))
+}

@@ -1,0 +1,115 @@
+/* Velkunshe: early errors of JavaScript rules, and the routes through them. Link libexports.a (`rt staticlib exports`), x86-64 Linux.
+ *
+ * A rule comes as two tables and two texts:
+ *   source_type  0 script, 1 module
+ *   nodes        ten numbers a node: kind, parent, role, span start, span end, scope, flags, extra, name start, name length
+ *   scopes       three numbers a scope: parent, flags, node
+ *   source       the rule's bytes; spans are half-open ranges of them
+ *   names        the bytes of names
+ * docs/TREES.md says what the numbers are. Lengths are counted in entries: numbers for nodes, scopes and the slices that are written,
+ * bytes for source and names.
+ *
+ * Whatever the numbers are, a call ends, reads and writes nothing but what it is lent, keeps nothing, and answers what is proved of it.
+ * Calls may run at the same time on different threads where nothing that one of them writes is lent to another.
+ * It has no global state, calls nothing but memset of the C library, and needs up to 600 KB of stack.
+ *
+ * What a caller owes, and no call can test:
+ *   - No pointer is null, not even with length 0. For "none" pass the address of any object of the right type and length 0.
+ *   - A uint32_t pointer is aligned to 4 bytes, also with length 0. Numbers that lie elsewhere, in a byte buffer or a packed struct, are
+ *     copied to an aligned array first.
+ *   - A pointer has as many entries behind it as its length says, within one object, which stays and which nobody else changes until the
+ *     call returns.
+ *   - A slice that is written to overlaps no other argument. Those that are only read may overlap one another.
+ * A call with a null or misaligned pointer, or a wrong length, is undefined, as in C itself.
+ */
+#ifndef VELKUNSHE_H
+#define VELKUNSHE_H
+
+#include <stddef.h>
+#include <stdint.h>
+
+#ifdef __cplusplus
+extern "C" {
+#endif
+
+/* How many numbers a node, a scope and a finding take, and the code slice for each node of the tree. */
+#define VELKUNSHE_NODE 10
+#define VELKUNSHE_SCOPE 3
+#define VELKUNSHE_FINDING 7
+#define VELKUNSHE_CODE 16
+
+/* refusal: 0, or why the input was turned down (1 to 6), or 10 where the findings slice is too short.
+ * place: the node or scope of refusals 2 to 6, else 0.
+ * findings: how many were written, seven numbers each (code, node, first span's start and end, second span's start and end, context),
+ *   from the slice's start.
+ * needed: after 10 the length that the findings slice must have, else 0. */
+struct velkunshe_check_answer {
+    uint32_t refusal;
+    uint32_t place;
+    uint64_t findings;
+    uint64_t needed;
+};
+
+/* Checks a rule. After a refusal the findings slice is as it was; no entry past the last one written is changed. */
+struct velkunshe_check_answer velkunshe_check(
+    uint32_t source_type,
+    const uint32_t *nodes, size_t nodes_length,
+    const uint32_t *scopes, size_t scopes_length,
+    const uint8_t *source, size_t source_length,
+    const uint8_t *names, size_t names_length,
+    uint32_t *findings, size_t findings_length);
+
+/* refusal: 0, or 1 to 6; 7: the unit is no node of kind 0 to 3; 8: it holds a try; 9: the rule has findings, or a jump without a target;
+ *   11: the code slice is shorter than 16 numbers for each node of the tree.
+ * place: the node or scope of refusals 2 to 6, the unit of 7 and 8, the first finding's node or the jump of 9, else 0.
+ * length: how many numbers of code were written, from the slice's start. */
+struct velkunshe_code_answer {
+    uint32_t refusal;
+    uint32_t place;
+    uint64_t length;
+};
+
+/* Makes the flat code of a unit (a Program, Function, Arrow or StaticBlock node). After a refusal the code slice is as it was; no entry
+ * past the last one written is changed. */
+struct velkunshe_code_answer velkunshe_code(
+    uint32_t source_type,
+    const uint32_t *nodes, size_t nodes_length,
+    const uint32_t *scopes, size_t scopes_length,
+    const uint8_t *source, size_t source_length,
+    const uint8_t *names, size_t names_length,
+    uint32_t unit,
+    uint32_t *code, size_t code_length);
+
+/* refusal: as of velkunshe_code, or 12 where the route slice is too short.
+ * place: as of velkunshe_code; 0 with 12.
+ * entries: how many nodes were listed, from the route slice's start.
+ * needed: after 12 the length that the route slice must have, else 0.
+ * taken: how many answers were taken.
+ * end: 0 fell through, 1 returned, 2 thrown, 3 answers spent. */
+struct velkunshe_route_answer {
+    uint32_t refusal;
+    uint32_t place;
+    uint64_t entries;
+    uint64_t needed;
+    uint64_t taken;
+    uint32_t end;
+};
+
+/* Makes the code of a unit and runs it over the answers (0 is no, any other number yes; for a switch the case's number). After a refusal
+ * both slices are as they were, but after 12 the code slice holds the code; no entry past the last one written is changed. */
+struct velkunshe_route_answer velkunshe_route(
+    uint32_t source_type,
+    const uint32_t *nodes, size_t nodes_length,
+    const uint32_t *scopes, size_t scopes_length,
+    const uint8_t *source, size_t source_length,
+    const uint8_t *names, size_t names_length,
+    uint32_t unit,
+    const uint32_t *answers, size_t answers_length,
+    uint32_t *code, size_t code_length,
+    uint32_t *route, size_t route_length);
+
+#ifdef __cplusplus
+}
+#endif
+
+#endif
