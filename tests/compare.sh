@@ -1,5 +1,5 @@
 #!/usr/bin/env bash
-# The judges in Rust: their own tests, seeded tables on which they and the proved library must agree, and rulecheck on lines whose answers the plain version wrote.
+# The judges in Rust: their own tests, seeded tables on which they and the proved library must agree, and rulecheck and ruleroute on lines whose answers the plain version wrote.
 set -u
 cd "$(dirname "$0")/.." || exit 1
 export PATH="$PATH:/opt/rattle/bin"
@@ -21,13 +21,13 @@ if [ "$(tail -n 1 <<<"$answer")" = "20000 cases, 0 differences" ] && grep -q "^r
 vectors=$(mktemp -d)
 compare/target/release/compare vectors "$vectors" 400 11 >/dev/null
 seen=0
-for input in "$vectors"/*rulecheck*/*.in "$vectors"/*rulecheck*.in "$vectors"/*.in; do
+for input in "$vectors"/*.in; do
     [ -e "$input" ] || continue
-    case "$input" in *route*) continue ;; esac
+    case "$input" in *.route.in) program=ruleroute ;; *) program=rulecheck ;; esac
     seen=$((seen + 1))
-    if target/bin/rulecheck <"$input" | cmp -s - "${input%.in}.out"; then ok; else bad "$input"; fi
+    if "target/bin/$program" <"$input" | cmp -s - "${input%.in}.out"; then ok; else bad "$input"; fi
 done
-[ "$seen" -ge 400 ] || bad "only $seen vectors"
+[ "$seen" -ge 800 ] || bad "only $seen vectors"
 [ "$failed" -gt 0 ] || rm -rf "$vectors"
 echo "$passed passed, $failed failed"
 [ "$failed" -eq 0 ]
