@@ -2,15 +2,14 @@
 # The static library from C and from Rust: include/velkunshe.h on the worked example, and the Rust crate's tests with its documentation's.
 set -u
 cd "$(dirname "$0")/.." || exit 1
-export PATH="$PATH:/opt/rattle/bin"
+export PATH="$PATH:/opt/rattle/bin:${HOME:-/root}/.cargo/bin"
 passed=0
 failed=0
 ok() { passed=$((passed + 1)); }
 bad() { failed=$((failed + 1)); echo "FAILED: $1"; }
 
-install() { command -v "$1" >/dev/null 2>&1 || { apt-get update -qq && apt-get install -y -qq "$2"; } >/dev/null 2>&1; }
-install cargo cargo
-install cc gcc
+tools/setup cargo cc || { echo "0 passed, 1 failed"; exit 1; }
+mkdir -p target
 if ! rt staticlib exports >target/staticlib.log 2>&1; then
     tail -n 20 target/staticlib.log
     echo "0 passed, 1 failed"

@@ -2,13 +2,14 @@
 # The judges in Rust: their own tests, seeded tables on which they and the proved library must agree, and rulecheck and ruleroute on lines whose answers the plain version wrote.
 set -u
 cd "$(dirname "$0")/.." || exit 1
-export PATH="$PATH:/opt/rattle/bin"
+export PATH="$PATH:/opt/rattle/bin:${HOME:-/root}/.cargo/bin"
 passed=0
 failed=0
 ok() { passed=$((passed + 1)); }
 bad() { failed=$((failed + 1)); echo "FAILED: $1"; }
 
-command -v cargo >/dev/null 2>&1 || { apt-get update -qq && apt-get install -y -qq cargo; } >/dev/null 2>&1
+tools/setup cargo rulecheck ruleroute || { echo "0 passed, 1 failed"; exit 1; }
+mkdir -p target
 if ! rt staticlib exports >target/staticlib.log 2>&1 || ! (cd compare && cargo build --release --offline -q --features cases/proved); then
     tail -n 20 target/staticlib.log
     echo "0 passed, 1 failed"

@@ -12,6 +12,8 @@ is() {
     if [ "$got" = "$(printf "$3")" ]; then passed=$((passed + 1)); else failed=$((failed + 1)); echo "FAILED: $1: $got"; fi
 }
 
+tools/setup rulecheck || { echo "0 passed, 1 failed"; exit 1; }
+
 program='J,0,1,1\nS,0,2,0\nN,0,0,0,0,0,0,0,0,\n'
 long=$(head -c 1024 /dev/zero | tr '\0' a)
 is "nothing to read" '' 'R,0,1'

@@ -2,6 +2,7 @@
 # What the source says of itself: the layout, no hole or axiom in a proof, no division or remainder in a walk up.
 set -u
 cd "$(dirname "$0")/.." || exit 1
+export PATH="$PATH:/opt/rattle/bin"
 passed=0
 failed=0
 check() {
