@@ -4,7 +4,7 @@
 --   1 LIST n             lists n and runs on
 --   2 LEAVE t d          jumps to t at the depth d of the pending ends (0 where no finally is open); t = 0: to what is pending there
 --   3 ASK n yes no       takes an answer, lists n, and goes to `yes` or `no`; the run ends with 3 where no answer is left
---   4 SELECT n c e       takes an answer, lists n, and goes to that case of the chain that begins at c (0: none), or else to e
+--   4 SELECT n c e       takes an answer as ASK does, lists n, and goes to that case of the chain that begins at c (0: none), or else to e
 --   5 OPEN f             opens the finally block at f and runs on
 --   6 END e              ends the run with e
 --   7 CASE c t d         jumps as LEAVE t d does; the next case stands at c (0: none)

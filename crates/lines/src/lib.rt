@@ -1,4 +1,4 @@
-// The lines of rulecheck's input, read into lent slices.
+// The lines of rulecheck's and ruleroute's input, read into lent slices.
 ghost use mathlib.Core.Path.{_≡_};
 ghost use Prim.Native.Nat.{_+_, _*_, _≤_, min};
 ghost use mathlib.Core.Bool.{true};

@@ -1,11 +1,13 @@
 // What the two programs print: lines of a letter and numbers.
 ghost use Prim.Native.Nat.{_≤_};
 ghost use mathlib.Core.Path.{_≡_};
-ghost use lib.ListN.{length};
+ghost use lib.ListN.{length, take};
 use libc::STDOUT_FILENO;
 
 // The first n bytes, or all where there are fewer.
-pub fn front(s: &[u8], n: usize) -> &[u8] {
+pub fn front(s: &[u8], n: usize) -> &[u8]
+    ensures { λ r. ⌜ now r ≡ take n (now (s .entry)) ⌝ }
+{
     if n <= s.len() {
         return &s[..n];
     }
@@ -13,7 +15,9 @@ pub fn front(s: &[u8], n: usize) -> &[u8] {
 }
 
 // The first n numbers, or all where there are fewer.
-pub fn front_numbers(s: &[u32], n: usize) -> &[u32] {
+pub fn front_numbers(s: &[u32], n: usize) -> &[u32]
+    ensures { λ r. ⌜ now r ≡ take n (now (s .entry)) ⌝ }
+{
     if n <= s.len() {
         return &s[..n];
     }

@@ -51,18 +51,3 @@ routeAnswer sourceType ns ss source names u answers codeLen len =
 unfoldable pub routeSlice : ℕ → List ℕ → List ℕ → List ℕ → List ℕ → ℕ → List ℕ → ℕ → List ℕ → List ℕ
 routeSlice sourceType ns ss source names u answers codeLen s =
     unless (codeRefusal sourceType ns ss source names u codeLen) (λ number place. s) (shownSlice (route (unitOf ns names u) answers) s)
-
--- document 01's numbers for an answer: the refusal's number (0 where there is none) and its place
-abbrev pub codeNumber : Coded → ℕ
-codeNumber (coded.Code n) = 0
-codeNumber (coded.Refused number place) = number
-
-abbrev pub routeNumber : Routed → ℕ
-routeNumber (routed.Route e n t) = 0
-routeNumber (routed.Refused number place) = number
-routeNumber (routed.Short needed) = 12
-
-abbrev pub routePlace : Routed → ℕ
-routePlace (routed.Route e n t) = 0
-routePlace (routed.Refused number place) = place
-routePlace (routed.Short needed) = 0

@@ -37,14 +37,3 @@ checkAnswer sourceType ns ss source names len =
 unfoldable pub checkSlice : ℕ → List ℕ → List ℕ → List ℕ → List ℕ → List ℕ → List ℕ
 checkSlice sourceType ns ss source names s =
     sliceBy (inputRefusal sourceType ns ss source names) s (reportSlice (findingsOf sourceType ns ss source names) s)
-
--- document 01's numbers for an answer: the refusal's number (0 where there is none), its place, and the length needed
-abbrev pub refusalNumber : Checked → ℕ
-refusalNumber (Findings n) = 0
-refusalNumber (Refused number place) = number
-refusalNumber (Short needed) = 10
-
-abbrev pub refusalPlace : Checked → ℕ
-refusalPlace (Findings n) = 0
-refusalPlace (Refused number place) = place
-refusalPlace (Short needed) = 0

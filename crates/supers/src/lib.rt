@@ -1,4 +1,4 @@
-// Where `super` may stand: check_super's search through the scopes, which answers also where the Rust would fail.
+// Where `super` may stand: what one scope and one class say to check_super's search.
 ghost use mathlib.Core.Path.{_≡_};
 ghost use Prim.Native.Nat.{_<_};
 ghost use Rattle.tables.specs.Table.{count, countScopes, scopeNodeOf};

@@ -1,5 +1,4 @@
 // The statements of a unit, from the node table.
-use tables::NodeId;
 
 // What a statement is to its code. A SwitchCase is no statement, but has numbers of its own.
 pub enum Shape {

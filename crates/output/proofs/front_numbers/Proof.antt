@@ -1,4 +1,5 @@
-use lib.Seq.{length-take-le}
+use lib.Seq.{length-take-le, take-all}
+use native.Mathlib.Omega.{arith}
 use mathlib.Core.Path.{sym}
 use borrow.Author.Needs.{needs}
 use Rattle.output.proofs.front_numbers.Statement.{statement}
@@ -16,7 +17,7 @@ returns c = search needs
 
 -- src/main.rt:19:1
 returns-2 : tie.Need-returns-2
-returns-2 c = search needs
+returns-2 c = sym (take-all (c .before .args .n) (c .before .args .s .now) (omega arith))
 
 pub front-numbers-spec : {M : Type 1} → statement M
 front-numbers-spec = tie.close (tie.spec slice-aggregate-result returns returns-2)
