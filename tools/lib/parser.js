@@ -122,7 +122,8 @@ const blanked = (text, from, to) => text.slice(0, from) + text.slice(from, to).r
 
 // Forms that this parser doesn't read and the Rust's does are blanked or filled in. Marked, since the tree has them:
 // `for await` in a static block, `await using`, a class declaration without a name. Only blanked, since no check looks
-// at them: the phase of an import (`import.source(x)`, `import defer * as x`) and its attributes (`with { .. }`).
+// at them: the phase of an import (`import.source(x)`, `import defer * as x`) and its attributes (`with { .. }`), but for
+// attributes with an escape that the check of strings could find: those give no tree.
 function repair(text, error, marks) {
   const at = error.loc && error.loc.index;
   if (at === undefined) return null;
@@ -139,7 +140,7 @@ function repair(text, error, marks) {
     // the same attribute twice is an error of the import's own
     const plain = (key) => key.replace(/\\u([0-9a-fA-F]{4})/g, (_, h) => String.fromCharCode(parseInt(h, 16))).replace(/[{}\s'"]/g, '');
     const keys = list ? list[0].split(',').map((a) => plain(a.split(':')[0])).filter(Boolean) : [];
-    if (attributes && list && new Set(keys).size === keys.length) return blanked(text, at - attributes[1].length, at + list[0].length);
+    if (attributes && list && !/\\[0-9]/.test(list[0]) && new Set(keys).size === keys.length) return blanked(text, at - attributes[1].length, at + list[0].length);
   }
   if (error.reasonCode === 'UnexpectedToken' && text.startsWith('await', at) && /\bfor\s*$/.test(text.slice(0, at))) {
     marks.forAwait.add(text.slice(0, at).lastIndexOf('for'));

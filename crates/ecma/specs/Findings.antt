@@ -1,6 +1,7 @@
 -- THE FINDINGS AGAINST ECMA-262, all codes together: of tables that none of refusals 1 to 6 turns down, the nodes that raise each code, in order, are those at which the rule is
--- broken, one finding for each breach. A rule that the Rust changes is named with what differs in docs/DIFFERENCES.md; the laws that say where it is the standard's own stand in
--- each crate's Theorems.antt and Standard.antt.
+-- broken, one finding for each breach. 2, 4, 15, 17, 18, 23, 26 and 31 are the standard's own rules; the others are the changed rules that docs/DIFFERENCES.md names with what
+-- differs, and the laws that say where they are the standard's stand in each crate's Theorems.antt and Standard.antt. 28 to 30 are stated where the table's scopes are the tree's.
+-- Spans, contexts and the order between codes are those of `findingsOf` (crates/checker), which the calls equal to the last number.
 use Prim.Native.Nat.{ℕ}
 use mathlib.Core.Path.{_≡_}
 use mathlib.Core.List.{List, [], _++_, flatMap}
@@ -38,7 +39,7 @@ reported ns l =
     (upto 0 (count ns))
 
 pub record Broken (t : ℕ) (ns ss source names : List ℕ) : Type 0 where
-  -- 2 to 6, 9 to 17, 24, 25, 31 to 33
+  -- 2 to 6, 9 to 17, 24, 25, 31 to 33; each says whether its rule is changed
   pub strict : EarlyErrors t ns ss source names
   -- 14.9.1: a break without a label in no loop or switch
   pub code18 : nodesOf (withCode 18 (findingsOf t ns ss source names)) ≡ keep (breakNotNestedAt ns names) (upto 0 (count ns))
@@ -51,17 +52,17 @@ pub record Broken (t : ℕ) (ns ss source names : List ℕ) : Type 0 where
   pub code22 : nodesOf (withCode 22 (findingsOf t ns ss source names)) ≡ keep (noLoopAt ns names) (upto 0 (count ns))
   -- 8.3.1: a label within itself
   pub code23 : nodesOf (withCode 23 (findingsOf t ns ss source names)) ≡ keep (duplicateLabelAt ns names) (upto 0 (count ns))
-  -- 15.7.1 changed: PrivateBoundIdentifiers of a class, at node 0; 13.2.5.1: `__proto__` of an object
+  -- 15.7.1 changed: PrivateBoundIdentifiers of a class, at node 0; 13.2.5.1 changed: `__proto__` of an object
   pub code1 : raising 1 (findingsOf t ns ss source names)
       ≡ flatMap (λ b. times 0 (privateAgain ns names (privateEntered ns b))) (keep (isClassBody ns) (upto 0 (count ns))) ++ flatMap (λ n. times n (protoAgain ns names n)) (upto 0 (count ns))
-  -- 15.7.7 AllPrivateIdentifiersValid: outside of classes; in them, at the class whose body is nearest
+  -- 15.7.7 AllPrivateIdentifiersValid, changed: outside of classes; in them, at the class whose body is nearest
   pub code7 : raising 7 (findingsOf t ns ss source names) ≡ keep (isOutside ns) (upto 0 (count ns))
   pub code8 : withCode 8 (findingsOf t ns ss source names) ≡ reported ns (invalidInTable ns names)
   -- 15.7: a declaration that lacks its name
   pub code26 : raising 26 (findingsOf t ns ss source names) ≡ keep (nameMissing ns) (upto 0 (count ns))
   -- 15.7.1 changed: a second constructor
   pub code27 : raising 27 (findingsOf t ns ss source names) ≡ keep (builtTwice ns) (upto 0 (count ns))
-  -- `super` where an early error forbids it (HasDirectSuper, Contains), where the table's scopes are the tree's
+  -- `super` where an early error forbids it (HasDirectSuper, Contains), changed, where the table's scopes are the tree's
   pub code28 : ScopesFit ns ss → raising 28 (findingsOf t ns ss source names) ≡ keep (tableBare ns) (upto 0 (count ns))
   pub code29 : ScopesFit ns ss → raising 29 (findingsOf t ns ss source names) ≡ keep (tableStray ns) (upto 0 (count ns))
   pub code30 : ScopesFit ns ss → raising 30 (findingsOf t ns ss source names) ≡ keep (tableProperty ns) (upto 0 (count ns))

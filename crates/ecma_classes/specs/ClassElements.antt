@@ -86,7 +86,7 @@ nameMissing ns n =
     eqb (kindOf ns n) k.Class
     && (hasFlag (flagsOf ns n) flag.Declaration && not (found (firstChild ns n k.BindingIdentifier k.BindingIdentifier 0 7) || eqb (kindOf ns (parentOf ns n)) k.ExportDefault))
 
--- 13.2.5.1: "PropertyDefinition : PropertyName : AssignmentExpression", with the PropName "__proto__"
+-- 13.2.5.1: "PropertyDefinition : PropertyName : AssignmentExpression", with the PropName "__proto__"; the key of a shorthand property has no name in the tables
 unfoldable pub isProto : List ℕ → List ℕ → ℕ → Bool
 isProto ns names p =
     eqb (kindOf ns p) k.ObjectProperty

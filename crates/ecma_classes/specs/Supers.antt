@@ -76,6 +76,8 @@ abbrev pub unit : List ℕ → ℕ → ℕ
 unit ns n = unitOf ns (begins ns) n
 
 -- THE EARLY ERRORS: of a unit, and at the Super itself. constructs: a MethodDefinition's ClassElementKind is ConstructorMethod (15.7.2); call: SuperCall.
+-- 15.7.1 asks ConstructorMethod of ClassBody, which is the first constructor (15.7.3); here each is asked, so of a class that has two (27) the second too.
+-- The rules of GeneratorMethod, AsyncMethod and AsyncGeneratorMethod (15.5.1, 15.8.1, 15.6.1: HasDirectSuper) are not written: the tables don't tell them from other methods.
 module _ (ns : List ℕ) (constructs : ℕ → Bool) where
   unfoldable pub isConstructorMethod : ℕ → Bool
   isConstructorMethod u = isMethod ns u && constructs (parentOf ns u)

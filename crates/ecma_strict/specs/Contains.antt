@@ -84,7 +84,7 @@ argumentsBegin ns i j = eqb (kindOf ns i) k.StaticBlock || initializer ns i j
 abbrev pub argumentsInto : List ℕ → ℕ → ℕ → Bool
 argumentsInto ns i j = not (eqb (kindOf ns i) k.Function || eqb (kindOf ns i) k.StaticBlock)
 
--- 15.3.1, 15.4.1, 15.5.1, 15.6.1, 15.8.1, 15.9.1: "It is a Syntax Error if FormalParameters Contains YieldExpression is true", "Contains AwaitExpression".
+-- 15.3.1, 15.5.1, 15.6.1, 15.8.1, 15.9.1: "It is a Syntax Error if FormalParameters Contains YieldExpression is true", "Contains AwaitExpression".
 -- FormalParameter, FunctionRestParameter : BindingRestElement
 abbrev pub parameter : List ℕ → ℕ → Bool
 parameter ns i = eqb (kindOf ns i) k.FormalParameter || (eqb (kindOf ns i) k.BindingRestElement && eqb (kindOf ns (parentOf ns i)) k.FormalParameterRest)

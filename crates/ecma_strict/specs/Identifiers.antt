@@ -49,7 +49,7 @@ unfoldable pub bindsEval : List ℕ → List ℕ → List ℕ → ℕ → Bool
 bindsEval ns ss names n = eqb (kindOf ns n) k.BindingIdentifier && (evalOrArguments ns names n && strictCode ns ss n)
 
 -- 8.6.4, IdentifierReference : Identifier: "If IsStrict(this IdentifierReference) is true and the StringValue of Identifier is either "eval" or "arguments", return invalid."
--- 13.4.1, 13.15.1, 14.7.5.1: an error where it is the target of an assignment.
+-- 13.4.1, 13.15.1, 13.15.5.1, 14.7.5.1: an error where it is the target of an assignment.
 unfoldable pub assignsEval : List ℕ → List ℕ → List ℕ → ℕ → Bool
 assignsEval ns ss names n = eqb (kindOf ns n) k.IdentifierReference && (evalOrArguments ns names n && (strictCode ns ss n && hasFlag (flagsOf ns n) flag.Written))
 

@@ -35,7 +35,7 @@ plainName ns v = hasFlag (flagsOf ns v) flag.PlainName
 abbrev pub single : List ℕ → Bool
 single l = leb (length l) 1
 
--- B.3.5: for ( var BindingIdentifier Initializer in Expression ) Statement; "It is a Syntax Error if IsStrict(ForInOfStatement) is true."
+-- B.3.5: for ( var BindingIdentifier Initializer in Expression ) Statement, in code that is not strict.
 unfoldable pub annexHead : List ℕ → List ℕ → ℕ → ℕ → Bool
 annexHead ns ss n d =
     (eqb (kindOf ns n) k.ForIn && eqb (extraOf ns d) extra.Var) && ((single (declaratorsOf ns d) && all (plainName ns) (declaratorsOf ns d)) && not (strictCode ns ss n))
@@ -55,7 +55,7 @@ ofHead p Nothing = false
 unfoldable pub initializedHead : List ℕ → List ℕ → ℕ → Bool
 initializedHead ns ss n = within (kindOf ns n) k.ForIn k.ForOf && ofHead (badHead ns ss n) (headOf ns n)
 
--- 14.3.1.1: USING
+-- 14.3.1.1 as explicit resource management has it (not in the edition of 2025): USING
 
 abbrev pub usingDeclaration : List ℕ → ℕ → Bool
 usingDeclaration ns n = eqb (kindOf ns n) k.VariableDeclaration && within (extraOf ns n) extra.Using extra.AwaitUsing

@@ -262,7 +262,7 @@ module _ (t : ℕ) (ns ss source names : List ℕ) (w : WellFormed t ns ss sourc
       atWith 32 n at (eqb (kindOf ns n) k.Unary) (deletesPrivateAnywhere ns n) (checkUnaryExpression ns ss n)
       (λ e. deletePrivate ns (w .input .tree) (w .listed) ss n (eqb-true (kindOf ns n) 45 e)) (λ e. rw e) (at32 t ns ss source names n)
 
-  -- 33 (changed: parameterAgrees): await or yield in parameters (15.3.1, 15.4.1, 15.5.1, 15.6.1, 15.8.1, 15.9.1)
+  -- 33 (changed: parameterAgrees): await or yield in parameters (15.3.1, 15.5.1, 15.6.1, 15.8.1, 15.9.1)
   pub code33 : raised 33 at ≡ only (awaitInParameterSaid ns n) n
   unfolding awaitInParameterSaid
   code33 =
