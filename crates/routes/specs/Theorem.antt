@@ -1,12 +1,13 @@
 -- THE CLAIM OF ROUTES, over tables: for every tree and unit that is not refused, and every list of answers, the flat code, made before any answer
 -- is known, gives the list, the answers taken and the end of the standard's completion rules.
-use Prim.Native.Nat.{ℕ, _*_, _≤_, _<_}
-use mathlib.Core.Path.{_≡_}
+use Prim.Native.Nat.{ℕ, _+_, _*_, _≤_, _<_}
+use mathlib.Core.Path.{_≡_, ap, sym, _∙_}
 use mathlib.Core.Bool.{true}
 use mathlib.Core.List.{List, _∷_}
 use lib.ListN.{length, drop}
 use Rattle.tables.specs.Table.{kindOf, count}
 use Rattle.tables.specs.Kinds as k
+use Rattle.tables.specs.declared.Found.the-variants.{At}
 use Rattle.verdict.specs.declared.Verdict.the-variants.{Passed}
 use Rattle.wellformed.specs.WellFormed.{inputRefusal}
 use Rattle.completion.specs.Route.{route, parts, AllOnce}
@@ -14,11 +15,15 @@ use Rattle.flat.specs.Code.{unit}
 use Rattle.flat.specs.Machine.{started, codeRoute}
 use Rattle.flat.specs.Own.{sUnit, total, shapesAll}
 use Rattle.flat.specs.Claims.{Claims, claims}
-use Rattle.unit.specs.Unit.{unitOf}
-use Rattle.held.specs.Held.{good, unit-once, unit-no-try}
+use Rattle.unit.specs.Unit.{holderOf, unitOf}
+use Rattle.words.specs.Words.{on, off}
+use Rattle.words.specs.Made.{code-is, code-length}
+use Rattle.held.specs.Held.{good, unit-held, unit-once, unit-no-try}
+use Rattle.maker.specs.ReadyLaws as ready
 use Rattle.targets.specs.Targets.{hasTarget, stateAnswer}
 use Rattle.targets.specs.TargetsLaws.{Sound, state-passed, targets-found}
 use Rattle.scoped.specs.Passed.{passed-scoped}
+use Rattle.scoped.specs.NoTry.{no-try}
 use Rattle.wellformed.specs.WellFormedLaws.{input-well-formed}
 use Rattle.routes.specs.CallsLaws.{unit-kind}
 
@@ -35,6 +40,11 @@ pub record Routes (ns names : List ℕ) (u : ℕ) (answers : List ℕ) : Type 0 
   -- The code's length is the sum of a number for each node of the unit, by its kind, at most 16; it is made without the answers.
   pub long : length (unit (unitOf ns names u)) ≡ total (sUnit ∷ shapesAll (unitOf ns names u))
   pub small : length (unit (unitOf ns names u)) ≤ 16 * length (sUnit ∷ shapesAll (unitOf ns names u))
+  -- "The code takes at most 16 numbers per node of the unit": the same sum over the table's own nodes. b holds the unit's statements; each node j of them
+  -- (`on ns b j`) adds the number of its kind (`ownBy`, at most 10), every other node of the table 0, and the unit itself 8.
+  pub rows : (b : ℕ) → holderOf ns u ≡ At (record { 0 = b }) → length (unit (unitOf ns names u)) ≡ off ns b (count ns) + 8
+  -- "The unit holds a Try outside nested functions, arrows and classes": refusal 8 has turned those down, so that no node that the code has words for is a Try.
+  pub noTry : (b j : ℕ) → holderOf ns u ≡ At (record { 0 = b }) → j < count ns → on ns b j ≡ true → kindOf ns j ≡ k.Try → ⊥
 
 -- Every Break and Continue of the tree has its target inside its nearest unit.
 abbrev pub Targeted : List ℕ → List ℕ → Type 0
@@ -64,4 +74,8 @@ module _ (sourceType : ℕ) (ns ss source names : List ℕ) (u : ℕ)
           once = c .once (unit-once sourceType ns ss source names w u (s .below) (unit-kind (kindOf ns u) (s .unit)));
           long = c .long;
           small = c .small;
+          rows = λ b e.
+              let h = unit-held sourceType ns ss source names w u (s .below) (unit-kind (kindOf ns u) (s .unit)) (record { 0 = b }) e in
+              ap (λ x. length (unit x)) (ready.unit-held ns names u b e) ∙ ap length (sym (code-is ns names b h)) ∙ code-length ns names b h;
+          noTry = no-try ns (w .input .tree) u (s .noTry);
         }

@@ -4,3 +4,4 @@ pub mod ScopeAt
 pub mod Reach
 pub mod UnitScoped
 pub mod Passed
+pub mod NoTry
