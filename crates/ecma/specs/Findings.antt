@@ -1,6 +1,7 @@
 -- THE FINDINGS AGAINST ECMA-262, all codes together: of tables that none of refusals 1 to 6 turns down, the nodes that raise each code, in order, are those at which the rule is
 -- broken, one finding for each breach. 2, 4, 15, 17, 18, 23, 26 and 31 are the standard's own rules; the others are the changed rules that docs/DIFFERENCES.md names with what
--- differs, and the laws that say where they are the standard's stand in each crate's Theorems.antt and Standard.antt. 28 to 30 are stated where the table's scopes are the tree's.
+-- differs, and the laws that say where they are the standard's stand in each crate's Theorems.antt and Standard.antt. 28 to 30 are stated of all such tables by the
+-- Rust's search through the scopes, and by the standard's units in the tree where the table's scopes are the tree's.
 -- Spans, contexts and the order between codes are those of `findingsOf` (crates/checker), which the calls equal to the last number.
 use Prim.Native.Nat.{ℕ}
 use mathlib.Core.Path.{_≡_}
@@ -30,6 +31,7 @@ use Rattle.ecma_classes.specs.ClassElements.{sameNode, nameMissing, builtTwice,
 use Rattle.ecma_classes.specs.ObjectsLaws.{times}
 use Rattle.ecma_classes.specs.PrivateNames.{privateEntered, privateAgain, isClassBody, isOutside, invalidInTable, bodyAround}
 use Rattle.ecma_classes.specs.Supers.{ScopesFit, tableBare, tableStray, tableProperty}
+use Rattle.ecma_classes.specs.SupersByScopes.{bareByScopes, strayByScopes, propertyByScopes}
 use Rattle.ecma_classes.specs.Theorems as classes
 
 -- a finding 8 for each of these nodes, at the Class whose body is nearest
@@ -62,6 +64,10 @@ pub record Broken (t : ℕ) (ns ss source names : List ℕ) : Type 0 where
   pub code26 : raising 26 (findingsOf t ns ss source names) ≡ keep (nameMissing ns) (upto 0 (count ns))
   -- 15.7.1 changed: a second constructor
   pub code27 : raising 27 (findingsOf t ns ss source names) ≡ keep (builtTwice ns) (upto 0 (count ns))
+  -- `super`, changed: by the search through the scopes, whatever they are
+  pub code28-scopes : raising 28 (findingsOf t ns ss source names) ≡ keep (bareByScopes ns ss) (upto 0 (count ns))
+  pub code29-scopes : raising 29 (findingsOf t ns ss source names) ≡ keep (strayByScopes ns ss) (upto 0 (count ns))
+  pub code30-scopes : raising 30 (findingsOf t ns ss source names) ≡ keep (propertyByScopes ns ss) (upto 0 (count ns))
   -- `super` where an early error forbids it (HasDirectSuper, Contains), changed, where the table's scopes are the tree's
   pub code28 : ScopesFit ns ss → raising 28 (findingsOf t ns ss source names) ≡ keep (tableBare ns) (upto 0 (count ns))
   pub code29 : ScopesFit ns ss → raising 29 (findingsOf t ns ss source names) ≡ keep (tableStray ns) (upto 0 (count ns))
@@ -84,6 +90,9 @@ findings262 t ns ss source names e =
       code8 = classes.code8 t ns ss source names w;
       code26 = classes.code26 t ns ss source names w;
       code27 = classes.code27 t ns ss source names w;
+      code28-scopes = classes.code28-scopes t ns ss source names w;
+      code29-scopes = classes.code29-scopes t ns ss source names w;
+      code30-scopes = classes.code30-scopes t ns ss source names w;
       code28 = λ f. classes.code28 t ns ss source names w f;
       code29 = λ f. classes.code29 t ns ss source names w f;
       code30 = λ f. classes.code30 t ns ss source names w f;

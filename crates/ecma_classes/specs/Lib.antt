@@ -10,6 +10,8 @@ pub mod PrivateNamesLaws
 pub mod Supers
 pub mod SuperSearchLaws
 pub mod SupersLaws
+pub mod SupersByScopes
+pub mod SupersByScopesLaws
 pub mod ContainsLaws
 pub mod ScopesFitLaws
 pub mod WholeLaws

@@ -36,6 +36,8 @@ use Rattle.ecma_classes.specs.PrivateTwiceLaws.{flat-alike, private-agai
 use Rattle.ecma_classes.specs.PrivateNamesLaws.{invalidAt, invalid-list, valid-none, private-outside, outside-invalid, private-undeclared, invalid-same, class-above, body-of-class}
 use Rattle.ecma_classes.specs.Supers.{isSuperCall, isSuperProperty, bareCall, strayCall, strayProperty, bareCallIn, strayCallIn, strayPropertyIn, standardBare, standardStray, standardProperty, tableBare, tableStray, tableProperty, MethodsNamed, SupersStand, ScopesFit, superError}
 use Rattle.ecma_classes.specs.SupersLaws.{super-bare, super-call, super-property, bare-same, stray-same, property-rule-same}
+use Rattle.ecma_classes.specs.SupersByScopes.{bareByScopes, strayByScopes, propertyByScopes}
+use Rattle.ecma_classes.specs.SupersByScopesLaws.{bare-by-scopes, stray-by-scopes, property-by-scopes}
 use Rattle.ecma_classes.specs.ContainsLaws.{inUnit, bare-in, stray-in, property-in, error-is}
 use Rattle.ecma_classes.specs.WholeLaws.{below-of, all-raised, units-all}
 
@@ -174,7 +176,17 @@ module _ (t : ℕ) (ns ss source names : List ℕ) (w : WellFormed t ns ss sourc
   unfolding strayProperty isSuperProperty
   no-property = rw (w .input .tree .root)
 
-  -- 28, 29, 30: `super` where an early error forbids it, where the table's scopes are the tree's; changed: by what the Rust takes for a constructor and for a call
+  -- 28, 29, 30 of all well-formed tables: changed: by the Rust's search through the scopes, whatever they are
+  pub code28-scopes : raising 28 findings ≡ keep (bareByScopes ns ss) nodes
+  code28-scopes = whole t ns ss source names 28 refl (bareByScopes ns ss) (λ j h. bare-by-scopes t ns ss source names j)
+
+  pub code29-scopes : raising 29 findings ≡ keep (strayByScopes ns ss) nodes
+  code29-scopes = whole t ns ss source names 29 refl (strayByScopes ns ss) (λ j h. stray-by-scopes t ns ss source names j)
+
+  pub code30-scopes : raising 30 findings ≡ keep (propertyByScopes ns ss) nodes
+  code30-scopes = whole t ns ss source names 30 refl (propertyByScopes ns ss) (λ j h. property-by-scopes t ns ss source names j)
+
+  -- .. and `super` where an early error forbids it, where the table's scopes are the tree's; changed: by what the Rust takes for a constructor and for a call
   module _ (fit : ScopesFit ns ss) where
     pub code28 : raising 28 findings ≡ keep (tableBare ns) nodes
     code28 = whole t ns ss source names 28 refl (tableBare ns) (λ j h. super-bare ns ss (w .input .tree) (w .input .chained) (w .input .scoped) (w .shaped .placed) fit j h t source names)

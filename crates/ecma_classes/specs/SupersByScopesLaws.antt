@@ -1,0 +1,103 @@
+-- THE FINDINGS WITH CODES 28, 29 AND 30 ARE BREACHES OF THE RULES BY THE SCOPES, in every table; and where the scopes are the tree's, those rules are the rules by the tree.
+use Prim.Native.Nat.{ℕ, _<_}
+use mathlib.Core.Path.{_≡_, refl, ap, sym, _∙_}
+use mathlib.Core.List.{List, []}
+use mathlib.Core.Bool.{Bool, true, false, cond, not, _&&_}
+use lib.Dec.{eqb}
+use Rattle.tables.specs.Table.{kindOf, count}
+use Rattle.tables.specs.Facts.{Tree, Chained, Scoped}
+use Rattle.tables.specs.Kinds as k
+use Rattle.standing.specs.StandingLaws.{Placed}
+use Rattle.trees.specs.Walk.{some, only}
+use Rattle.trees.specs.WalkLaws.{someOnly}
+use Rattle.diagnostics.specs.Finding.{listed}
+use Rattle.supers.specs.Super.{reachOf, isCall, byReach, checkSuper}
+use Rattle.supers.specs.declared.Reach.{Reach}
+use Rattle.supers.specs.declared.Reach.the-variants.{Legal, Illegal, Underived, Fails}
+use Rattle.checker.specs.Findings.{findingsAt}
+use Rattle.ecma_dispatch.specs.WithCode.{withCode}
+use Rattle.ecma_dispatch.specs.Dispatch.{at28, at29, at30}
+use Rattle.ecma_classes.specs.Raising.{raising}
+use Rattle.ecma_classes.specs.RaisingLaws.{raising-code}
+use Rattle.ecma_classes.specs.Supers.{isTableCall, isTableProperty, tableBare, tableStray, tableProperty, ScopesFit}
+use Rattle.ecma_classes.specs.SupersLaws.{super-bare, super-call, super-property}
+use Rattle.ecma_classes.specs.SupersByScopes.{isUnderived, isIllegal, bareByScopes, strayByScopes, propertyByScopes}
+
+-- the findings of what the search says
+module _ (ns : List ℕ) (n : ℕ) where
+  reached28 : (r : Reach) → raising 28 (listed (byReach ns n r)) ≡ only (isUnderived r) n
+  unfolding raising
+  reached28 = go (isCall ns n) refl
+    where
+      go : (c : Bool) → isCall ns n ≡ c → (r : Reach) → raising 28 (listed (byReach ns n r)) ≡ only (isUnderived r) n
+      go c e Legal = refl
+      go true e Illegal = rw e
+      go false e Illegal = rw e
+      go c e (Underived x) = refl
+      go c e Fails = refl
+
+  reached29 : (r : Reach) → raising 29 (listed (byReach ns n r)) ≡ only (isCall ns n && isIllegal r) n
+  unfolding raising
+  reached29 = go (isCall ns n) refl
+    where
+      go : (c : Bool) → isCall ns n ≡ c → (r : Reach) → raising 29 (listed (byReach ns n r)) ≡ only (c && isIllegal r) n
+      go true e Legal = refl
+      go true e Illegal = rw e
+      go true e (Underived x) = refl
+      go true e Fails = refl
+      go false e Legal = refl
+      go false e Illegal = rw e
+      go false e (Underived x) = refl
+      go false e Fails = refl
+
+  reached30 : (r : Reach) → raising 30 (listed (byReach ns n r)) ≡ only (not (isCall ns n) && isIllegal r) n
+  unfolding raising
+  reached30 = go (isCall ns n) refl
+    where
+      go : (c : Bool) → isCall ns n ≡ c → (r : Reach) → raising 30 (listed (byReach ns n r)) ≡ only (not c && isIllegal r) n
+      go true e Legal = refl
+      go true e Illegal = rw e
+      go true e (Underived x) = refl
+      go true e Fails = refl
+      go false e Legal = refl
+      go false e Illegal = rw e
+      go false e (Underived x) = refl
+      go false e Fails = refl
+
+module _ (t : ℕ) (ns ss source names : List ℕ) (n : ℕ) where
+  pub bare-by-scopes : raising 28 (findingsAt t ns ss source names n) ≡ only (bareByScopes ns ss n) n
+  unfolding bareByScopes raising checkSuper
+  bare-by-scopes = raising-code 28 (findingsAt t ns ss source names n) ∙ rw (at28 t ns ss source names n) (go (eqb (kindOf ns n) k.Super))
+    where
+      go : (b : Bool) → raising 28 (cond b (withCode 28 (listed (checkSuper ns ss n))) []) ≡ only (b && isUnderived (reachOf ns ss n)) n
+      go true = sym (raising-code 28 (listed (checkSuper ns ss n))) ∙ reached28 ns n (reachOf ns ss n)
+      go false = refl
+
+  pub stray-by-scopes : raising 29 (findingsAt t ns ss source names n) ≡ only (strayByScopes ns ss n) n
+  unfolding strayByScopes isTableCall raising checkSuper
+  stray-by-scopes = raising-code 29 (findingsAt t ns ss source names n) ∙ rw (at29 t ns ss source names n) (go (eqb (kindOf ns n) k.Super))
+    where
+      go : (b : Bool) → raising 29 (cond b (withCode 29 (listed (checkSuper ns ss n))) []) ≡ only ((b && isCall ns n) && isIllegal (reachOf ns ss n)) n
+      go true = sym (raising-code 29 (listed (checkSuper ns ss n))) ∙ reached29 ns n (reachOf ns ss n)
+      go false = refl
+
+  pub property-by-scopes : raising 30 (findingsAt t ns ss source names n) ≡ only (propertyByScopes ns ss n) n
+  unfolding propertyByScopes isTableProperty raising checkSuper
+  property-by-scopes = raising-code 30 (findingsAt t ns ss source names n) ∙ rw (at30 t ns ss source names n) (go (eqb (kindOf ns n) k.Super))
+    where
+      go : (b : Bool) → raising 30 (cond b (withCode 30 (listed (checkSuper ns ss n))) []) ≡ only ((b && not (isCall ns n)) && isIllegal (reachOf ns ss n)) n
+      go true = sym (raising-code 30 (listed (checkSuper ns ss n))) ∙ reached30 ns n (reachOf ns ss n)
+      go false = refl
+
+same-test : (n : ℕ) (a b : Bool) → only a n ≡ only b n → a ≡ b
+same-test n a b e = sym (someOnly a n) ∙ ap (λ (l : List ℕ). some l) e ∙ someOnly b n
+
+module _ (ns ss : List ℕ) (tree : Tree ns) (chained : Chained ss) (scoped : Scoped ns ss) (placed : Placed ns) (fit : ScopesFit ns ss) (n : ℕ) (h : n < count ns) where
+  pub bare-by-tree : bareByScopes ns ss n ≡ tableBare ns n
+  bare-by-tree = same-test n (bareByScopes ns ss n) (tableBare ns n) (sym (bare-by-scopes 0 ns ss [] [] n) ∙ super-bare ns ss tree chained scoped placed fit n h 0 [] [])
+
+  pub stray-by-tree : strayByScopes ns ss n ≡ tableStray ns n
+  stray-by-tree = same-test n (strayByScopes ns ss n) (tableStray ns n) (sym (stray-by-scopes 0 ns ss [] [] n) ∙ super-call ns ss tree chained scoped placed fit n h 0 [] [])
+
+  pub property-by-tree : propertyByScopes ns ss n ≡ tableProperty ns n
+  property-by-tree = same-test n (propertyByScopes ns ss n) (tableProperty ns n) (sym (property-by-scopes 0 ns ss [] [] n) ∙ super-property ns ss tree chained scoped placed fit n h 0 [] [])
