@@ -1,6 +1,6 @@
 -- ECMA-262, 15.7 "Class Definitions" and 13.2.5 "Object Initializer": the early errors on the elements of one class or one object.
 -- Beside a rule stands the rule that the Rust keeps where it differs, and the condition under which the two agree.
-use Prim.Native.Nat.{ℕ}
+use Prim.Native.Nat.{ℕ, _<_}
 use mathlib.Core.Path.{_≡_}
 use mathlib.Core.List.{List, [], _∷_}
 use mathlib.Core.Bool.{Bool, true, false, cond, not, _&&_, _||_}
@@ -8,7 +8,7 @@ use lib.Dec.{eqb, ltb}
 use lib.ListN.{length}
 use Rattle.common.specs.Tests.{within}
 use Rattle.walk.specs.On.{member}
-use Rattle.tables.specs.Table.{kindOf, parentOf, flagsOf, extraOf, hasFlag}
+use Rattle.tables.specs.Table.{kindOf, parentOf, flagsOf, extraOf, count, hasFlag}
 use Rattle.tables.specs.Kinds as k
 use Rattle.tables.specs.Extras as extra
 use Rattle.tables.specs.NodeFlag as flag
@@ -63,6 +63,23 @@ namesConstructor ns names e = isDefinition ns e && (not (isStatic ns e) && same 
 -- 15.7.1: "It is a Syntax Error if PrototypePropertyNameList of ClassElementList contains more than one occurrence of "constructor"."
 unfoldable pub constructorTwice : List ℕ → List ℕ → ℕ → Bool
 constructorTwice ns names n = eqb (kindOf ns n) k.Class && ltb 1 (length (keep (namesConstructor ns names) (classElements ns n)))
+
+-- 15.7.2: ClassElementKind is ConstructorMethod: "ClassElement : MethodDefinition", not static, whose PropName is "constructor"
+unfoldable pub isConstructorKind : List ℕ → List ℕ → ℕ → Bool
+isConstructorKind ns names e = eqb (kindOf ns e) k.MethodDefinition && namesConstructor ns names e
+
+-- 15.7.3 ConstructorMethod of ClassElementList: its first element of that kind
+unfoldable pub constructorMethod : List ℕ → List ℕ → List ℕ → Found
+constructorMethod ns names [] = Nothing
+constructorMethod ns names (e ∷ es) = cond (isConstructorKind ns names e) (At (record { 0 = e })) (constructorMethod ns names es)
+
+-- .. of ClassBody: e is that element of the ClassBody around it
+unfoldable pub isFirstConstructor : List ℕ → List ℕ → ℕ → Bool
+isFirstConstructor ns names e = sameNode (constructorMethod ns names (children ns (parentOf ns e))) (At (record { 0 = e }))
+
+-- CONDITION: no class breaks that rule on "constructor", so none has two
+abbrev pub OneConstructor : List ℕ → List ℕ → Type 0
+OneConstructor ns names = (n : ℕ) → n < count ns → constructorTwice ns names n ≡ false
 
 -- The Rust counts what the table calls a constructor, if it has a body: no getter, setter or field of that name, each of which is an error by another rule.
 abbrev pub bodyIn : List ℕ → Found → Bool

@@ -17,8 +17,9 @@ use Rattle.trees.specs.WalkLaws.{eachSame, someAppend, someOnly}
 use Rattle.trees.specs.Unit.{says, saysAll}
 use Rattle.trees.specs.Trail.{unitOf}
 use Rattle.trees.specs.TrailLaws.{unitBridge}
-use Rattle.ecma_classes.specs.ClassElements.{namesConstructor}
+use Rattle.ecma_classes.specs.ClassElements.{namesConstructor, isFirstConstructor}
 use Rattle.ecma_classes.specs.Supers.{begins, contains, containsAny, containsIn, isSuperCall, isSuperProperty, isMethod, isConstructorMethod, hasHeritage, isObjectMethod, takesProperty, bareCallIn, strayCallIn, strayPropertyIn, bareCall, strayCall, strayProperty, superError}
+use Rattle.ecma_classes.specs.FirstConstructorLaws.{first-names}
 
 module _ (ns : List ℕ) (sought : ℕ → Bool) where
   abbrev tells : ℕ → Unit {0} → List ℕ
@@ -128,8 +129,11 @@ module _ (ns names : List ℕ) (tree : Tree ns) (u : ℕ) where
   abbrev properties : Bool
   properties = containsIn ns (isSuperProperty ns) u
 
-  abbrev constructs : Bool
-  constructs = isConstructorMethod ns (namesConstructor ns names) u
+  abbrev first : Bool
+  first = isConstructorMethod ns (isFirstConstructor ns names) u
+
+  abbrev named : Bool
+  named = isConstructorMethod ns (namesConstructor ns names) u
 
   -- no two of the productions
   not-program : eqb u 0 ≡ true → (isMethod ns u ≡ false) × (takesProperty ns u ≡ false)
@@ -162,37 +166,47 @@ module _ (ns names : List ℕ) (tree : Tree ns) (u : ℕ) where
           go true = refl
           go false = refl
 
-  no-constructor : isMethod ns u ≡ false → constructs ≡ false
+  no-constructor : (constructs : ℕ → Bool) → isMethod ns u ≡ false → isConstructorMethod ns constructs u ≡ false
   unfolding isConstructorMethod
-  no-constructor e = rw e
+  no-constructor constructs e = rw e
 
   method-takes : isMethod ns u ≡ true → takesProperty ns u ≡ true
   unfolding takesProperty
   method-takes e = rw e
 
-  constructor-method : constructs ≡ true → isMethod ns u ≡ true
+  constructor-method : first ≡ true → isMethod ns u ≡ true
   unfolding isConstructorMethod
-  constructor-method e = and-left (isMethod ns u) (namesConstructor ns names (parentOf ns u)) e
+  constructor-method e = and-left (isMethod ns u) (isFirstConstructor ns names (parentOf ns u)) e
+
+  -- the first constructor is one by its name
+  first-named : first ≡ true → named ≡ true
+  unfolding isConstructorMethod
+  first-named e =
+      rw (and-left (isMethod ns u) (isFirstConstructor ns names (parentOf ns u)) e) (first-names ns names (parentOf ns u) (and-right (isMethod ns u) (isFirstConstructor ns names (parentOf ns u)) e))
+
+  method-named : isMethod ns u ≡ true → named ≡ namesConstructor ns names (parentOf ns u)
+  unfolding isConstructorMethod
+  method-named e = rw e
 
   plain-takes : isMethod ns u ≡ false → isObjectMethod ns u ≡ false → (eqb (kindOf ns u) k.StaticBlock || within (kindOf ns u) k.PropertyDefinition k.AccessorProperty) ≡ false → takesProperty ns u ≡ false
   unfolding takesProperty
   plain-takes a b c = rw (a, b, c)
 
-  pub error-is : superError ns names u ≡ (bareCallIn ns (namesConstructor ns names) (isSuperCall ns) u || (strayCallIn ns (namesConstructor ns names) (isSuperCall ns) u || strayPropertyIn ns (isSuperProperty ns) u))
+  pub error-is : superError ns names u ≡ (bareCallIn ns (isFirstConstructor ns names) (isSuperCall ns) u || (strayCallIn ns (namesConstructor ns names) (isSuperCall ns) u || strayPropertyIn ns (isSuperProperty ns) u))
   unfolding superError bareCallIn strayCallIn strayPropertyIn
   error-is =
-      go (eqb u 0) refl (eqb (kindOf ns u) k.StaticBlock || within (kindOf ns u) k.PropertyDefinition k.AccessorProperty) refl (isObjectMethod ns u) refl constructs refl (isMethod ns u) refl
+      go (eqb u 0) refl (eqb (kindOf ns u) k.StaticBlock || within (kindOf ns u) k.PropertyDefinition k.AccessorProperty) refl (isObjectMethod ns u) refl first refl (isMethod ns u) refl
     where
       rest : (c : Bool) → c ≡ (c || false)
       rest true = refl
       rest false = refl
 
       go : (a : Bool) → eqb u 0 ≡ a → (b : Bool) → (eqb (kindOf ns u) k.StaticBlock || within (kindOf ns u) k.PropertyDefinition k.AccessorProperty) ≡ b → (o : Bool) → isObjectMethod ns u ≡ o
-          → (c : Bool) → constructs ≡ c → (m : Bool) → isMethod ns u ≡ m
-          → superError ns names u ≡ (bareCallIn ns (namesConstructor ns names) (isSuperCall ns) u || (strayCallIn ns (namesConstructor ns names) (isSuperCall ns) u || strayPropertyIn ns (isSuperProperty ns) u))
-      go true p b q o r c s m t = let x = not-program p in rw (p, no-constructor (x .0), x .1)
-      go false p true q o r c s m t = let x = not-function q in rw (p, q, no-constructor (x .0), x .1) (rest calls)
-      go false p false q true r c s m t = let x = not-class r in rw (p, q, r, no-constructor (x .0), x .1) (rest calls)
-      go false p false q false r true s m t = rw (p, q, r, s, method-takes (constructor-method s)) (rest (not (hasHeritage ns u) && calls))
-      go false p false q false r false s true t = rw (p, q, r, s, t, method-takes t) (rest calls)
-      go false p false q false r false s false t = rw (p, q, r, s, t, plain-takes t r q)
+          → (c : Bool) → first ≡ c → (m : Bool) → isMethod ns u ≡ m
+          → superError ns names u ≡ (bareCallIn ns (isFirstConstructor ns names) (isSuperCall ns) u || (strayCallIn ns (namesConstructor ns names) (isSuperCall ns) u || strayPropertyIn ns (isSuperProperty ns) u))
+      go true p b q o r c s m t = let x = not-program p in rw (p, no-constructor (isFirstConstructor ns names) (x .0), no-constructor (namesConstructor ns names) (x .0), x .1)
+      go false p true q o r c s m t = let x = not-function q in rw (p, q, no-constructor (isFirstConstructor ns names) (x .0), no-constructor (namesConstructor ns names) (x .0), x .1) (rest calls)
+      go false p false q true r c s m t = let x = not-class r in rw (p, q, r, no-constructor (isFirstConstructor ns names) (x .0), no-constructor (namesConstructor ns names) (x .0), x .1) (rest calls)
+      go false p false q false r true s m t = rw (p, q, r, s, first-named s, method-takes (constructor-method s)) (rest (not (hasHeritage ns u) && calls))
+      go false p false q false r false s true t = rw (p, q, r, s, t, method-named t, method-takes t) (rest (not (namesConstructor ns names (parentOf ns u)) && calls))
+      go false p false q false r false s false t = rw (p, q, r, s, t, no-constructor (namesConstructor ns names) t, plain-takes t r q)

@@ -30,7 +30,7 @@ use Rattle.trees.specs.Rose.{kids, others, forest, partsOf}
 use Rattle.trees.specs.Walk.{walk}
 use Rattle.trees.specs.Trail.{trail, climb}
 use Rattle.ecma_classes.specs.Raising.{raising}
-use Rattle.ecma_classes.specs.ClassElements.{classElements, isConstructor, builtTwice, nameMissing, isKeyedProto, protoAgain}
+use Rattle.ecma_classes.specs.ClassElements.{propName, namesConstructor, isConstructorKind, constructorMethod, isFirstConstructor, classElements, isConstructor, builtTwice, nameMissing, isKeyedProto, protoAgain}
 use Rattle.ecma_classes.specs.PrivateNames.{isPrivateBound, privateName, entries, matched, isEntered, privateEntered, clashIn, privateAgain, invalid, isTableUse, bodyAround, isOutside}
 use Rattle.ecma_classes.specs.Supers.{begins, isTableCall, isTableProperty, isMethod, isObjectMethod, isConstructorMethod, hasHeritage, takesProperty, bareCall, strayCall, strayProperty, ScopesFit}
 use Rattle.ecma_classes.specs.ScopesFitLaws.{fitsAt, scopesFit, fit-of}
@@ -141,6 +141,11 @@ found7 = code7 0 table scopes source bytes well
 pub found8 : withCode 8 findings ≡ record { code = 8; node = record { 0 = 1 }; start = 82; end = 84; start2 = 0; end2 = 0; context = 0 } ∷ []
 unfolding invalid isTableUse privateEntered isPrivateBound isEntered privateName bodyAround walk partsOf forest kids others children firstNode upto range isChild keep flatMap same nameOf a.climb a.above
 found8 = code8 0 table scopes source bytes well
+
+-- of the two constructors of C the standard asks the first of its SuperCall
+pub first28 : keep (isFirstConstructor table bytes) (upto 0 56) ≡ 4 ∷ []
+unfolding isFirstConstructor constructorMethod isConstructorKind namesConstructor propName children firstNode upto range isChild keep same nameOf
+first28 = refl
 
 pub found28 : raising 28 findings ≡ 11 ∷ []
 unfolding bareCall isTableCall isConstructorMethod isMethod hasHeritage begins trail climb firstNode upto range isChild keep

@@ -12,6 +12,7 @@ pub mod SuperSearchLaws
 pub mod SupersLaws
 pub mod SupersByScopes
 pub mod SupersByScopesLaws
+pub mod FirstConstructorLaws
 pub mod ContainsLaws
 pub mod ScopesFitLaws
 pub mod WholeLaws

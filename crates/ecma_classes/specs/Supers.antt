@@ -15,7 +15,7 @@ use Rattle.tables.specs.declared.Found.the-variants.{At}
 use Rattle.children.specs.Children.{valueOf}
 use Rattle.trees.specs.Rose.{Rose, Roses, node, rnil, rcons, idx, partsOf}
 use Rattle.trees.specs.Trail.{unitOf}
-use Rattle.ecma_classes.specs.ClassElements.{sameNode, namesConstructor}
+use Rattle.ecma_classes.specs.ClassElements.{sameNode, namesConstructor, isFirstConstructor}
 
 abbrev pub isValue : List ℕ → ℕ → ℕ → Bool
 isValue ns p j = sameNode (valueOf ns p) (At (record { 0 = j }))
@@ -75,8 +75,7 @@ takesProperty ns u = (isMethod ns u || isObjectMethod ns u) || (eqb (kindOf ns u
 abbrev pub unit : List ℕ → ℕ → ℕ
 unit ns n = unitOf ns (begins ns) n
 
--- THE EARLY ERRORS: of a unit, and at the Super itself. constructs: a MethodDefinition's ClassElementKind is ConstructorMethod (15.7.2); call: SuperCall.
--- 15.7.1 asks ConstructorMethod of ClassBody, which is the first constructor (15.7.3); here each is asked, so of a class that has two (27) the second too.
+-- THE EARLY ERRORS: of a unit, and at the Super itself. constructs: which MethodDefinitions the rule takes for constructors; call: SuperCall.
 -- The rules of GeneratorMethod, AsyncMethod and AsyncGeneratorMethod (15.5.1, 15.8.1, 15.6.1: HasDirectSuper) are not written: the tables don't tell them from other methods.
 module _ (ns : List ℕ) (constructs : ℕ → Bool) where
   unfoldable pub isConstructorMethod : ℕ → Bool
@@ -106,10 +105,11 @@ module _ (ns : List ℕ) (property : ℕ → Bool) where
   unfoldable pub strayProperty : ℕ → Bool
   strayProperty n = property n && not (takesProperty ns (unit ns n))
 
--- THE STANDARD'S RULES: by the PropName "constructor", SuperCall and SuperProperty
+-- THE STANDARD'S RULES, by SuperCall and SuperProperty. 15.7.1 of ClassTail: "Let constructor be ConstructorMethod of ClassBody", which is the first (15.7.3) ..
 abbrev pub standardBare : List ℕ → List ℕ → ℕ → Bool
-standardBare ns names n = bareCall ns (namesConstructor ns names) (isSuperCall ns) n
+standardBare ns names n = bareCall ns (isFirstConstructor ns names) (isSuperCall ns) n
 
+-- .. and of "ClassElement : MethodDefinition": "PropName of MethodDefinition is not "constructor""
 abbrev pub standardStray : List ℕ → List ℕ → ℕ → Bool
 standardStray ns names n = strayCall ns (namesConstructor ns names) (isSuperCall ns) n
 
@@ -125,12 +125,16 @@ superError ns names u =
     (cond (eqb (kindOf ns u) k.StaticBlock || within (kindOf ns u) k.PropertyDefinition k.AccessorProperty) (containsIn ns (isSuperCall ns) u)
     -- 13.2.5.1 PropertyDefinition : MethodDefinition: "HasDirectSuper of MethodDefinition"
     (cond (isObjectMethod ns u) (containsIn ns (isSuperCall ns) u)
-    -- 15.7.1 ClassTail: "ClassHeritage is not present and .. HasDirectSuper of constructor"
-    (cond (isConstructorMethod ns (namesConstructor ns names) u) (not (hasHeritage ns u) && containsIn ns (isSuperCall ns) u)
-    -- 15.7.1 ClassElement : MethodDefinition and static MethodDefinition: "HasDirectSuper of MethodDefinition"
-    (cond (isMethod ns u) (containsIn ns (isSuperCall ns) u)
+    -- 15.7.1 ClassTail: "ClassHeritage is not present and .. HasDirectSuper of constructor", which is ConstructorMethod of ClassBody
+    (cond (isConstructorMethod ns (isFirstConstructor ns names) u) (not (hasHeritage ns u) && containsIn ns (isSuperCall ns) u)
+    -- 15.7.1 ClassElement : MethodDefinition, its PropName not "constructor", and static MethodDefinition: "HasDirectSuper of MethodDefinition"
+    (cond (isMethod ns u) (not (namesConstructor ns names (parentOf ns u)) && containsIn ns (isSuperCall ns) u)
     -- 15.2.1, 15.5.1, 15.6.1, 15.8.1, functions: "Contains SuperProperty", "Contains SuperCall"
     (containsIn ns (isSuperCall ns) u || containsIn ns (isSuperProperty ns) u)))))
+
+-- CHANGED RULE: the Rust asks each constructor, so of a class that has two (27) the second too; OneConstructor is the condition on which it is standardBare.
+abbrev pub eachBare : List ℕ → List ℕ → ℕ → Bool
+eachBare ns names n = bareCall ns (namesConstructor ns names) (isSuperCall ns) n
 
 -- The Rust goes by what the table calls a constructor, takes `new super()` for a call and every other Super for a SuperProperty.
 abbrev pub isTableConstructor : List ℕ → ℕ → Bool

@@ -32,7 +32,7 @@ use Rattle.ecma_dispatch.specs.Dispatch.{at28, at29, at30}
 use Rattle.ecma_classes.specs.Raising.{raising}
 use Rattle.ecma_classes.specs.RaisingLaws.{raising-code}
 use Rattle.ecma_classes.specs.ClassElements.{namesConstructor}
-use Rattle.ecma_classes.specs.Supers.{isValue, begins, isMethod, isConstructorMethod, classOf, hasHeritage, isObjectMethod, takesProperty, bareCall, strayCall, strayProperty, isSuperCall, isSuperProperty, standardBare, standardStray, standardProperty, isTableConstructor, isTableCall, isTableProperty, tableBare, tableStray, tableProperty, MethodsNamed, SupersStand, ScopesFit}
+use Rattle.ecma_classes.specs.Supers.{isValue, begins, isMethod, isConstructorMethod, classOf, hasHeritage, isObjectMethod, takesProperty, bareCall, strayCall, strayProperty, isSuperCall, isSuperProperty, eachBare, standardStray, standardProperty, isTableConstructor, isTableCall, isTableProperty, tableBare, tableStray, tableProperty, MethodsNamed, SupersStand, ScopesFit}
 use Rattle.ecma_classes.specs.SuperSearchLaws.{value-is, inUnit, search-is, no-root, above-other, above-body}
 
 -- a unit is the program, a function, a static block or a field
@@ -235,13 +235,13 @@ module _ (ns ss : List ℕ) (tree : Tree ns) (chained : Chained ss) (scoped : Sc
         go true e = sym (raising-code 30 (listed (checkSuper ns ss n))) ∙ rw (checked (eqb-true (kindOf ns n) k.Super e)) (raised30 ns n (unitOf ns (begins ns) n))
         go false e = refl
 
-method-kind : (ns : List ℕ) (u : ℕ) → isMethod ns u ≡ true → kindOf ns (parentOf ns u) ≡ k.MethodDefinition
+pub method-kind : (ns : List ℕ) (u : ℕ) → isMethod ns u ≡ true → kindOf ns (parentOf ns u) ≡ k.MethodDefinition
 unfolding isMethod
 method-kind ns u e =
     eqb-true (kindOf ns (parentOf ns u)) k.MethodDefinition
     (and-left (eqb (kindOf ns (parentOf ns u)) k.MethodDefinition) (isValue ns (parentOf ns u) u) (and-right (eqb (kindOf ns u) k.Function) (eqb (kindOf ns (parentOf ns u)) k.MethodDefinition && isValue ns (parentOf ns u) u) e))
 
--- where each Super stands in a SuperCall or a SuperProperty, the rules are the standard's
+-- where each Super stands in a SuperCall or a SuperProperty, the rules are the standard's; of 28, asked of each constructor
 module _ (ns names : List ℕ) (tree : Tree ns) (stand : SupersStand ns) (n : ℕ) (h : n < count ns) where
   call-same : isTableCall ns n ≡ isSuperCall ns n
   unfolding isTableCall isSuperCall
@@ -267,7 +267,7 @@ module _ (ns names : List ℕ) (tree : Tree ns) (stand : SupersStand ns) (n : �
       go true e = w (parentOf ns (unitOf ns (begins ns) n)) (parent-in ns tree (unitOf ns (begins ns) n) (unit-is ns tree n h .below)) (method-kind ns (unitOf ns (begins ns) n) e)
       go false e = refl
 
-  pub bare-same : MethodsNamed ns names → tableBare ns n ≡ standardBare ns names n
+  pub bare-same : MethodsNamed ns names → tableBare ns n ≡ eachBare ns names n
   unfolding bareCall
   bare-same w = rw (call-same, constructor-same w)
 

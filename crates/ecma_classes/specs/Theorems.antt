@@ -28,16 +28,17 @@ use Rattle.ecma_dispatch.specs.Dispatch.{wholeOne, wholeOther}
 use Rattle.ecma_classes.specs.Raising.{raising}
 use Rattle.ecma_classes.specs.RaisingLaws.{raising-code, raising-append, raising-flat, flat-upto, keep-upto, any-upto, any-three}
 use Rattle.ecma_classes.specs.ListLaws.{Rising, kept-in}
-use Rattle.ecma_classes.specs.ClassElements.{found, sameNode, namesConstructor, nameMissing, builtTwice, constructorTwice, ConstructorsNamed, isProto, protoAgain, protoTwice, KeysPlain}
+use Rattle.ecma_classes.specs.ClassElements.{found, sameNode, namesConstructor, nameMissing, builtTwice, constructorTwice, isFirstConstructor, OneConstructor, ConstructorsNamed, isProto, protoAgain, protoTwice, KeysPlain}
 use Rattle.ecma_classes.specs.ClassElementsLaws.{class-name, second-constructor, constructors-agree}
 use Rattle.ecma_classes.specs.ObjectsLaws.{times, proto-again, proto-agrees, proto-once}
 use Rattle.ecma_classes.specs.PrivateNames.{privateBound, privateEntered, entries, allowed, privateTwice, privateAgain, PrivatesEntered, OnceOrTwice, isClassBody, isUse, allPrivateIdentifiersValid, invalidIdentifiers, invalidInTable, PrivatesPlain, bodyAround, isOutside, UsedOutside}
 use Rattle.ecma_classes.specs.PrivateTwiceLaws.{flat-alike, private-again, again-some, again-once, entered-all, entered-rising}
 use Rattle.ecma_classes.specs.PrivateNamesLaws.{invalidAt, invalid-list, valid-none, private-outside, outside-invalid, private-undeclared, invalid-same, class-above, body-of-class}
-use Rattle.ecma_classes.specs.Supers.{isSuperCall, isSuperProperty, bareCall, strayCall, strayProperty, bareCallIn, strayCallIn, strayPropertyIn, standardBare, standardStray, standardProperty, tableBare, tableStray, tableProperty, MethodsNamed, SupersStand, ScopesFit, superError}
+use Rattle.ecma_classes.specs.Supers.{isSuperCall, isSuperProperty, bareCall, strayCall, strayProperty, bareCallIn, strayCallIn, strayPropertyIn, standardBare, standardStray, standardProperty, eachBare, tableBare, tableStray, tableProperty, MethodsNamed, SupersStand, ScopesFit, superError}
 use Rattle.ecma_classes.specs.SupersLaws.{super-bare, super-call, super-property, bare-same, stray-same, property-rule-same}
 use Rattle.ecma_classes.specs.SupersByScopes.{bareByScopes, strayByScopes, propertyByScopes}
 use Rattle.ecma_classes.specs.SupersByScopesLaws.{bare-by-scopes, stray-by-scopes, property-by-scopes}
+use Rattle.ecma_classes.specs.FirstConstructorLaws.{first-same}
 use Rattle.ecma_classes.specs.ContainsLaws.{inUnit, bare-in, stray-in, property-in, error-is}
 use Rattle.ecma_classes.specs.WholeLaws.{below-of, all-raised, units-all}
 
@@ -154,8 +155,8 @@ module _ (t : ℕ) (ns ss source names : List ℕ) (w : WellFormed t ns ss sourc
           (kept-in (invalidAt ns names (isUse ns) (privateBound ns)) nodes x (sym (ap (member x) (invalid-list ns names (isUse ns) (privateBound ns) (w .input .tree))) ∙ m) .0)
 
   -- a unit breaks an early error, by Contains (8.5.1), just where one of its Supers does
-  pub units28 : (u : ℕ) → u < count ns → bareCallIn ns (namesConstructor ns names) (isSuperCall ns) u ≡ some (inUnit ns (standardBare ns names) u)
-  units28 u h = bare-in ns (w .input .tree) u h (namesConstructor ns names) (isSuperCall ns)
+  pub units28 : (u : ℕ) → u < count ns → bareCallIn ns (isFirstConstructor ns names) (isSuperCall ns) u ≡ some (inUnit ns (standardBare ns names) u)
+  units28 u h = bare-in ns (w .input .tree) u h (isFirstConstructor ns names) (isSuperCall ns)
 
   pub units29 : (u : ℕ) → u < count ns → strayCallIn ns (namesConstructor ns names) (isSuperCall ns) u ≡ some (inUnit ns (standardStray ns names) u)
   units29 u h = stray-in ns (w .input .tree) u h (namesConstructor ns names) (isSuperCall ns)
@@ -198,8 +199,12 @@ module _ (t : ℕ) (ns ss source names : List ℕ) (w : WellFormed t ns ss sourc
     code30 = whole t ns ss source names 30 refl (tableProperty ns) (λ j h. super-property ns ss (w .input .tree) (w .input .chained) (w .input .scoped) (w .shaped .placed) fit j h t source names)
 
     module _ (stand : SupersStand ns) (named : MethodsNamed ns names) where
-      pub code28-standard : raising 28 findings ≡ keep (standardBare ns names) nodes
-      code28-standard = code28 ∙ keep-upto (tableBare ns) (standardBare ns names) 0 (count ns) (λ j a b. bare-same ns names (w .input .tree) stand j b named)
+      -- 28 of each constructor, and of the first where no class has two
+      pub code28-each : raising 28 findings ≡ keep (eachBare ns names) nodes
+      code28-each = code28 ∙ keep-upto (tableBare ns) (eachBare ns names) 0 (count ns) (λ j a b. bare-same ns names (w .input .tree) stand j b named)
+
+      pub code28-standard : OneConstructor ns names → raising 28 findings ≡ keep (standardBare ns names) nodes
+      code28-standard once = code28-each ∙ keep-upto (eachBare ns names) (standardBare ns names) 0 (count ns) (λ j a b. first-same ns names (w .input .tree) (w .listed) (w .shaped) once j b)
 
       pub code29-standard : raising 29 findings ≡ keep (standardStray ns names) nodes
       code29-standard = code29 ∙ keep-upto (tableStray ns) (standardStray ns names) 0 (count ns) (λ j a b. stray-same ns names (w .input .tree) stand j b named)
@@ -208,11 +213,11 @@ module _ (t : ℕ) (ns ss source names : List ℕ) (w : WellFormed t ns ss sourc
       code30-standard = code30 ∙ keep-upto (tableProperty ns) (standardProperty ns) 0 (count ns) (λ j a b. property-rule-same ns names (w .input .tree) stand j b)
 
       -- there is a finding just where some unit breaks the rule
-      pub program28 : some (raising 28 findings) ≡ any (bareCallIn ns (namesConstructor ns names) (isSuperCall ns)) nodes
-      program28 =
-          ap (λ (l : List ℕ). some l) code28-standard
+      pub program28 : OneConstructor ns names → some (raising 28 findings) ≡ any (bareCallIn ns (isFirstConstructor ns names) (isSuperCall ns)) nodes
+      program28 once =
+          ap (λ (l : List ℕ). some l) (code28-standard once)
           ∙ sym (units-all ns (w .input .tree) (standardBare ns names) no-bare)
-          ∙ any-upto (λ u. some (inUnit ns (standardBare ns names) u)) (bareCallIn ns (namesConstructor ns names) (isSuperCall ns)) 0 (count ns) (λ u a b. sym (units28 u b))
+          ∙ any-upto (λ u. some (inUnit ns (standardBare ns names) u)) (bareCallIn ns (isFirstConstructor ns names) (isSuperCall ns)) 0 (count ns) (λ u a b. sym (units28 u b))
 
       pub program29 : some (raising 29 findings) ≡ any (strayCallIn ns (namesConstructor ns names) (isSuperCall ns)) nodes
       program29 =
@@ -227,8 +232,8 @@ module _ (t : ℕ) (ns ss source names : List ℕ) (w : WellFormed t ns ss sourc
           ∙ any-upto (λ u. some (inUnit ns (standardProperty ns) u)) (strayPropertyIn ns (isSuperProperty ns)) 0 (count ns) (λ u a b. sym (units30 u b))
 
       -- and no finding of the three just where no production's early error on `super` applies
-      pub super-clean : any (superError ns names) nodes ≡ (some (raising 28 findings) || (some (raising 29 findings) || some (raising 30 findings)))
-      super-clean =
-          rw (program28, program29, program30)
-          (any-upto (superError ns names) (λ u. bareCallIn ns (namesConstructor ns names) (isSuperCall ns) u || (strayCallIn ns (namesConstructor ns names) (isSuperCall ns) u || strayPropertyIn ns (isSuperProperty ns) u)) 0 (count ns) (λ u a b. error-is ns names (w .input .tree) u)
-          ∙ any-three (bareCallIn ns (namesConstructor ns names) (isSuperCall ns)) (strayCallIn ns (namesConstructor ns names) (isSuperCall ns)) (strayPropertyIn ns (isSuperProperty ns)) nodes)
+      pub super-clean : OneConstructor ns names → any (superError ns names) nodes ≡ (some (raising 28 findings) || (some (raising 29 findings) || some (raising 30 findings)))
+      super-clean once =
+          rw (program28 once, program29, program30)
+          (any-upto (superError ns names) (λ u. bareCallIn ns (isFirstConstructor ns names) (isSuperCall ns) u || (strayCallIn ns (namesConstructor ns names) (isSuperCall ns) u || strayPropertyIn ns (isSuperProperty ns) u)) 0 (count ns) (λ u a b. error-is ns names (w .input .tree) u)
+          ∙ any-three (bareCallIn ns (isFirstConstructor ns names) (isSuperCall ns)) (strayCallIn ns (namesConstructor ns names) (isSuperCall ns)) (strayPropertyIn ns (isSuperProperty ns)) nodes)

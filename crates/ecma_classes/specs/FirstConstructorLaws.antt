@@ -1,0 +1,133 @@
+-- WHERE NO CLASS HAS TWO CONSTRUCTORS, ConstructorMethod of ClassBody (15.7.3) is each: the rule of 28 is the standard's.
+use Prim.Native.Nat.{ℕ, _+_, _≤_, _<_}
+use mathlib.Core.Path.{_≡_, refl, ap, sym, subst, _∙_}
+use mathlib.Core.List.{List, [], _∷_}
+use mathlib.Core.Bool.{Bool, true, false, cond, _&&_, _||_}
+use mathlib.Core.Logic.{⊎-elim}
+use native.Mathlib.Nat.{eq-or-lt-of-le}
+use native.Mathlib.Omega.{arith}
+use borrow.Author.Tests.{eq-eqb, eqb-true, lt-ltb}
+use lib.Dec.{eqb, ltb}
+use lib.ListN.{length}
+use Rattle.common.specs.Upto.{upto, and-right}
+use Rattle.common.specs.Bools.{never}
+use Rattle.walk.specs.On.{member}
+use Rattle.tables.specs.Table.{kindOf, parentOf, count}
+use Rattle.tables.specs.Facts.{Tree}
+use Rattle.tables.specs.Kinds as k
+use Rattle.tables.specs.declared.Found.the-variants.{At}
+use Rattle.children.specs.Children.{keep, children}
+use Rattle.ancestry.specs.AncestryLaws.{parent-in}
+use Rattle.fields.specs.FieldsLaws.{Listed}
+use Rattle.shape.specs.ShapeLaws.{Shaped}
+use Rattle.trees.specs.Trail.{unitOf}
+use Rattle.ecma_classes.specs.ListLaws.{in-kept, upto-in}
+use Rattle.ecma_classes.specs.ClassElements.{sameNode, elementsIn, classElements, namesConstructor, constructorTwice, isConstructorKind, constructorMethod, isFirstConstructor, OneConstructor}
+use Rattle.ecma_classes.specs.PrivateNamesLaws.{class-above, body-of-class}
+use Rattle.ecma_classes.specs.Supers.{begins, isMethod, isConstructorMethod, bareCall, standardBare, eachBare}
+use Rattle.ecma_classes.specs.SupersLaws.{unit-is, method-kind}
+
+holds-one : (l : List ℕ) (p : ℕ) → member p l ≡ true → 1 ≤ length l
+holds-one [] p m = never (sym m)
+holds-one (x ∷ l) p m = omega arith
+
+module _ (ns names : List ℕ) where
+  kind-names : (e : ℕ) → isConstructorKind ns names e ≡ true → namesConstructor ns names e ≡ true
+  unfolding isConstructorKind
+  kind-names e q = and-right (eqb (kindOf ns e) k.MethodDefinition) (namesConstructor ns names e) q
+
+  no-kind : (e : ℕ) → namesConstructor ns names e ≡ false → isConstructorKind ns names e ≡ false
+  unfolding isConstructorKind
+  no-kind e q = rw q (go (eqb (kindOf ns e) k.MethodDefinition))
+    where
+      go : (b : Bool) → (b && false) ≡ false
+      go true = refl
+      go false = refl
+
+  -- ConstructorMethod of a list is of its kind ..
+  first-kind : (l : List ℕ) (p : ℕ) → sameNode (constructorMethod ns names l) (At (record { 0 = p })) ≡ true → isConstructorKind ns names p ≡ true
+  unfolding constructorMethod
+  first-kind [] p e = never (sym e)
+  first-kind (x ∷ l) p e = go (isConstructorKind ns names x) refl e (λ z. first-kind l p z)
+    where
+      go : (b : Bool) → isConstructorKind ns names x ≡ b → sameNode (cond b (At (record { 0 = x })) (constructorMethod ns names l)) (At (record { 0 = p })) ≡ true
+          → (sameNode (constructorMethod ns names l) (At (record { 0 = p })) ≡ true → isConstructorKind ns names p ≡ true) → isConstructorKind ns names p ≡ true
+      go true q z r = subst (λ (y : ℕ). isConstructorKind ns names y ≡ true) (eqb-true x p z) q
+      go false q z r = r z
+
+  pub first-names : (p : ℕ) → isFirstConstructor ns names p ≡ true → namesConstructor ns names p ≡ true
+  unfolding isFirstConstructor
+  first-names p e = kind-names p (first-kind (children ns (parentOf ns p)) p e)
+
+  -- .. and the only one there, if no second element has the name
+  only-first : (l : List ℕ) (p : ℕ) → member p l ≡ true → isConstructorKind ns names p ≡ true → ltb 1 (length (keep (namesConstructor ns names) l)) ≡ false
+      → sameNode (constructorMethod ns names l) (At (record { 0 = p })) ≡ true
+  unfolding constructorMethod keep
+  only-first [] p m c o = never (sym m)
+  only-first (x ∷ l) p m c o = go (eqb p x) refl m (namesConstructor ns names x) refl o (λ z y. only-first l p z c y)
+    where
+      go : (a : Bool) → eqb p x ≡ a → (a || member p l) ≡ true → (b : Bool) → namesConstructor ns names x ≡ b
+          → ltb 1 (length (cond b (x ∷ keep (namesConstructor ns names) l) (keep (namesConstructor ns names) l))) ≡ false
+          → (member p l ≡ true → ltb 1 (length (keep (namesConstructor ns names) l)) ≡ false → sameNode (constructorMethod ns names l) (At (record { 0 = p })) ≡ true)
+          → sameNode (cond (isConstructorKind ns names x) (At (record { 0 = x })) (constructorMethod ns names l)) (At (record { 0 = p })) ≡ true
+      go true q z b r o y = let e : p ≡ x = eqb-true p x q in rw (subst (λ (j : ℕ). isConstructorKind ns names j ≡ true) e c) (eq-eqb x p (sym e))
+      go false q z true r o y =
+          let s = holds-one (keep (namesConstructor ns names) l) p (in-kept (namesConstructor ns names) l p z (kind-names p c)) in
+          never (sym (lt-ltb 1 (length (x ∷ keep (namesConstructor ns names) l)) (omega arith)) ∙ o)
+      go false q z false r o y = rw (no-kind x r) (y z o)
+
+module _ (ns names : List ℕ) (tree : Tree ns) (listed : Listed ns) (shaped : Shaped ns) (once : OneConstructor ns names) where
+  module _ (p : ℕ) (h : p < count ns) (e : kindOf ns p ≡ k.MethodDefinition) where
+    abbrev body : ℕ
+    body = parentOf ns p
+
+    below : body < p
+    below = ⊎-elim (λ (q : 0 ≡ p). absurd (let z : kindOf ns 0 ≡ k.MethodDefinition = subst (λ (x : ℕ). kindOf ns x ≡ k.MethodDefinition) (sym q) e in let y = tree .root in omega arith)) (λ (q : 0 < p). tree .falls p q h) (eq-or-lt-of-le (omega arith))
+
+    in-table : body < count ns
+    in-table = parent-in ns tree p h
+
+    is-body : kindOf ns body ≡ k.ClassBody
+    is-body = shaped .placed .element p h (omega arith) (omega arith)
+
+    elements-are : classElements ns (parentOf ns body) ≡ children ns body
+    unfolding classElements
+    elements-are = ap (elementsIn ns) (body-of-class ns tree listed shaped body in-table is-body)
+
+    twice-is : constructorTwice ns names (parentOf ns body) ≡ ltb 1 (length (keep (namesConstructor ns names) (children ns body)))
+    unfolding constructorTwice
+    twice-is = rw (eq-eqb (kindOf ns (parentOf ns body)) k.Class (class-above ns tree listed shaped body in-table is-body), elements-are)
+
+    in-body : member p (children ns body) ≡ true
+    unfolding children
+    in-body = let z = below in in-kept (λ j. eqb (parentOf ns j) body) (upto (body + 1) (count ns)) p (upto-in (body + 1) (count ns) p (omega arith) h) (eq-eqb body body refl)
+
+    of-kind : namesConstructor ns names p ≡ true → isConstructorKind ns names p ≡ true
+    unfolding isConstructorKind
+    of-kind q = rw (eq-eqb (kindOf ns p) k.MethodDefinition e) q
+
+    pub first-only : isFirstConstructor ns names p ≡ namesConstructor ns names p
+    unfolding isFirstConstructor
+    first-only = go (namesConstructor ns names p) refl (sameNode (constructorMethod ns names (children ns body)) (At (record { 0 = p }))) refl
+      where
+        go : (b : Bool) → namesConstructor ns names p ≡ b → (a : Bool) → sameNode (constructorMethod ns names (children ns body)) (At (record { 0 = p })) ≡ a → a ≡ b
+        go true q a r = sym r ∙ only-first ns names (children ns body) p in-body (of-kind q) (sym twice-is ∙ once (parentOf ns body) (parent-in ns tree body in-table))
+        go false q true r = never (sym (kind-names ns names p (first-kind ns names (children ns body) p r)) ∙ q)
+        go false q false r = refl
+
+  module _ (n : ℕ) (h : n < count ns) where
+    abbrev u : ℕ
+    u = unitOf ns (begins ns) n
+
+    constructor-first : isConstructorMethod ns (namesConstructor ns names) u ≡ isConstructorMethod ns (isFirstConstructor ns names) u
+    unfolding isConstructorMethod
+    constructor-first = go (isMethod ns u) refl
+      where
+        go : (b : Bool) → isMethod ns u ≡ b → (b && namesConstructor ns names (parentOf ns u)) ≡ (b && isFirstConstructor ns names (parentOf ns u))
+        go true q = sym (first-only (parentOf ns u) (parent-in ns tree u (unit-is ns tree n h .below)) (method-kind ns u q))
+        go false q = refl
+
+    -- THE LAW
+    pub first-same : eachBare ns names n ≡ standardBare ns names n
+    unfolding bareCall
+    first-same = rw constructor-first
