@@ -16,29 +16,12 @@ use Rattle.unit.specs.declared.Shape.the-variants.{Simple, Break, Continue, Ret
 use Rattle.words.specs.Words.{ifz, head0, ownBy, Att, live, on, own, off, after, attAt, wordsBy, wordsAt, rows, codeOf}
 use Rattle.words.specs.WordsLaws.{on-live, rows-on, rows-off, rows-end, off-on, off-off, on-low}
 use Rattle.words.specs.Held.{Held}
+use Rattle.words.specs.Made.{words-length}
 use Rattle.aims.specs.Aim.{aim}
 use Rattle.emits.specs.Laid.{listWords, blockWords, loopWords, ifWords, switchWords, caseWords}
 use Rattle.emits.specs.Numbers.{words-simple, words-break, words-continue, words-return, words-throw, words-if, words-with, words-label, words-block, words-loop, words-switch, words-case}
 
 module _ (ns names : List ℕ) (b : ℕ) where
-  wordsLength : (s : Shape) (j o : ℕ) (a : Att) (ps : List ℕ) (m : ℕ) → length (wordsBy ns names b s j o a ps m) ≡ ownBy s
-  wordsLength Simple j o a ps m = refl
-  wordsLength Break j o a ps m = refl
-  wordsLength Continue j o a ps m = refl
-  wordsLength Return j o a ps m = refl
-  wordsLength Throw j o a ps m = refl
-  wordsLength If j o a ps m = refl
-  wordsLength With j o a ps m = refl
-  wordsLength Block j o a ps m = refl
-  wordsLength Label j o a ps m = refl
-  wordsLength Loop j o a ps m = refl
-  wordsLength Switch j o a ps m = refl
-  wordsLength Case j o a ps m = refl
-
-  pub words-length : (j : ℕ) → on ns b j ≡ true → off ns b j + length (wordsAt ns names b j) ≡ off ns b (j + 1)
-  unfolding wordsAt
-  words-length j e = ap (λ k. off ns b j + k) (wordsLength (shapeAt ns j) j (off ns b j) (attAt ns names b j) (parts ns j (j + 1)) (after ns j)) ∙ sym (off-on ns b j e)
-
   -- What a turn does to the slice.
   unfoldable pub turned : List ℕ → ℕ → List ℕ
   turned f j = cond (on ns b j) (put f (off ns b j) (wordsAt ns names b j)) f
@@ -49,7 +32,7 @@ module _ (ns names : List ℕ) (b : ℕ) where
     where
       go : (x : Bool) → on ns b j ≡ x → Wrote f₀ (cond x (put f (off ns b j) (wordsAt ns names b j)) f) (off ns b (j + 1)) (rows ns names b (j + 1) ++ rest) whole
       go true e =
-          subst (λ w. Wrote f₀ (put f (off ns b j) (wordsAt ns names b j)) w (rows ns names b (j + 1) ++ rest) whole) (words-length j e)
+          subst (λ w. Wrote f₀ (put f (off ns b j) (wordsAt ns names b j)) w (rows ns names b (j + 1) ++ rest) whole) (words-length ns names b j e)
           (wrote-put f₀ f (off ns b j) (wordsAt ns names b j) (rows ns names b (j + 1) ++ rest) whole
           (subst (λ l. Wrote f₀ f (off ns b j) l whole) (ap (λ l. l ++ rest) (rows-on ns names b j h e) ∙ append-assoc (wordsAt ns names b j) (rows ns names b (j + 1)) rest) o))
       go false e = subst (λ w. Wrote f₀ f w (rows ns names b (j + 1) ++ rest) whole) (sym (off-off ns b j e)) (subst (λ l. Wrote f₀ f (off ns b j) (l ++ rest) whole) (rows-off ns names b j h e) o)

@@ -1,4 +1,4 @@
--- How many words a node has at most; the first offset, and the next.
+-- How far the offsets go at most; the first offset, and the next.
 use Prim.Native.Nat.{ℕ, zero, suc, _+_, _*_, _≤_, _<_}
 use mathlib.Core.Path.{_≡_, refl, sym, _∙_, subst}
 use mathlib.Core.Logic.{_⊎_, inl, inr}
@@ -11,39 +11,16 @@ use native.Mathlib.Nat.{eq-or-lt-of-le}
 use native.Mathlib.Omega.{arith}
 use borrow.Author.Tests.{lt-ltb}
 use Rattle.unit.specs.Unit.{shapeAt}
-use Rattle.unit.specs.declared.Shape.{Shape}
-use Rattle.unit.specs.declared.Shape.the-variants.{Simple, Break, Continue, Return, Throw, If, With, Block, Label, Loop, Switch, Case}
 use Rattle.words.specs.Words.{ownBy, live, on, own, off}
 use Rattle.words.specs.WordsLaws.{on-low}
+use Rattle.words.specs.Made.{own-bound}
 use Rattle.offsets.specs.Offsets.{Offs}
 
-pub own-by-bound : (s : Shape) → ownBy s ≤ 10
-own-by-bound Simple = omega arith
-own-by-bound Break = omega arith
-own-by-bound Continue = omega arith
-own-by-bound Return = omega arith
-own-by-bound Throw = omega arith
-own-by-bound If = omega arith
-own-by-bound With = omega arith
-own-by-bound Block = omega arith
-own-by-bound Label = omega arith
-own-by-bound Loop = omega arith
-own-by-bound Switch = omega arith
-own-by-bound Case = omega arith
-
 module _ (ns : List ℕ) (b : ℕ) where
-  pub own-bound : (j : ℕ) → own ns b j ≤ 10
-  unfolding own
-  own-bound j = go (on ns b j)
-    where
-      go : (x : Bool) → cond x (ownBy (shapeAt ns j)) 0 ≤ 10
-      go true = own-by-bound (shapeAt ns j)
-      go false = omega arith
-
   pub off-bound : (j : ℕ) → off ns b j ≤ j * 10
   unfolding off
   off-bound zero = omega arith
-  off-bound (suc j) = let h = off-bound j in let k = own-bound j in omega arith
+  off-bound (suc j) = let h = off-bound j in let k = own-bound ns b j in omega arith
 
   pub own-low : (j : ℕ) → j ≤ b → own ns b j ≡ 0
   unfolding own

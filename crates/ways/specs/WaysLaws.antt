@@ -17,15 +17,11 @@ use Rattle.tables.specs.Table.{parentOf, count}
 use Rattle.completion.specs.Tree.{near, named}
 use Rattle.completion.specs.Sem.{Comp, normal, breaks, continues, returns, throws, elem}
 use Rattle.unit.specs.Unit.{shapeAt, isPart, idAt}
-use Rattle.words.specs.Words.{ifz, live, off, attAt}
+use Rattle.words.specs.Words.{live, off, attAt}
 use Rattle.words.specs.WordsLaws.{live-up, live-low, att-root}
 use Rattle.aims.specs.Aim.{isLoop, isBreakable, isLabeled, aim, setOf}
 use Rattle.aims.specs.AimLaws.{aim-root, aim-bre, aim-con, aim-breN, aim-conN, set-up, aim-ret, aim-thr}
 use Rattle.ways.specs.Ways.{Nors}
-
-pub ifz-pos : (n x y : ℕ) → 0 < n → ifz n x y ≡ y
-ifz-pos zero x y h = absurd (omega arith)
-ifz-pos (suc n) x y h = refl
 
 -- A live node stands at b or behind it.
 pub live-ge : (ns : List ℕ) (b j : ℕ) → live ns b j ≡ true → b ≤ j

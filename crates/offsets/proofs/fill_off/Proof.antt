@@ -6,7 +6,8 @@ use borrow.Author.Tests.{ltb-true, ltb-false}
 use Rattle.tables.specs.Table.{count}
 use Rattle.words.specs.WordsLaws.{off-next}
 use Rattle.words.specs.Words.{off}
-use Rattle.offsets.specs.OffsetsLaws.{offs-first, offs-next, off-bound, own-bound}
+use Rattle.offsets.specs.OffsetsLaws.{offs-first, offs-next, off-bound}
+use Rattle.words.specs.Made.{own-bound}
 use Rattle.offsets.specs.Offsets.{Offs}
 use borrow.Author.Needs.{needs}
 use Rattle.offsets.proofs.fill_off.Statement.{statement}

@@ -1,4 +1,4 @@
-use Rattle.ways.specs.WaysLaws.{ifz-pos}
+use Rattle.words.specs.MadeLaws.{ifz-pos}
 use mathlib.Core.Path.{sym}
 use native.Mathlib.Omega.{arith}
 use borrow.Author.Needs.{needs}
