@@ -17,11 +17,12 @@ use Rattle.children.specs.Children.{valueOf}
 use Rattle.scoping.specs.Scoping.{inStaticBlock}
 use Rattle.scoping.specs.ScopingLaws.{static-here, static-function, static-up, static-root}
 use Rattle.trees.specs.Trail.{unitOf}
-use Rattle.ecma_strict.specs.Strict.{strictCode}
+use Rattle.ecma_base.specs.Strict.{strictCode}
 use Rattle.ecma_strict.specs.Identifiers.{goalModule, assignsEval}
-use Rattle.ecma_strict.specs.Contains.{isNode, initializer, awaitEdge, staticBlock, awaitName, argumentsEdge, argumentsHome, argumentsReference, parameter, parameterEdge, boundEdge, awaitInBlock, awaitNameInBlock, argumentsInClass, awaitInParameter, letBound}
-use Rattle.ecma_strict.specs.Scopes.{blockScope, functionScope}
-use Rattle.ecma_strict.specs.ContainsLaws.{upward, unitRoot}
+use Rattle.ecma_base.specs.Contains.{isNode, initializer}
+use Rattle.ecma_strict.specs.Contains.{awaitEdge, staticBlock, awaitName, argumentsEdge, argumentsHome, argumentsReference, parameter, parameterEdge, boundEdge, awaitInBlock, awaitNameInBlock, argumentsInClass, awaitInParameter, letBound}
+use Rattle.ecma_base.specs.Scopes.{blockScope, functionScope}
+use Rattle.ecma_base.specs.ContainsLaws.{upward, unitRoot}
 use Rattle.ecma_strict.specs.SearchLaws.{unitHere, unitPass}
 use Rattle.ecma_strict.specs.Changed.{scopedInBlock, awaitNameScoped, letEdge, letBoundSaid, fieldEdge, fieldHome, argumentsSaid, throughClassEdge, awaitInParameterSaid, AwaitNameTold}
 

@@ -14,13 +14,14 @@ use Rattle.tables.specs.Extras as extra
 use Rattle.tables.specs.ScopeFlag as scope
 use Rattle.children.specs.Children.{valueOf}
 use Rattle.trees.specs.Trail.{unitOf}
-use Rattle.ecma_strict.specs.Strict.{strictCode}
-use Rattle.ecma_strict.specs.Scopes.{mayMakeScope, blockScope, topScope}
+use Rattle.ecma_base.specs.Strict.{strictCode}
+use Rattle.ecma_base.specs.Scopes.{mayMakeScope, blockScope, topScope}
 use Rattle.ecma_strict.specs.Literals.{textOf, decimalDigit, next, legacyOctalInteger, nonOctalDecimalInteger, numericLiteral, legacyOctalEscape, nonOctalDecimalEscape, escapes, stringLiteral}
 use Rattle.ecma_strict.specs.Delete.{privateReference, derives, deleteExpression}
 use Rattle.ecma_strict.specs.Statements.{declaratorsOf, plainName, single, badHead, headOf, ofHead, usingDeclaration, heldUsing}
 use Rattle.ecma_strict.specs.Identifiers.{goalModule, assignsEval, useStrictDirective, simpleParameters}
-use Rattle.ecma_strict.specs.Contains.{isNode, staticBlock, awaitNameEdge, awaitName, argumentsReference, parameter, awaitOrYield, lexicalDeclaration, letName}
+use Rattle.ecma_base.specs.Contains.{isNode}
+use Rattle.ecma_strict.specs.Contains.{staticBlock, awaitNameEdge, awaitName, argumentsReference, parameter, awaitOrYield, lexicalDeclaration, letName}
 use Rattle.ecma_strict.specs.Functions.{endsInStatement, labelsFunction, labelEdge}
 
 -- 9, 10, 11: literals

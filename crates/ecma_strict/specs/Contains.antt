@@ -1,47 +1,17 @@
--- ECMA-262, 8.5.1 Contains, 15.7.9 ContainsArguments, 8.2.1 BoundNames: operations that begin at a node of one kind, go down, and end at others.
+-- ECMA-262, the rules that Contains (8.5.1), ContainsArguments (15.7.9) and BoundNames (8.2.1) decide: what is sought, where the operation begins, and where it ends.
 use Prim.Native.Nat.{ℕ}
 use mathlib.Core.List.{List}
-use mathlib.Core.Bool.{Bool, false, not, _&&_, _||_}
+use mathlib.Core.Bool.{Bool, not, _&&_, _||_}
 use lib.Dec.{eqb}
 use Rattle.common.specs.Tests.{within}
 use Rattle.tables.specs.Table.{kindOf, parentOf, flagsOf, extraOf, hasFlag}
 use Rattle.tables.specs.Kinds as k
 use Rattle.tables.specs.Extras as extra
 use Rattle.tables.specs.NodeFlag as flag
-use Rattle.tables.specs.declared.Found.{Found}
-use Rattle.tables.specs.declared.Found.the-variants.{At, Nothing}
 use Rattle.names.specs.Name.{nameIs}
 use Rattle.names.specs.Words as word
-use Rattle.children.specs.Children.{valueOf}
-use Rattle.trees.specs.Rose.{Rose, Roses, node, rnil, rcons, idx, partsOf}
 use Rattle.trees.specs.Trail.{unitOf}
-
--- "For each child node child of this Parse Node: if child is an instance of symbol, return true; if child is an instance of a nonterminal, let contained be the result
--- of child Contains symbol. If contained is true, return true. Return false." It goes into the part j of the node i where `into i j` says so.
-module _ (sought : ℕ → Bool) (into : ℕ → ℕ → Bool) where
-  unfoldable mutual
-    pub contains : Rose → Bool
-    contains (node n ks) = sought n || containsAny ks (into n)
-
-    pub containsAny : Roses → (ℕ → Bool) → Bool
-    containsAny rnil b = false
-    containsAny (rcons t ts) b = (b (idx t) && contains t) || containsAny ts b
-
--- The operation of a node u: it begins at those parts of u of which `begin` says so.
-abbrev pub containsFrom : List ℕ → (ℕ → Bool) → (ℕ → ℕ → Bool) → (ℕ → ℕ → Bool) → ℕ → Bool
-containsFrom ns sought into begin u = containsAny sought into (partsOf ns u) (begin u)
-
--- FieldDefinition : ClassElementName Initializer: j is the Initializer of i
-abbrev pub isNode : Found → ℕ → Bool
-isNode (At m) j = eqb (m .0) j
-isNode Nothing j = false
-
-abbrev pub initializer : List ℕ → ℕ → ℕ → Bool
-initializer ns i j = within (kindOf ns i) k.PropertyDefinition k.AccessorProperty && isNode (valueOf ns i) j
-
--- 8.5.1 Contains: of functions, arrows and static blocks it is false; of a class it looks at the heritage and the computed keys, so not into the Initializer of a field
-abbrev pub containsInto : List ℕ → ℕ → ℕ → Bool
-containsInto ns i j = not (within (kindOf ns i) k.Function k.StaticBlock || initializer ns i j)
+use Rattle.ecma_base.specs.Contains.{initializer}
 
 -- 15.7.1: "It is a Syntax Error if ClassStaticBlockStatementList Contains await is true."
 abbrev pub staticBlock : List ℕ → ℕ → Bool

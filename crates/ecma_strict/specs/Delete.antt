@@ -11,7 +11,7 @@ use Rattle.tables.specs.declared.Found.{Found}
 use Rattle.tables.specs.declared.Found.the-variants.{At, Nothing}
 use Rattle.children.specs.Children.{valueOf}
 use Rattle.trees.specs.Rose.{Rose, Roses, node, rnil, rcons, idx, treeAt}
-use Rattle.ecma_strict.specs.Strict.{strictCode}
+use Rattle.ecma_base.specs.Strict.{strictCode}
 
 -- PrimaryExpression : CoverParenthesizedExpressionAndArrowParameterList
 abbrev pub parenthesized : List ℕ → ℕ → Bool

@@ -28,7 +28,7 @@ use Rattle.trees.specs.Rose.{Rose, Roses, node, rnil, rcons, idx, partsOf, tree
 use Rattle.trees.specs.RoseLaws.{PlacedAll, WholeAll, partsPlaced, partsWhole, foldPartsIs}
 use Rattle.trees.specs.Walk.{only}
 use Rattle.ecma_strict.specs.Nodes.{nodesOf}
-use Rattle.ecma_strict.specs.Strict.{strictCode}
+use Rattle.ecma_base.specs.Strict.{strictCode}
 use Rattle.ecma_strict.specs.Delete.{parenthesized, ultimately, ultimatelyFirst, nameReference, firstIsPrivate, privateReference, derives, deletesName, deletesPrivate}
 use Rattle.ecma_strict.specs.Changed.{deletesPrivateAnywhere}
 

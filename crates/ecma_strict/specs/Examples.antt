@@ -9,7 +9,7 @@ use Rattle.common.specs.Upto.{upto, range}
 use Rattle.children.specs.Children.{keep, children, isChild, firstNode}
 use Rattle.trees.specs.Rose.{kids, others, forest, partsOf}
 use Rattle.trees.specs.Trail as trails
-use Rattle.ecma_strict.specs.Scopes.{followsAt, flaggedAt, scopesFollow}
+use Rattle.ecma_base.specs.Scopes.{followsAt, flaggedAt, classAt, scopesFollow}
 use Rattle.ecma_strict.specs.Literals.{textOf, legacyOctalInteger, octalsThenNonOctal, nonOctalDecimalInteger, legacyOctalEscape, nonOctalDecimalEscape, escapes, strictOctalEscape, strictNonOctalEscape}
 use Rattle.ecma_strict.specs.Delete.{ultimately, privateReference, deletesPrivate}
 use Rattle.ecma_strict.specs.Statements.{annexHead, badHead, initializedHead, heldUsing, badUsing}
@@ -533,5 +533,5 @@ privateChain = refl
 
 -- the scopes of all these trees follow the tree
 pub scopesHold : map (λ t. scopesFollow (t .nodes) (t .scopes)) (blockNameTree ∷ arrowParameterTree ∷ arrowBodyTree ∷ functionNameTree ∷ expressionNameTree ∷ parameterBlockTree ∷ accessorTree ∷ assignedTree ∷ strictLetTree ∷ letHeadTree ∷ varHeadTree ∷ usingClauseTree ∷ usingTopTree ∷ usingBlockTree ∷ usingForTree ∷ strictLabelTree ∷ twoLabelsTree ∷ twoEscapesTree ∷ privateChainTree ∷ []) ≡ map (λ t. true) (blockNameTree ∷ arrowParameterTree ∷ arrowBodyTree ∷ functionNameTree ∷ expressionNameTree ∷ parameterBlockTree ∷ accessorTree ∷ assignedTree ∷ strictLetTree ∷ letHeadTree ∷ varHeadTree ∷ usingClauseTree ∷ usingTopTree ∷ usingBlockTree ∷ usingForTree ∷ strictLabelTree ∷ twoLabelsTree ∷ twoEscapesTree ∷ privateChainTree ∷ [])
-unfolding scopesFollow flaggedAt followsAt upto range
+unfolding scopesFollow flaggedAt followsAt classAt upto range
 scopesHold = refl

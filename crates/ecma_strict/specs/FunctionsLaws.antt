@@ -21,9 +21,9 @@ use Rattle.statements.specs.StatementsLaws.{function-on, function-held, functio
 use Rattle.trees.specs.Walk.{only}
 use Rattle.trees.specs.Trail.{unitOf}
 use Rattle.ecma_strict.specs.Nodes.{nodesOf}
-use Rattle.ecma_strict.specs.Strict.{strictCode}
+use Rattle.ecma_base.specs.Strict.{strictCode}
 use Rattle.ecma_strict.specs.Functions.{isFunction, endsInStatement, strictFunction, strictFunctionElse, sloppyFunction, labelEdge, labelledFunctionAt}
-use Rattle.ecma_strict.specs.ContainsLaws.{upward, unitRoot}
+use Rattle.ecma_base.specs.ContainsLaws.{upward, unitRoot}
 use Rattle.ecma_strict.specs.SearchLaws.{unitHere, unitPass}
 use Rattle.ecma_strict.specs.Changed.{labelledFunctionSaid}
 

@@ -11,7 +11,7 @@ use Rattle.tables.specs.NodeFlag as flag
 use Rattle.children.specs.Children.{children}
 use Rattle.names.specs.Name.{nameIs}
 use Rattle.names.specs.Words as word
-use Rattle.ecma_strict.specs.Strict.{strictCode}
+use Rattle.ecma_base.specs.Strict.{strictCode}
 
 -- the goal symbol of the syntactic grammar is Module
 abbrev pub goalModule : ℕ → Bool

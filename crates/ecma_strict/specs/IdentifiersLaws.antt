@@ -21,7 +21,7 @@ use Rattle.diagnostics.specs.declared.Raised.the-variants.{Clear}
 use Rattle.identifiers.specs.Identifiers.{strictContext, awaitFinding, isStrictWord, checkIdentifier, isNotSimple, checkDirective}
 use Rattle.trees.specs.Walk.{only}
 use Rattle.ecma_strict.specs.Nodes.{nodesOf}
-use Rattle.ecma_strict.specs.Strict.{strictCode}
+use Rattle.ecma_base.specs.Strict.{strictCode}
 use Rattle.ecma_strict.specs.StatementsLaws.{ifOnly}
 use Rattle.ecma_strict.specs.Identifiers.{goalModule, identifier, strictReserved, reservedName, useStrictDirective, simpleParameters, useStrictThere}
 use Rattle.ecma_strict.specs.Changed.{useStrictScoped, DirectiveTold, awaitNameScoped}

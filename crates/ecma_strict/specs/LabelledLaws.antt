@@ -24,8 +24,8 @@ use Rattle.standing.specs.Standing.{isStatement}
 use Rattle.shape.specs.ShapeLaws.{Shaped}
 use Rattle.trees.specs.Rose.{Rose, Roses, node, rnil, rcons, idx, partsOf, foldParts}
 use Rattle.trees.specs.RoseLaws.{Under, Placed, PlacedAll, Whole, WholeAll, partsPlaced, partsWhole, foldPartsIs}
-use Rattle.ecma_strict.specs.Contains.{contains, containsAny}
-use Rattle.ecma_strict.specs.ContainsLaws.{containsIn}
+use Rattle.ecma_base.specs.Contains.{contains, containsAny}
+use Rattle.ecma_base.specs.Contains.{containsIn}
 use Rattle.ecma_strict.specs.Functions.{isFunction, endsInStatement, isLabelledFunction, labelledItem, labelledAmong, labelsFunction, labelEdge}
 
 one : (a : ℕ) → within a 3 3 ≡ eqb a 3

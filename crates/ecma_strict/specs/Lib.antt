@@ -1,7 +1,5 @@
 pub mod Nodes
 pub mod NodesLaws
-pub mod Strict
-pub mod Scopes
 pub mod Literals
 pub mod Delete
 pub mod Statements
@@ -13,7 +11,6 @@ pub mod LiteralsLaws
 pub mod DeleteLaws
 pub mod StatementsLaws
 pub mod IdentifiersLaws
-pub mod ContainsLaws
 pub mod SearchLaws
 pub mod NodeRules
 pub mod AgreeLaws

@@ -8,7 +8,7 @@ use Rattle.common.specs.Upto.{all, any}
 use Rattle.common.specs.Tests.{within}
 use Rattle.tables.specs.Table.{kindOf, parentOf, spanStartOf, spanEndOf}
 use Rattle.tables.specs.Kinds as k
-use Rattle.ecma_strict.specs.Strict.{strictCode}
+use Rattle.ecma_base.specs.Strict.{strictCode}
 
 unfoldable pub textOf : List ℕ → List ℕ → ℕ → List ℕ
 textOf ns source n = take (spanEndOf ns n - spanStartOf ns n) (drop (spanStartOf ns n) source)

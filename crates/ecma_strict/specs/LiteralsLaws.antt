@@ -22,7 +22,7 @@ use Rattle.literals.specs.Escapes.{digitNext, isLegacyOctal, isNonOctalDecimal,
 use Rattle.literals.specs.Literals.{sourceText, leadingZero, escapeFinding, checkStringLiteral, checkNumberLiteral}
 use Rattle.trees.specs.Walk.{only}
 use Rattle.ecma_strict.specs.Nodes.{nodesOf}
-use Rattle.ecma_strict.specs.Strict.{strictCode}
+use Rattle.ecma_base.specs.Strict.{strictCode}
 use Rattle.ecma_strict.specs.Literals.{textOf, decimalDigit, octalDigit, nonOctalDigit, next, legacyOctalInteger, octalsThenNonOctal, nonOctalDecimalInteger, numericLiteral, strictOctal, strictNonOctal, legacyOctalEscape, nonOctalDecimalEscape, escapes, stringLiteral, strictOctalEscape, strictNonOctalEscape}
 use Rattle.ecma_strict.specs.Changed.{zeroThenDigit, toldOctal, toldNonOctal, octalFirst, nonOctalFirst, looksPlain, firstOctalEscape, firstNonOctalEscape, BaseTold, EscapesTold}
 

@@ -16,11 +16,12 @@ use Rattle.tables.specs.Facts.{Tree}
 use Rattle.tables.specs.Kinds as k
 use Rattle.ancestry.specs.AncestryLaws.{parent-in, ancestors-up, ancestors-root}
 use Rattle.standing.specs.StandingLaws.{Placed}
-use Rattle.ecma_strict.specs.Scopes.{makesScope, mayMakeScope, sameScope, newScope, followsAt, iff, blockScope, functionScope, topScope, scopeKind, flaggedAt, scopesFollow}
+use Rattle.ecma_base.specs.Scopes.{makesScope, mayMakeScope, scopesFollow}
+use Rattle.ecma_base.specs.ScopesLaws.{notProgram, Made, root, blockFlag, functionFlag, topFlag, made, sameOrMade, sameOnly, madeKind, rootKind}
 use Rattle.ecma_strict.specs.Statements.{holdsUsing, heldUsing}
 use Rattle.ecma_strict.specs.Contains.{awaitNameEdge}
 use Rattle.ecma_strict.specs.AgreeLaws.{ScopesTold}
-use Rattle.ecma_strict.specs.ContainsLaws.{rootOnly, upward}
+use Rattle.ecma_base.specs.ContainsLaws.{rootOnly, upward}
 use Rattle.trees.specs.Trail.{unitOf}
 use Rattle.ecma_strict.specs.Changed.{otherScope, UsingTold, directivePlaced, DirectiveTold, AwaitNameTold}
 
@@ -57,105 +58,7 @@ makeNone a e f = go (makesScope a) refl
         (either (within a 1 3) (eqb a 5 || within a 7 9) q)
     go false q = refl
 
-pub notProgram : (ns : List ℕ) → Tree ns → (i : ℕ) → (kindOf ns i ≡ 0 → ⊥) → 0 < i
-notProgram ns t i n = ⊎-elim (λ (q : 0 ≡ i). absurd (n (ap (λ (x : ℕ). kindOf ns x) (sym q) ∙ t .root))) (λ (h : 0 < i). h) (eq-or-lt-of-le (omega arith))
-
-same : (a b : Bool) → iff a b ≡ true → a ≡ b
-same true true e = refl
-same true false e = sym e
-same false true e = e
-same false false e = refl
-
--- a scope that the parent p of i makes
-pub record Made (ns ss : List ℕ) (i : ℕ) : Type 0 where
-  pub later : 0 < scopeOf ns i
-  pub around : scopeParentOf ss (scopeOf ns i) ≡ scopeOf ns (parentOf ns i)
-  pub whose : scopeNodeOf ss (scopeOf ns i) ≡ parentOf ns i
-
 module _ (ns ss : List ℕ) (t : Tree ns) (w : scopesFollow ns ss ≡ true) where
-  abbrev start : Bool
-  start = eqb (scopeOf ns 0) 0 && eqb (scopeNodeOf ss 0) 0
-
-  pub root : scopeOf ns 0 ≡ 0
-  unfolding scopesFollow
-  root = eqb-true (scopeOf ns 0) 0 (and-left (eqb (scopeOf ns 0) 0) (eqb (scopeNodeOf ss 0) 0) (and-left start (all (flaggedAt ns ss) (upto 0 (count ns)) && all (followsAt ns ss) (upto 1 (count ns))) w))
-
-  rootNode : scopeNodeOf ss 0 ≡ 0
-  unfolding scopesFollow
-  rootNode = eqb-true (scopeNodeOf ss 0) 0 (and-right (eqb (scopeOf ns 0) 0) (eqb (scopeNodeOf ss 0) 0) (and-left start (all (flaggedAt ns ss) (upto 0 (count ns)) && all (followsAt ns ss) (upto 1 (count ns))) w))
-
-  tests : (all (flaggedAt ns ss) (upto 0 (count ns)) && all (followsAt ns ss) (upto 1 (count ns))) ≡ true
-  unfolding scopesFollow
-  tests = and-right start (all (flaggedAt ns ss) (upto 0 (count ns)) && all (followsAt ns ss) (upto 1 (count ns))) w
-
-  flagged : (i : ℕ) → i < count ns → flaggedAt ns ss i ≡ true
-  flagged i h = all-upto (flaggedAt ns ss) 0 (count ns) (and-left (all (flaggedAt ns ss) (upto 0 (count ns))) (all (followsAt ns ss) (upto 1 (count ns))) tests) i (omega arith) h
-
-  follows : (i : ℕ) → 0 < i → i < count ns → followsAt ns ss i ≡ true
-  follows i z h = all-upto (followsAt ns ss) 1 (count ns) (and-right (all (flaggedAt ns ss) (upto 0 (count ns))) (all (followsAt ns ss) (upto 1 (count ns))) tests) i (omega arith) h
-
-  -- the three flags
-  abbrev b : ℕ → Bool
-  b i = iff (blockScope ns ss i) (eqb (scopeKind ns ss i) k.StaticBlock)
-
-  abbrev f : ℕ → Bool
-  f i = iff (functionScope ns ss i) (within (scopeKind ns ss i) k.Function k.Arrow)
-
-  abbrev p : ℕ → Bool
-  p i = iff (topScope ns ss i) (eqb (scopeOf ns i) 0)
-
-  pub blockFlag : (i : ℕ) → i < count ns → blockScope ns ss i ≡ eqb (scopeKind ns ss i) k.StaticBlock
-  unfolding flaggedAt
-  blockFlag i h = same (blockScope ns ss i) (eqb (scopeKind ns ss i) k.StaticBlock) (and-left (b i) (f i && p i) (flagged i h))
-
-  pub functionFlag : (i : ℕ) → i < count ns → functionScope ns ss i ≡ within (scopeKind ns ss i) k.Function k.Arrow
-  unfolding flaggedAt
-  functionFlag i h = same (functionScope ns ss i) (within (scopeKind ns ss i) k.Function k.Arrow) (and-left (f i) (p i) (and-right (b i) (f i && p i) (flagged i h)))
-
-  pub topFlag : (i : ℕ) → i < count ns → topScope ns ss i ≡ eqb (scopeOf ns i) 0
-  unfolding flaggedAt
-  topFlag i h = same (topScope ns ss i) (eqb (scopeOf ns i) 0) (and-right (f i) (p i) (and-right (b i) (f i && p i) (flagged i h)))
-
-  new : (i : ℕ) → newScope ns ss i ≡ true → Made ns ss i
-  new i e =
-      record {
-        later = ltb-true 0 (scopeOf ns i) (and-left (ltb 0 (scopeOf ns i)) (eqb (scopeParentOf ss (scopeOf ns i)) (scopeOf ns (parentOf ns i)) && eqb (scopeNodeOf ss (scopeOf ns i)) (parentOf ns i)) e);
-        around = eqb-true (scopeParentOf ss (scopeOf ns i)) (scopeOf ns (parentOf ns i))
-            (and-left (eqb (scopeParentOf ss (scopeOf ns i)) (scopeOf ns (parentOf ns i))) (eqb (scopeNodeOf ss (scopeOf ns i)) (parentOf ns i))
-            (and-right (ltb 0 (scopeOf ns i)) (eqb (scopeParentOf ss (scopeOf ns i)) (scopeOf ns (parentOf ns i)) && eqb (scopeNodeOf ss (scopeOf ns i)) (parentOf ns i)) e));
-        whose = eqb-true (scopeNodeOf ss (scopeOf ns i)) (parentOf ns i)
-            (and-right (eqb (scopeParentOf ss (scopeOf ns i)) (scopeOf ns (parentOf ns i))) (eqb (scopeNodeOf ss (scopeOf ns i)) (parentOf ns i))
-            (and-right (ltb 0 (scopeOf ns i)) (eqb (scopeParentOf ss (scopeOf ns i)) (scopeOf ns (parentOf ns i)) && eqb (scopeNodeOf ss (scopeOf ns i)) (parentOf ns i)) e));
-      }
-
-  pub made : (i : ℕ) → 0 < i → i < count ns → makesScope (kindOf ns (parentOf ns i)) ≡ true → Made ns ss i
-  unfolding followsAt
-  made i z h e = new i (rw e at (follows i z h))
-
-  pub sameOrMade : (i : ℕ) → 0 < i → i < count ns → (scopeOf ns i ≡ scopeOf ns (parentOf ns i)) ⊎ Made ns ss i
-  unfolding followsAt
-  sameOrMade i z h = go (makesScope (kindOf ns (parentOf ns i))) refl
-    where
-      go : (x : Bool) → makesScope (kindOf ns (parentOf ns i)) ≡ x → (scopeOf ns i ≡ scopeOf ns (parentOf ns i)) ⊎ Made ns ss i
-      go true e = inr (made i z h e)
-      go false e =
-          ⊎-elim (λ q. inl (eqb-true (scopeOf ns i) (scopeOf ns (parentOf ns i)) q)) (λ q. inr (new i (and-right (mayMakeScope (kindOf ns (parentOf ns i))) (newScope ns ss i) q)))
-          (either (sameScope ns i) (mayMakeScope (kindOf ns (parentOf ns i)) && newScope ns ss i) (rw e at (follows i z h)))
-
-  pub sameOnly : (i : ℕ) → 0 < i → i < count ns → makesScope (kindOf ns (parentOf ns i)) ≡ false → mayMakeScope (kindOf ns (parentOf ns i)) ≡ false → scopeOf ns i ≡ scopeOf ns (parentOf ns i)
-  unfolding followsAt
-  sameOnly i z h e g =
-      ⊎-elim (λ q. eqb-true (scopeOf ns i) (scopeOf ns (parentOf ns i)) q) (λ q. never (sym (and-left (mayMakeScope (kindOf ns (parentOf ns i))) (newScope ns ss i) q) ∙ g))
-      (either (sameScope ns i) (mayMakeScope (kindOf ns (parentOf ns i)) && newScope ns ss i) (rw e at (follows i z h)))
-
-  -- the kind of the node of a scope that i's parent makes is its parent's
-  pub madeKind : (i : ℕ) → Made ns ss i → scopeKind ns ss i ≡ kindOf ns (parentOf ns i)
-  madeKind i m = ap (λ (x : ℕ). kindOf ns x) (m .whose)
-
-  -- the scope of what no parent makes a scope for is the program's
-  rootKind : (i : ℕ) → scopeOf ns i ≡ 0 → scopeKind ns ss i ≡ 0
-  rootKind i e = ap (λ (x : ℕ). kindOf ns (scopeNodeOf ss x)) e ∙ ap (λ (x : ℕ). kindOf ns x) rootNode ∙ t .root
-
   -- `within` has one less: a kind from 1 to 3 that is not 3
   functionOrBlock : (a : ℕ) → within a 1 3 ≡ true → within a 1 2 ≡ not (eqb a 3)
   functionOrBlock a e = go (eqb a 3) refl
@@ -180,25 +83,25 @@ module _ (ns ss : List ℕ) (t : Tree ns) (w : scopesFollow ns ss ≡ true) wher
 
   pub scopesTold : ScopesTold ns ss
   scopesTold = record {
-    top = root;
-    neither = (blockFlag 0 (t .some) ∙ rw (rootKind 0 root), functionFlag 0 (t .some) ∙ rw (rootKind 0 root));
+    top = (root ns ss t w);
+    neither = (blockFlag ns ss t w 0 (t .some) ∙ rw (rootKind ns ss t w 0 (root ns ss t w)), functionFlag ns ss t w 0 (t .some) ∙ rw (rootKind ns ss t w 0 (root ns ss t w)));
     inside = λ i z h e.
-        let m = made i z h (ap (λ b. b || (eqb (kindOf ns (parentOf ns i)) k.Block || within (kindOf ns (parentOf ns i)) k.For k.ForOf)) e) in
-        (blockFlag i h ∙ ap (λ (x : ℕ). eqb x 3) (madeKind i m), functionFlag i h ∙ ap (λ (x : ℕ). within x 1 2) (madeKind i m) ∙ functionOrBlock (kindOf ns (parentOf ns i)) e);
+        let m = made ns ss t w i z h (ap (λ b. b || (eqb (kindOf ns (parentOf ns i)) k.Block || within (kindOf ns (parentOf ns i)) k.For k.ForOf)) e) in
+        (blockFlag ns ss t w i h ∙ ap (λ (x : ℕ). eqb x 3) (madeKind ns ss t w i m), functionFlag ns ss t w i h ∙ ap (λ (x : ℕ). within x 1 2) (madeKind ns ss t w i m) ∙ functionOrBlock (kindOf ns (parentOf ns i)) e);
     elsewhere = λ i z h e.
         ⊎-elim (λ q. inl q)
         (λ m. inr (
           m .later,
           m .around,
-          blockFlag i h ∙ ap (λ (x : ℕ). eqb x 3) (madeKind i m) ∙ notThree (kindOf ns (parentOf ns i)) e,
-          functionFlag i h ∙ ap (λ (x : ℕ). within x 1 2) (madeKind i m) ∙ fewer (kindOf ns (parentOf ns i)) 1 2 e (omega arith) (omega arith),
+          blockFlag ns ss t w i h ∙ ap (λ (x : ℕ). eqb x 3) (madeKind ns ss t w i m) ∙ notThree (kindOf ns (parentOf ns i)) e,
+          functionFlag ns ss t w i h ∙ ap (λ (x : ℕ). within x 1 2) (madeKind ns ss t w i m) ∙ fewer (kindOf ns (parentOf ns i)) 1 2 e (omega arith) (omega arith),
         ))
-        (sameOrMade i z h);
+        (sameOrMade ns ss t w i z h);
   }
 
   -- a name whose scope is that of the node where its [Await] comes from
   pub awaitNameTold : (n : ℕ) → n < count ns → scopeNodeOf ss (scopeOf ns n) ≡ unitOf ns (awaitNameEdge ns) n → AwaitNameTold ns ss n
-  awaitNameTold n h e = record { flagged = blockFlag n h; whose = e }
+  awaitNameTold n h e = record { flagged = blockFlag ns ss t w n h; whose = e }
 
   module _ (v : Placed ns) where
     -- a directive under the program or in the body of a function
@@ -210,8 +113,8 @@ module _ (ns ss : List ℕ) (t : Tree ns) (w : scopesFollow ns ss ≡ true) wher
         program : kindOf ns (parentOf ns n) ≡ 0 → DirectiveTold ns ss n
         program q =
             let o : parentOf ns n ≡ 0 = rootOnly ns t (parentOf ns n) (parent-in ns t n h) q in
-            let s : scopeOf ns n ≡ 0 = sameOnly n z h (rw q) (rw q) ∙ ap (λ (x : ℕ). scopeOf ns x) o ∙ root in
-            record { function = functionFlag n h ∙ rw (rootKind n s, q); whose = λ y. absurd (omega arith) }
+            let s : scopeOf ns n ≡ 0 = sameOnly ns ss t w n z h (rw q) (rw q) ∙ ap (λ (x : ℕ). scopeOf ns x) o ∙ (root ns ss t w) in
+            record { function = functionFlag ns ss t w n h ∙ rw (rootKind ns ss t w n s, q); whose = λ y. absurd (omega arith) }
 
         body : kindOf ns (parentOf ns n) ≡ 4 → DirectiveTold ns ss n
         body q =
@@ -222,10 +125,10 @@ module _ (ns ss : List ℕ) (t : Tree ns) (w : scopesFollow ns ss ≡ true) wher
             let r1 = r .1 in
             let i : within (kindOf ns (parentOf ns (parentOf ns n))) 1 2 ≡ true = in-range (kindOf ns (parentOf ns (parentOf ns n))) 1 2 r0 r1 in
             let j : within (kindOf ns (parentOf ns (parentOf ns n))) 1 3 ≡ true = in-range (kindOf ns (parentOf ns (parentOf ns n))) 1 3 r0 (omega arith) in
-            let m = made (parentOf ns n) y l (ap (λ b. b || (eqb (kindOf ns (parentOf ns (parentOf ns n))) k.Block || within (kindOf ns (parentOf ns (parentOf ns n))) k.For k.ForOf)) j) in
-            let s : scopeOf ns n ≡ scopeOf ns (parentOf ns n) = sameOnly n z h (rw q) (rw q) in
+            let m = made ns ss t w (parentOf ns n) y l (ap (λ b. b || (eqb (kindOf ns (parentOf ns (parentOf ns n))) k.Block || within (kindOf ns (parentOf ns (parentOf ns n))) k.For k.ForOf)) j) in
+            let s : scopeOf ns n ≡ scopeOf ns (parentOf ns n) = sameOnly ns ss t w n z h (rw q) (rw q) in
             let o : scopeNodeOf ss (scopeOf ns n) ≡ parentOf ns (parentOf ns n) = ap (λ (x : ℕ). scopeNodeOf ss x) s ∙ m .whose in
-            record { function = functionFlag n h ∙ ap (λ (x : ℕ). within (kindOf ns x) 1 2) o ∙ rw (q, i); whose = λ c. o }
+            record { function = functionFlag ns ss t w n h ∙ ap (λ (x : ℕ). within (kindOf ns x) 1 2) o ∙ rw (q, i); whose = λ c. o }
 
     -- using
     heldUp : (i : ℕ) → 0 < i → i < count ns → heldUsing ns i ≡ (holdsUsing (kindOf ns (parentOf ns i)) || heldUsing ns (parentOf ns i))
@@ -248,7 +151,7 @@ module _ (ns ss : List ℕ) (t : Tree ns) (w : scopesFollow ns ss ≡ true) wher
         step i z h r e = ⊎-elim (λ q. here q) (λ q. below (r q)) (either (holdsUsing (kindOf ns (parentOf ns i))) (heldUsing ns (parentOf ns i)) (sym (heldUp i z h) ∙ e))
           where
             below : 0 < scopeOf ns (parentOf ns i) → 0 < scopeOf ns i
-            below l = ⊎-elim (λ (q : scopeOf ns i ≡ scopeOf ns (parentOf ns i)). omega arith) (λ m. m .later) (sameOrMade i z h)
+            below l = ⊎-elim (λ (q : scopeOf ns i ≡ scopeOf ns (parentOf ns i)). omega arith) (λ m. m .later) (sameOrMade ns ss t w i z h)
 
             here : holdsUsing (kindOf ns (parentOf ns i)) ≡ true → 0 < scopeOf ns i
             here q = go (eqb (kindOf ns (parentOf ns i)) 4) refl
@@ -261,12 +164,12 @@ module _ (ns ss : List ℕ) (t : Tree ns) (w : scopesFollow ns ss ≡ true) wher
                     let r0 = r .0 in
                     let r1 = r .1 in
                     let j : within (kindOf ns (parentOf ns (parentOf ns i))) 1 3 ≡ true = in-range (kindOf ns (parentOf ns (parentOf ns i))) 1 3 r0 (omega arith) in
-                    below (made (parentOf ns i) (notProgram ns t (parentOf ns i) (λ (y : kindOf ns (parentOf ns i) ≡ 0). omega arith)) l
+                    below (made ns ss t w (parentOf ns i) (notProgram ns t (parentOf ns i) (λ (y : kindOf ns (parentOf ns i) ≡ 0). omega arith)) l
                     (ap (λ b. b || (eqb (kindOf ns (parentOf ns (parentOf ns i))) k.Block || within (kindOf ns (parentOf ns (parentOf ns i))) k.For k.ForOf)) j) .later)
-                go false x = made i z h (holdersMake (kindOf ns (parentOf ns i)) q x) .later
+                go false x = made ns ss t w i z h (holdersMake (kindOf ns (parentOf ns i)) q x) .later
 
     free : (i : ℕ) → i < count ns → heldUsing ns i ≡ false → otherScope ns i ≡ false → scopeOf ns i ≡ 0
-    free = upward ns t (λ i. heldUsing ns i ≡ false → otherScope ns i ≡ false → scopeOf ns i ≡ 0) (λ e o. root) step
+    free = upward ns t (λ i. heldUsing ns i ≡ false → otherScope ns i ≡ false → scopeOf ns i ≡ 0) (λ e o. (root ns ss t w)) step
       where
         step : (i : ℕ) → 0 < i → i < count ns → (heldUsing ns (parentOf ns i) ≡ false → otherScope ns (parentOf ns i) ≡ false → scopeOf ns (parentOf ns i) ≡ 0)
             → heldUsing ns i ≡ false → otherScope ns i ≡ false → scopeOf ns i ≡ 0
@@ -275,14 +178,14 @@ module _ (ns ss : List ℕ) (t : Tree ns) (w : scopesFollow ns ss ≡ true) wher
             let y = sym (otherUp i z h) ∙ o in
             let a = or-first (holdsUsing (kindOf ns (parentOf ns i))) (heldUsing ns (parentOf ns i)) x in
             let c = or-first (within (kindOf ns (parentOf ns i)) k.Function k.Arrow || mayMakeScope (kindOf ns (parentOf ns i))) (otherScope ns (parentOf ns i)) y in
-            sameOnly i z h (makeNone (kindOf ns (parentOf ns i)) a (or-first (within (kindOf ns (parentOf ns i)) k.Function k.Arrow) (mayMakeScope (kindOf ns (parentOf ns i))) c))
+            sameOnly ns ss t w i z h (makeNone (kindOf ns (parentOf ns i)) a (or-first (within (kindOf ns (parentOf ns i)) k.Function k.Arrow) (mayMakeScope (kindOf ns (parentOf ns i))) c))
             (or-second (within (kindOf ns (parentOf ns i)) k.Function k.Arrow) (mayMakeScope (kindOf ns (parentOf ns i))) c)
             ∙ r (or-second (holdsUsing (kindOf ns (parentOf ns i))) (heldUsing ns (parentOf ns i)) x)
             (or-second (within (kindOf ns (parentOf ns i)) k.Function k.Arrow || mayMakeScope (kindOf ns (parentOf ns i))) (otherScope ns (parentOf ns i)) y)
 
     -- a declaration in no other scope and in no clause of a switch
     pub usingTold : (n : ℕ) → n < count ns → (otherScope ns n && not (heldUsing ns n)) ≡ false → eqb (kindOf ns (parentOf ns n)) k.SwitchCase ≡ false → UsingTold ns ss n
-    usingTold n h o c = record { top = topFlag n h ∙ go (heldUsing ns n) refl (otherScope ns n) refl; clause = c }
+    usingTold n h o c = record { top = topFlag ns ss t w n h ∙ go (heldUsing ns n) refl (otherScope ns n) refl; clause = c }
       where
         go : (x : Bool) → heldUsing ns n ≡ x → (y : Bool) → otherScope ns n ≡ y → eqb (scopeOf ns n) 0 ≡ not x
         go true e y d = ne-eqb (scopeOf ns n) 0 (λ z. let l = held n h e in omega arith)

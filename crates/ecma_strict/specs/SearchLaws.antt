@@ -37,11 +37,12 @@ use Rattle.standing.specs.StandingLaws.{Placed}
 use Rattle.trees.specs.Walk.{only}
 use Rattle.trees.specs.Trail.{unitOf}
 use Rattle.ecma_strict.specs.Nodes.{nodesOf}
-use Rattle.ecma_strict.specs.Strict.{strictCode}
+use Rattle.ecma_base.specs.Strict.{strictCode}
 use Rattle.ecma_strict.specs.StatementsLaws.{ifOnly}
 use Rattle.ecma_strict.specs.Identifiers.{evalOrArguments, bindsEval, assignsEval}
-use Rattle.ecma_strict.specs.Contains.{isNode, awaitExpression, forAwait, awaitUsing, parameter, awaitOrYield, lexicalDeclaration}
-use Rattle.ecma_strict.specs.ContainsLaws.{rootOnly, upward, unitUp, unitRoot}
+use Rattle.ecma_base.specs.Contains.{isNode}
+use Rattle.ecma_strict.specs.Contains.{awaitExpression, forAwait, awaitUsing, parameter, awaitOrYield, lexicalDeclaration}
+use Rattle.ecma_base.specs.ContainsLaws.{rootOnly, upward, unitUp, unitRoot}
 use Rattle.ecma_strict.specs.Changed.{scopedInBlock, letEdge, letBoundSaid, fieldEdge, fieldHome, argumentsSaid, throughClassEdge, awaitInParameterSaid}
 
 orTrue : (b : Bool) → (b || true) ≡ true

@@ -15,7 +15,7 @@ use Rattle.input.specs.InputLaws.{WellFormed}
 use Rattle.trees.specs.Walk.{only}
 use Rattle.trees.specs.Trail.{unitOf}
 use Rattle.ecma_strict.specs.Nodes.{raised}
-use Rattle.ecma_strict.specs.Strict.{strictCode}
+use Rattle.ecma_base.specs.Strict.{strictCode}
 use Rattle.ecma_strict.specs.Literals.{strictOctal, strictNonOctal, strictOctalEscape, strictNonOctalEscape}
 use Rattle.ecma_strict.specs.LiteralsLaws.{octalAgrees, nonOctalAgrees, octalEscapeAgrees, nonOctalEscapeAgrees}
 use Rattle.ecma_strict.specs.Delete.{deletesPrivate}
@@ -25,8 +25,9 @@ use Rattle.ecma_strict.specs.StatementsLaws.{headAgrees, usingAgrees}
 use Rattle.ecma_strict.specs.Identifiers.{goalModule, assignsEval, useStrictThere}
 use Rattle.ecma_strict.specs.IdentifiersLaws.{useStrictAgrees}
 use Rattle.ecma_strict.specs.Contains.{awaitEdge, argumentsEdge, parameterEdge, boundEdge, awaitExpression, forAwait, awaitUsing, awaitInBlock, awaitName, awaitNameInBlock, argumentsInClass, awaitInParameter, letBound, awaitNameEdge}
-use Rattle.ecma_strict.specs.Scopes.{scopesFollow}
-use Rattle.ecma_strict.specs.ScopesLaws.{scopesTold, awaitNameTold, directiveTold, usingTold, notProgram}
+use Rattle.ecma_base.specs.Scopes.{scopesFollow}
+use Rattle.ecma_base.specs.ScopesLaws.{notProgram}
+use Rattle.ecma_strict.specs.ScopesLaws.{scopesTold, awaitNameTold, directiveTold, usingTold}
 use Rattle.ecma_strict.specs.AgreeLaws.{letAgrees, argumentsAgree, classPart, parameterAgrees, blockAgrees, awaitNameAgrees}
 use Rattle.ecma_strict.specs.Functions.{sloppyFunction, labelledFunctionAt}
 use Rattle.ecma_strict.specs.FunctionsLaws.{labelledAgrees}

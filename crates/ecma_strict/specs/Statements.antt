@@ -14,7 +14,7 @@ use Rattle.tables.specs.NodeFlag as flag
 use Rattle.tables.specs.declared.Found.{Found}
 use Rattle.tables.specs.declared.Found.the-variants.{At, Nothing}
 use Rattle.children.specs.Children.{keep, isChild, firstChild}
-use Rattle.ecma_strict.specs.Strict.{strictCode}
+use Rattle.ecma_base.specs.Strict.{strictCode}
 
 -- 14.11.1: WithStatement : with ( Expression ) Statement: "It is a Syntax Error if IsStrict(this production) is true."
 unfoldable pub strictWith : List ℕ → List ℕ → ℕ → Bool

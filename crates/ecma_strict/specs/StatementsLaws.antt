@@ -24,9 +24,9 @@ use Rattle.diagnostics.specs.declared.Raised.the-variants.{Clear}
 use Rattle.statements.specs.Statements.{checkFound, checkWithStatement, declaratorOf, declarators, checkInitialiser, checkLeft, checkForStatementLeft, checkUsing}
 use Rattle.trees.specs.Walk.{only}
 use Rattle.ecma_strict.specs.Nodes.{nodesOf}
-use Rattle.ecma_strict.specs.Strict.{strictCode}
+use Rattle.ecma_base.specs.Strict.{strictCode}
 use Rattle.ecma_strict.specs.Statements.{strictWith, declaratorsOf, initialized, plainName, single, annexHead, badHead, headOf, ofHead, initializedHead, heldUsing, badUsing}
-use Rattle.ecma_strict.specs.Scopes.{topScope}
+use Rattle.ecma_base.specs.Scopes.{topScope}
 use Rattle.ecma_strict.specs.Changed.{unsaid, saidHead, topUsing, UsingTold}
 
 -- one finding where a test says so

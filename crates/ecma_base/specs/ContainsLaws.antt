@@ -20,7 +20,7 @@ use Rattle.trees.specs.WalkLaws.{eachAppend, someAppend, someOnly}
 use Rattle.trees.specs.Unit.{says, saysAll}
 use Rattle.trees.specs.Trail.{handedDown, unitOf}
 use Rattle.trees.specs.TrailLaws.{unitBridge, handedLaw, handedRoot}
-use Rattle.ecma_strict.specs.Contains.{contains, containsAny, containsFrom}
+use Rattle.ecma_base.specs.Contains.{contains, containsAny, containsFrom, containsIn}
 
 -- only node 0 is a Program
 pub rootOnly : (ns : List ℕ) → Tree ns → (i : ℕ) → i < count ns → kindOf ns i ≡ 0 → i ≡ 0
@@ -64,10 +64,6 @@ module _ (sought : ℕ → Bool) (into : ℕ → ℕ → Bool) where
     literalAll : (ks : Roses) (b : ℕ → Bool) → containsAny sought into ks b ≡ some (lists ks b)
     literalAll rnil b = refl
     literalAll (rcons t ts) b = rw (literal t, literalAll ts b) (someIf (b (idx t)) (says {A = Unit {0}} (λ n a. only (sought n) n) into (λ i j a. a) t tt) (lists ts b))
-
--- The operation on the parts of u, where `edge i j` says that one begins or ends between the node i and its part j.
-abbrev pub containsIn : List ℕ → (ℕ → Bool) → (ℕ → ℕ → Bool) → ℕ → Bool
-containsIn ns sought edge u = containsAny sought (λ i j. not (edge i j)) (partsOf ns u) (edge u)
 
 -- THE OPERATION NODE BY NODE
 pub containsIs : (ns : List ℕ) → Tree ns → (sought : ℕ → Bool) (edge : ℕ → ℕ → Bool) → ((j : ℕ) → edge 0 j ≡ true) → (u : ℕ) → u < count ns

@@ -5,7 +5,7 @@ use mathlib.Core.Bool.{Bool, cond, not, _&&_, _||_}
 use lib.Dec.{eqb, ltb}
 use Rattle.common.specs.Upto.{upto, all}
 use Rattle.common.specs.Tests.{within}
-use Rattle.tables.specs.Table.{kindOf, parentOf, count, scopeOf, scopeParentOf, scopeFlagsOf, scopeNodeOf, hasFlag}
+use Rattle.tables.specs.Table.{kindOf, parentOf, count, extraOf, scopeOf, scopeParentOf, scopeFlagsOf, scopeNodeOf, hasFlag}
 use Rattle.tables.specs.Kinds as k
 use Rattle.tables.specs.ScopeFlag as scope
 
@@ -38,6 +38,9 @@ blockScope ns ss i = hasFlag (scopeFlagsOf ss (scopeOf ns i)) scope.StaticBlockS
 abbrev pub functionScope : List ℕ → List ℕ → ℕ → Bool
 functionScope ns ss i = hasFlag (scopeFlagsOf ss (scopeOf ns i)) scope.FunctionScope
 
+abbrev pub arrowScope : List ℕ → List ℕ → ℕ → Bool
+arrowScope ns ss i = hasFlag (scopeFlagsOf ss (scopeOf ns i)) scope.ArrowScope
+
 abbrev pub topScope : List ℕ → List ℕ → ℕ → Bool
 topScope ns ss i = hasFlag (scopeFlagsOf ss (scopeOf ns i)) scope.Top
 
@@ -47,8 +50,20 @@ scopeKind ns ss i = kindOf ns (scopeNodeOf ss (scopeOf ns i))
 unfoldable pub flaggedAt : List ℕ → List ℕ → ℕ → Bool
 flaggedAt ns ss i =
     iff (blockScope ns ss i) (eqb (scopeKind ns ss i) k.StaticBlock)
-    && (iff (functionScope ns ss i) (within (scopeKind ns ss i) k.Function k.Arrow) && iff (topScope ns ss i) (eqb (scopeOf ns i) 0))
+    && (iff (functionScope ns ss i) (within (scopeKind ns ss i) k.Function k.Arrow)
+    && (iff (arrowScope ns ss i) (eqb (scopeKind ns ss i) k.Arrow) && iff (topScope ns ss i) (eqb (scopeOf ns i) 0)))
+
+-- a class names the scope that it makes for its ClassBody; a ClassBody holds elements alone
+abbrev pub implies : Bool → Bool → Bool
+implies a b = not a || b
+
+unfoldable pub classAt : List ℕ → List ℕ → ℕ → Bool
+classAt ns ss i =
+    implies (eqb (kindOf ns i) k.Class) (eqb (scopeNodeOf ss (extraOf ns i)) i)
+    && (implies (eqb (kindOf ns i) k.ClassBody) (newScope ns ss i && eqb (scopeOf ns i) (extraOf ns (parentOf ns i)))
+    && implies (eqb (kindOf ns (parentOf ns i)) k.ClassBody) (within (kindOf ns i) k.MethodDefinition k.AccessorProperty || eqb (kindOf ns i) k.StaticBlock))
 
 unfoldable pub scopesFollow : List ℕ → List ℕ → Bool
 scopesFollow ns ss =
-    (eqb (scopeOf ns 0) 0 && eqb (scopeNodeOf ss 0) 0) && (all (flaggedAt ns ss) (upto 0 (count ns)) && all (followsAt ns ss) (upto 1 (count ns)))
+    (eqb (scopeOf ns 0) 0 && eqb (scopeNodeOf ss 0) 0)
+    && (all (flaggedAt ns ss) (upto 0 (count ns)) && (all (followsAt ns ss) (upto 1 (count ns)) && all (classAt ns ss) (upto 1 (count ns))))

@@ -1,0 +1,48 @@
+-- ECMA-262, 8.5.1 Contains, and operations like it: they begin at some parts of a node, go down, and end at others.
+use Prim.Native.Nat.{ℕ}
+use mathlib.Core.List.{List}
+use mathlib.Core.Bool.{Bool, false, not, _&&_, _||_}
+use lib.Dec.{eqb}
+use Rattle.common.specs.Tests.{within}
+use Rattle.tables.specs.Table.{kindOf}
+use Rattle.tables.specs.Kinds as k
+use Rattle.tables.specs.declared.Found.{Found}
+use Rattle.tables.specs.declared.Found.the-variants.{At, Nothing}
+use Rattle.children.specs.Children.{valueOf}
+use Rattle.trees.specs.Rose.{Rose, Roses, node, rnil, rcons, idx, partsOf}
+
+-- "For each child node child of this Parse Node: if child is an instance of symbol, return true; if child is an instance of a nonterminal, let contained be the result
+-- of child Contains symbol. If contained is true, return true. Return false." It goes into the part j of the node i where `into i j` says so.
+module _ (sought : ℕ → Bool) (into : ℕ → ℕ → Bool) where
+  unfoldable mutual
+    pub contains : Rose → Bool
+    contains (node n ks) = sought n || containsAny ks (into n)
+
+    pub containsAny : Roses → (ℕ → Bool) → Bool
+    containsAny rnil b = false
+    containsAny (rcons t ts) b = (b (idx t) && contains t) || containsAny ts b
+
+-- The operation of a node u: it begins at those parts of u of which `begin` says so.
+abbrev pub containsFrom : List ℕ → (ℕ → Bool) → (ℕ → ℕ → Bool) → (ℕ → ℕ → Bool) → ℕ → Bool
+containsFrom ns sought into begin u = containsAny sought into (partsOf ns u) (begin u)
+
+-- The same where `edge i j` says that one begins or ends between the node i and its part j.
+abbrev pub containsIn : List ℕ → (ℕ → Bool) → (ℕ → ℕ → Bool) → ℕ → Bool
+containsIn ns sought edge u = containsFrom ns sought (λ i j. not (edge i j)) edge u
+
+-- FieldDefinition : ClassElementName Initializer: j is the Initializer of i
+abbrev pub isNode : Found → ℕ → Bool
+isNode (At m) j = eqb (m .0) j
+isNode Nothing j = false
+
+abbrev pub initializer : List ℕ → ℕ → ℕ → Bool
+initializer ns i j = within (kindOf ns i) k.PropertyDefinition k.AccessorProperty && isNode (valueOf ns i) j
+
+-- 8.5.1: of a function and of a ClassStaticBlockBody it is false; of a class it looks at the heritage and, by 8.5.2 ComputedPropertyContains, at the computed keys, so not into the Initializer of a
+-- field. Of an arrow function: "If symbol is not one of NewTarget, SuperProperty, SuperCall, super, or this, return false."
+abbrev pub containsInto : List ℕ → ℕ → ℕ → Bool
+containsInto ns i j = not (within (kindOf ns i) k.Function k.StaticBlock || initializer ns i j)
+
+-- what it does not look into for one of these symbols
+abbrev pub superShut : List ℕ → ℕ → ℕ → Bool
+superShut ns i j = eqb (kindOf ns i) k.Function || (eqb (kindOf ns i) k.StaticBlock || initializer ns i j)

@@ -1,0 +1,6 @@
+pub mod Strict
+pub mod Telling
+pub mod Contains
+pub mod ContainsLaws
+pub mod Scopes
+pub mod ScopesLaws
