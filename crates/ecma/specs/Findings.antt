@@ -1,7 +1,7 @@
 -- THE FINDINGS AGAINST ECMA-262, all codes together: of tables that none of refusals 1 to 6 turns down, the nodes that raise each code, in order, are those at which the rule is
 -- broken, one finding for each breach. 2, 4, 15, 17, 18, 23, 26 and 31 are the standard's own rules (2 and 15 but for what the tables don't tell); the others are the changed rules that docs/DIFFERENCES.md names with what
 -- differs, and the laws that say where they are the standard's stand in each crate's Theorems.antt and Standard.antt. 28 to 30 are stated of all such tables by the
--- Rust's search through the scopes, and by the standard's units in the tree where the table's scopes are the tree's.
+-- Rust's search through the scopes, and by the standard's units in the tree where the scopes follow the tree.
 -- Spans, contexts and the order between codes are those of `findingsOf` (crates/checker), which the calls equal to the last number.
 use Prim.Native.Nat.{ℕ}
 use mathlib.Core.Path.{_≡_}
@@ -30,7 +30,8 @@ use Rattle.ecma_classes.specs.Raising.{raising}
 use Rattle.ecma_classes.specs.ClassElements.{sameNode, nameMissing, builtTwice, protoAgain}
 use Rattle.ecma_classes.specs.ObjectsLaws.{times}
 use Rattle.ecma_classes.specs.PrivateNames.{privateEntered, privateAgain, isClassBody, isOutside, invalidInTable, bodyAround}
-use Rattle.ecma_classes.specs.Supers.{ScopesFit, tableBare, tableStray, tableProperty}
+use Rattle.ecma_base.specs.Scopes.{scopesFollow}
+use Rattle.ecma_classes.specs.Supers.{tableBare, tableStray, tableProperty}
 use Rattle.ecma_classes.specs.SupersByScopes.{bareByScopes, strayByScopes, propertyByScopes}
 use Rattle.ecma_classes.specs.Theorems as classes
 
@@ -68,10 +69,10 @@ pub record Broken (t : ℕ) (ns ss source names : List ℕ) : Type 0 where
   pub code28-scopes : raising 28 (findingsOf t ns ss source names) ≡ keep (bareByScopes ns ss) (upto 0 (count ns))
   pub code29-scopes : raising 29 (findingsOf t ns ss source names) ≡ keep (strayByScopes ns ss) (upto 0 (count ns))
   pub code30-scopes : raising 30 (findingsOf t ns ss source names) ≡ keep (propertyByScopes ns ss) (upto 0 (count ns))
-  -- `super` where an early error forbids it (HasDirectSuper, Contains), changed, where the table's scopes are the tree's
-  pub code28 : ScopesFit ns ss → raising 28 (findingsOf t ns ss source names) ≡ keep (tableBare ns) (upto 0 (count ns))
-  pub code29 : ScopesFit ns ss → raising 29 (findingsOf t ns ss source names) ≡ keep (tableStray ns) (upto 0 (count ns))
-  pub code30 : ScopesFit ns ss → raising 30 (findingsOf t ns ss source names) ≡ keep (tableProperty ns) (upto 0 (count ns))
+  -- `super` where an early error forbids it (HasDirectSuper, Contains), changed, where the scopes follow the tree
+  pub code28 : scopesFollow ns ss ≡ true → raising 28 (findingsOf t ns ss source names) ≡ keep (tableBare ns) (upto 0 (count ns))
+  pub code29 : scopesFollow ns ss ≡ true → raising 29 (findingsOf t ns ss source names) ≡ keep (tableStray ns) (upto 0 (count ns))
+  pub code30 : scopesFollow ns ss ≡ true → raising 30 (findingsOf t ns ss source names) ≡ keep (tableProperty ns) (upto 0 (count ns))
 
 -- THE THEOREM
 pub findings262 : (t : ℕ) (ns ss source names : List ℕ) → inputRefusal t ns ss source names ≡ Passed → Broken t ns ss source names

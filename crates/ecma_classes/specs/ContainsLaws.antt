@@ -2,7 +2,7 @@
 use Prim.Native.Nat.{ℕ, _+_, _<_}
 use mathlib.Core.Path.{_≡_, refl, ap, sym, _∙_}
 use mathlib.Core.List.{List, [], _∷_}
-use mathlib.Core.Bool.{Bool, true, false, cond, not, _&&_, _||_, true≢false}
+use mathlib.Core.Bool.{Bool, true, false, cond, not, _&&_, _||_}
 use lib.Dec.{eqb}
 use borrow.Author.Tests.{eqb-true, ne-eqb}
 use Rattle.common.specs.Upto.{upto, and-left, and-right}
@@ -11,65 +11,22 @@ use Rattle.common.specs.Bools.{never}
 use Rattle.tables.specs.Table.{kindOf, parentOf, count}
 use Rattle.tables.specs.Kinds as k
 use Rattle.tables.specs.Facts.{Tree}
-use Rattle.trees.specs.Rose.{Rose, Roses, node, rnil, rcons, idx, partsOf}
 use Rattle.trees.specs.Walk.{each, some, only}
-use Rattle.trees.specs.WalkLaws.{eachSame, someAppend, someOnly}
-use Rattle.trees.specs.Unit.{says, saysAll}
+use Rattle.trees.specs.WalkLaws.{eachSame}
 use Rattle.trees.specs.Trail.{unitOf}
-use Rattle.trees.specs.TrailLaws.{unitBridge}
 use Rattle.ecma_classes.specs.ClassElements.{namesConstructor, isFirstConstructor}
-use Rattle.ecma_classes.specs.Supers.{begins, contains, containsAny, containsIn, isSuperCall, isSuperProperty, isMethod, isConstructorMethod, hasHeritage, isObjectMethod, takesProperty, bareCallIn, strayCallIn, strayPropertyIn, bareCall, strayCall, strayProperty, superError}
+use Rattle.ecma_base.specs.ContainsLaws.{containsIs}
+use Rattle.ecma_classes.specs.Supers.{begins, unitContains, isSuperCall, isSuperProperty, isMethod, isConstructorMethod, hasHeritage, isObjectMethod, takesProperty, bareCallIn, strayCallIn, strayPropertyIn, bareCall, strayCall, strayProperty, superError}
 use Rattle.ecma_classes.specs.FirstConstructorLaws.{first-names}
 
 module _ (ns : List ℕ) (sought : ℕ → Bool) where
-  abbrev tells : ℕ → Unit {0} → List ℕ
-  tells n a = only (sought n) n
-
-  abbrev into : ℕ → ℕ → Bool
-  into i j = not (begins ns i j)
-
-  abbrev hands : ℕ → ℕ → Unit {0} → Unit {0}
-  hands i j a = a
-
-  mutual
-    unfolding contains says
-
-    contains-some : (t : Rose) → contains ns sought t ≡ some (says tells into hands t tt)
-    contains-some (node n ks) =
-        rw (any-some (into n) ks, someAppend (tells n tt) (saysAll tells into hands ks (into n) (λ j. tt)), someOnly (sought n) n)
-
-    any-some : (b : ℕ → Bool) (ts : Roses) → containsAny ns sought b ts ≡ some (saysAll tells into hands ts b (λ j. tt))
-    any-some b rnil = refl
-    any-some b (rcons t ts) =
-        rw (contains-some t, any-some b ts, someAppend (cond (b (idx t)) (says tells into hands t tt) []) (saysAll tells into hands ts b (λ j. tt)))
-        (go (b (idx t)) (some (saysAll tells into hands ts b (λ j. tt))))
-      where
-        go : (x y : Bool) → ((x && some (says tells into hands t tt)) || y) ≡ (some (cond x (says tells into hands t tt) []) || y)
-        go true y = refl
-        go false y = refl
-
-  root : (j : ℕ) → begins ns 0 j ≡ true
+  pub contains-is : Tree ns → (u : ℕ) → u < count ns → unitContains ns sought u ≡ some (each (λ j. cond (eqb (unitOf ns (begins ns) j) u) (only (sought j) j) []) (upto (u + 1) (count ns)))
   unfolding begins
-  root j = refl
-
-  pub contains-is : Tree ns → (u : ℕ) → u < count ns → containsIn ns sought u ≡ some (each (λ j. cond (eqb (unitOf ns (begins ns) j) u) (only (sought j) j) []) (upto (u + 1) (count ns)))
-  unfolding containsIn
-  contains-is t u h =
-      any-some (begins ns u) (partsOf ns u)
-      ∙ ap (λ (l : List ℕ). some l)
-      (unitBridge tells into hands ns t (begins ns) (λ i j. tt) tt root (λ i j e. off (begins ns i j) e) (λ i j x e q. absurd (both (begins ns i j) e q)) u h)
-    where
-      off : (b : Bool) → not b ≡ true → b ≡ false
-      off true e = sym e
-      off false e = refl
-
-      both : (b : Bool) → b ≡ false → not b ≡ false → ⊥
-      both true e q = true≢false e
-      both false e q = true≢false q
+  contains-is t u h = containsIs ns t sought (begins ns) (λ j. refl) u h
 
   -- a rule on the unit and what it contains, node by node
   unit-rule : Tree ns → (rule : ℕ → Bool) (u : ℕ) → u < count ns
-      → (rule u && containsIn ns sought u) ≡ some (each (λ j. cond (eqb (unitOf ns (begins ns) j) u) (only (sought j && rule (unitOf ns (begins ns) j)) j) []) (upto (u + 1) (count ns)))
+      → (rule u && unitContains ns sought u) ≡ some (each (λ j. cond (eqb (unitOf ns (begins ns) j) u) (only (sought j && rule (unitOf ns (begins ns) j)) j) []) (upto (u + 1) (count ns)))
   unit-rule t rule u h = go (rule u) refl
     where
       on : rule u ≡ true → (j : ℕ) (b : Bool) → eqb (unitOf ns (begins ns) j) u ≡ b → cond b (only (sought j) j) [] ≡ cond b (only (sought j && rule (unitOf ns (begins ns) j)) j) []
@@ -92,7 +49,7 @@ module _ (ns : List ℕ) (sought : ℕ → Bool) where
       none [] = refl
       none (x ∷ l) = none l
 
-      go : (b : Bool) → rule u ≡ b → (b && containsIn ns sought u) ≡ some (each (λ j. cond (eqb (unitOf ns (begins ns) j) u) (only (sought j && rule (unitOf ns (begins ns) j)) j) []) (upto (u + 1) (count ns)))
+      go : (b : Bool) → rule u ≡ b → (b && unitContains ns sought u) ≡ some (each (λ j. cond (eqb (unitOf ns (begins ns) j) u) (only (sought j && rule (unitOf ns (begins ns) j)) j) []) (upto (u + 1) (count ns)))
       go true r =
           contains-is t u h
           ∙ ap (λ (l : List ℕ). some l)
@@ -124,10 +81,10 @@ module _ (ns : List ℕ) (t : Tree ns) (u : ℕ) (h : u < count ns) where
 -- the early errors, production by production, are the three rules
 module _ (ns names : List ℕ) (tree : Tree ns) (u : ℕ) where
   abbrev calls : Bool
-  calls = containsIn ns (isSuperCall ns) u
+  calls = unitContains ns (isSuperCall ns) u
 
   abbrev properties : Bool
-  properties = containsIn ns (isSuperProperty ns) u
+  properties = unitContains ns (isSuperProperty ns) u
 
   abbrev first : Bool
   first = isConstructorMethod ns (isFirstConstructor ns names) u

@@ -32,8 +32,8 @@ use Rattle.trees.specs.Trail.{trail, climb}
 use Rattle.ecma_classes.specs.Raising.{raising}
 use Rattle.ecma_classes.specs.ClassElements.{propName, namesConstructor, isConstructorKind, constructorMethod, isFirstConstructor, classElements, isConstructor, builtTwice, nameMissing, isKeyedProto, protoAgain}
 use Rattle.ecma_classes.specs.PrivateNames.{isPrivateBound, privateName, entries, matched, isEntered, privateEntered, clashIn, privateAgain, invalid, isTableUse, bodyAround, isOutside}
-use Rattle.ecma_classes.specs.Supers.{begins, isTableCall, isTableProperty, isMethod, isObjectMethod, isConstructorMethod, hasHeritage, takesProperty, bareCall, strayCall, strayProperty, ScopesFit}
-use Rattle.ecma_classes.specs.ScopesFitLaws.{fitsAt, scopesFit, fit-of}
+use Rattle.ecma_classes.specs.Supers.{begins, isTableCall, isTableProperty, isMethod, isObjectMethod, isConstructorMethod, hasHeritage, takesProperty, bareCall, strayCall, strayProperty}
+use Rattle.ecma_base.specs.Scopes.{followsAt, flaggedAt, classAt, scopesFollow}
 use Rattle.ecma_classes.specs.Theorems.{code1, code7, code8, code26, code27, code28, code29, code30}
 
 abbrev pub table : List ℕ
@@ -111,12 +111,9 @@ passes = refl
 pub well : WellFormed 0 table scopes source bytes
 well = input-well-formed 0 table scopes source bytes passes
 
-fits : scopesFit table scopes ≡ true
-unfolding scopesFit fitsAt upto range
-fits = refl
-
-pub fit : ScopesFit table scopes
-fit = fit-of table scopes (well .input .tree) fits
+pub fit : scopesFollow table scopes ≡ true
+unfolding scopesFollow followsAt flaggedAt classAt upto range
+fit = refl
 
 -- the theorems at this table
 abbrev findings : List Finding

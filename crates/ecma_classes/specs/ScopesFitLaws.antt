@@ -1,202 +1,101 @@
--- Whether a table's scopes are the tree's can be tested, node by node.
+-- What the search for `super` needs of scopes that follow the tree.
 use Prim.Native.Nat.{ℕ, _≤_, _<_}
-use mathlib.Core.Path.{_≡_, refl, sym, subst}
+use mathlib.Core.Path.{_≡_, refl, ap, sym, _∙_}
 use mathlib.Core.List.{List}
-use mathlib.Core.Bool.{Bool, true, false, not, _&&_, _||_}
+use mathlib.Core.Bool.{Bool, true, false, _||_}
 use mathlib.Core.Logic.{_⊎_, inl, inr, ⊎-elim}
-use native.Mathlib.Nat.{eq-or-lt-of-le}
 use native.Mathlib.Omega.{arith}
-use borrow.Author.Tests.{eq-eqb, eqb-true, ltb-true}
-use lib.Dec.{eqb, ltb}
-use Rattle.common.specs.Upto.{upto, all, all-upto, and-left, and-right}
+use borrow.Author.Tests.{ne-eqb}
+use lib.Dec.{eqb}
 use Rattle.common.specs.Tests.{within}
-use Rattle.common.specs.Bools.{never, in-range, either}
-use Rattle.tables.specs.Table.{kindOf, parentOf, extraOf, scopeOf, count, scopeParentOf, scopeNodeOf}
+use Rattle.common.specs.Bools.{never, in-range, range-of}
+use Rattle.tables.specs.Table.{kindOf, parentOf, extraOf, scopeOf, count, scopeFlagsOf, scopeNodeOf, hasFlag}
 use Rattle.tables.specs.Facts.{Tree}
 use Rattle.tables.specs.Kinds as k
-use Rattle.ecma_classes.specs.Supers.{isFunctionScope, isArrowScope, isBlockScope, Same, Own, ScopesFit}
+use Rattle.tables.specs.ScopeFlag as scope
+use Rattle.ecma_base.specs.Scopes.{makesScope, mayMakeScope, scopeKind, scopesFollow}
+use Rattle.ecma_base.specs.ScopesLaws.{notProgram, Made, root, blockFlag, functionFlag, arrowFlag, made, sameOrMade, sameOnly, madeKind, rootKind, className, classBody, classElement}
 
--- where a holds, so does b
-abbrev pub implies : Bool → Bool → Bool
-implies a b = not a || b
+abbrev pub isFunctionScope : List ℕ → ℕ → Bool
+isFunctionScope ss s = hasFlag (scopeFlagsOf ss s) scope.FunctionScope
 
-abbrev pub sameScope : List ℕ → ℕ → Bool
-sameScope ns j = eqb (scopeOf ns j) (scopeOf ns (parentOf ns j))
+abbrev pub isArrowScope : List ℕ → ℕ → Bool
+isArrowScope ss s = hasFlag (scopeFlagsOf ss s) scope.ArrowScope
 
-abbrev pub ownScope : List ℕ → List ℕ → ℕ → Bool
-ownScope ns ss j = ltb 0 (scopeOf ns j) && (eqb (scopeNodeOf ss (scopeOf ns j)) (parentOf ns j) && eqb (scopeParentOf ss (scopeOf ns j)) (scopeOf ns (parentOf ns j)))
+abbrev pub isBlockScope : List ℕ → ℕ → Bool
+isBlockScope ss s = hasFlag (scopeFlagsOf ss s) scope.StaticBlockScope
 
--- the kind of the parent
-abbrev pub over : List ℕ → ℕ → ℕ
-over ns j = kindOf ns (parentOf ns j)
+-- a node is in its parent's scope
+abbrev pub Same : List ℕ → ℕ → Type 0
+Same ns j = scopeOf ns j ≡ scopeOf ns (parentOf ns j)
 
-unfoldable pub fitsAt : List ℕ → List ℕ → ℕ → Bool
-fitsAt ns ss j =
-    implies (eqb (over ns j) k.Function) (ownScope ns ss j && (not (isBlockScope ss (scopeOf ns j)) && (isFunctionScope ss (scopeOf ns j) && not (isArrowScope ss (scopeOf ns j)))))
-    && (implies (eqb (over ns j) k.Arrow) (ownScope ns ss j && (not (isBlockScope ss (scopeOf ns j)) && (isFunctionScope ss (scopeOf ns j) && isArrowScope ss (scopeOf ns j))))
-    && (implies (eqb (over ns j) k.StaticBlock) (ownScope ns ss j && isBlockScope ss (scopeOf ns j))
-    && (implies (eqb (kindOf ns j) k.Class) (eqb (scopeNodeOf ss (extraOf ns j)) j)
-    && (implies (eqb (kindOf ns j) k.ClassBody) (ownScope ns ss j && eqb (scopeOf ns j) (extraOf ns (parentOf ns j)))
-    && (implies (eqb (over ns j) k.ClassBody) (sameScope ns j && (within (kindOf ns j) k.MethodDefinition k.AccessorProperty || eqb (kindOf ns j) k.StaticBlock))
-    && (implies (within (over ns j) k.MethodDefinition k.AccessorProperty) (sameScope ns j)
-    && implies (not (within (over ns j) k.Function k.StaticBlock)) (sameScope ns j || (ownScope ns ss j && (not (isBlockScope ss (scopeOf ns j)) && not (isFunctionScope ss (scopeOf ns j)))))))))))
+pub record ScopesFit (ns ss : List ℕ) : Type 0 where
+  pub top : scopeOf ns 0 ≡ 0
+  pub topFlags : (isFunctionScope ss 0 ≡ false) × (isBlockScope ss 0 ≡ false)
+  pub function : (j : ℕ) → 0 < j → j < count ns → kindOf ns (parentOf ns j) ≡ k.Function
+      → Made ns ss j × (isBlockScope ss (scopeOf ns j) ≡ false) × (isFunctionScope ss (scopeOf ns j) ≡ true) × (isArrowScope ss (scopeOf ns j) ≡ false)
+  pub arrow : (j : ℕ) → 0 < j → j < count ns → kindOf ns (parentOf ns j) ≡ k.Arrow
+      → Made ns ss j × (isBlockScope ss (scopeOf ns j) ≡ false) × (isFunctionScope ss (scopeOf ns j) ≡ true) × (isArrowScope ss (scopeOf ns j) ≡ true)
+  pub block : (j : ℕ) → 0 < j → j < count ns → kindOf ns (parentOf ns j) ≡ k.StaticBlock → Made ns ss j × (isBlockScope ss (scopeOf ns j) ≡ true)
+  pub class : (c : ℕ) → c < count ns → kindOf ns c ≡ k.Class → scopeNodeOf ss (extraOf ns c) ≡ c
+  pub body : (j : ℕ) → j < count ns → kindOf ns j ≡ k.ClassBody → Made ns ss j × (scopeOf ns j ≡ extraOf ns (parentOf ns j))
+  pub inBody : (j : ℕ) → 0 < j → j < count ns → kindOf ns (parentOf ns j) ≡ k.ClassBody → Same ns j × ((within (kindOf ns j) k.MethodDefinition k.AccessorProperty || eqb (kindOf ns j) k.StaticBlock) ≡ true)
+  pub element : (j : ℕ) → 0 < j → j < count ns → k.MethodDefinition ≤ kindOf ns (parentOf ns j) → kindOf ns (parentOf ns j) ≤ k.AccessorProperty → Same ns j
+  pub other : (j : ℕ) → 0 < j → j < count ns → within (kindOf ns (parentOf ns j)) k.Function k.StaticBlock ≡ false
+      → Same ns j ⊎ (Made ns ss j × (isBlockScope ss (scopeOf ns j) ≡ false) × (isFunctionScope ss (scopeOf ns j) ≡ false))
 
-unfoldable pub scopesFit : List ℕ → List ℕ → Bool
-scopesFit ns ss = (eqb (scopeOf ns 0) 0 && (not (isFunctionScope ss 0) && not (isBlockScope ss 0))) && all (fitsAt ns ss) (upto 1 (count ns))
+-- kinds 28 to 30 make no scope
+no-scope : (a : ℕ) → 28 ≤ a → a ≤ 30 → (makesScope a ≡ false) × (mayMakeScope a ≡ false)
+no-scope a l u = (
+  off (within a 1 3) (eqb a 5) (within a 7 9) (out 1 3 (omega arith)) (ne-eqb a 5 (λ q. omega arith)) (out 7 9 (omega arith)),
+  more (within a 13 14) (eqb a 17) (eqb a 26) (out 13 14 (omega arith)) (ne-eqb a 17 (λ q. omega arith)) (ne-eqb a 26 (λ q. omega arith)),
+)
+  where
+    out : (lo hi : ℕ) → hi < a → within a lo hi ≡ false
+    out lo hi h = go (within a lo hi) refl
+      where
+        go : (x : Bool) → within a lo hi ≡ x → x ≡ false
+        go true q = let r = range-of a lo hi q in let r1 = r .1 in absurd (omega arith)
+        go false q = refl
 
-then' : (a b : Bool) → implies a b ≡ true → a ≡ true → b ≡ true
-then' true b e q = e
-then' false b e q = never (sym q)
+    off : (x y z : Bool) → x ≡ false → y ≡ false → z ≡ false → (x || (y || z)) ≡ false
+    off x y z p q r = rw (p, q, r)
 
-off : (b : Bool) → not b ≡ true → b ≡ false
-off true e = never (sym e)
-off false e = refl
+    more : (x y z : Bool) → x ≡ false → y ≡ false → z ≡ false → (x || (y || z)) ≡ false
+    more x y z p q r = rw (p, q, r)
 
--- the parts of a test of many
-module _ (a b : Bool) (e : (a && b) ≡ true) where
-  one : a ≡ true
-  one = and-left a b e
-
-  more : b ≡ true
-  more = and-right a b e
-
-own-of : (ns ss : List ℕ) (j : ℕ) → ownScope ns ss j ≡ true → Own ns ss j
-own-of ns ss j e =
-    let a = ltb 0 (scopeOf ns j) in
-    let b = eqb (scopeNodeOf ss (scopeOf ns j)) (parentOf ns j) in
-    let c = eqb (scopeParentOf ss (scopeOf ns j)) (scopeOf ns (parentOf ns j)) in
-    let m = more a (b && c) e in
-    record {
-      later = ltb-true 0 (scopeOf ns j) (one a (b && c) e);
-      maker = eqb-true (scopeNodeOf ss (scopeOf ns j)) (parentOf ns j) (one b c m);
-      around = eqb-true (scopeParentOf ss (scopeOf ns j)) (scopeOf ns (parentOf ns j)) (more b c m);
-    }
-
-eight : (a b c d f g h i : Bool) → (a && (b && (c && (d && (f && (g && (h && i))))))) ≡ true
-    → (a ≡ true) × (b ≡ true) × (c ≡ true) × (d ≡ true) × (f ≡ true) × (g ≡ true) × (h ≡ true) × (i ≡ true)
-eight true true true true true true true i e = (refl, refl, refl, refl, refl, refl, refl, e)
-eight true true true true true true false i e = never (sym e)
-eight true true true true true false h i e = never (sym e)
-eight true true true true false g h i e = never (sym e)
-eight true true true false f g h i e = never (sym e)
-eight true true false d f g h i e = never (sym e)
-eight true false c d f g h i e = never (sym e)
-eight false b c d f g h i e = never (sym e)
-
-module _ (ns ss : List ℕ) (tree : Tree ns) (fits : scopesFit ns ss ≡ true) where
-  abbrev top : Bool
-  top = eqb (scopeOf ns 0) 0 && (not (isFunctionScope ss 0) && not (isBlockScope ss 0))
-
-  at-top : top ≡ true
-  unfolding scopesFit
-  at-top = one top (all (fitsAt ns ss) (upto 1 (count ns))) fits
-
-  at-node : (j : ℕ) → 0 < j → j < count ns → fitsAt ns ss j ≡ true
-  unfolding scopesFit
-  at-node j z h = all-upto (fitsAt ns ss) 1 (count ns) (more top (all (fitsAt ns ss) (upto 1 (count ns))) fits) j (omega arith) h
-
-  module _ (j : ℕ) (z : 0 < j) (h : j < count ns) where
-    abbrev s : ℕ
-    s = scopeOf ns j
-
-    abbrev inFunction : Bool
-    inFunction = implies (eqb (over ns j) k.Function) (ownScope ns ss j && (not (isBlockScope ss s) && (isFunctionScope ss s && not (isArrowScope ss s))))
-
-    abbrev inArrow : Bool
-    inArrow = implies (eqb (over ns j) k.Arrow) (ownScope ns ss j && (not (isBlockScope ss s) && (isFunctionScope ss s && isArrowScope ss s)))
-
-    abbrev inBlock : Bool
-    inBlock = implies (eqb (over ns j) k.StaticBlock) (ownScope ns ss j && isBlockScope ss s)
-
-    abbrev isClass : Bool
-    isClass = implies (eqb (kindOf ns j) k.Class) (eqb (scopeNodeOf ss (extraOf ns j)) j)
-
-    abbrev isBody : Bool
-    isBody = implies (eqb (kindOf ns j) k.ClassBody) (ownScope ns ss j && eqb s (extraOf ns (parentOf ns j)))
-
-    abbrev underBody : Bool
-    underBody = implies (eqb (over ns j) k.ClassBody) (sameScope ns j && (within (kindOf ns j) k.MethodDefinition k.AccessorProperty || eqb (kindOf ns j) k.StaticBlock))
-
-    abbrev underElement : Bool
-    underElement = implies (within (over ns j) k.MethodDefinition k.AccessorProperty) (sameScope ns j)
-
-    abbrev elsewhere : Bool
-    elsewhere = implies (not (within (over ns j) k.Function k.StaticBlock)) (sameScope ns j || (ownScope ns ss j && (not (isBlockScope ss s) && not (isFunctionScope ss s))))
-
-    parts : (inFunction ≡ true) × (inArrow ≡ true) × (inBlock ≡ true) × (isClass ≡ true) × (isBody ≡ true) × (underBody ≡ true) × (underElement ≡ true) × (elsewhere ≡ true)
-    unfolding fitsAt
-    parts = eight inFunction inArrow inBlock isClass isBody underBody underElement elsewhere (at-node j z h)
-
-    of-function : over ns j ≡ k.Function → Own ns ss j × (isBlockScope ss s ≡ false) × (isFunctionScope ss s ≡ true) × (isArrowScope ss s ≡ false)
-    of-function q =
-        let e = then' (eqb (over ns j) k.Function) (ownScope ns ss j && (not (isBlockScope ss s) && (isFunctionScope ss s && not (isArrowScope ss s)))) (parts .0) (eq-eqb (over ns j) k.Function q) in
-        let m = more (ownScope ns ss j) (not (isBlockScope ss s) && (isFunctionScope ss s && not (isArrowScope ss s))) e in
-        let l = more (not (isBlockScope ss s)) (isFunctionScope ss s && not (isArrowScope ss s)) m in (
-          own-of ns ss j (one (ownScope ns ss j) (not (isBlockScope ss s) && (isFunctionScope ss s && not (isArrowScope ss s))) e),
-          off (isBlockScope ss s) (one (not (isBlockScope ss s)) (isFunctionScope ss s && not (isArrowScope ss s)) m),
-          one (isFunctionScope ss s) (not (isArrowScope ss s)) l,
-          off (isArrowScope ss s) (more (isFunctionScope ss s) (not (isArrowScope ss s)) l),
-        )
-
-    of-arrow : over ns j ≡ k.Arrow → Own ns ss j × (isBlockScope ss s ≡ false) × (isFunctionScope ss s ≡ true) × (isArrowScope ss s ≡ true)
-    of-arrow q =
-        let e = then' (eqb (over ns j) k.Arrow) (ownScope ns ss j && (not (isBlockScope ss s) && (isFunctionScope ss s && isArrowScope ss s))) (parts .1) (eq-eqb (over ns j) k.Arrow q) in
-        let m = more (ownScope ns ss j) (not (isBlockScope ss s) && (isFunctionScope ss s && isArrowScope ss s)) e in
-        let l = more (not (isBlockScope ss s)) (isFunctionScope ss s && isArrowScope ss s) m in (
-          own-of ns ss j (one (ownScope ns ss j) (not (isBlockScope ss s) && (isFunctionScope ss s && isArrowScope ss s)) e),
-          off (isBlockScope ss s) (one (not (isBlockScope ss s)) (isFunctionScope ss s && isArrowScope ss s) m),
-          one (isFunctionScope ss s) (isArrowScope ss s) l,
-          more (isFunctionScope ss s) (isArrowScope ss s) l,
-        )
-
-    of-block : over ns j ≡ k.StaticBlock → Own ns ss j × (isBlockScope ss s ≡ true)
-    of-block q =
-        let e = then' (eqb (over ns j) k.StaticBlock) (ownScope ns ss j && isBlockScope ss s) (parts .2) (eq-eqb (over ns j) k.StaticBlock q) in
-        (own-of ns ss j (one (ownScope ns ss j) (isBlockScope ss s) e), more (ownScope ns ss j) (isBlockScope ss s) e)
-
-    of-class : kindOf ns j ≡ k.Class → scopeNodeOf ss (extraOf ns j) ≡ j
-    of-class q = eqb-true (scopeNodeOf ss (extraOf ns j)) j (then' (eqb (kindOf ns j) k.Class) (eqb (scopeNodeOf ss (extraOf ns j)) j) (parts .3) (eq-eqb (kindOf ns j) k.Class q))
-
-    of-body : kindOf ns j ≡ k.ClassBody → Own ns ss j × (s ≡ extraOf ns (parentOf ns j))
-    of-body q =
-        let e = then' (eqb (kindOf ns j) k.ClassBody) (ownScope ns ss j && eqb s (extraOf ns (parentOf ns j))) (parts .4) (eq-eqb (kindOf ns j) k.ClassBody q) in
-        (own-of ns ss j (one (ownScope ns ss j) (eqb s (extraOf ns (parentOf ns j))) e), eqb-true s (extraOf ns (parentOf ns j)) (more (ownScope ns ss j) (eqb s (extraOf ns (parentOf ns j))) e))
-
-    abbrev standsInBody : Bool
-    standsInBody = within (kindOf ns j) k.MethodDefinition k.AccessorProperty || eqb (kindOf ns j) k.StaticBlock
-
-    under-body : over ns j ≡ k.ClassBody → Same ns j × (standsInBody ≡ true)
-    under-body q =
-        let e = then' (eqb (over ns j) k.ClassBody) (sameScope ns j && standsInBody) (parts .5) (eq-eqb (over ns j) k.ClassBody q) in
-        (eqb-true s (scopeOf ns (parentOf ns j)) (one (sameScope ns j) standsInBody e), more (sameScope ns j) standsInBody e)
-
-    under-element : k.MethodDefinition ≤ over ns j → over ns j ≤ k.AccessorProperty → Same ns j
-    under-element a b = eqb-true s (scopeOf ns (parentOf ns j)) (then' (within (over ns j) k.MethodDefinition k.AccessorProperty) (sameScope ns j) (parts .6) (in-range (over ns j) 28 30 a b))
-
-    of-other : within (over ns j) k.Function k.StaticBlock ≡ false → Same ns j ⊎ (Own ns ss j × (isBlockScope ss s ≡ false) × (isFunctionScope ss s ≡ false))
-    of-other q =
-        ⊎-elim (λ (x : sameScope ns j ≡ true). inl (eqb-true s (scopeOf ns (parentOf ns j)) x))
-        (λ (x : (ownScope ns ss j && (not (isBlockScope ss s) && not (isFunctionScope ss s))) ≡ true).
-        let m = more (ownScope ns ss j) (not (isBlockScope ss s) && not (isFunctionScope ss s)) x in
-        inr (own-of ns ss j (one (ownScope ns ss j) (not (isBlockScope ss s) && not (isFunctionScope ss s)) x), off (isBlockScope ss s) (one (not (isBlockScope ss s)) (not (isFunctionScope ss s)) m), off (isFunctionScope ss s) (more (not (isBlockScope ss s)) (not (isFunctionScope ss s)) m)))
-        (either (sameScope ns j) (ownScope ns ss j && (not (isBlockScope ss s) && not (isFunctionScope ss s)))
-        (then' (not (within (over ns j) k.Function k.StaticBlock)) (sameScope ns j || (ownScope ns ss j && (not (isBlockScope ss s) && not (isFunctionScope ss s)))) (parts .7) (rw q)))
+module _ (ns ss : List ℕ) (tree : Tree ns) (w : scopesFollow ns ss ≡ true) where
+  -- the flags of a scope whose node is of a kind
+  flags : (j a : ℕ) → j < count ns → scopeKind ns ss j ≡ a → (isBlockScope ss (scopeOf ns j) ≡ eqb a 3) × (isFunctionScope ss (scopeOf ns j) ≡ within a 1 2) × (isArrowScope ss (scopeOf ns j) ≡ eqb a 2)
+  flags j a h e = (
+    blockFlag ns ss tree w j h ∙ ap (λ (x : ℕ). eqb x 3) e,
+    functionFlag ns ss tree w j h ∙ ap (λ (x : ℕ). within x 1 2) e,
+    arrowFlag ns ss tree w j h ∙ ap (λ (x : ℕ). eqb x 2) e,
+  )
 
   later : (j : ℕ) → (kindOf ns j ≡ 0 → ⊥) → 0 < j
-  later j e = ⊎-elim (λ (q : 0 ≡ j). absurd (e (subst (λ (x : ℕ). kindOf ns x ≡ 0) q (tree .root)))) (λ (q : 0 < j). q) (eq-or-lt-of-le (omega arith))
+  later = notProgram ns tree
+
+  no-function : (a : ℕ) → within a 1 3 ≡ false → (eqb a 3 ≡ false) × (within a 1 2 ≡ false)
+  no-function a e = (ne-eqb a 3 (λ q. never (sym (in-range a 1 3 (omega arith) (omega arith)) ∙ e)), go (within a 1 2) refl)
+    where
+      go : (x : Bool) → within a 1 2 ≡ x → x ≡ false
+      go true q = let r = range-of a 1 2 q in let r0 = r .0 in let r1 = r .1 in never (sym (in-range a 1 3 r0 (omega arith)) ∙ e)
+      go false q = refl
 
   pub fit-of : ScopesFit ns ss
-  fit-of =
-      let m = more (eqb (scopeOf ns 0) 0) (not (isFunctionScope ss 0) && not (isBlockScope ss 0)) at-top in
-      record {
-        top = eqb-true (scopeOf ns 0) 0 (one (eqb (scopeOf ns 0) 0) (not (isFunctionScope ss 0) && not (isBlockScope ss 0)) at-top);
-        topFlags = (off (isFunctionScope ss 0) (one (not (isFunctionScope ss 0)) (not (isBlockScope ss 0)) m), off (isBlockScope ss 0) (more (not (isFunctionScope ss 0)) (not (isBlockScope ss 0)) m));
-        function = λ j z h. of-function j z h;
-        arrow = λ j z h. of-arrow j z h;
-        block = λ j z h. of-block j z h;
-        class = λ c h e. of-class c (later c (λ q. omega arith)) h e;
-        body = λ j h e. of-body j (later j (λ q. omega arith)) h e;
-        inBody = λ j z h. under-body j z h;
-        element = λ j z h. under-element j z h;
-        other = λ j z h. of-other j z h;
-      }
+  fit-of = record {
+    top = root ns ss tree w;
+    topFlags = let f = flags 0 0 (tree .some) (rootKind ns ss tree w 0 (root ns ss tree w)) in (rw (root ns ss tree w) at (f .1), rw (root ns ss tree w) at (f .0));
+    function = λ j z h e. let m = made ns ss tree w j z h (rw e) in let f = flags j 1 h (madeKind ns ss tree w j m ∙ e) in (m, f .0, f .1, f .2);
+    arrow = λ j z h e. let m = made ns ss tree w j z h (rw e) in let f = flags j 2 h (madeKind ns ss tree w j m ∙ e) in (m, f .0, f .1, f .2);
+    block = λ j z h e. let m = made ns ss tree w j z h (rw e) in let f = flags j 3 h (madeKind ns ss tree w j m ∙ e) in (m, f .0);
+    class = λ c h e. className ns ss tree w c (later c (λ q. omega arith)) h e;
+    body = λ j h e. classBody ns ss tree w j (later j (λ q. omega arith)) h e;
+    inBody = λ j z h e. (sameOnly ns ss tree w j z h (rw e) (rw e), classElement ns ss tree w j z h e);
+    element = λ j z h l u. let n = no-scope (kindOf ns (parentOf ns j)) l u in sameOnly ns ss tree w j z h (n .0) (n .1);
+    other = λ j z h e.
+        ⊎-elim (λ q. inl q)
+        (λ m. let f = flags j (kindOf ns (parentOf ns j)) h (madeKind ns ss tree w j m) in let n = no-function (kindOf ns (parentOf ns j)) e in inr (m, f .0 ∙ n .0, f .1 ∙ n .1))
+        (sameOrMade ns ss tree w j z h);
+  }

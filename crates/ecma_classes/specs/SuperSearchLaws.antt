@@ -22,21 +22,24 @@ use Rattle.classes.specs.ClassesLaws.{within-one, over}
 use Rattle.standing.specs.StandingLaws.{Placed}
 use Rattle.trees.specs.Trail.{unitOf}
 use Rattle.trees.specs.TrailLaws.{handedLaw, handedRoot}
-use Rattle.supers.specs.Super.{ifCall, isNode, isValueOf, partOf, placeOf, functionUse, isClassScope, atClass, stepAt, classAbove, reachFrom}
+use Rattle.supers.specs.Super as super
+use Rattle.supers.specs.Super.{ifCall, isValueOf, partOf, placeOf, functionUse, isClassScope, atClass, stepAt, classAbove, reachFrom}
 use Rattle.supers.specs.SuperLaws.{place-stop, place-on, reach-stop, reach-leave, reach-on, outer-next}
 use Rattle.supers.specs.declared.ElementPart.the-variants.{Value, Key}
 use Rattle.supers.specs.declared.Reach.{Reach}
 use Rattle.supers.specs.declared.Reach.the-variants.{Illegal}
 use Rattle.supers.specs.declared.Step.the-variants.{On}
-use Rattle.ecma_classes.specs.ClassElements.{sameNode}
-use Rattle.ecma_classes.specs.Supers.{isValue, begins, isFunctionScope, isArrowScope, isBlockScope, Same, Own, ScopesFit}
+use Rattle.ecma_base.specs.Contains.{isNode}
+use Rattle.ecma_base.specs.ScopesLaws.{Made}
+use Rattle.ecma_classes.specs.ScopesFitLaws.{isFunctionScope, isArrowScope, isBlockScope, Same, ScopesFit}
+use Rattle.ecma_classes.specs.Supers.{isValue, begins}
 
 -- x is the value of a, in the check's words
 pub value-is : (ns : List ℕ) (a x : ℕ) → isValueOf ns a x ≡ isValue ns a x
 unfolding isValueOf
 value-is ns a x = go (valueOf ns a)
   where
-    go : (f : Found) → isNode f x ≡ sameNode f (At (record { 0 = x }))
+    go : (f : Found) → super.isNode f x ≡ isNode f x
     go (At v) = refl
     go Nothing = refl
 
@@ -128,12 +131,12 @@ module _ (ns ss : List ℕ) (tree : Tree ns) (chained : Chained ss) (scoped : Sc
       go Nothing e = refl
 
   -- a scope of its own
-  module _ (j start : ℕ) (z : 0 < j) (h : j < count ns) (own : Own ns ss j) (c : isClassScope ns (classAbove ns j) (scopeOf ns j) ≡ false) where
+  module _ (j start : ℕ) (z : 0 < j) (h : j < count ns) (own : Made ns ss j) (c : isClassScope ns (classAbove ns j) (scopeOf ns j) ≡ false) where
     next : outer ss (scopeOf ns j) ≡ scopeOf ns (parentOf ns j) ∷ outer ss (scopeOf ns (parentOf ns j))
     next = outer-next ss chained (scopeOf ns j) (scopeOf ns (parentOf ns j)) (sym (own .around)) (own .later) (scoped .scope j h)
 
     passed : stepAt ns ss n call (classAbove ns j) start (scopeOf ns j) ≡ On → classAbove ns j ≡ classAbove ns (parentOf ns j) → from j start ≡ from (parentOf ns j) (parentOf ns j)
-    passed e a = reach-on ns ss n call (classAbove ns j) start (scopeOf ns j) e ∙ rw (next, own .maker, a)
+    passed e a = reach-on ns ss n call (classAbove ns j) start (scopeOf ns j) e ∙ rw (next, own .whose, a)
 
     plain-step : isBlockScope ss (scopeOf ns j) ≡ false → isFunctionScope ss (scopeOf ns j) ≡ false → stepAt ns ss n call (classAbove ns j) start (scopeOf ns j) ≡ On
     unfolding stepAt
@@ -146,7 +149,7 @@ module _ (ns ss : List ℕ) (tree : Tree ns) (chained : Chained ss) (scoped : Sc
     function-step : isBlockScope ss (scopeOf ns j) ≡ false → isFunctionScope ss (scopeOf ns j) ≡ true → isArrowScope ss (scopeOf ns j) ≡ false
         → from j start ≡ functionUse ns n call (classAbove ns j) (parentOf ns j)
     unfolding stepAt
-    function-step b f a = reach-stop ns ss n call (classAbove ns j) start (scopeOf ns j) (functionUse ns n call (classAbove ns j) (parentOf ns j)) (rw (c, b, f, a, own .maker))
+    function-step b f a = reach-stop ns ss n call (classAbove ns j) start (scopeOf ns j) (functionUse ns n call (classAbove ns j) (parentOf ns j)) (rw (c, b, f, a, own .whose))
 
     block-step : isBlockScope ss (scopeOf ns j) ≡ true → from j start ≡ ifCall call
     unfolding stepAt
@@ -173,7 +176,7 @@ module _ (ns ss : List ℕ) (tree : Tree ns) (chained : Chained ss) (scoped : Sc
   unit-begins j z h e = unit-up j z h ∙ rw e
 
   -- no class's scope
-  own-free : (j : ℕ) → 0 < j → j < count ns → (kindOf ns (parentOf ns j) ≡ k.ClassBody → ⊥) → Own ns ss j → isClassScope ns (classAbove ns j) (scopeOf ns j) ≡ false
+  own-free : (j : ℕ) → 0 < j → j < count ns → (kindOf ns (parentOf ns j) ≡ k.ClassBody → ⊥) → Made ns ss j → isClassScope ns (classAbove ns j) (scopeOf ns j) ≡ false
   own-free j z h e own =
       let l = tree .falls j z h in
       no-class j (scopeOf ns j) h
@@ -181,7 +184,7 @@ module _ (ns ss : List ℕ) (tree : Tree ns) (chained : Chained ss) (scoped : Sc
       let a = around (parentOf ns j) b (omega arith) (sym (above-other j z h e) ∙ q) in
       let x = a .less in
       let y = a .fall in
-      let s : parentOf ns j ≡ parentOf ns b = sym (own .maker) ∙ r in
+      let s : parentOf ns j ≡ parentOf ns b = sym (own .whose) ∙ r in
       omega arith)
 
   -- what is known of the nodes above
@@ -265,7 +268,7 @@ module _ (ns ss : List ℕ) (tree : Tree ns) (chained : Chained ss) (scoped : Sc
       c-later : c < b
       c-later = let x = p-later .1 in let y = b-later .1 in tree .falls b (b-later .0) (omega arith)
 
-      body-scope : Own ns ss b × (scopeOf ns b ≡ extraOf ns c)
+      body-scope : Made ns ss b × (scopeOf ns b ≡ extraOf ns c)
       body-scope = let x = p-later .1 in let y = b-later .1 in fit .body b (omega arith) b-kind
 
       the-scope : scopeOf ns j ≡ scopeOf ns b
@@ -289,7 +292,7 @@ module _ (ns ss : List ℕ) (tree : Tree ns) (chained : Chained ss) (scoped : Sc
           let y = b-later .1 in
           let w = c-kind in
           reach-leave ns ss n call (classAbove ns j) start (scopeOf ns j) (step-is ∙ ap (atClass call) e)
-          ∙ rw (the-scope, the-class, outer-next ss chained (scopeOf ns b) (scopeOf ns c) (sym (body-scope .0 .around)) (body-scope .0 .later) (scoped .scope b (omega arith)), body-scope .0 .maker, above-other b (b-later .0) (omega arith) (λ q. omega arith))
+          ∙ rw (the-scope, the-class, outer-next ss chained (scopeOf ns b) (scopeOf ns c) (sym (body-scope .0 .around)) (body-scope .0 .later) (scoped .scope b (omega arith)), body-scope .0 .whose, above-other b (b-later .0) (omega arith) (λ q. omega arith))
 
       -- its class is in the unit that the class's own node is in
       unit-class : unit p ≡ unit c

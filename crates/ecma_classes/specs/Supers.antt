@@ -11,36 +11,22 @@ use Rattle.tables.specs.Kinds as k
 use Rattle.tables.specs.Extras as extra
 use Rattle.tables.specs.NodeFlag as flag
 use Rattle.tables.specs.ScopeFlag as scope
-use Rattle.tables.specs.declared.Found.the-variants.{At}
 use Rattle.children.specs.Children.{valueOf}
-use Rattle.trees.specs.Rose.{Rose, Roses, node, rnil, rcons, idx, partsOf}
 use Rattle.trees.specs.Trail.{unitOf}
-use Rattle.ecma_classes.specs.ClassElements.{sameNode, namesConstructor, isFirstConstructor}
+use Rattle.ecma_base.specs.Contains.{isNode, containsIn, superShut}
+use Rattle.ecma_classes.specs.ClassElements.{namesConstructor, isFirstConstructor}
 
 abbrev pub isValue : List ℕ → ℕ → ℕ → Bool
-isValue ns p j = sameNode (valueOf ns p) (At (record { 0 = j }))
+isValue ns p j = isNode (valueOf ns p) j
 
--- What Contains does not enter (8.5.1, 8.5.2 ComputedPropertyContains): the parameters and body of a function that is no arrow, a static block's statements, and the Initializer of a
--- field. It enters arrow functions, a ClassHeritage and computed names. The program is the outermost such unit.
+-- A unit begins with what Contains does not look into for SuperCall and SuperProperty: FormalParameters and FunctionBody, ClassStaticBlockStatementList, Initializer; the program's StatementList or
+-- ModuleItemList is the outermost.
 unfoldable pub begins : List ℕ → ℕ → ℕ → Bool
-begins ns i j =
-    eqb i 0
-    || (eqb (kindOf ns i) k.Function
-    || (eqb (kindOf ns i) k.StaticBlock || (within (kindOf ns i) k.PropertyDefinition k.AccessorProperty && isValue ns i j)))
+begins ns i j = eqb i 0 || superShut ns i j
 
--- 8.5.1 Contains
-module _ (ns : List ℕ) (sought : ℕ → Bool) where
-  unfoldable mutual
-    pub contains : Rose → Bool
-    contains (node n ks) = sought n || containsAny (λ j. not (begins ns n j)) ks
-
-    pub containsAny : (ℕ → Bool) → Roses → Bool
-    containsAny into rnil = false
-    containsAny into (rcons t ts) = (into (idx t) && contains t) || containsAny into ts
-
-  -- .. of the parts with which u begins a unit: FormalParameters and FunctionBody, ClassStaticBlockStatementList, Initializer, StatementList or ModuleItemList
-  unfoldable pub containsIn : ℕ → Bool
-  containsIn u = containsAny (begins ns u) (partsOf ns u)
+-- 8.5.1 Contains, of the parts with which u begins a unit
+abbrev pub unitContains : List ℕ → (ℕ → Bool) → ℕ → Bool
+unitContains ns sought u = containsIn ns sought (begins ns) u
 
 -- "SuperCall : super Arguments", "SuperProperty : super [ Expression ]" and "super . IdentifierName"
 unfoldable pub isSuperCall : List ℕ → ℕ → Bool
@@ -84,14 +70,14 @@ module _ (ns : List ℕ) (constructs : ℕ → Bool) where
   module _ (call : ℕ → Bool) where
     -- 15.7.1, "ClassTail : ClassHeritage opt { ClassBody }": "ClassHeritage is not present and .. HasDirectSuper of constructor": code 28
     unfoldable pub bareCallIn : ℕ → Bool
-    bareCallIn u = (isConstructorMethod u && not (hasHeritage ns u)) && containsIn ns call u
+    bareCallIn u = (isConstructorMethod u && not (hasHeritage ns u)) && unitContains ns call u
 
     unfoldable pub bareCall : ℕ → Bool
     bareCall n = call n && (isConstructorMethod (unit ns n) && not (hasHeritage ns (unit ns n)))
 
     -- SuperCall anywhere but in a ConstructorMethod: 13.2.5.1, 15.2.1 and the like, 15.7.1 (methods, FieldDefinition, ClassStaticBlockBody), 16.1.1, 16.2.1.1: code 29
     unfoldable pub strayCallIn : ℕ → Bool
-    strayCallIn u = not (isConstructorMethod u) && containsIn ns call u
+    strayCallIn u = not (isConstructorMethod u) && unitContains ns call u
 
     unfoldable pub strayCall : ℕ → Bool
     strayCall n = call n && not (isConstructorMethod (unit ns n))
@@ -100,7 +86,7 @@ module _ (ns : List ℕ) (constructs : ℕ → Bool) where
 module _ (ns : List ℕ) (property : ℕ → Bool) where
   -- SuperProperty in a function that is no method (15.2.1 and the like) or in the program (16.1.1, 16.2.1.1): code 30
   unfoldable pub strayPropertyIn : ℕ → Bool
-  strayPropertyIn u = not (takesProperty ns u) && containsIn ns property u
+  strayPropertyIn u = not (takesProperty ns u) && unitContains ns property u
 
   unfoldable pub strayProperty : ℕ → Bool
   strayProperty n = property n && not (takesProperty ns (unit ns n))
@@ -120,17 +106,17 @@ standardProperty ns n = strayProperty ns (isSuperProperty ns) n
 unfoldable pub superError : List ℕ → List ℕ → ℕ → Bool
 superError ns names u =
     -- 16.1.1 ScriptBody, 16.2.1.1 ModuleBody: "Contains super"
-    cond (eqb u 0) (containsIn ns (isSuperCall ns) u || containsIn ns (isSuperProperty ns) u)
+    cond (eqb u 0) (unitContains ns (isSuperCall ns) u || unitContains ns (isSuperProperty ns) u)
     -- 15.7.1 ClassStaticBlockBody, FieldDefinition: "Contains SuperCall"
-    (cond (eqb (kindOf ns u) k.StaticBlock || within (kindOf ns u) k.PropertyDefinition k.AccessorProperty) (containsIn ns (isSuperCall ns) u)
+    (cond (eqb (kindOf ns u) k.StaticBlock || within (kindOf ns u) k.PropertyDefinition k.AccessorProperty) (unitContains ns (isSuperCall ns) u)
     -- 13.2.5.1 PropertyDefinition : MethodDefinition: "HasDirectSuper of MethodDefinition"
-    (cond (isObjectMethod ns u) (containsIn ns (isSuperCall ns) u)
+    (cond (isObjectMethod ns u) (unitContains ns (isSuperCall ns) u)
     -- 15.7.1 ClassTail: "ClassHeritage is not present and .. HasDirectSuper of constructor", which is ConstructorMethod of ClassBody
-    (cond (isConstructorMethod ns (isFirstConstructor ns names) u) (not (hasHeritage ns u) && containsIn ns (isSuperCall ns) u)
+    (cond (isConstructorMethod ns (isFirstConstructor ns names) u) (not (hasHeritage ns u) && unitContains ns (isSuperCall ns) u)
     -- 15.7.1 ClassElement : MethodDefinition, its PropName not "constructor", and static MethodDefinition: "HasDirectSuper of MethodDefinition"
-    (cond (isMethod ns u) (not (namesConstructor ns names (parentOf ns u)) && containsIn ns (isSuperCall ns) u)
+    (cond (isMethod ns u) (not (namesConstructor ns names (parentOf ns u)) && unitContains ns (isSuperCall ns) u)
     -- 15.2.1, 15.5.1, 15.6.1, 15.8.1, functions: "Contains SuperProperty", "Contains SuperCall"
-    (containsIn ns (isSuperCall ns) u || containsIn ns (isSuperProperty ns) u)))))
+    (unitContains ns (isSuperCall ns) u || unitContains ns (isSuperProperty ns) u)))))
 
 -- CHANGED RULE: the Rust asks each constructor, so of a class that has two (27) the second too; OneConstructor is the condition on which it is standardBare.
 abbrev pub eachBare : List ℕ → List ℕ → ℕ → Bool
@@ -163,40 +149,3 @@ MethodsNamed ns names = (p : ℕ) → p < count ns → kindOf ns p ≡ k.MethodD
 -- CONDITION: a Super stands only in a SuperCall or a SuperProperty
 abbrev pub SupersStand : List ℕ → Type 0
 SupersStand ns = (n : ℕ) → n < count ns → kindOf ns n ≡ k.Super → (kindOf ns (parentOf ns n) ≡ k.Call) ⊎ (kindOf ns (parentOf ns n) ≡ k.OtherMember)
-
--- CONDITION, since the Rust goes by scopes: each node's scope is the one that its place in the tree gives it, as docs/TREES.md has it.
-abbrev pub isFunctionScope : List ℕ → ℕ → Bool
-isFunctionScope ss s = hasFlag (scopeFlagsOf ss s) scope.FunctionScope
-
-abbrev pub isArrowScope : List ℕ → ℕ → Bool
-isArrowScope ss s = hasFlag (scopeFlagsOf ss s) scope.ArrowScope
-
-abbrev pub isBlockScope : List ℕ → ℕ → Bool
-isBlockScope ss s = hasFlag (scopeFlagsOf ss s) scope.StaticBlockScope
-
--- a node is in its parent's scope ..
-abbrev pub Same : List ℕ → ℕ → Type 0
-Same ns j = scopeOf ns j ≡ scopeOf ns (parentOf ns j)
-
--- .. or in a scope that its parent makes
-pub record Own (ns ss : List ℕ) (j : ℕ) : Type 0 where
-  pub later : 0 < scopeOf ns j
-  pub maker : scopeNodeOf ss (scopeOf ns j) ≡ parentOf ns j
-  pub around : scopeParentOf ss (scopeOf ns j) ≡ scopeOf ns (parentOf ns j)
-
-pub record ScopesFit (ns ss : List ℕ) : Type 0 where
-  pub top : scopeOf ns 0 ≡ 0
-  pub topFlags : (isFunctionScope ss 0 ≡ false) × (isBlockScope ss 0 ≡ false)
-  pub function : (j : ℕ) → 0 < j → j < count ns → kindOf ns (parentOf ns j) ≡ k.Function
-      → Own ns ss j × (isBlockScope ss (scopeOf ns j) ≡ false) × (isFunctionScope ss (scopeOf ns j) ≡ true) × (isArrowScope ss (scopeOf ns j) ≡ false)
-  pub arrow : (j : ℕ) → 0 < j → j < count ns → kindOf ns (parentOf ns j) ≡ k.Arrow
-      → Own ns ss j × (isBlockScope ss (scopeOf ns j) ≡ false) × (isFunctionScope ss (scopeOf ns j) ≡ true) × (isArrowScope ss (scopeOf ns j) ≡ true)
-  pub block : (j : ℕ) → 0 < j → j < count ns → kindOf ns (parentOf ns j) ≡ k.StaticBlock → Own ns ss j × (isBlockScope ss (scopeOf ns j) ≡ true)
-  -- a class's scope is that of its ClassBody and of the elements and their parts; a ClassBody has no other children
-  pub class : (c : ℕ) → c < count ns → kindOf ns c ≡ k.Class → scopeNodeOf ss (extraOf ns c) ≡ c
-  pub body : (j : ℕ) → j < count ns → kindOf ns j ≡ k.ClassBody → Own ns ss j × (scopeOf ns j ≡ extraOf ns (parentOf ns j))
-  pub inBody : (j : ℕ) → 0 < j → j < count ns → kindOf ns (parentOf ns j) ≡ k.ClassBody → Same ns j × ((within (kindOf ns j) k.MethodDefinition k.AccessorProperty || eqb (kindOf ns j) k.StaticBlock) ≡ true)
-  pub element : (j : ℕ) → 0 < j → j < count ns → k.MethodDefinition ≤ kindOf ns (parentOf ns j) → kindOf ns (parentOf ns j) ≤ k.AccessorProperty → Same ns j
-  -- other scopes are no function's and no static block's
-  pub other : (j : ℕ) → 0 < j → j < count ns → within (kindOf ns (parentOf ns j)) k.Function k.StaticBlock ≡ false
-      → Same ns j ⊎ (Own ns ss j × (isBlockScope ss (scopeOf ns j) ≡ false) × (isFunctionScope ss (scopeOf ns j) ≡ false))

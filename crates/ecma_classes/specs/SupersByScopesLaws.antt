@@ -19,7 +19,8 @@ use Rattle.ecma_dispatch.specs.WithCode.{withCode}
 use Rattle.ecma_dispatch.specs.Dispatch.{at28, at29, at30}
 use Rattle.ecma_classes.specs.Raising.{raising}
 use Rattle.ecma_classes.specs.RaisingLaws.{raising-code}
-use Rattle.ecma_classes.specs.Supers.{isTableCall, isTableProperty, tableBare, tableStray, tableProperty, ScopesFit}
+use Rattle.ecma_classes.specs.ScopesFitLaws.{ScopesFit}
+use Rattle.ecma_classes.specs.Supers.{isTableCall, isTableProperty, tableBare, tableStray, tableProperty}
 use Rattle.ecma_classes.specs.SupersLaws.{super-bare, super-call, super-property}
 use Rattle.ecma_classes.specs.SupersByScopes.{isUnderived, isIllegal, bareByScopes, strayByScopes, propertyByScopes}
 

@@ -32,7 +32,8 @@ use Rattle.ecma_dispatch.specs.Dispatch.{at28, at29, at30}
 use Rattle.ecma_classes.specs.Raising.{raising}
 use Rattle.ecma_classes.specs.RaisingLaws.{raising-code}
 use Rattle.ecma_classes.specs.ClassElements.{namesConstructor}
-use Rattle.ecma_classes.specs.Supers.{isValue, begins, isMethod, isConstructorMethod, classOf, hasHeritage, isObjectMethod, takesProperty, bareCall, strayCall, strayProperty, isSuperCall, isSuperProperty, eachBare, standardStray, standardProperty, isTableConstructor, isTableCall, isTableProperty, tableBare, tableStray, tableProperty, MethodsNamed, SupersStand, ScopesFit}
+use Rattle.ecma_classes.specs.ScopesFitLaws.{ScopesFit}
+use Rattle.ecma_classes.specs.Supers.{isValue, begins, isMethod, isConstructorMethod, classOf, hasHeritage, isObjectMethod, takesProperty, bareCall, strayCall, strayProperty, isSuperCall, isSuperProperty, eachBare, standardStray, standardProperty, isTableConstructor, isTableCall, isTableProperty, tableBare, tableStray, tableProperty, MethodsNamed, SupersStand}
 use Rattle.ecma_classes.specs.SuperSearchLaws.{value-is, inUnit, search-is, no-root, above-other, above-body}
 
 -- a unit is the program, a function, a static block or a field

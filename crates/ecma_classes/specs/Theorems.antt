@@ -34,7 +34,9 @@ use Rattle.ecma_classes.specs.ObjectsLaws.{times, proto-again, proto-agr
 use Rattle.ecma_classes.specs.PrivateNames.{privateBound, privateEntered, entries, allowed, privateTwice, privateAgain, PrivatesEntered, OnceOrTwice, isClassBody, isUse, allPrivateIdentifiersValid, invalidIdentifiers, invalidInTable, PrivatesPlain, bodyAround, isOutside, UsedOutside}
 use Rattle.ecma_classes.specs.PrivateTwiceLaws.{flat-alike, private-again, again-some, again-once, entered-all, entered-rising}
 use Rattle.ecma_classes.specs.PrivateNamesLaws.{invalidAt, invalid-list, valid-none, private-outside, outside-invalid, private-undeclared, invalid-same, class-above, body-of-class}
-use Rattle.ecma_classes.specs.Supers.{isSuperCall, isSuperProperty, bareCall, strayCall, strayProperty, bareCallIn, strayCallIn, strayPropertyIn, standardBare, standardStray, standardProperty, eachBare, tableBare, tableStray, tableProperty, MethodsNamed, SupersStand, ScopesFit, superError}
+use Rattle.ecma_base.specs.Scopes.{scopesFollow}
+use Rattle.ecma_classes.specs.ScopesFitLaws.{ScopesFit, fit-of}
+use Rattle.ecma_classes.specs.Supers.{isSuperCall, isSuperProperty, bareCall, strayCall, strayProperty, bareCallIn, strayCallIn, strayPropertyIn, standardBare, standardStray, standardProperty, eachBare, tableBare, tableStray, tableProperty, MethodsNamed, SupersStand, superError}
 use Rattle.ecma_classes.specs.SupersLaws.{super-bare, super-call, super-property, bare-same, stray-same, property-rule-same}
 use Rattle.ecma_classes.specs.SupersByScopes.{bareByScopes, strayByScopes, propertyByScopes}
 use Rattle.ecma_classes.specs.SupersByScopesLaws.{bare-by-scopes, stray-by-scopes, property-by-scopes}
@@ -187,8 +189,11 @@ module _ (t : ℕ) (ns ss source names : List ℕ) (w : WellFormed t ns ss sourc
   pub code30-scopes : raising 30 findings ≡ keep (propertyByScopes ns ss) nodes
   code30-scopes = whole t ns ss source names 30 refl (propertyByScopes ns ss) (λ j h. property-by-scopes t ns ss source names j)
 
-  -- .. and `super` where an early error forbids it, where the table's scopes are the tree's; changed: by what the Rust takes for a constructor and for a call
-  module _ (fit : ScopesFit ns ss) where
+  -- .. and `super` where an early error forbids it, where the scopes follow the tree; changed: by what the Rust takes for a constructor and for a call
+  module _ (follow : scopesFollow ns ss ≡ true) where
+    fit : ScopesFit ns ss
+    fit = fit-of ns ss (w .input .tree) follow
+
     pub code28 : raising 28 findings ≡ keep (tableBare ns) nodes
     code28 = whole t ns ss source names 28 refl (tableBare ns) (λ j h. super-bare ns ss (w .input .tree) (w .input .chained) (w .input .scoped) (w .shaped .placed) fit j h t source names)
 
