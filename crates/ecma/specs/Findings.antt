@@ -6,7 +6,7 @@
 use Prim.Native.Nat.{ℕ}
 use mathlib.Core.Path.{_≡_}
 use mathlib.Core.List.{List, [], _++_, flatMap}
-use mathlib.Core.Bool.{cond, not, _&&_}
+use mathlib.Core.Bool.{true, cond, not, _&&_}
 use lib.Dec.{eqb}
 use Rattle.common.specs.Upto.{upto}
 use Rattle.tables.specs.Table.{kindOf, count}
@@ -21,12 +21,11 @@ use Rattle.wellformed.specs.WellFormed.{inputRefusal}
 use Rattle.wellformed.specs.WellFormedLaws.{input-well-formed}
 use Rattle.checker.specs.Findings.{findingsOf}
 use Rattle.ecma_dispatch.specs.WithCode.{withCode}
-use Rattle.ecma_dispatch.specs.NodesOf.{nodesOf}
+use Rattle.ecma_dispatch.specs.NodesOf.{raised}
 use Rattle.ecma_labels.specs.Breaches.{duplicateLabelAt, breakNotNestedAt}
 use Rattle.ecma_labels.specs.Changed.{plainContinueNotNestedAt, noLabelAt, noLoopAt, inProgram}
 use Rattle.ecma_labels.specs.Theorems as labels
 use Rattle.ecma_strict.specs.Theorems.{EarlyErrors, earlyErrors}
-use Rattle.ecma_classes.specs.Raising.{raising}
 use Rattle.ecma_classes.specs.ClassElements.{sameNode, nameMissing, builtTwice, protoAgain}
 use Rattle.ecma_classes.specs.ObjectsLaws.{times}
 use Rattle.ecma_classes.specs.PrivateNames.{privateEntered, privateAgain, isClassBody, isOutside, invalidInTable, bodyAround}
@@ -45,34 +44,34 @@ pub record Broken (t : ℕ) (ns ss source names : List ℕ) : Type 0 where
   -- 2 to 6, 9 to 17, 24, 25, 31 to 33; each says whether its rule is changed
   pub strict : EarlyErrors t ns ss source names
   -- 14.9.1: a break without a label in no loop or switch
-  pub code18 : nodesOf (withCode 18 (findingsOf t ns ss source names)) ≡ keep (breakNotNestedAt ns names) (upto 0 (count ns))
+  pub code18 : raised 18 (findingsOf t ns ss source names) ≡ keep (breakNotNestedAt ns names) (upto 0 (count ns))
   -- 8.3.2, and 8.3.3 changed: a label that no statement around has, in program code and elsewhere
-  pub code19 : nodesOf (withCode 19 (findingsOf t ns ss source names)) ≡ keep (λ j. noLabelAt ns names j && inProgram ns names j) (upto 0 (count ns))
-  pub code20 : nodesOf (withCode 20 (findingsOf t ns ss source names)) ≡ keep (λ j. noLabelAt ns names j && not (inProgram ns names j)) (upto 0 (count ns))
+  pub code19 : raised 19 (findingsOf t ns ss source names) ≡ keep (λ j. noLabelAt ns names j && inProgram ns names j) (upto 0 (count ns))
+  pub code20 : raised 20 (findingsOf t ns ss source names) ≡ keep (λ j. noLabelAt ns names j && not (inProgram ns names j)) (upto 0 (count ns))
   -- 14.8.1 changed: a continue without a label in no loop
-  pub code21 : nodesOf (withCode 21 (findingsOf t ns ss source names)) ≡ keep (plainContinueNotNestedAt ns names) (upto 0 (count ns))
+  pub code21 : raised 21 (findingsOf t ns ss source names) ≡ keep (plainContinueNotNestedAt ns names) (upto 0 (count ns))
   -- 8.3.3 changed: a continue whose label is on no loop
-  pub code22 : nodesOf (withCode 22 (findingsOf t ns ss source names)) ≡ keep (noLoopAt ns names) (upto 0 (count ns))
+  pub code22 : raised 22 (findingsOf t ns ss source names) ≡ keep (noLoopAt ns names) (upto 0 (count ns))
   -- 8.3.1: a label within itself
-  pub code23 : nodesOf (withCode 23 (findingsOf t ns ss source names)) ≡ keep (duplicateLabelAt ns names) (upto 0 (count ns))
+  pub code23 : raised 23 (findingsOf t ns ss source names) ≡ keep (duplicateLabelAt ns names) (upto 0 (count ns))
   -- 15.7.1 changed: PrivateBoundIdentifiers of a class, at node 0; 13.2.5.1 changed: `__proto__` of an object
-  pub code1 : raising 1 (findingsOf t ns ss source names)
+  pub code1 : raised 1 (findingsOf t ns ss source names)
       ≡ flatMap (λ b. times 0 (privateAgain ns names (privateEntered ns b))) (keep (isClassBody ns) (upto 0 (count ns))) ++ flatMap (λ n. times n (protoAgain ns names n)) (upto 0 (count ns))
   -- 15.7.7 AllPrivateIdentifiersValid, changed: outside of classes; in them, at the class whose body is nearest
-  pub code7 : raising 7 (findingsOf t ns ss source names) ≡ keep (isOutside ns) (upto 0 (count ns))
+  pub code7 : raised 7 (findingsOf t ns ss source names) ≡ keep (isOutside ns) (upto 0 (count ns))
   pub code8 : withCode 8 (findingsOf t ns ss source names) ≡ reported ns (invalidInTable ns names)
   -- 15.7: a declaration that lacks its name
-  pub code26 : raising 26 (findingsOf t ns ss source names) ≡ keep (nameMissing ns) (upto 0 (count ns))
+  pub code26 : raised 26 (findingsOf t ns ss source names) ≡ keep (nameMissing ns) (upto 0 (count ns))
   -- 15.7.1 changed: a second constructor
-  pub code27 : raising 27 (findingsOf t ns ss source names) ≡ keep (builtTwice ns) (upto 0 (count ns))
+  pub code27 : raised 27 (findingsOf t ns ss source names) ≡ keep (builtTwice ns) (upto 0 (count ns))
   -- `super`, changed: by the search through the scopes, whatever they are
-  pub code28-scopes : raising 28 (findingsOf t ns ss source names) ≡ keep (bareByScopes ns ss) (upto 0 (count ns))
-  pub code29-scopes : raising 29 (findingsOf t ns ss source names) ≡ keep (strayByScopes ns ss) (upto 0 (count ns))
-  pub code30-scopes : raising 30 (findingsOf t ns ss source names) ≡ keep (propertyByScopes ns ss) (upto 0 (count ns))
+  pub code28-scopes : raised 28 (findingsOf t ns ss source names) ≡ keep (bareByScopes ns ss) (upto 0 (count ns))
+  pub code29-scopes : raised 29 (findingsOf t ns ss source names) ≡ keep (strayByScopes ns ss) (upto 0 (count ns))
+  pub code30-scopes : raised 30 (findingsOf t ns ss source names) ≡ keep (propertyByScopes ns ss) (upto 0 (count ns))
   -- `super` where an early error forbids it (HasDirectSuper, Contains), changed, where the scopes follow the tree
-  pub code28 : scopesFollow ns ss ≡ true → raising 28 (findingsOf t ns ss source names) ≡ keep (tableBare ns) (upto 0 (count ns))
-  pub code29 : scopesFollow ns ss ≡ true → raising 29 (findingsOf t ns ss source names) ≡ keep (tableStray ns) (upto 0 (count ns))
-  pub code30 : scopesFollow ns ss ≡ true → raising 30 (findingsOf t ns ss source names) ≡ keep (tableProperty ns) (upto 0 (count ns))
+  pub code28 : scopesFollow ns ss ≡ true → raised 28 (findingsOf t ns ss source names) ≡ keep (tableBare ns) (upto 0 (count ns))
+  pub code29 : scopesFollow ns ss ≡ true → raised 29 (findingsOf t ns ss source names) ≡ keep (tableStray ns) (upto 0 (count ns))
+  pub code30 : scopesFollow ns ss ≡ true → raised 30 (findingsOf t ns ss source names) ≡ keep (tableProperty ns) (upto 0 (count ns))
 
 -- THE THEOREM
 pub findings262 : (t : ℕ) (ns ss source names : List ℕ) → inputRefusal t ns ss source names ≡ Passed → Broken t ns ss source names

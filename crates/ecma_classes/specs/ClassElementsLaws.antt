@@ -23,8 +23,9 @@ use Rattle.classes.specs.Elements.{hasBody, hasBodyAt}
 use Rattle.classes.specs.Elements as e
 use Rattle.class_checks.specs.ClassChecks.{requireClassName, constructors, firstPair, secondBy, secondConstructor}
 use Rattle.checker.specs.Findings.{findingsAt}
+use Rattle.ecma_dispatch.specs.WithCode.{withCode}
 use Rattle.ecma_dispatch.specs.Dispatch.{at26, at27}
-use Rattle.ecma_classes.specs.Raising.{raising}
+use Rattle.ecma_dispatch.specs.NodesOf.{nodesOf, raised}
 use Rattle.ecma_classes.specs.RaisingLaws.{raising-code, keep-same, keep-alike}
 use Rattle.ecma_classes.specs.ClassElements.{found, bodyIn, elementsIn, classElements, isConstructor, builtTwice, namesConstructor, constructorTwice, ConstructorsNamed, nameMissing}
 
@@ -36,8 +37,8 @@ pub body-in : (ns : List ℕ) (f : Found) → hasBodyAt ns f ≡ bodyIn ns f
 body-in ns (At m) = found-at (functionBodyOf ns (m .0))
 body-in ns Nothing = refl
 
-pairs : (ns : List ℕ) (n : ℕ) (l : List ℕ) → raising 27 (listed (firstPair ns n l)) ≡ only (ltb 1 (length l)) n
-unfolding raising
+pairs : (ns : List ℕ) (n : ℕ) (l : List ℕ) → raised 27 (listed (firstPair ns n l)) ≡ only (ltb 1 (length l)) n
+unfolding nodesOf withCode
 pairs ns n [] = refl
 pairs ns n (a ∷ []) = refl
 pairs ns n (a ∷ b ∷ l) = rw (lt-ltb 1 (length (a ∷ b ∷ l)) (omega arith))
@@ -47,19 +48,19 @@ counted : (ns : List ℕ) (l : List ℕ) → keep (λ x. e.isConstructor ns x &&
 unfolding isConstructor hasBody
 counted ns l = keep-same (λ x. e.isConstructor ns x && hasBody ns x) (isConstructor ns) (λ x. ap (λ (b : Bool). e.isConstructor ns x && b) (body-in ns (valueOf ns x))) l
 
-second-by : (ns : List ℕ) (n : ℕ) (f : Found) → raising 27 (listed (secondBy ns n f)) ≡ only (ltb 1 (length (keep (isConstructor ns) (elementsIn ns f)))) n
-unfolding constructors keep raising
+second-by : (ns : List ℕ) (n : ℕ) (f : Found) → raised 27 (listed (secondBy ns n f)) ≡ only (ltb 1 (length (keep (isConstructor ns) (elementsIn ns f)))) n
+unfolding constructors keep nodesOf withCode
 second-by ns n (At b) = pairs ns n (constructors ns (b .0)) ∙ rw (counted ns (children ns (b .0)))
 second-by ns n Nothing = refl
 
-require-by : (ns : List ℕ) (n : ℕ) → eqb (kindOf ns n) k.Class ≡ true → raising 26 (listed (requireClassName ns n)) ≡ only (nameMissing ns n) n
-unfolding requireClassName nameMissing raising
+require-by : (ns : List ℕ) (n : ℕ) → eqb (kindOf ns n) k.Class ≡ true → raised 26 (listed (requireClassName ns n)) ≡ only (nameMissing ns n) n
+unfolding requireClassName nameMissing nodesOf withCode
 require-by ns n h =
     rw (h, found-at (firstChild ns n k.BindingIdentifier k.BindingIdentifier 0 7))
     (go (hasFlag (flagsOf ns n) flag.Declaration) (found (firstChild ns n k.BindingIdentifier k.BindingIdentifier 0 7)) (eqb (kindOf ns (parentOf ns n)) k.ExportDefault))
   where
     go : (a b x : Bool)
-        → raising 26 (listed (cond (a && (not b && not x)) (errorSpan code.requireClassName n (spanStartOf ns n) (spanStartOf ns n + 5) context.none) Clear)) ≡ only (a && not (b || x)) n
+        → raised 26 (listed (cond (a && (not b && not x)) (errorSpan code.requireClassName n (spanStartOf ns n) (spanStartOf ns n + 5) context.none) Clear)) ≡ only (a && not (b || x)) n
     go true true x = refl
     go true false true = refl
     go true false false = refl
@@ -71,20 +72,20 @@ no-class ns n e = rw e
 
 module _ (t : ℕ) (ns ss source names : List ℕ) (n : ℕ) where
   -- 26: one finding at a class declaration that lacks its name
-  pub class-name : raising 26 (findingsAt t ns ss source names n) ≡ only (nameMissing ns n) n
-  unfolding raising
+  pub class-name : raised 26 (findingsAt t ns ss source names n) ≡ only (nameMissing ns n) n
+  unfolding nodesOf withCode
   class-name = raising-code 26 (findingsAt t ns ss source names n) ∙ rw (at26 t ns ss source names n) (go (eqb (kindOf ns n) k.Class) refl)
     where
-      go : (b : Bool) → eqb (kindOf ns n) k.Class ≡ b → raising 26 (cond b (listed (requireClassName ns n)) []) ≡ only (nameMissing ns n) n
+      go : (b : Bool) → eqb (kindOf ns n) k.Class ≡ b → raised 26 (cond b (listed (requireClassName ns n)) []) ≡ only (nameMissing ns n) n
       go true e = require-by ns n e
       go false e = sym (ap (λ (x : Bool). only x n) (no-class ns n e))
 
   -- 27: one finding at a class with more than one constructor that has a body
-  pub second-constructor : raising 27 (findingsAt t ns ss source names n) ≡ only (builtTwice ns n) n
-  unfolding builtTwice classElements raising
+  pub second-constructor : raised 27 (findingsAt t ns ss source names n) ≡ only (builtTwice ns n) n
+  unfolding builtTwice classElements nodesOf withCode
   second-constructor = raising-code 27 (findingsAt t ns ss source names n) ∙ rw (at27 t ns ss source names n) (go (eqb (kindOf ns n) k.Class))
     where
-      go : (b : Bool) → raising 27 (cond b (listed (secondConstructor ns n)) []) ≡ only (b && ltb 1 (length (keep (isConstructor ns) (elementsIn ns (classBodyOf ns n))))) n
+      go : (b : Bool) → raised 27 (cond b (listed (secondConstructor ns n)) []) ≡ only (b && ltb 1 (length (keep (isConstructor ns) (elementsIn ns (classBodyOf ns n))))) n
       go true = second-by ns n (classBodyOf ns n)
       go false = refl
 

@@ -29,7 +29,7 @@ use Rattle.ecma_dispatch.specs.WithCode.{withCode}
 use Rattle.trees.specs.Rose.{kids, others, forest, partsOf}
 use Rattle.trees.specs.Walk.{walk}
 use Rattle.trees.specs.Trail.{trail, climb}
-use Rattle.ecma_classes.specs.Raising.{raising}
+use Rattle.ecma_dispatch.specs.NodesOf.{nodesOf, raised}
 use Rattle.ecma_classes.specs.ClassElements.{propName, namesConstructor, isConstructorKind, constructorMethod, isFirstConstructor, classElements, isConstructor, builtTwice, nameMissing, isKeyedProto, protoAgain}
 use Rattle.ecma_classes.specs.PrivateNames.{isPrivateBound, privateName, entries, matched, isEntered, privateEntered, clashIn, privateAgain, invalid, isTableUse, bodyAround, isOutside}
 use Rattle.ecma_classes.specs.Supers.{begins, isTableCall, isTableProperty, isMethod, isObjectMethod, isConstructorMethod, hasHeritage, takesProperty, bareCall, strayCall, strayProperty}
@@ -119,19 +119,19 @@ fit = refl
 abbrev findings : List Finding
 findings = findingsOf 0 table scopes source bytes
 
-pub found26 : raising 26 findings ≡ 33 ∷ []
+pub found26 : raised 26 findings ≡ 33 ∷ []
 unfolding nameMissing firstNode upto range isChild keep
 found26 = code26 0 table scopes source bytes well
 
-pub found27 : raising 27 findings ≡ 1 ∷ []
+pub found27 : raised 27 findings ≡ 1 ∷ []
 unfolding builtTwice classElements isConstructor children firstNode upto range isChild keep
 found27 = code27 0 table scopes source bytes well
 
-pub found1 : raising 1 findings ≡ 0 ∷ 49 ∷ []
+pub found1 : raised 1 findings ≡ 0 ∷ 49 ∷ []
 unfolding privateAgain privateEntered isPrivateBound isEntered clashIn entries privateName matched protoAgain isKeyedProto children firstNode upto range isChild keep flatMap same nameOf xor
 found1 = code1 0 table scopes source bytes well
 
-pub found7 : raising 7 findings ≡ 38 ∷ []
+pub found7 : raised 7 findings ≡ 38 ∷ []
 unfolding isOutside bodyAround a.climb a.above upto range keep
 found7 = code7 0 table scopes source bytes well
 
@@ -144,14 +144,14 @@ pub first28 : keep (isFirstConstructor table bytes) (upto 0 56) ≡ 4 ∷ []
 unfolding isFirstConstructor constructorMethod isConstructorKind namesConstructor propName children firstNode upto range isChild keep same nameOf
 first28 = refl
 
-pub found28 : raising 28 findings ≡ 11 ∷ []
+pub found28 : raised 28 findings ≡ 11 ∷ []
 unfolding bareCall isTableCall isConstructorMethod isMethod hasHeritage begins trail climb firstNode upto range isChild keep
 found28 = code28 0 table scopes source bytes well fit
 
-pub found29 : raising 29 findings ≡ 28 ∷ []
+pub found29 : raised 29 findings ≡ 28 ∷ []
 unfolding strayCall isTableCall isConstructorMethod isMethod begins trail climb firstNode upto range isChild keep
 found29 = code29 0 table scopes source bytes well fit
 
-pub found30 : raising 30 findings ≡ 45 ∷ []
+pub found30 : raised 30 findings ≡ 45 ∷ []
 unfolding strayProperty isTableProperty takesProperty isMethod isObjectMethod begins trail climb firstNode upto range isChild keep
 found30 = code30 0 table scopes source bytes well fit

@@ -22,8 +22,9 @@ use Rattle.fields.specs.FieldsLaws.{Listed}
 use Rattle.trees.specs.Walk.{each, some, only}
 use Rattle.expressions.specs.Expressions.{properties, isPlain, ifProto, protoKey, toList, protoKeys, repeatsAfter, repeats, checkObjectExpression}
 use Rattle.checker.specs.Findings.{findingsAt}
+use Rattle.ecma_dispatch.specs.WithCode.{withCode}
 use Rattle.ecma_dispatch.specs.Dispatch.{at1}
-use Rattle.ecma_classes.specs.Raising.{raising}
+use Rattle.ecma_dispatch.specs.NodesOf.{nodesOf, raised}
 use Rattle.ecma_classes.specs.RaisingLaws.{raising-code, keep-upto, keep-alike}
 use Rattle.ecma_classes.specs.ClassElements.{found, nameOfKey, propName, namedBy, isKeyedProto, isProto, later, protoAgain, protoTwice, plainBy, KeysPlain}
 
@@ -52,13 +53,13 @@ flat-made f g q h (p ∷ l) = rw (h p, flat-made f g q h l) (go (q p))
     go true = refl
     go false = refl
 
-after-times : (ns : List ℕ) (n a : ℕ) (l : List ℕ) → raising 1 (repeatsAfter ns n a l) ≡ times n l
-unfolding raising repeatsAfter
+after-times : (ns : List ℕ) (n a : ℕ) (l : List ℕ) → raised 1 (repeatsAfter ns n a l) ≡ times n l
+unfolding nodesOf withCode repeatsAfter
 after-times ns n a [] = refl
 after-times ns n a (b ∷ l) = rw (after-times ns n b l)
 
-repeats-times : (ns : List ℕ) (n : ℕ) (l : List ℕ) → raising 1 (repeats ns n l) ≡ times n (later l)
-unfolding raising repeats
+repeats-times : (ns : List ℕ) (n : ℕ) (l : List ℕ) → raised 1 (repeats ns n l) ≡ times n (later l)
+unfolding nodesOf withCode repeats
 repeats-times ns n [] = refl
 repeats-times ns n (a ∷ l) = after-times ns n a l
 
@@ -100,7 +101,7 @@ module _ (ns names : List ℕ) where
       (λ p a b. property n p (w .role p b))
       ∙ sym (keep-keep (isKeyedProto ns names) (λ p. eqb (parentOf ns p) n) (upto (n + 1) (count ns)))
 
-  objects : Listed ns → (n : ℕ) → eqb (kindOf ns n) k.Object ≡ true → raising 1 (checkObjectExpression ns names n) ≡ times n (protoAgain ns names n)
+  objects : Listed ns → (n : ℕ) → eqb (kindOf ns n) k.Object ≡ true → raised 1 (checkObjectExpression ns names n) ≡ times n (protoAgain ns names n)
   unfolding checkObjectExpression protoAgain
   objects w n h =
       repeats-times ns n (protoKeys ns names n)
@@ -111,11 +112,11 @@ module _ (ns names : List ℕ) where
   no-object n e = rw e
 
   -- 1 at an Object: a finding for each such property but the first
-  pub proto-again : Listed ns → (t : ℕ) (ss source : List ℕ) (n : ℕ) → raising 1 (findingsAt t ns ss source names n) ≡ times n (protoAgain ns names n)
-  unfolding raising
+  pub proto-again : Listed ns → (t : ℕ) (ss source : List ℕ) (n : ℕ) → raised 1 (findingsAt t ns ss source names n) ≡ times n (protoAgain ns names n)
+  unfolding nodesOf withCode
   proto-again w t ss source n = raising-code 1 (findingsAt t ns ss source names n) ∙ rw (at1 t ns ss source names n) (go (eqb (kindOf ns n) k.Object) refl)
     where
-      go : (b : Bool) → eqb (kindOf ns n) k.Object ≡ b → raising 1 (cond b (checkObjectExpression ns names n) []) ≡ times n (protoAgain ns names n)
+      go : (b : Bool) → eqb (kindOf ns n) k.Object ≡ b → raised 1 (cond b (checkObjectExpression ns names n) []) ≡ times n (protoAgain ns names n)
       go true e = objects w n e
       go false e = sym (ap (times n) (no-object n e))
 

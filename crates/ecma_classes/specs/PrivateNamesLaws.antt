@@ -43,7 +43,7 @@ use Rattle.class_checks.specs.ClassChecks.{outsideBy, privateOutside, isClass, 
 use Rattle.checker.specs.Findings.{findingsAt}
 use Rattle.ecma_dispatch.specs.WithCode.{withCode}
 use Rattle.ecma_dispatch.specs.Dispatch.{at7, at8}
-use Rattle.ecma_classes.specs.Raising.{raising}
+use Rattle.ecma_dispatch.specs.NodesOf.{nodesOf, raised}
 use Rattle.ecma_classes.specs.RaisingLaws.{raising-code, keep-upto, flat-upto, keep-from}
 use Rattle.ecma_classes.specs.ListLaws.{kept-in, in-kept, keep-none, in-upto, upto-in}
 use Rattle.ecma_classes.specs.ClassElements.{found, sameNode}
@@ -154,16 +154,16 @@ current-is ns m e = let q : kindOf ns m ≡ k.PrivateIdentifier = eqb-true (kind
 
 -- 7: one finding at each PrivateIdentifier outside of ClassBodies
 module _ (t : ℕ) (ns ss source names : List ℕ) (n : ℕ) where
-  outside-raised : (f : Found) → raising 7 (listed (outsideBy ns n (classAt f))) ≡ only (not (found f)) n
-  unfolding raising
+  outside-raised : (f : Found) → raised 7 (listed (outsideBy ns n (classAt f))) ≡ only (not (found f)) n
+  unfolding nodesOf withCode
   outside-raised (At b) = refl
   outside-raised Nothing = refl
 
-  pub private-outside : raising 7 (findingsAt t ns ss source names n) ≡ only (isOutside ns n) n
-  unfolding isOutside raising
+  pub private-outside : raised 7 (findingsAt t ns ss source names n) ≡ only (isOutside ns n) n
+  unfolding isOutside nodesOf withCode
   private-outside = raising-code 7 (findingsAt t ns ss source names n) ∙ rw (at7 t ns ss source names n) (go (eqb (kindOf ns n) k.PrivateIdentifier) refl)
     where
-      go : (b : Bool) → eqb (kindOf ns n) k.PrivateIdentifier ≡ b → raising 7 (cond b (listed (privateOutside ns n)) []) ≡ only (b && not (found (bodyAround ns n))) n
+      go : (b : Bool) → eqb (kindOf ns n) k.PrivateIdentifier ≡ b → raised 7 (cond b (listed (privateOutside ns n)) []) ≡ only (b && not (found (bodyAround ns n))) n
       go true q = rw (current-is ns n q) (outside-raised (bodyAround ns n))
       go false q = refl
 

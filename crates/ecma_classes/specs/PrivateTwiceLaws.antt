@@ -25,8 +25,10 @@ use Rattle.classes.specs.Elements.{nameAt, hasNameAt, elementName, isDefinition
 use Rattle.classes.specs.Elements as e
 use Rattle.duplicates.specs.declared.Place.{Place}
 use Rattle.duplicates.specs.Duplicates.{nowhere, here, step, lastOf, sideOf, isEarlier, previousOn, orElse, previousOf, isDuplicate, redeclaration, duplicateBy, duplicateAt, duplicatesIn}
-use Rattle.ecma_classes.specs.Raising.{raising}
-use Rattle.ecma_classes.specs.RaisingLaws.{raising-flat, keep-same, keep-alike}
+use Rattle.ecma_dispatch.specs.WithCode.{withCode}
+use Rattle.ecma_dispatch.specs.NodesOf.{nodesOf, raised}
+use Rattle.ecma_dispatch.specs.NodesOfLaws.{raisedFlat}
+use Rattle.ecma_classes.specs.RaisingLaws.{keep-same, keep-alike}
 use Rattle.ecma_classes.specs.ListLaws.{member-here, member-there, any-hit, any-find, kept-in, in-kept, keep-none, keep-all, Rising, keep-rising, upto-rising}
 use Rattle.ecma_classes.specs.ClassElements.{isStatic}
 use Rattle.ecma_classes.specs.ClassElementsLaws.{body-in}
@@ -326,18 +328,18 @@ module _ (ns names : List ℕ) (c e : ℕ) where
       go (At m) q = refl
       go Nothing q = ap (λ (l : List ℕ). placeOr nowhere (last l)) (all-other (last-none mine q))
 
-  raised-by : (f : Found) → raising 1 (listed (duplicateBy ns e (placeOr nowhere f))) ≡ cond (unlike ns e f) (0 ∷ []) []
-  unfolding duplicateBy redeclaration raising
+  raised-by : (f : Found) → raised 1 (listed (duplicateBy ns e (placeOr nowhere f))) ≡ cond (unlike ns e f) (0 ∷ []) []
+  unfolding duplicateBy redeclaration nodesOf withCode
   raised-by (At d) = rw (duplicate-is ns (d .0) e) (go (not (matched ns (d .0) e)))
     where
-      go : (b : Bool) → raising 1 (listed (cond b (redeclaration ns (d .0) e) Clear)) ≡ cond b (0 ∷ []) []
+      go : (b : Bool) → raised 1 (listed (cond b (redeclaration ns (d .0) e) Clear)) ≡ cond b (0 ∷ []) []
       go true = refl
       go false = refl
   raised-by Nothing = refl
 
-  raised : raising 1 (listed (duplicateAt ns names c e)) ≡ cond (clashIn ns (entries ns names (privates ns c) e) e) (0 ∷ []) []
+  raisedHere : raised 1 (listed (duplicateAt ns names c e)) ≡ cond (clashIn ns (entries ns names (privates ns c) e) e) (0 ∷ []) []
   unfolding clashIn
-  raised = rw prev-is (raised-by (orFound (last mine) (last before)))
+  raisedHere = rw prev-is (raised-by (orFound (last mine) (last before)))
 
 -- the elements that the check goes over
 entered-is : (ns : List ℕ) (e : ℕ) → enters ns e ≡ isEntered ns e
@@ -381,12 +383,12 @@ unfolding flatMap
 flat-alike f g h [] = refl
 flat-alike f g h (x ∷ l) = rw (h x, flat-alike f g h l)
 
--- 1 at a class: a finding, raised at node 0, for each entry that clashes with an earlier one
-pub private-again : (ns names : List ℕ) (b : ℕ) → raising 1 (duplicatesIn ns names b) ≡ times 0 (privateAgain ns names (privateEntered ns b))
+-- 1 at a class: a finding, raisedHere at node 0, for each entry that clashes with an earlier one
+pub private-again : (ns names : List ℕ) (b : ℕ) → raised 1 (duplicatesIn ns names b) ≡ times 0 (privateAgain ns names (privateEntered ns b))
 unfolding duplicatesIn privateAgain
 private-again ns names b =
-    raising-flat 1 (λ e. listed (duplicateAt ns names b e)) (privates ns b)
-    ∙ flat-alike (λ e. raising 1 (listed (duplicateAt ns names b e))) (λ e. cond (clashIn ns (entries ns names (privates ns b) e) e) (0 ∷ []) []) (λ e. raised ns names b e) (privates ns b)
+    raisedFlat 1 (λ e. listed (duplicateAt ns names b e)) (privates ns b)
+    ∙ flat-alike (λ e. raised 1 (listed (duplicateAt ns names b e))) (λ e. cond (clashIn ns (entries ns names (privates ns b) e) e) (0 ∷ []) []) (λ e. raisedHere ns names b e) (privates ns b)
     ∙ flat-times 0 (λ e. clashIn ns (entries ns names (privates ns b) e) e) (privates ns b)
     ∙ ap (λ (l : List ℕ). times 0 (keep (λ e. clashIn ns (entries ns names l e) e) l)) (privates-are ns b)
 

@@ -1,6 +1,6 @@
--- Laws of findings with one code.
+-- Laws of lists of nodes that pass a test, and of findings with one code.
 use Prim.Native.Nat.{ℕ, zero, suc, _+_, _-_, _≤_, _<_}
-use mathlib.Core.Path.{_≡_, refl, _∙_}
+use mathlib.Core.Path.{_≡_, refl, sym, _∙_}
 use mathlib.Core.List.{List, [], _∷_, _++_, flatMap}
 use mathlib.Core.Bool.{Bool, true, false, cond, _||_}
 use borrow.Author.Tests.{eq-eqb}
@@ -12,22 +12,8 @@ use Rattle.walk.specs.On.{member}
 use Rattle.children.specs.Children.{keep}
 use Rattle.diagnostics.specs.declared.Finding.{Finding}
 use Rattle.ecma_dispatch.specs.WithCode.{withCode}
-use Rattle.ecma_classes.specs.Raising.{raising}
-
-pub raising-append : (c : ℕ) (fs gs : List Finding) → raising c (fs ++ gs) ≡ raising c fs ++ raising c gs
-unfolding raising
-raising-append c [] gs = refl
-raising-append c (f ∷ fs) gs = go (eqb (f .code) c) (raising-append c fs gs)
-  where
-    go : (b : Bool) → raising c (fs ++ gs) ≡ raising c fs ++ raising c gs
-        → cond b (f .node .0 ∷ raising c (fs ++ gs)) (raising c (fs ++ gs)) ≡ cond b (f .node .0 ∷ raising c fs) (raising c fs) ++ raising c gs
-    go true h = rw h
-    go false h = h
-
-pub raising-flat : (c : ℕ) (f : ℕ → List Finding) (l : List ℕ) → raising c (flatMap f l) ≡ flatMap (λ k. raising c (f k)) l
-unfolding flatMap raising
-raising-flat c f [] = refl
-raising-flat c f (k ∷ l) = raising-append c (f k) (flatMap f l) ∙ rw (raising-flat c f l)
+use Rattle.ecma_dispatch.specs.NodesOf.{raised}
+use Rattle.ecma_dispatch.specs.NodesOfLaws.{raisedAgain}
 
 pub keep-same : (p q : ℕ → Bool) → ((k : ℕ) → p k ≡ q k) → (l : List ℕ) → keep p l ≡ keep q l
 unfolding keep
@@ -55,14 +41,8 @@ keep-upto p q i n h = go i (n - i) (λ x a b. h x a (omega arith))
     go i (suc f) h = rw (h i (omega arith) (omega arith), go (suc i) f (λ x a b. h x (omega arith) (omega arith)))
 
 -- the same of the findings with that code alone
-pub raising-code : (c : ℕ) (fs : List Finding) → raising c fs ≡ raising c (withCode c fs)
-unfolding raising withCode
-raising-code c [] = refl
-raising-code c (f ∷ fs) = go (eqb (f .code) c) refl (raising-code c fs)
-  where
-    go : (b : Bool) → eqb (f .code) c ≡ b → raising c fs ≡ raising c (withCode c fs) → cond b (f .node .0 ∷ raising c fs) (raising c fs) ≡ raising c (cond b (f ∷ withCode c fs) (withCode c fs))
-    go true q h = rw (q, h)
-    go false q h = h
+pub raising-code : (c : ℕ) (fs : List Finding) → raised c fs ≡ raised c (withCode c fs)
+raising-code c fs = sym (raisedAgain c fs)
 
 pub flat-upto : {A : Type 0} (f g : ℕ → List A) (i n : ℕ) → ((x : ℕ) → i ≤ x → x < n → f x ≡ g x) → flatMap f (upto i n) ≡ flatMap g (upto i n)
 unfolding upto range flatMap

@@ -17,7 +17,7 @@ use Rattle.supers.specs.declared.Reach.the-variants.{Legal, Illegal, Underived,
 use Rattle.checker.specs.Findings.{findingsAt}
 use Rattle.ecma_dispatch.specs.WithCode.{withCode}
 use Rattle.ecma_dispatch.specs.Dispatch.{at28, at29, at30}
-use Rattle.ecma_classes.specs.Raising.{raising}
+use Rattle.ecma_dispatch.specs.NodesOf.{nodesOf, raised}
 use Rattle.ecma_classes.specs.RaisingLaws.{raising-code}
 use Rattle.ecma_classes.specs.ScopesFitLaws.{ScopesFit}
 use Rattle.ecma_classes.specs.Supers.{isTableCall, isTableProperty, tableBare, tableStray, tableProperty}
@@ -26,22 +26,22 @@ use Rattle.ecma_classes.specs.SupersByScopes.{isUnderived, isIllegal, ba
 
 -- the findings of what the search says
 module _ (ns : List ℕ) (n : ℕ) where
-  reached28 : (r : Reach) → raising 28 (listed (byReach ns n r)) ≡ only (isUnderived r) n
-  unfolding raising
+  reached28 : (r : Reach) → raised 28 (listed (byReach ns n r)) ≡ only (isUnderived r) n
+  unfolding nodesOf withCode
   reached28 = go (isCall ns n) refl
     where
-      go : (c : Bool) → isCall ns n ≡ c → (r : Reach) → raising 28 (listed (byReach ns n r)) ≡ only (isUnderived r) n
+      go : (c : Bool) → isCall ns n ≡ c → (r : Reach) → raised 28 (listed (byReach ns n r)) ≡ only (isUnderived r) n
       go c e Legal = refl
       go true e Illegal = rw e
       go false e Illegal = rw e
       go c e (Underived x) = refl
       go c e Fails = refl
 
-  reached29 : (r : Reach) → raising 29 (listed (byReach ns n r)) ≡ only (isCall ns n && isIllegal r) n
-  unfolding raising
+  reached29 : (r : Reach) → raised 29 (listed (byReach ns n r)) ≡ only (isCall ns n && isIllegal r) n
+  unfolding nodesOf withCode
   reached29 = go (isCall ns n) refl
     where
-      go : (c : Bool) → isCall ns n ≡ c → (r : Reach) → raising 29 (listed (byReach ns n r)) ≡ only (c && isIllegal r) n
+      go : (c : Bool) → isCall ns n ≡ c → (r : Reach) → raised 29 (listed (byReach ns n r)) ≡ only (c && isIllegal r) n
       go true e Legal = refl
       go true e Illegal = rw e
       go true e (Underived x) = refl
@@ -51,11 +51,11 @@ module _ (ns : List ℕ) (n : ℕ) where
       go false e (Underived x) = refl
       go false e Fails = refl
 
-  reached30 : (r : Reach) → raising 30 (listed (byReach ns n r)) ≡ only (not (isCall ns n) && isIllegal r) n
-  unfolding raising
+  reached30 : (r : Reach) → raised 30 (listed (byReach ns n r)) ≡ only (not (isCall ns n) && isIllegal r) n
+  unfolding nodesOf withCode
   reached30 = go (isCall ns n) refl
     where
-      go : (c : Bool) → isCall ns n ≡ c → (r : Reach) → raising 30 (listed (byReach ns n r)) ≡ only (not c && isIllegal r) n
+      go : (c : Bool) → isCall ns n ≡ c → (r : Reach) → raised 30 (listed (byReach ns n r)) ≡ only (not c && isIllegal r) n
       go true e Legal = refl
       go true e Illegal = rw e
       go true e (Underived x) = refl
@@ -66,27 +66,27 @@ module _ (ns : List ℕ) (n : ℕ) where
       go false e Fails = refl
 
 module _ (t : ℕ) (ns ss source names : List ℕ) (n : ℕ) where
-  pub bare-by-scopes : raising 28 (findingsAt t ns ss source names n) ≡ only (bareByScopes ns ss n) n
-  unfolding bareByScopes raising checkSuper
+  pub bare-by-scopes : raised 28 (findingsAt t ns ss source names n) ≡ only (bareByScopes ns ss n) n
+  unfolding bareByScopes nodesOf withCode checkSuper
   bare-by-scopes = raising-code 28 (findingsAt t ns ss source names n) ∙ rw (at28 t ns ss source names n) (go (eqb (kindOf ns n) k.Super))
     where
-      go : (b : Bool) → raising 28 (cond b (withCode 28 (listed (checkSuper ns ss n))) []) ≡ only (b && isUnderived (reachOf ns ss n)) n
+      go : (b : Bool) → raised 28 (cond b (withCode 28 (listed (checkSuper ns ss n))) []) ≡ only (b && isUnderived (reachOf ns ss n)) n
       go true = sym (raising-code 28 (listed (checkSuper ns ss n))) ∙ reached28 ns n (reachOf ns ss n)
       go false = refl
 
-  pub stray-by-scopes : raising 29 (findingsAt t ns ss source names n) ≡ only (strayByScopes ns ss n) n
-  unfolding strayByScopes isTableCall raising checkSuper
+  pub stray-by-scopes : raised 29 (findingsAt t ns ss source names n) ≡ only (strayByScopes ns ss n) n
+  unfolding strayByScopes isTableCall nodesOf withCode checkSuper
   stray-by-scopes = raising-code 29 (findingsAt t ns ss source names n) ∙ rw (at29 t ns ss source names n) (go (eqb (kindOf ns n) k.Super))
     where
-      go : (b : Bool) → raising 29 (cond b (withCode 29 (listed (checkSuper ns ss n))) []) ≡ only ((b && isCall ns n) && isIllegal (reachOf ns ss n)) n
+      go : (b : Bool) → raised 29 (cond b (withCode 29 (listed (checkSuper ns ss n))) []) ≡ only ((b && isCall ns n) && isIllegal (reachOf ns ss n)) n
       go true = sym (raising-code 29 (listed (checkSuper ns ss n))) ∙ reached29 ns n (reachOf ns ss n)
       go false = refl
 
-  pub property-by-scopes : raising 30 (findingsAt t ns ss source names n) ≡ only (propertyByScopes ns ss n) n
-  unfolding propertyByScopes isTableProperty raising checkSuper
+  pub property-by-scopes : raised 30 (findingsAt t ns ss source names n) ≡ only (propertyByScopes ns ss n) n
+  unfolding propertyByScopes isTableProperty nodesOf withCode checkSuper
   property-by-scopes = raising-code 30 (findingsAt t ns ss source names n) ∙ rw (at30 t ns ss source names n) (go (eqb (kindOf ns n) k.Super))
     where
-      go : (b : Bool) → raising 30 (cond b (withCode 30 (listed (checkSuper ns ss n))) []) ≡ only ((b && not (isCall ns n)) && isIllegal (reachOf ns ss n)) n
+      go : (b : Bool) → raised 30 (cond b (withCode 30 (listed (checkSuper ns ss n))) []) ≡ only ((b && not (isCall ns n)) && isIllegal (reachOf ns ss n)) n
       go true = sym (raising-code 30 (listed (checkSuper ns ss n))) ∙ reached30 ns n (reachOf ns ss n)
       go false = refl
 

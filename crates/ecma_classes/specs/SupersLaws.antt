@@ -29,7 +29,7 @@ use Rattle.supers.specs.declared.Reach.the-variants.{Legal, Illegal, Underived}
 use Rattle.checker.specs.Findings.{findingsAt}
 use Rattle.ecma_dispatch.specs.WithCode.{withCode}
 use Rattle.ecma_dispatch.specs.Dispatch.{at28, at29, at30}
-use Rattle.ecma_classes.specs.Raising.{raising}
+use Rattle.ecma_dispatch.specs.NodesOf.{nodesOf, raised}
 use Rattle.ecma_classes.specs.RaisingLaws.{raising-code}
 use Rattle.ecma_classes.specs.ClassElements.{namesConstructor}
 use Rattle.ecma_classes.specs.ScopesFitLaws.{ScopesFit}
@@ -156,12 +156,12 @@ constructor-takes ns u e = rw (and-left (isMethod ns u) (eqb (extraOf ns (parent
 
 -- the findings of what is expected
 module _ (ns : List ℕ) (n u : ℕ) where
-  raised28 : raising 28 (listed (byReach ns n (expected ns (isCall ns n) u))) ≡ only (isCall ns n && (isConstructorMethod ns (isTableConstructor ns) u && not (hasHeritage ns u))) n
-  unfolding raising
+  raised28 : raised 28 (listed (byReach ns n (expected ns (isCall ns n) u))) ≡ only (isCall ns n && (isConstructorMethod ns (isTableConstructor ns) u && not (hasHeritage ns u))) n
+  unfolding nodesOf withCode
   raised28 = go (isCall ns n) refl (isConstructorMethod ns (isTableConstructor ns) u) (hasHeritage ns u) (takesProperty ns u)
     where
       go : (c : Bool) → isCall ns n ≡ c → (m h t : Bool)
-          → raising 28 (listed (byReach ns n (cond m (cond c (cond h Legal (Underived (record { 0 = classOf ns u }))) Legal) (cond t (ifCall c) Illegal)))) ≡ only (c && (m && not h)) n
+          → raised 28 (listed (byReach ns n (cond m (cond c (cond h Legal (Underived (record { 0 = classOf ns u }))) Legal) (cond t (ifCall c) Illegal)))) ≡ only (c && (m && not h)) n
       go true e true true t = refl
       go true e true false t = refl
       go true e false h true = rw e
@@ -170,12 +170,12 @@ module _ (ns : List ℕ) (n u : ℕ) where
       go false e false h true = refl
       go false e false h false = rw e
 
-  raised29 : raising 29 (listed (byReach ns n (expected ns (isCall ns n) u))) ≡ only (isCall ns n && not (isConstructorMethod ns (isTableConstructor ns) u)) n
-  unfolding raising
+  raised29 : raised 29 (listed (byReach ns n (expected ns (isCall ns n) u))) ≡ only (isCall ns n && not (isConstructorMethod ns (isTableConstructor ns) u)) n
+  unfolding nodesOf withCode
   raised29 = go (isCall ns n) refl (isConstructorMethod ns (isTableConstructor ns) u) (hasHeritage ns u) (takesProperty ns u)
     where
       go : (c : Bool) → isCall ns n ≡ c → (m h t : Bool)
-          → raising 29 (listed (byReach ns n (cond m (cond c (cond h Legal (Underived (record { 0 = classOf ns u }))) Legal) (cond t (ifCall c) Illegal)))) ≡ only (c && not m) n
+          → raised 29 (listed (byReach ns n (cond m (cond c (cond h Legal (Underived (record { 0 = classOf ns u }))) Legal) (cond t (ifCall c) Illegal)))) ≡ only (c && not m) n
       go true e true true t = refl
       go true e true false t = refl
       go true e false h true = rw e
@@ -184,12 +184,12 @@ module _ (ns : List ℕ) (n u : ℕ) where
       go false e false h true = refl
       go false e false h false = rw e
 
-  raised30 : raising 30 (listed (byReach ns n (expected ns (isCall ns n) u))) ≡ only (not (isCall ns n) && not (takesProperty ns u)) n
-  unfolding raising
+  raised30 : raised 30 (listed (byReach ns n (expected ns (isCall ns n) u))) ≡ only (not (isCall ns n) && not (takesProperty ns u)) n
+  unfolding nodesOf withCode
   raised30 = go (isCall ns n) refl (isConstructorMethod ns (isTableConstructor ns) u) refl (hasHeritage ns u) (takesProperty ns u) refl
     where
       go : (c : Bool) → isCall ns n ≡ c → (m : Bool) → isConstructorMethod ns (isTableConstructor ns) u ≡ m → (h t : Bool) → takesProperty ns u ≡ t
-          → raising 30 (listed (byReach ns n (cond m (cond c (cond h Legal (Underived (record { 0 = classOf ns u }))) Legal) (cond t (ifCall c) Illegal)))) ≡ only (not c && not t) n
+          → raised 30 (listed (byReach ns n (cond m (cond c (cond h Legal (Underived (record { 0 = classOf ns u }))) Legal) (cond t (ifCall c) Illegal)))) ≡ only (not c && not t) n
       go true e true q true t r = refl
       go true e true q false t r = refl
       go true e false q h true r = rw e
@@ -209,30 +209,30 @@ module _ (ns ss : List ℕ) (tree : Tree ns) (chained : Chained ss) (scoped : Sc
       ∙ at-unit ns ss tree chained scoped placed fit n (isCall ns n) (unitOf ns (begins ns) n) (unit-is ns tree n h))
 
   module _ (t : ℕ) (source names : List ℕ) where
-    pub super-bare : raising 28 (findingsAt t ns ss source names n) ≡ only (tableBare ns n) n
-    unfolding bareCall isTableCall raising
+    pub super-bare : raised 28 (findingsAt t ns ss source names n) ≡ only (tableBare ns n) n
+    unfolding bareCall isTableCall nodesOf withCode
     super-bare = raising-code 28 (findingsAt t ns ss source names n) ∙ rw (at28 t ns ss source names n) (go (eqb (kindOf ns n) k.Super) refl)
       where
         go : (b : Bool) → eqb (kindOf ns n) k.Super ≡ b
-            → raising 28 (cond b (withCode 28 (listed (checkSuper ns ss n))) []) ≡ only ((b && isCall ns n) && (isConstructorMethod ns (isTableConstructor ns) (unitOf ns (begins ns) n) && not (hasHeritage ns (unitOf ns (begins ns) n)))) n
+            → raised 28 (cond b (withCode 28 (listed (checkSuper ns ss n))) []) ≡ only ((b && isCall ns n) && (isConstructorMethod ns (isTableConstructor ns) (unitOf ns (begins ns) n) && not (hasHeritage ns (unitOf ns (begins ns) n)))) n
         go true e = sym (raising-code 28 (listed (checkSuper ns ss n))) ∙ rw (checked (eqb-true (kindOf ns n) k.Super e)) (raised28 ns n (unitOf ns (begins ns) n))
         go false e = refl
 
-    pub super-call : raising 29 (findingsAt t ns ss source names n) ≡ only (tableStray ns n) n
-    unfolding strayCall isTableCall raising
+    pub super-call : raised 29 (findingsAt t ns ss source names n) ≡ only (tableStray ns n) n
+    unfolding strayCall isTableCall nodesOf withCode
     super-call = raising-code 29 (findingsAt t ns ss source names n) ∙ rw (at29 t ns ss source names n) (go (eqb (kindOf ns n) k.Super) refl)
       where
         go : (b : Bool) → eqb (kindOf ns n) k.Super ≡ b
-            → raising 29 (cond b (withCode 29 (listed (checkSuper ns ss n))) []) ≡ only ((b && isCall ns n) && not (isConstructorMethod ns (isTableConstructor ns) (unitOf ns (begins ns) n))) n
+            → raised 29 (cond b (withCode 29 (listed (checkSuper ns ss n))) []) ≡ only ((b && isCall ns n) && not (isConstructorMethod ns (isTableConstructor ns) (unitOf ns (begins ns) n))) n
         go true e = sym (raising-code 29 (listed (checkSuper ns ss n))) ∙ rw (checked (eqb-true (kindOf ns n) k.Super e)) (raised29 ns n (unitOf ns (begins ns) n))
         go false e = refl
 
-    pub super-property : raising 30 (findingsAt t ns ss source names n) ≡ only (tableProperty ns n) n
-    unfolding strayProperty isTableProperty raising
+    pub super-property : raised 30 (findingsAt t ns ss source names n) ≡ only (tableProperty ns n) n
+    unfolding strayProperty isTableProperty nodesOf withCode
     super-property = raising-code 30 (findingsAt t ns ss source names n) ∙ rw (at30 t ns ss source names n) (go (eqb (kindOf ns n) k.Super) refl)
       where
         go : (b : Bool) → eqb (kindOf ns n) k.Super ≡ b
-            → raising 30 (cond b (withCode 30 (listed (checkSuper ns ss n))) []) ≡ only ((b && not (isCall ns n)) && not (takesProperty ns (unitOf ns (begins ns) n))) n
+            → raised 30 (cond b (withCode 30 (listed (checkSuper ns ss n))) []) ≡ only ((b && not (isCall ns n)) && not (takesProperty ns (unitOf ns (begins ns) n))) n
         go true e = sym (raising-code 30 (listed (checkSuper ns ss n))) ∙ rw (checked (eqb-true (kindOf ns n) k.Super e)) (raised30 ns n (unitOf ns (begins ns) n))
         go false e = refl
 

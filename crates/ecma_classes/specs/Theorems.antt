@@ -1,5 +1,5 @@
 -- THE THEOREMS: in well-formed tables the findings with these codes are the breaches of ECMA-262's rules, one finding for each; where the Rust keeps a changed rule, they are
--- breaches of that, and a law says on which condition it is the standard's. `raising c fs` is the nodes that raise the findings of fs with code c.
+-- breaches of that, and a law says on which condition it is the standard's. `raised c fs` is the nodes that raise the findings of fs with code c.
 use Prim.Native.Nat.{ℕ, _+_, _≤_, _<_}
 use mathlib.Core.Path.{_≡_, refl, ap, sym, subst, _∙_}
 use mathlib.Core.List.{List, [], _∷_, _++_, flatMap}
@@ -25,8 +25,9 @@ use Rattle.checker.specs.Findings.{findingsAt, findingsOf}
 use Rattle.input.specs.InputLaws.{WellFormed}
 use Rattle.ecma_dispatch.specs.WithCode.{withCode}
 use Rattle.ecma_dispatch.specs.Dispatch.{wholeOne, wholeOther}
-use Rattle.ecma_classes.specs.Raising.{raising}
-use Rattle.ecma_classes.specs.RaisingLaws.{raising-code, raising-append, raising-flat, flat-upto, keep-upto, any-upto, any-three}
+use Rattle.ecma_dispatch.specs.NodesOf.{nodesOf, raised}
+use Rattle.ecma_dispatch.specs.NodesOfLaws.{raisedAppend, raisedFlat}
+use Rattle.ecma_classes.specs.RaisingLaws.{raising-code, flat-upto, keep-upto, any-upto, any-three}
 use Rattle.ecma_classes.specs.ListLaws.{Rising, kept-in}
 use Rattle.ecma_classes.specs.ClassElements.{found, sameNode, namesConstructor, nameMissing, builtTwice, constructorTwice, isFirstConstructor, OneConstructor, ConstructorsNamed, isProto, protoAgain, protoTwice, KeysPlain}
 use Rattle.ecma_classes.specs.ClassElementsLaws.{class-name, second-constructor, constructors-agree}
@@ -46,14 +47,14 @@ use Rattle.ecma_classes.specs.WholeLaws.{below-of, all-raised, units-all
 
 -- from each node to the whole tree
 module _ (t : ℕ) (ns ss source names : List ℕ) where
-  whole : (c : ℕ) → member c (1 ∷ []) ≡ false → (rule : ℕ → Bool) → ((j : ℕ) → j < count ns → raising c (findingsAt t ns ss source names j) ≡ only (rule j) j)
-      → raising c (findingsOf t ns ss source names) ≡ keep rule (upto 0 (count ns))
+  whole : (c : ℕ) → member c (1 ∷ []) ≡ false → (rule : ℕ → Bool) → ((j : ℕ) → j < count ns → raised c (findingsAt t ns ss source names j) ≡ only (rule j) j)
+      → raised c (findingsOf t ns ss source names) ≡ keep rule (upto 0 (count ns))
   unfolding flatMap keep
   whole c e rule h =
       raising-code c (findingsOf t ns ss source names)
-      ∙ ap (raising c) (wholeOther t ns ss source names c e)
-      ∙ raising-flat c (λ j. withCode c (findingsAt t ns ss source names j)) (upto 0 (count ns))
-      ∙ flat-upto (λ j. raising c (withCode c (findingsAt t ns ss source names j))) (λ j. only (rule j) j) 0 (count ns) (λ j a b. sym (raising-code c (findingsAt t ns ss source names j)) ∙ h j b)
+      ∙ ap (raised c) (wholeOther t ns ss source names c e)
+      ∙ raisedFlat c (λ j. withCode c (findingsAt t ns ss source names j)) (upto 0 (count ns))
+      ∙ flat-upto (λ j. raised c (withCode c (findingsAt t ns ss source names j))) (λ j. only (rule j) j) 0 (count ns) (λ j a b. sym (raising-code c (findingsAt t ns ss source names j)) ∙ h j b)
       ∙ flat-only rule (upto 0 (count ns))
     where
       put : (b : Bool) (x : ℕ) (l : List ℕ) → only b x ++ l ≡ cond b (x ∷ l) l
@@ -72,27 +73,27 @@ module _ (t : ℕ) (ns ss source names : List ℕ) (w : WellFormed t ns ss sourc
   findings = findingsOf t ns ss source names
 
   -- 26: class declarations that lack their name (15.7)
-  pub code26 : raising 26 findings ≡ keep (nameMissing ns) nodes
+  pub code26 : raised 26 findings ≡ keep (nameMissing ns) nodes
   code26 = whole t ns ss source names 26 refl (nameMissing ns) (λ j h. class-name t ns ss source names j)
 
   -- 27: classes with a second constructor (15.7.1); changed: with a body
-  pub code27 : raising 27 findings ≡ keep (builtTwice ns) nodes
+  pub code27 : raised 27 findings ≡ keep (builtTwice ns) nodes
   code27 = whole t ns ss source names 27 refl (builtTwice ns) (λ j h. second-constructor t ns ss source names j)
 
-  pub code27-standard : ((n : ℕ) → n < count ns → ConstructorsNamed ns names n) → raising 27 findings ≡ keep (constructorTwice ns names) nodes
+  pub code27-standard : ((n : ℕ) → n < count ns → ConstructorsNamed ns names n) → raised 27 findings ≡ keep (constructorTwice ns names) nodes
   code27-standard c = code27 ∙ keep-upto (builtTwice ns) (constructorTwice ns names) 0 (count ns) (λ n a b. constructors-agree ns names n (c n b))
 
   -- 1: changed: each entry of PrivateBoundIdentifiers that clashes with an earlier one (15.7.1), raised at node 0; each `__proto__` of an object but the first (13.2.5.1)
-  pub code1 : raising 1 findings ≡ flatMap (λ b. times 0 (privateAgain ns names (privateEntered ns b))) (keep (isClassBody ns) nodes) ++ flatMap (λ n. times n (protoAgain ns names n)) nodes
+  pub code1 : raised 1 findings ≡ flatMap (λ b. times 0 (privateAgain ns names (privateEntered ns b))) (keep (isClassBody ns) nodes) ++ flatMap (λ n. times n (protoAgain ns names n)) nodes
   unfolding duplicateElements classesOf
   code1 =
       raising-code 1 findings
-      ∙ ap (raising 1) (wholeOne t ns ss source names)
-      ∙ raising-append 1 (duplicateElements ns names) (flatMap (λ j. withCode 1 (findingsAt t ns ss source names j)) nodes)
-      ∙ rw (raising-flat 1 (duplicatesIn ns names) (keep (isClassBody ns) nodes), raising-flat 1 (λ j. withCode 1 (findingsAt t ns ss source names j)) nodes)
+      ∙ ap (raised 1) (wholeOne t ns ss source names)
+      ∙ raisedAppend 1 (duplicateElements ns names) (flatMap (λ j. withCode 1 (findingsAt t ns ss source names j)) nodes)
+      ∙ rw (raisedFlat 1 (duplicatesIn ns names) (keep (isClassBody ns) nodes), raisedFlat 1 (λ j. withCode 1 (findingsAt t ns ss source names j)) nodes)
       (rw (
-        flat-alike (λ b. raising 1 (duplicatesIn ns names b)) (λ b. times 0 (privateAgain ns names (privateEntered ns b))) (λ b. private-again ns names b) (keep (isClassBody ns) nodes),
-        flat-alike (λ j. raising 1 (withCode 1 (findingsAt t ns ss source names j))) (λ n. times n (protoAgain ns names n)) (λ j. sym (raising-code 1 (findingsAt t ns ss source names j)) ∙ proto-again ns names (w .listed) t ss source j) nodes,
+        flat-alike (λ b. raised 1 (duplicatesIn ns names b)) (λ b. times 0 (privateAgain ns names (privateEntered ns b))) (λ b. private-again ns names b) (keep (isClassBody ns) nodes),
+        flat-alike (λ j. raised 1 (withCode 1 (findingsAt t ns ss source names j))) (λ n. times n (protoAgain ns names n)) (λ j. sym (raising-code 1 (findingsAt t ns ss source names j)) ∙ proto-again ns names (w .listed) t ss source j) nodes,
       ))
 
   -- in a class there are such just where the standard's rule is broken ..
@@ -113,10 +114,10 @@ module _ (t : ℕ) (ns ss source names : List ℕ) (w : WellFormed t ns ss sourc
   code1-object-once n p l = proto-once ns names n p l
 
   -- 7: PrivateIdentifiers in no ClassBody; the standard's: those of them at which AllPrivateIdentifiersValid (15.7.7) is false
-  pub code7 : raising 7 findings ≡ keep (isOutside ns) nodes
+  pub code7 : raised 7 findings ≡ keep (isOutside ns) nodes
   code7 = whole t ns ss source names 7 refl (isOutside ns) (λ j h. private-outside t ns ss source names j)
 
-  pub code7-standard : UsedOutside ns → raising 7 findings ≡ keep (λ j. member j (invalidIdentifiers ns names) && not (found (bodyAround ns j))) nodes
+  pub code7-standard : UsedOutside ns → raised 7 findings ≡ keep (λ j. member j (invalidIdentifiers ns names) && not (found (bodyAround ns j))) nodes
   code7-standard u =
       code7 ∙ keep-upto (isOutside ns) (λ j. member j (invalidIdentifiers ns names) && not (found (bodyAround ns j))) 0 (count ns) (λ j a b. outside-invalid ns names (w .input .tree) u j b)
 
@@ -146,7 +147,7 @@ module _ (t : ℕ) (ns ss source names : List ℕ) (w : WellFormed t ns ss sourc
   valid-lists = valid-none ns names (isUse ns) (privateBound ns) (treeOf ns) []
 
   -- .. and just where there is no finding with code 7 or 8
-  pub valid-clean : PrivatesPlain ns → UsedOutside ns → allPrivateIdentifiersValid ns names ≡ not (some (raising 7 findings) || some (raising 8 findings))
+  pub valid-clean : PrivatesPlain ns → UsedOutside ns → allPrivateIdentifiersValid ns names ≡ not (some (raised 7 findings) || some (raised 8 findings))
   valid-clean p u =
       rw (code7-standard u, raising-code 8 findings, code8-standard p)
       (valid-lists ∙ ap not (all-raised ns (w .input .tree) (w .listed) (w .shaped) (invalidIdentifiers ns names) inside))
@@ -180,13 +181,13 @@ module _ (t : ℕ) (ns ss source names : List ℕ) (w : WellFormed t ns ss sourc
   no-property = rw (w .input .tree .root)
 
   -- 28, 29, 30 of all well-formed tables: changed: by the Rust's search through the scopes, whatever they are
-  pub code28-scopes : raising 28 findings ≡ keep (bareByScopes ns ss) nodes
+  pub code28-scopes : raised 28 findings ≡ keep (bareByScopes ns ss) nodes
   code28-scopes = whole t ns ss source names 28 refl (bareByScopes ns ss) (λ j h. bare-by-scopes t ns ss source names j)
 
-  pub code29-scopes : raising 29 findings ≡ keep (strayByScopes ns ss) nodes
+  pub code29-scopes : raised 29 findings ≡ keep (strayByScopes ns ss) nodes
   code29-scopes = whole t ns ss source names 29 refl (strayByScopes ns ss) (λ j h. stray-by-scopes t ns ss source names j)
 
-  pub code30-scopes : raising 30 findings ≡ keep (propertyByScopes ns ss) nodes
+  pub code30-scopes : raised 30 findings ≡ keep (propertyByScopes ns ss) nodes
   code30-scopes = whole t ns ss source names 30 refl (propertyByScopes ns ss) (λ j h. property-by-scopes t ns ss source names j)
 
   -- .. and `super` where an early error forbids it, where the scopes follow the tree; changed: by what the Rust takes for a constructor and for a call
@@ -194,50 +195,50 @@ module _ (t : ℕ) (ns ss source names : List ℕ) (w : WellFormed t ns ss sourc
     fit : ScopesFit ns ss
     fit = fit-of ns ss (w .input .tree) follow
 
-    pub code28 : raising 28 findings ≡ keep (tableBare ns) nodes
+    pub code28 : raised 28 findings ≡ keep (tableBare ns) nodes
     code28 = whole t ns ss source names 28 refl (tableBare ns) (λ j h. super-bare ns ss (w .input .tree) (w .input .chained) (w .input .scoped) (w .shaped .placed) fit j h t source names)
 
-    pub code29 : raising 29 findings ≡ keep (tableStray ns) nodes
+    pub code29 : raised 29 findings ≡ keep (tableStray ns) nodes
     code29 = whole t ns ss source names 29 refl (tableStray ns) (λ j h. super-call ns ss (w .input .tree) (w .input .chained) (w .input .scoped) (w .shaped .placed) fit j h t source names)
 
-    pub code30 : raising 30 findings ≡ keep (tableProperty ns) nodes
+    pub code30 : raised 30 findings ≡ keep (tableProperty ns) nodes
     code30 = whole t ns ss source names 30 refl (tableProperty ns) (λ j h. super-property ns ss (w .input .tree) (w .input .chained) (w .input .scoped) (w .shaped .placed) fit j h t source names)
 
     module _ (stand : SupersStand ns) (named : MethodsNamed ns names) where
       -- 28 of each constructor, and of the first where no class has two
-      pub code28-each : raising 28 findings ≡ keep (eachBare ns names) nodes
+      pub code28-each : raised 28 findings ≡ keep (eachBare ns names) nodes
       code28-each = code28 ∙ keep-upto (tableBare ns) (eachBare ns names) 0 (count ns) (λ j a b. bare-same ns names (w .input .tree) stand j b named)
 
-      pub code28-standard : OneConstructor ns names → raising 28 findings ≡ keep (standardBare ns names) nodes
+      pub code28-standard : OneConstructor ns names → raised 28 findings ≡ keep (standardBare ns names) nodes
       code28-standard once = code28-each ∙ keep-upto (eachBare ns names) (standardBare ns names) 0 (count ns) (λ j a b. first-same ns names (w .input .tree) (w .listed) (w .shaped) once j b)
 
-      pub code29-standard : raising 29 findings ≡ keep (standardStray ns names) nodes
+      pub code29-standard : raised 29 findings ≡ keep (standardStray ns names) nodes
       code29-standard = code29 ∙ keep-upto (tableStray ns) (standardStray ns names) 0 (count ns) (λ j a b. stray-same ns names (w .input .tree) stand j b named)
 
-      pub code30-standard : raising 30 findings ≡ keep (standardProperty ns) nodes
+      pub code30-standard : raised 30 findings ≡ keep (standardProperty ns) nodes
       code30-standard = code30 ∙ keep-upto (tableProperty ns) (standardProperty ns) 0 (count ns) (λ j a b. property-rule-same ns names (w .input .tree) stand j b)
 
       -- there is a finding just where some unit breaks the rule
-      pub program28 : OneConstructor ns names → some (raising 28 findings) ≡ any (bareCallIn ns (isFirstConstructor ns names) (isSuperCall ns)) nodes
+      pub program28 : OneConstructor ns names → some (raised 28 findings) ≡ any (bareCallIn ns (isFirstConstructor ns names) (isSuperCall ns)) nodes
       program28 once =
           ap (λ (l : List ℕ). some l) (code28-standard once)
           ∙ sym (units-all ns (w .input .tree) (standardBare ns names) no-bare)
           ∙ any-upto (λ u. some (inUnit ns (standardBare ns names) u)) (bareCallIn ns (isFirstConstructor ns names) (isSuperCall ns)) 0 (count ns) (λ u a b. sym (units28 u b))
 
-      pub program29 : some (raising 29 findings) ≡ any (strayCallIn ns (namesConstructor ns names) (isSuperCall ns)) nodes
+      pub program29 : some (raised 29 findings) ≡ any (strayCallIn ns (namesConstructor ns names) (isSuperCall ns)) nodes
       program29 =
           ap (λ (l : List ℕ). some l) code29-standard
           ∙ sym (units-all ns (w .input .tree) (standardStray ns names) no-stray)
           ∙ any-upto (λ u. some (inUnit ns (standardStray ns names) u)) (strayCallIn ns (namesConstructor ns names) (isSuperCall ns)) 0 (count ns) (λ u a b. sym (units29 u b))
 
-      pub program30 : some (raising 30 findings) ≡ any (strayPropertyIn ns (isSuperProperty ns)) nodes
+      pub program30 : some (raised 30 findings) ≡ any (strayPropertyIn ns (isSuperProperty ns)) nodes
       program30 =
           ap (λ (l : List ℕ). some l) code30-standard
           ∙ sym (units-all ns (w .input .tree) (standardProperty ns) no-property)
           ∙ any-upto (λ u. some (inUnit ns (standardProperty ns) u)) (strayPropertyIn ns (isSuperProperty ns)) 0 (count ns) (λ u a b. sym (units30 u b))
 
       -- and no finding of the three just where no production's early error on `super` applies
-      pub super-clean : OneConstructor ns names → any (superError ns names) nodes ≡ (some (raising 28 findings) || (some (raising 29 findings) || some (raising 30 findings)))
+      pub super-clean : OneConstructor ns names → any (superError ns names) nodes ≡ (some (raised 28 findings) || (some (raised 29 findings) || some (raised 30 findings)))
       super-clean once =
           rw (program28 once, program29, program30)
           (any-upto (superError ns names) (λ u. bareCallIn ns (isFirstConstructor ns names) (isSuperCall ns) u || (strayCallIn ns (namesConstructor ns names) (isSuperCall ns) u || strayPropertyIn ns (isSuperProperty ns) u)) 0 (count ns) (λ u a b. error-is ns names (w .input .tree) u)

@@ -28,8 +28,9 @@ use Rattle.diagnostics.specs.declared.Finding.{Finding}
 use Rattle.diagnostics.specs.Finding.{listed, errorAt}
 use Rattle.diagnostics.specs.Codes as code
 use Rattle.diagnostics.specs.Contexts as context
-use Rattle.ecma_classes.specs.Raising.{raising}
-use Rattle.ecma_classes.specs.RaisingLaws.{raising-flat}
+use Rattle.ecma_dispatch.specs.WithCode.{withCode}
+use Rattle.ecma_dispatch.specs.NodesOf.{nodesOf, raised}
+use Rattle.ecma_dispatch.specs.NodesOfLaws.{raisedFlat}
 use Rattle.ecma_classes.specs.ListLaws.{any-hit, any-find, kept-in, in-kept, member-here, in-upto}
 use Rattle.ecma_classes.specs.ClassElements.{found, sameNode}
 use Rattle.ecma_classes.specs.ObjectsLaws.{times}
@@ -75,8 +76,8 @@ module _ (ns : List ℕ) (tree : Tree ns) (listed' : Listed ns) (shaped : Shaped
   abbrev error8 : ℕ → ℕ → List Finding
   error8 n m = listed (errorAt ns code.privateFieldUndeclared n m context.none)
 
-  raised8 : (n : ℕ) (x : List ℕ) → raising 8 (flatMap (error8 n) x) ≡ times n x
-  unfolding flatMap raising
+  raised8 : (n : ℕ) (x : List ℕ) → raised 8 (flatMap (error8 n) x) ≡ times n x
+  unfolding flatMap nodesOf withCode
   raised8 n [] = refl
   raised8 n (m ∷ x) = rw (raised8 n x)
 
@@ -84,11 +85,11 @@ module _ (ns : List ℕ) (tree : Tree ns) (listed' : Listed ns) (shaped : Shaped
   some-times n [] = refl
   some-times n (m ∷ x) = refl
 
-  class-raises : (n : ℕ) → some (raising 8 (cond (eqb (kindOf ns n) k.Class) (flatMap (error8 n) (mine n)) [])) ≡ (eqb (kindOf ns n) k.Class && some (mine n))
-  unfolding raising
+  class-raises : (n : ℕ) → some (raised 8 (cond (eqb (kindOf ns n) k.Class) (flatMap (error8 n) (mine n)) [])) ≡ (eqb (kindOf ns n) k.Class && some (mine n))
+  unfolding nodesOf withCode
   class-raises n = go (eqb (kindOf ns n) k.Class)
     where
-      go : (b : Bool) → some (raising 8 (cond b (flatMap (error8 n) (mine n)) [])) ≡ (b && some (mine n))
+      go : (b : Bool) → some (raised 8 (cond b (flatMap (error8 n) (mine n)) [])) ≡ (b && some (mine n))
       go true = ap (λ (x : List ℕ). some x) (raised8 n (mine n)) ∙ some-times n (mine n)
       go false = refl
 
@@ -98,13 +99,13 @@ module _ (ns : List ℕ) (tree : Tree ns) (listed' : Listed ns) (shaped : Shaped
   abbrev reported : List Finding
   reported = flatMap (λ n. cond (eqb (kindOf ns n) k.Class) (flatMap (error8 n) (mine n)) []) nodes
 
-  reported-some : some (raising 8 reported) ≡ any (λ n. eqb (kindOf ns n) k.Class && some (mine n)) nodes
+  reported-some : some (raised 8 reported) ≡ any (λ n. eqb (kindOf ns n) k.Class && some (mine n)) nodes
   reported-some =
-      ap (λ (x : List ℕ). some x) (raising-flat 8 (λ n. cond (eqb (kindOf ns n) k.Class) (flatMap (error8 n) (mine n)) []) nodes)
-      ∙ some-flat (λ n. raising 8 (cond (eqb (kindOf ns n) k.Class) (flatMap (error8 n) (mine n)) [])) nodes
+      ap (λ (x : List ℕ). some x) (raisedFlat 8 (λ n. cond (eqb (kindOf ns n) k.Class) (flatMap (error8 n) (mine n)) []) nodes)
+      ∙ some-flat (λ n. raised 8 (cond (eqb (kindOf ns n) k.Class) (flatMap (error8 n) (mine n)) [])) nodes
       ∙ any-same nodes
     where
-      any-same : (x : List ℕ) → any (λ n. some (raising 8 (cond (eqb (kindOf ns n) k.Class) (flatMap (error8 n) (mine n)) []))) x ≡ any (λ n. eqb (kindOf ns n) k.Class && some (mine n)) x
+      any-same : (x : List ℕ) → any (λ n. some (raised 8 (cond (eqb (kindOf ns n) k.Class) (flatMap (error8 n) (mine n)) []))) x ≡ any (λ n. eqb (kindOf ns n) k.Class && some (mine n)) x
       any-same [] = refl
       any-same (n ∷ x) = rw (class-raises n, any-same x)
 
@@ -128,7 +129,7 @@ module _ (ns : List ℕ) (tree : Tree ns) (listed' : Listed ns) (shaped : Shaped
       (in-some (mine (parentOf ns b)) m
       (in-kept (λ x. sameNode (bodyAround ns x) (classBodyOf ns (parentOf ns b))) l m i (rw (e, d) (eq-eqb b b refl)))))
 
-  pub all-raised : some l ≡ (some (keep outside nodes) || some (raising 8 reported))
+  pub all-raised : some l ≡ (some (keep outside nodes) || some (raised 8 reported))
   all-raised = rw (some-kept outside nodes, reported-some) (both-ways (some l) (any outside nodes || any (λ n. eqb (kindOf ns n) k.Class && some (mine n)) nodes) to from)
     where
       second : (a b : Bool) → b ≡ true → (a || b) ≡ true

@@ -5,6 +5,7 @@ use mathlib.Core.List.{List, [], _∷_, _++_, flatMap}
 use mathlib.Core.Bool.{Bool, true, false, cond}
 use native.Mathlib.Omega.{arith}
 use borrow.Author.Tests.{eq-eqb}
+use lib.Dec.{eqb}
 use Rattle.common.specs.Upto.{range, upto}
 use Rattle.walk.specs.On.{member}
 use Rattle.tables.specs.Table.{count}
@@ -15,7 +16,8 @@ use Rattle.diagnostics.specs.declared.Raised.the-variants.{Error, Clear}
 use Rattle.diagnostics.specs.Finding.{listed}
 use Rattle.checker.specs.Findings.{findingsAt, findingsOf}
 use Rattle.ecma_dispatch.specs.WithCode.{withCode}
-use Rattle.ecma_dispatch.specs.NodesOf.{nodesOf}
+use Rattle.ecma_dispatch.specs.WithCodeLaws.{withAppend}
+use Rattle.ecma_dispatch.specs.NodesOf.{nodesOf, raised}
 use Rattle.ecma_dispatch.specs.Dispatch.{wholeOther}
 
 pub nodesNil : nodesOf [] ≡ []
@@ -30,6 +32,32 @@ nodesAppend (f ∷ fs) gs = ap (λ l. f .node .0 ∷ l) (nodesAppend fs gs)
 pub nodesCond : (b : Bool) (fs gs : List Finding) → nodesOf (cond b fs gs) ≡ cond b (nodesOf fs) (nodesOf gs)
 nodesCond true fs gs = refl
 nodesCond false fs gs = refl
+
+pub raisedNil : (c : ℕ) → raised c [] ≡ []
+unfolding nodesOf withCode
+raisedNil c = refl
+
+pub raisedAppend : (c : ℕ) (fs gs : List Finding) → raised c (fs ++ gs) ≡ raised c fs ++ raised c gs
+raisedAppend c fs gs = ap nodesOf (withAppend c fs gs) ∙ nodesAppend (withCode c fs) (withCode c gs)
+
+pub raisedFlat : (c : ℕ) (g : ℕ → List Finding) (l : List ℕ) → raised c (flatMap g l) ≡ flatMap (λ j. raised c (g j)) l
+unfolding flatMap
+raisedFlat c g [] = raisedNil c
+raisedFlat c g (j ∷ l) = raisedAppend c (g j) (flatMap g l) ∙ ap (λ m. raised c (g j) ++ m) (raisedFlat c g l)
+
+-- those with the code, taken once more
+again : (c : ℕ) (fs : List Finding) → withCode c (withCode c fs) ≡ withCode c fs
+unfolding withCode
+again c [] = refl
+again c (f ∷ fs) = go (eqb (f .code) c) refl (again c fs)
+  where
+    go : (b : Bool) → eqb (f .code) c ≡ b → withCode c (withCode c fs) ≡ withCode c fs
+        → withCode c (cond (eqb (f .code) c) (f ∷ withCode c fs) (withCode c fs)) ≡ cond (eqb (f .code) c) (f ∷ withCode c fs) (withCode c fs)
+    go true e h = rw e (rw e (ap (λ l. f ∷ l) h))
+    go false e h = rw e h
+
+pub raisedAgain : (c : ℕ) (fs : List Finding) → raised c (withCode c fs) ≡ raised c fs
+raisedAgain c fs = ap nodesOf (again c fs)
 
 -- what a check raises, where it is the finding f or nothing, by a test
 pub nodesIf : (c : ℕ) (b : Bool) (f : Finding) → f .code ≡ c → nodesOf (withCode c (listed (cond b (Error f) Clear))) ≡ cond b (f .node .0 ∷ []) []

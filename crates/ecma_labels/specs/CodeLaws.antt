@@ -25,7 +25,7 @@ use Rattle.jumps.specs.Jumps.{whenFound, walkUp, noLabel, plainContinueAt, labe
 use Rattle.jumps.specs.JumpsLaws.{item-here}
 use Rattle.checker.specs.Findings.{findingsAt, findingsOf}
 use Rattle.ecma_dispatch.specs.WithCode.{withCode}
-use Rattle.ecma_dispatch.specs.NodesOf.{nodesOf}
+use Rattle.ecma_dispatch.specs.NodesOf.{nodesOf, raised}
 use Rattle.ecma_dispatch.specs.NodesOfLaws.{nodesNil, nodesCond, nodesWhole}
 use Rattle.ecma_dispatch.specs.Dispatch.{at18, at19, at20, at21, at22, at23}
 use Rattle.trees.specs.Walk.{only}
@@ -50,7 +50,7 @@ module _ (ns : List ℕ) (n l kind : ℕ) where
   abbrev pub Known : Bool → Raised → Type 0
   Known x r = (x ≡ false → r ≡ noLabel ns n l kind) × (x ≡ true → (r ≡ Clear) ⊎ ((m : ℕ) × (r ≡ errorBetween ns 22 n m l)))
 
-  none19 : nodesOf (withCode 19 (listed (noLabel ns n l kind))) ≡ only (eqb kind 0) n
+  none19 : raised 19 (listed (noLabel ns n l kind)) ≡ only (eqb kind 0) n
   unfolding noLabel nodesOf withCode
   none19 = go (eqb kind 0)
     where
@@ -58,7 +58,7 @@ module _ (ns : List ℕ) (n l kind : ℕ) where
       go true = refl
       go false = refl
 
-  none20 : nodesOf (withCode 20 (listed (noLabel ns n l kind))) ≡ only (not (eqb kind 0)) n
+  none20 : raised 20 (listed (noLabel ns n l kind)) ≡ only (not (eqb kind 0)) n
   unfolding noLabel nodesOf withCode
   none20 = go (eqb kind 0)
     where
@@ -66,7 +66,7 @@ module _ (ns : List ℕ) (n l kind : ℕ) where
       go true = refl
       go false = refl
 
-  none21 : nodesOf (withCode 21 (listed (noLabel ns n l kind))) ≡ []
+  none21 : raised 21 (listed (noLabel ns n l kind)) ≡ []
   unfolding noLabel nodesOf withCode
   none21 = go (eqb kind 0)
     where
@@ -74,7 +74,7 @@ module _ (ns : List ℕ) (n l kind : ℕ) where
       go true = refl
       go false = refl
 
-  none22 : nodesOf (withCode 22 (listed (noLabel ns n l kind))) ≡ []
+  none22 : raised 22 (listed (noLabel ns n l kind)) ≡ []
   unfolding noLabel nodesOf withCode
   none22 = go (eqb kind 0)
     where
@@ -82,30 +82,30 @@ module _ (ns : List ℕ) (n l kind : ℕ) where
       go true = refl
       go false = refl
 
-  labelled19 : (x : Bool) (r : Raised) → Known x r → nodesOf (withCode 19 (listed r)) ≡ only (not x && eqb kind 0) n
+  labelled19 : (x : Bool) (r : Raised) → Known x r → raised 19 (listed r) ≡ only (not x && eqb kind 0) n
   unfolding nodesOf withCode
-  labelled19 false r e = ap (λ r. nodesOf (withCode 19 (listed r))) (e .0 refl) ∙ none19
+  labelled19 false r e = ap (λ r. raised 19 (listed r)) (e .0 refl) ∙ none19
   labelled19 true r e =
-      ⊎-elim (λ q. ap (λ r. nodesOf (withCode 19 (listed r))) q) (λ q. ap (λ r. nodesOf (withCode 19 (listed r))) (q .1)) (e .1 refl)
+      ⊎-elim (λ q. ap (λ r. raised 19 (listed r)) q) (λ q. ap (λ r. raised 19 (listed r)) (q .1)) (e .1 refl)
 
-  labelled20 : (x : Bool) (r : Raised) → Known x r → nodesOf (withCode 20 (listed r)) ≡ only (not x && not (eqb kind 0)) n
+  labelled20 : (x : Bool) (r : Raised) → Known x r → raised 20 (listed r) ≡ only (not x && not (eqb kind 0)) n
   unfolding nodesOf withCode
-  labelled20 false r e = ap (λ r. nodesOf (withCode 20 (listed r))) (e .0 refl) ∙ none20
+  labelled20 false r e = ap (λ r. raised 20 (listed r)) (e .0 refl) ∙ none20
   labelled20 true r e =
-      ⊎-elim (λ q. ap (λ r. nodesOf (withCode 20 (listed r))) q) (λ q. ap (λ r. nodesOf (withCode 20 (listed r))) (q .1)) (e .1 refl)
+      ⊎-elim (λ q. ap (λ r. raised 20 (listed r)) q) (λ q. ap (λ r. raised 20 (listed r)) (q .1)) (e .1 refl)
 
-  labelled21 : (x : Bool) (r : Raised) → Known x r → nodesOf (withCode 21 (listed r)) ≡ []
+  labelled21 : (x : Bool) (r : Raised) → Known x r → raised 21 (listed r) ≡ []
   unfolding nodesOf withCode
-  labelled21 false r e = ap (λ r. nodesOf (withCode 21 (listed r))) (e .0 refl) ∙ none21
+  labelled21 false r e = ap (λ r. raised 21 (listed r)) (e .0 refl) ∙ none21
   labelled21 true r e =
-      ⊎-elim (λ q. ap (λ r. nodesOf (withCode 21 (listed r))) q) (λ q. ap (λ r. nodesOf (withCode 21 (listed r))) (q .1)) (e .1 refl)
+      ⊎-elim (λ q. ap (λ r. raised 21 (listed r)) q) (λ q. ap (λ r. raised 21 (listed r)) (q .1)) (e .1 refl)
 
-  labelled22 : (x i : Bool) (r : Raised) → Known x r → isClear r ≡ i → nodesOf (withCode 22 (listed r)) ≡ only (not i && x) n
+  labelled22 : (x i : Bool) (r : Raised) → Known x r → isClear r ≡ i → raised 22 (listed r) ≡ only (not i && x) n
   unfolding nodesOf withCode
-  labelled22 false i r e c = ap (λ r. nodesOf (withCode 22 (listed r))) (e .0 refl) ∙ none22 ∙ ap (λ b. only b n) (sym (andFalse (not i)))
+  labelled22 false i r e c = ap (λ r. raised 22 (listed r)) (e .0 refl) ∙ none22 ∙ ap (λ b. only b n) (sym (andFalse (not i)))
   labelled22 true i r e c =
-      ⊎-elim (λ q. ap (λ r. nodesOf (withCode 22 (listed r))) q ∙ ap (λ b. only (not b && true) n) (sym (ap isClear q) ∙ c))
-      (λ q. ap (λ r. nodesOf (withCode 22 (listed r))) (q .1) ∙ ap (λ b. only (not b && true) n) (sym (ap isClear (q .1)) ∙ c)) (e .1 refl)
+      ⊎-elim (λ q. ap (λ r. raised 22 (listed r)) q ∙ ap (λ b. only (not b && true) n) (sym (ap isClear q) ∙ c))
+      (λ q. ap (λ r. raised 22 (listed r)) (q .1) ∙ ap (λ b. only (not b && true) n) (sym (ap isClear (q .1)) ∙ c)) (e .1 refl)
 
 -- kinds that are neither
 pub neither : (k : ℕ) → eqb k 18 ≡ false → eqb k 19 ≡ false → within k 18 19 ≡ false
@@ -127,7 +127,7 @@ module _ (ns names : List ℕ) (t : Tree ns) where
   later n c e = ⊎-elim (λ (q : 0 ≡ n). let k : kindOf ns n ≡ 0 = subst (λ x. kindOf ns x ≡ 0) q (t .root) in absurd (omega arith)) (λ (q : 0 < n). q) (eq-or-lt-of-le (omega arith))
 
   -- A CONTINUE
-  continue19 : (n : ℕ) → 0 < n → n < count ns → nodesOf (withCode 19 (listed (checkContinueStatement ns names n))) ≡ only (lacks ns names (labelSetAt ns names n) (labelAt ns names n) && inProgram ns names n) n
+  continue19 : (n : ℕ) → 0 < n → n < count ns → raised 19 (listed (checkContinueStatement ns names n)) ≡ only (lacks ns names (labelSetAt ns names n) (labelAt ns names n) && inProgram ns names n) n
   unfolding nodesOf withCode
   continue19 n z h = rw (labelInIs ns t n h) (go (labelOf ns n))
     where
@@ -137,9 +137,9 @@ module _ (ns names : List ℕ) (t : Tree ns) where
 
       go : (L : Found) → nodesOf (withCode 19 (listed (whenFound L (λ l. walkUp ns (labelledContinueAt ns names n l) n) (walkUp ns (plainContinueAt ns n) n)))) ≡ only (lacks ns names (labelSetAt ns names n) L && inProgram ns names n) n
       go (At l) = labelled19 ns n (l .0) (kindOf ns (homeOf ns (isUnit ns) n)) (has (labelSetAt ns names n) (nameOf ns names (l .0))) (walkUp ns (labelledContinueAt ns names n (l .0)) n) (wentIs ns names t n (l .0) n z h)
-      go Nothing = ap (λ r. nodesOf (withCode 19 (listed r))) (plainContinueIs ns names t n n z h) ∙ plain (inLoop ns names n)
+      go Nothing = ap (λ r. raised 19 (listed r)) (plainContinueIs ns names t n n z h) ∙ plain (inLoop ns names n)
 
-  continue20 : (n : ℕ) → 0 < n → n < count ns → nodesOf (withCode 20 (listed (checkContinueStatement ns names n))) ≡ only (lacks ns names (labelSetAt ns names n) (labelAt ns names n) && not (inProgram ns names n)) n
+  continue20 : (n : ℕ) → 0 < n → n < count ns → raised 20 (listed (checkContinueStatement ns names n)) ≡ only (lacks ns names (labelSetAt ns names n) (labelAt ns names n) && not (inProgram ns names n)) n
   unfolding nodesOf withCode
   continue20 n z h = rw (labelInIs ns t n h) (go (labelOf ns n))
     where
@@ -149,9 +149,9 @@ module _ (ns names : List ℕ) (t : Tree ns) where
 
       go : (L : Found) → nodesOf (withCode 20 (listed (whenFound L (λ l. walkUp ns (labelledContinueAt ns names n l) n) (walkUp ns (plainContinueAt ns n) n)))) ≡ only (lacks ns names (labelSetAt ns names n) L && not (inProgram ns names n)) n
       go (At l) = labelled20 ns n (l .0) (kindOf ns (homeOf ns (isUnit ns) n)) (has (labelSetAt ns names n) (nameOf ns names (l .0))) (walkUp ns (labelledContinueAt ns names n (l .0)) n) (wentIs ns names t n (l .0) n z h)
-      go Nothing = ap (λ r. nodesOf (withCode 20 (listed r))) (plainContinueIs ns names t n n z h) ∙ plain (inLoop ns names n)
+      go Nothing = ap (λ r. raised 20 (listed r)) (plainContinueIs ns names t n n z h) ∙ plain (inLoop ns names n)
 
-  continue21 : (n : ℕ) → 0 < n → n < count ns → nodesOf (withCode 21 (listed (checkContinueStatement ns names n))) ≡ only (unlabelled (labelAt ns names n) && not (inLoop ns names n)) n
+  continue21 : (n : ℕ) → 0 < n → n < count ns → raised 21 (listed (checkContinueStatement ns names n)) ≡ only (unlabelled (labelAt ns names n) && not (inLoop ns names n)) n
   unfolding nodesOf withCode
   continue21 n z h = rw (labelInIs ns t n h) (go (labelOf ns n))
     where
@@ -161,7 +161,7 @@ module _ (ns names : List ℕ) (t : Tree ns) where
 
       go : (L : Found) → nodesOf (withCode 21 (listed (whenFound L (λ l. walkUp ns (labelledContinueAt ns names n l) n) (walkUp ns (plainContinueAt ns n) n)))) ≡ only (unlabelled L && not (inLoop ns names n)) n
       go (At l) = labelled21 ns n (l .0) (kindOf ns (homeOf ns (isUnit ns) n)) (has (labelSetAt ns names n) (nameOf ns names (l .0))) (walkUp ns (labelledContinueAt ns names n (l .0)) n) (wentIs ns names t n (l .0) n z h)
-      go Nothing = ap (λ r. nodesOf (withCode 21 (listed r))) (plainContinueIs ns names t n n z h) ∙ plain (inLoop ns names n)
+      go Nothing = ap (λ r. raised 21 (listed r)) (plainContinueIs ns names t n n z h) ∙ plain (inLoop ns names n)
 
   module _ (w : Shaped ns) where
     -- nothing is raised at a labelled continue just where its label is in the iteration set
@@ -172,7 +172,7 @@ module _ (ns names : List ℕ) (t : Tree ns) where
         ∙ rw (e, andFalse (has (nearestAt ns names n .1) (nameOf ns names l)), orFalse (has (nearestAt ns names n .0) (nameOf ns names l)))
 
     continue22 : (n : ℕ) → n < count ns → kindOf ns n ≡ 19
-        → nodesOf (withCode 22 (listed (checkContinueStatement ns names n))) ≡ only (lacks ns names (nearestAt ns names n .0) (labelAt ns names n) && contains ns names (labelSetAt ns names n) (labelAt ns names n)) n
+        → raised 22 (listed (checkContinueStatement ns names n)) ≡ only (lacks ns names (nearestAt ns names n .0) (labelAt ns names n) && contains ns names (labelSetAt ns names n) (labelAt ns names n)) n
     unfolding nodesOf withCode
     continue22 n h k = rw (labelInIs ns t n h) (go (labelOf ns n))
       where
@@ -186,23 +186,23 @@ module _ (ns names : List ℕ) (t : Tree ns) where
         go (At l) =
             labelled22 ns n (l .0) (kindOf ns (homeOf ns (isUnit ns) n)) (has (labelSetAt ns names n) (nameOf ns names (l .0))) (has (nearestAt ns names n .0) (nameOf ns names (l .0)))
             (walkUp ns (labelledContinueAt ns names n (l .0)) n) (wentIs ns names t n (l .0) n (later n 18 k) h) (clearAt n (l .0) h k)
-        go Nothing = ap (λ r. nodesOf (withCode 22 (listed r))) (plainContinueIs ns names t n n (later n 18 k) h) ∙ plain (inLoop ns names n)
+        go Nothing = ap (λ r. raised 22 (listed r)) (plainContinueIs ns names t n n (later n 18 k) h) ∙ plain (inLoop ns names n)
 
   -- THE FINDINGS OF A NODE
   module _ (sourceType : ℕ) (ss source : List ℕ) where
     -- 18: 14.9.1
-    pub code18 : (j : ℕ) → j < count ns → nodesOf (withCode 18 (findingsAt sourceType ns ss source names j)) ≡ only (breakNotNestedAt ns names j) j
+    pub code18 : (j : ℕ) → j < count ns → raised 18 (findingsAt sourceType ns ss source names j) ≡ only (breakNotNestedAt ns names j) j
     unfolding breakNotNestedAt
     code18 j h = ap nodesOf (at18 sourceType ns ss source names j) ∙ go (eqb (kindOf ns j) 18) refl
       where
         go : (b : Bool) → eqb (kindOf ns j) 18 ≡ b → nodesOf (cond b (withCode 18 (listed (checkBreakStatement ns names j))) []) ≡ only (b && (unlabelled (labelAt ns names j) && not (inBreakable ns names j))) j
         go true q =
-            ap (λ r. nodesOf (withCode 18 (listed r))) (breakIs ns names t j (later j 17 (eqb-true (kindOf ns j) 18 q)) h)
+            ap (λ r. raised 18 (listed r)) (breakIs ns names t j (later j 17 (eqb-true (kindOf ns j) 18 q)) h)
             ∙ break18 ns names t j (labelAt ns names j) (labelSetAt ns names j) (inProgram ns names j) (inBreakable ns names j)
         go false q = nodesNil
 
     -- 19: no label of the name around it in the program; 20: none in its function, arrow or static block
-    pub code19 : (j : ℕ) → j < count ns → nodesOf (withCode 19 (findingsAt sourceType ns ss source names j)) ≡ only (noLabelAt ns names j && inProgram ns names j) j
+    pub code19 : (j : ℕ) → j < count ns → raised 19 (findingsAt sourceType ns ss source names j) ≡ only (noLabelAt ns names j && inProgram ns names j) j
     unfolding noLabelAt
     code19 j h = ap nodesOf (at19 sourceType ns ss source names j) ∙ go (eqb (kindOf ns j) 18) refl (eqb (kindOf ns j) 19) refl
       where
@@ -212,14 +212,14 @@ module _ (ns names : List ℕ) (t : Tree ns) where
         go true q c r =
             let k = eqb-true (kindOf ns j) 18 q in
             rw (in-range (kindOf ns j) 18 19 (omega arith) (omega arith))
-            (ap (λ r. nodesOf (withCode 19 (listed r))) (breakIs ns names t j (later j 17 k) h)
+            (ap (λ r. raised 19 (listed r)) (breakIs ns names t j (later j 17 k) h)
             ∙ break19 ns names t j (labelAt ns names j) (labelSetAt ns names j) (inProgram ns names j) (inBreakable ns names j))
         go false q true r =
             let k = eqb-true (kindOf ns j) 19 r in
             rw (in-range (kindOf ns j) 18 19 (omega arith) (omega arith)) (continue19 j (later j 18 k) h)
         go false q false r = rw (neither (kindOf ns j) q r) nodesNil
 
-    pub code20 : (j : ℕ) → j < count ns → nodesOf (withCode 20 (findingsAt sourceType ns ss source names j)) ≡ only (noLabelAt ns names j && not (inProgram ns names j)) j
+    pub code20 : (j : ℕ) → j < count ns → raised 20 (findingsAt sourceType ns ss source names j) ≡ only (noLabelAt ns names j && not (inProgram ns names j)) j
     unfolding noLabelAt
     code20 j h = ap nodesOf (at20 sourceType ns ss source names j) ∙ go (eqb (kindOf ns j) 18) refl (eqb (kindOf ns j) 19) refl
       where
@@ -229,7 +229,7 @@ module _ (ns names : List ℕ) (t : Tree ns) where
         go true q c r =
             let k = eqb-true (kindOf ns j) 18 q in
             rw (in-range (kindOf ns j) 18 19 (omega arith) (omega arith))
-            (ap (λ r. nodesOf (withCode 20 (listed r))) (breakIs ns names t j (later j 17 k) h)
+            (ap (λ r. raised 20 (listed r)) (breakIs ns names t j (later j 17 k) h)
             ∙ break20 ns names t j (labelAt ns names j) (labelSetAt ns names j) (inProgram ns names j) (inBreakable ns names j))
         go false q true r =
             let k = eqb-true (kindOf ns j) 19 r in
@@ -237,7 +237,7 @@ module _ (ns names : List ℕ) (t : Tree ns) where
         go false q false r = rw (neither (kindOf ns j) q r) nodesNil
 
     -- 21: 14.8.1, of `continue ;`
-    pub code21 : (j : ℕ) → j < count ns → nodesOf (withCode 21 (findingsAt sourceType ns ss source names j)) ≡ only (plainContinueNotNestedAt ns names j) j
+    pub code21 : (j : ℕ) → j < count ns → raised 21 (findingsAt sourceType ns ss source names j) ≡ only (plainContinueNotNestedAt ns names j) j
     unfolding plainContinueNotNestedAt
     code21 j h = ap nodesOf (at21 sourceType ns ss source names j) ∙ go (eqb (kindOf ns j) 19) refl
       where
@@ -246,7 +246,7 @@ module _ (ns names : List ℕ) (t : Tree ns) where
         go false q = nodesNil
 
     -- 22: a label of the name, but on no loop
-    pub code22 : Shaped ns → (j : ℕ) → j < count ns → nodesOf (withCode 22 (findingsAt sourceType ns ss source names j)) ≡ only (noLoopAt ns names j) j
+    pub code22 : Shaped ns → (j : ℕ) → j < count ns → raised 22 (findingsAt sourceType ns ss source names j) ≡ only (noLoopAt ns names j) j
     unfolding noLoopAt undefinedNearestAt
     code22 w j h = ap nodesOf (at22 sourceType ns ss source names j) ∙ go (eqb (kindOf ns j) 19) refl
       where
@@ -257,7 +257,7 @@ module _ (ns names : List ℕ) (t : Tree ns) where
         go false q = nodesNil
 
     -- 23: 8.3.1
-    pub code23 : (j : ℕ) → j < count ns → nodesOf (withCode 23 (findingsAt sourceType ns ss source names j)) ≡ only (duplicateLabelAt ns names j) j
+    pub code23 : (j : ℕ) → j < count ns → raised 23 (findingsAt sourceType ns ss source names j) ≡ only (duplicateLabelAt ns names j) j
     unfolding duplicateLabelAt
     code23 j h = ap nodesOf (at23 sourceType ns ss source names j) ∙ go (eqb (kindOf ns j) 6) refl
       where
@@ -266,20 +266,20 @@ module _ (ns names : List ℕ) (t : Tree ns) where
         go false q = nodesNil
 
     -- OF THE WHOLE TREE: the nodes with each code, in order
-    pub all18 : nodesOf (withCode 18 (findingsOf sourceType ns ss source names)) ≡ keep (breakNotNestedAt ns names) (upto 0 (count ns))
+    pub all18 : raised 18 (findingsOf sourceType ns ss source names) ≡ keep (breakNotNestedAt ns names) (upto 0 (count ns))
     all18 = nodesWhole sourceType ns ss source names 18 (breakNotNestedAt ns names) refl code18
 
-    pub all19 : nodesOf (withCode 19 (findingsOf sourceType ns ss source names)) ≡ keep (λ j. noLabelAt ns names j && inProgram ns names j) (upto 0 (count ns))
+    pub all19 : raised 19 (findingsOf sourceType ns ss source names) ≡ keep (λ j. noLabelAt ns names j && inProgram ns names j) (upto 0 (count ns))
     all19 = nodesWhole sourceType ns ss source names 19 (λ j. noLabelAt ns names j && inProgram ns names j) refl code19
 
-    pub all20 : nodesOf (withCode 20 (findingsOf sourceType ns ss source names)) ≡ keep (λ j. noLabelAt ns names j && not (inProgram ns names j)) (upto 0 (count ns))
+    pub all20 : raised 20 (findingsOf sourceType ns ss source names) ≡ keep (λ j. noLabelAt ns names j && not (inProgram ns names j)) (upto 0 (count ns))
     all20 = nodesWhole sourceType ns ss source names 20 (λ j. noLabelAt ns names j && not (inProgram ns names j)) refl code20
 
-    pub all21 : nodesOf (withCode 21 (findingsOf sourceType ns ss source names)) ≡ keep (plainContinueNotNestedAt ns names) (upto 0 (count ns))
+    pub all21 : raised 21 (findingsOf sourceType ns ss source names) ≡ keep (plainContinueNotNestedAt ns names) (upto 0 (count ns))
     all21 = nodesWhole sourceType ns ss source names 21 (plainContinueNotNestedAt ns names) refl code21
 
-    pub all22 : Shaped ns → nodesOf (withCode 22 (findingsOf sourceType ns ss source names)) ≡ keep (noLoopAt ns names) (upto 0 (count ns))
+    pub all22 : Shaped ns → raised 22 (findingsOf sourceType ns ss source names) ≡ keep (noLoopAt ns names) (upto 0 (count ns))
     all22 w = nodesWhole sourceType ns ss source names 22 (noLoopAt ns names) refl (code22 w)
 
-    pub all23 : nodesOf (withCode 23 (findingsOf sourceType ns ss source names)) ≡ keep (duplicateLabelAt ns names) (upto 0 (count ns))
+    pub all23 : raised 23 (findingsOf sourceType ns ss source names) ≡ keep (duplicateLabelAt ns names) (upto 0 (count ns))
     all23 = nodesWhole sourceType ns ss source names 23 (duplicateLabelAt ns names) refl code23

@@ -23,7 +23,7 @@ use Rattle.shape.specs.ShapeLaws.{Shaped}
 use Rattle.jumps.specs.Jumps.{walkUp, labelledContinueAt}
 use Rattle.checker.specs.Findings.{findingsAt}
 use Rattle.ecma_dispatch.specs.WithCode.{withCode}
-use Rattle.ecma_dispatch.specs.NodesOf.{nodesOf}
+use Rattle.ecma_dispatch.specs.NodesOf.{nodesOf, raised}
 use Rattle.trees.specs.Rose.{partsOf}
 use Rattle.trees.specs.Walk.{each, some, Says, only}
 use Rattle.trees.specs.WalkLaws.{foldsAgree, someEach}
@@ -60,7 +60,7 @@ module _ (ns names : List ℕ) (t : Tree ns) where
       ofContinue j false false false e = refl
 
       pub targets : (j : ℕ) → j < count ns
-          → nodesOf (withCode 19 (findingsAt sourceType ns ss source names j)) ++ (nodesOf (withCode 20 (findingsAt sourceType ns ss source names j)) ++ nodesOf (withCode 22 (findingsAt sourceType ns ss source names j)))
+          → raised 19 (findingsAt sourceType ns ss source names j) ++ (raised 20 (findingsAt sourceType ns ss source names j) ++ raised 22 (findingsAt sourceType ns ss source names j))
           ≡ only (undefinedBreakAt ns names j || undefinedNearestAt ns names j) j
       unfolding noLabelAt noLoopAt undefinedBreakAt undefinedNearestAt
       targets j h =

@@ -15,7 +15,7 @@ use Rattle.input.specs.InputLaws.{WellFormed}
 use Rattle.diagnostics.specs.declared.Finding.{Finding}
 use Rattle.checker.specs.Findings.{findingsAt, findingsOf}
 use Rattle.ecma_dispatch.specs.WithCode.{withCode}
-use Rattle.ecma_dispatch.specs.NodesOf.{nodesOf}
+use Rattle.ecma_dispatch.specs.NodesOf.{nodesOf, raised}
 use Rattle.ecma_dispatch.specs.NodesOfLaws.{nodesNil, nodesAppend}
 use Rattle.trees.specs.Rose.{partsOf}
 use Rattle.trees.specs.Walk.{each, some, Says, only}
@@ -66,15 +66,15 @@ both p q = ((λ a. q .0 (p .0 a)), λ c. p .1 (q .1 c))
 
 module _ (sourceType : ℕ) (ns ss source names : List ℕ) (w : WellFormed sourceType ns ss source names) where
   -- 8.3.1: 23
-  pub duplicateLabels : (j : ℕ) → j < count ns → nodesOf (withCode 23 (findingsAt sourceType ns ss source names j)) ≡ only (duplicateLabelAt ns names j) j
+  pub duplicateLabels : (j : ℕ) → j < count ns → raised 23 (findingsAt sourceType ns ss source names j) ≡ only (duplicateLabelAt ns names j) j
   duplicateLabels = code23 ns names (w .input .tree) sourceType ss source
 
   -- 14.9.1: 18
-  pub breaksNotNested : (j : ℕ) → j < count ns → nodesOf (withCode 18 (findingsAt sourceType ns ss source names j)) ≡ only (breakNotNestedAt ns names j) j
+  pub breaksNotNested : (j : ℕ) → j < count ns → raised 18 (findingsAt sourceType ns ss source names j) ≡ only (breakNotNestedAt ns names j) j
   breaksNotNested = code18 ns names (w .input .tree) sourceType ss source
 
   -- 14.8.1, changed, of `continue ;`: 21
-  pub continuesNotNested : (j : ℕ) → j < count ns → nodesOf (withCode 21 (findingsAt sourceType ns ss source names j)) ≡ only (plainContinueNotNestedAt ns names j) j
+  pub continuesNotNested : (j : ℕ) → j < count ns → raised 21 (findingsAt sourceType ns ss source names j) ≡ only (plainContinueNotNestedAt ns names j) j
   continuesNotNested = code21 ns names (w .input .tree) sourceType ss source
 
   parts : (j : ℕ) → j < count ns
@@ -125,13 +125,13 @@ module _ (sourceType : ℕ) (ns ss source names : List ℕ) (w : WellFormed sour
       go false q = rw q
 
   -- which code: 19 in the program and 20 elsewhere where no statement around it has the label, 22 where one has
-  pub undefinedLabels19 : (j : ℕ) → j < count ns → nodesOf (withCode 19 (findingsAt sourceType ns ss source names j)) ≡ only (noLabelAt ns names j && inProgram ns names j) j
+  pub undefinedLabels19 : (j : ℕ) → j < count ns → raised 19 (findingsAt sourceType ns ss source names j) ≡ only (noLabelAt ns names j && inProgram ns names j) j
   undefinedLabels19 = code19 ns names (w .input .tree) sourceType ss source
 
-  pub undefinedLabels20 : (j : ℕ) → j < count ns → nodesOf (withCode 20 (findingsAt sourceType ns ss source names j)) ≡ only (noLabelAt ns names j && not (inProgram ns names j)) j
+  pub undefinedLabels20 : (j : ℕ) → j < count ns → raised 20 (findingsAt sourceType ns ss source names j) ≡ only (noLabelAt ns names j && not (inProgram ns names j)) j
   undefinedLabels20 = code20 ns names (w .input .tree) sourceType ss source
 
-  pub noLoops22 : (j : ℕ) → j < count ns → nodesOf (withCode 22 (findingsAt sourceType ns ss source names j)) ≡ only (noLoopAt ns names j) j
+  pub noLoops22 : (j : ℕ) → j < count ns → raised 22 (findingsAt sourceType ns ss source names j) ≡ only (noLoopAt ns names j) j
   noLoops22 = code22 ns names (w .input .tree) sourceType ss source (w .shaped)
 
   -- THE STANDARD'S RULES AND THE CHANGED ONES. 14.8.1 and its changed form differ at a continue with a label only, and there 8.3.3 is broken too.
@@ -195,20 +195,20 @@ module _ (sourceType : ℕ) (ns ss source names : List ℕ) (w : WellFormed sour
   labelErrorsAre = errorsIff ns names (w .input .tree) (w .shaped) sourceType ss source
 
   -- the nodes with each code, in order
-  pub all18Are : nodesOf (withCode 18 (findingsOf sourceType ns ss source names)) ≡ keep (breakNotNestedAt ns names) (upto 0 (count ns))
+  pub all18Are : raised 18 (findingsOf sourceType ns ss source names) ≡ keep (breakNotNestedAt ns names) (upto 0 (count ns))
   all18Are = all18 ns names (w .input .tree) sourceType ss source
 
-  pub all19Are : nodesOf (withCode 19 (findingsOf sourceType ns ss source names)) ≡ keep (λ j. noLabelAt ns names j && inProgram ns names j) (upto 0 (count ns))
+  pub all19Are : raised 19 (findingsOf sourceType ns ss source names) ≡ keep (λ j. noLabelAt ns names j && inProgram ns names j) (upto 0 (count ns))
   all19Are = all19 ns names (w .input .tree) sourceType ss source
 
-  pub all20Are : nodesOf (withCode 20 (findingsOf sourceType ns ss source names)) ≡ keep (λ j. noLabelAt ns names j && not (inProgram ns names j)) (upto 0 (count ns))
+  pub all20Are : raised 20 (findingsOf sourceType ns ss source names) ≡ keep (λ j. noLabelAt ns names j && not (inProgram ns names j)) (upto 0 (count ns))
   all20Are = all20 ns names (w .input .tree) sourceType ss source
 
-  pub all21Are : nodesOf (withCode 21 (findingsOf sourceType ns ss source names)) ≡ keep (plainContinueNotNestedAt ns names) (upto 0 (count ns))
+  pub all21Are : raised 21 (findingsOf sourceType ns ss source names) ≡ keep (plainContinueNotNestedAt ns names) (upto 0 (count ns))
   all21Are = all21 ns names (w .input .tree) sourceType ss source
 
-  pub all22Are : nodesOf (withCode 22 (findingsOf sourceType ns ss source names)) ≡ keep (noLoopAt ns names) (upto 0 (count ns))
+  pub all22Are : raised 22 (findingsOf sourceType ns ss source names) ≡ keep (noLoopAt ns names) (upto 0 (count ns))
   all22Are = all22 ns names (w .input .tree) sourceType ss source (w .shaped)
 
-  pub all23Are : nodesOf (withCode 23 (findingsOf sourceType ns ss source names)) ≡ keep (duplicateLabelAt ns names) (upto 0 (count ns))
+  pub all23Are : raised 23 (findingsOf sourceType ns ss source names) ≡ keep (duplicateLabelAt ns names) (upto 0 (count ns))
   all23Are = all23 ns names (w .input .tree) sourceType ss source

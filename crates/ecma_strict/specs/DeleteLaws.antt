@@ -27,7 +27,7 @@ use Rattle.expressions.specs.ExpressionLaws.{inner-bare, inner-empty, inner-on}
 use Rattle.trees.specs.Rose.{Rose, Roses, node, rnil, rcons, idx, partsOf, treeAt, foldParts}
 use Rattle.trees.specs.RoseLaws.{PlacedAll, WholeAll, partsPlaced, partsWhole, foldPartsIs}
 use Rattle.trees.specs.Walk.{only}
-use Rattle.ecma_strict.specs.Nodes.{nodesOf}
+use Rattle.ecma_strict.specs.Nodes.{ofCheck}
 use Rattle.ecma_base.specs.Strict.{strictCode}
 use Rattle.ecma_strict.specs.Delete.{parenthesized, ultimately, ultimatelyFirst, nameReference, firstIsPrivate, privateReference, derives, deletesName, deletesPrivate}
 use Rattle.ecma_strict.specs.Changed.{deletesPrivateAnywhere}
@@ -88,36 +88,36 @@ module _ (ns : List ℕ) (w : Tree ns) (v : Listed ns) where
 
   -- what is raised for the expression e, which has no parentheses around it
   module _ (ss : List ℕ) (n : ℕ) where
-    part : (f : Found) → nodesOf 32 (errorPart ns code.deletePrivateField n f) ≡ only true n
+    part : (f : Found) → ofCheck 32 (errorPart ns code.deletePrivateField n f) ≡ only true n
     part (At m) = refl
     part Nothing = refl
 
-    partOther : (f : Found) → nodesOf 31 (errorPart ns code.deletePrivateField n f) ≡ []
+    partOther : (f : Found) → ofCheck 31 (errorPart ns code.deletePrivateField n f) ≡ []
     partOther (At m) = refl
     partOther Nothing = refl
 
-    chain31 : (f : Found) → nodesOf 31 (chainFinding ns n f) ≡ []
+    chain31 : (f : Found) → ofCheck 31 (chainFinding ns n f) ≡ []
     chain31 (At m) = go (eqb (kindOf ns (m .0)) k.PrivateField)
       where
-        go : (b : Bool) → nodesOf 31 (cond b (errorPart ns code.deletePrivateField n (fieldOf ns (m .0))) Clear) ≡ []
+        go : (b : Bool) → ofCheck 31 (cond b (errorPart ns code.deletePrivateField n (fieldOf ns (m .0))) Clear) ≡ []
         go true = partOther (fieldOf ns (m .0))
         go false = refl
     chain31 Nothing = refl
 
-    chain32 : (ks : Roses) → nodesOf 32 (chainFinding ns n (firstIn ks)) ≡ only (firstIsPrivate ns ks) n
+    chain32 : (ks : Roses) → ofCheck 32 (chainFinding ns n (firstIn ks)) ≡ only (firstIsPrivate ns ks) n
     chain32 rnil = refl
     chain32 (rcons t ts) = go (eqb (kindOf ns (idx t)) k.PrivateField)
       where
-        go : (b : Bool) → nodesOf 32 (cond b (errorPart ns code.deletePrivateField n (fieldOf ns (idx t))) Clear) ≡ only b n
+        go : (b : Bool) → ofCheck 32 (cond b (errorPart ns code.deletePrivateField n (fieldOf ns (idx t))) Clear) ≡ only b n
         go true = part (fieldOf ns (idx t))
         go false = refl
 
-    of31 : (e : ℕ) → nodesOf 31 (deleteOf ns ss n e) ≡ only (strictCode ns ss n && nameReference ns (treeAt ns e)) n
+    of31 : (e : ℕ) → ofCheck 31 (deleteOf ns ss n e) ≡ only (strictCode ns ss n && nameReference ns (treeAt ns e)) n
     unfolding deleteOf nameReference
     of31 e = go (eqb (kindOf ns e) k.IdentifierReference) (eqb (kindOf ns e) k.PrivateField) (eqb (kindOf ns e) k.Chain) (strictCode ns ss n)
       where
         go : (a b c s : Bool)
-            → nodesOf 31 (cond a (cond s (errorAt ns code.deleteOfUnqualified n e context.none) Clear) (cond b (errorAt ns code.deletePrivateField n e context.none) (cond c (chainFinding ns n (innerOf ns e)) Clear)))
+            → ofCheck 31 (cond a (cond s (errorAt ns code.deleteOfUnqualified n e context.none) Clear) (cond b (errorAt ns code.deletePrivateField n e context.none) (cond c (chainFinding ns n (innerOf ns e)) Clear)))
             ≡ only (s && a) n
         go true b c true = refl
         go true b c false = refl
@@ -128,12 +128,12 @@ module _ (ns : List ℕ) (w : Tree ns) (v : Listed ns) where
         go false false false true = refl
         go false false false false = refl
 
-    of32 : (e : ℕ) → e < count ns → nodesOf 32 (deleteOf ns ss n e) ≡ only (privateReference ns (treeAt ns e)) n
+    of32 : (e : ℕ) → e < count ns → ofCheck 32 (deleteOf ns ss n e) ≡ only (privateReference ns (treeAt ns e)) n
     unfolding deleteOf privateReference
     of32 e h = rw (innerIs e h) (go (eqb (kindOf ns e) k.IdentifierReference) refl (eqb (kindOf ns e) k.PrivateField) (eqb (kindOf ns e) k.Chain) refl refl (strictCode ns ss n))
       where
         go : (a : Bool) → eqb (kindOf ns e) k.IdentifierReference ≡ a → (b c : Bool) → eqb (kindOf ns e) k.PrivateField ≡ b → eqb (kindOf ns e) k.Chain ≡ c → (s : Bool)
-            → nodesOf 32 (cond a (cond s (errorAt ns code.deleteOfUnqualified n e context.none) Clear) (cond b (errorAt ns code.deletePrivateField n e context.none) (cond c (chainFinding ns n (firstIn (partsOf ns e))) Clear)))
+            → ofCheck 32 (cond a (cond s (errorAt ns code.deleteOfUnqualified n e context.none) Clear) (cond b (errorAt ns code.deletePrivateField n e context.none) (cond c (chainFinding ns n (firstIn (partsOf ns e))) Clear)))
             ≡ only (b || (c && firstIsPrivate ns (partsOf ns e))) n
         go true q true c x y s = absurd (omega (arith, eqb-true (kindOf ns e) 32 q, eqb-true (kindOf ns e) 41 x))
         go true q false true x y s = absurd (omega (arith, eqb-true (kindOf ns e) 32 q, eqb-true (kindOf ns e) 46 y))
@@ -155,7 +155,7 @@ module _ (ns : List ℕ) (w : Tree ns) (v : Listed ns) where
             let l = y .from in
             rw (inner-on ns i (m .0) h q e) (z (m .0) (omega arith) (y .below))
 
-    by31 : (f : Found) → valueOf ns n ≡ f → nodesOf 31 (deleteFinding ns ss n f) ≡ only (strictCode ns ss n && derives ns (nameReference ns) f) n
+    by31 : (f : Found) → valueOf ns n ≡ f → ofCheck 31 (deleteFinding ns ss n f) ≡ only (strictCode ns ss n && derives ns (nameReference ns) f) n
     by31 (At m) e =
         let y = found-child ns n 0 55 1 1 (n + 1) (m .0) e in
         rw (derived (nameReference ns) notName (m .0) (y .below)) (of31 (innerExpression ns (m .0)))
@@ -165,25 +165,25 @@ module _ (ns : List ℕ) (w : Tree ns) (v : Listed ns) where
         go true = refl
         go false = refl
 
-    by32 : (f : Found) → valueOf ns n ≡ f → nodesOf 32 (deleteFinding ns ss n f) ≡ only (derives ns (privateReference ns) f) n
+    by32 : (f : Found) → valueOf ns n ≡ f → ofCheck 32 (deleteFinding ns ss n f) ≡ only (derives ns (privateReference ns) f) n
     by32 (At m) e =
         let y = found-child ns n 0 55 1 1 (n + 1) (m .0) e in
         rw (derived (privateReference ns) notPrivate (m .0) (y .below)) (of32 (innerExpression ns (m .0)) (inner-below-by (count ns) (m .0) (omega arith) (y .below)))
     by32 Nothing e = refl
 
-    under : (c : ℕ) (d b : Bool) (r : Raised) → nodesOf c r ≡ only b n → nodesOf c (cond d r Clear) ≡ only (d && b) n
+    under : (c : ℕ) (d b : Bool) (r : Raised) → ofCheck c r ≡ only b n → ofCheck c (cond d r Clear) ≡ only (d && b) n
     under c true b r h = h
     under c false b r h = refl
 
     -- CODE 31
-    pub deleteName : kindOf ns n ≡ k.Unary → nodesOf code.deleteOfUnqualified (checkUnaryExpression ns ss n) ≡ only (deletesName ns ss n) n
+    pub deleteName : kindOf ns n ≡ k.Unary → ofCheck code.deleteOfUnqualified (checkUnaryExpression ns ss n) ≡ only (deletesName ns ss n) n
     unfolding checkUnaryExpression deletesName
     deleteName q =
         rw (eq-eqb (kindOf ns n) k.Unary q)
         (under 31 (hasFlag (flagsOf ns n) flag.Delete) (strictCode ns ss n && derives ns (nameReference ns) (valueOf ns n)) (deleteFinding ns ss n (valueOf ns n)) (by31 (valueOf ns n) refl))
 
     -- CODE 32
-    pub deletePrivate : kindOf ns n ≡ k.Unary → nodesOf code.deletePrivateField (checkUnaryExpression ns ss n) ≡ only (deletesPrivateAnywhere ns n) n
+    pub deletePrivate : kindOf ns n ≡ k.Unary → ofCheck code.deletePrivateField (checkUnaryExpression ns ss n) ≡ only (deletesPrivateAnywhere ns n) n
     unfolding checkUnaryExpression deletesPrivateAnywhere
     deletePrivate q =
         rw (eq-eqb (kindOf ns n) k.Unary q)

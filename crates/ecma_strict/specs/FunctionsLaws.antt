@@ -20,7 +20,7 @@ use Rattle.statements.specs.Statements.{checkFound, checkFunctionDeclaration, c
 use Rattle.statements.specs.StatementsLaws.{function-on, function-held, function-free, function-root}
 use Rattle.trees.specs.Walk.{only}
 use Rattle.trees.specs.Trail.{unitOf}
-use Rattle.ecma_strict.specs.Nodes.{nodesOf}
+use Rattle.ecma_strict.specs.Nodes.{ofCheck}
 use Rattle.ecma_base.specs.Strict.{strictCode}
 use Rattle.ecma_strict.specs.Functions.{isFunction, endsInStatement, strictFunction, strictFunctionElse, sloppyFunction, labelEdge, labelledFunctionAt}
 use Rattle.ecma_base.specs.ContainsLaws.{upward, unitRoot}
@@ -30,7 +30,7 @@ use Rattle.ecma_strict.specs.Changed.{labelledFunctionSaid}
 module _ (ns ss : List ℕ) (n : ℕ) where
   -- what is raised for the statement that was found: f it is a function, s strict code, i the holder is an if
   held15 : (f s i : Bool) (m : ℕ)
-      → nodesOf 15 (cond f (cond s (errorAt ns code.functionDeclarationStrict n m context.none) (cond i Clear (errorAt ns code.functionDeclarationNonStrict n m context.none))) Clear) ≡ only (s && f) n
+      → ofCheck 15 (cond f (cond s (errorAt ns code.functionDeclarationStrict n m context.none) (cond i Clear (errorAt ns code.functionDeclarationNonStrict n m context.none))) Clear) ≡ only (s && f) n
   held15 true true i m = refl
   held15 true false true m = refl
   held15 true false false m = refl
@@ -38,7 +38,7 @@ module _ (ns ss : List ℕ) (n : ℕ) where
   held15 false false i m = refl
 
   held16 : (f s i : Bool) (m : ℕ)
-      → nodesOf 16 (cond f (cond s (errorAt ns code.functionDeclarationStrict n m context.none) (cond i Clear (errorAt ns code.functionDeclarationNonStrict n m context.none))) Clear) ≡ only (not i && (not s && f)) n
+      → ofCheck 16 (cond f (cond s (errorAt ns code.functionDeclarationStrict n m context.none) (cond i Clear (errorAt ns code.functionDeclarationNonStrict n m context.none))) Clear) ≡ only (not i && (not s && f)) n
   held16 true true true m = refl
   held16 true true false m = refl
   held16 true false true m = refl
@@ -52,36 +52,36 @@ module _ (ns ss : List ℕ) (n : ℕ) where
   andFalse true = refl
   andFalse false = refl
 
-  found15 : (i : Bool) (r : Found) → nodesOf 15 (checkFound r (checkFunctionDeclaration ns ss n i)) ≡ only (strictCode ns ss n && isFunction ns r) n
+  found15 : (i : Bool) (r : Found) → ofCheck 15 (checkFound r (checkFunctionDeclaration ns ss n i)) ≡ only (strictCode ns ss n && isFunction ns r) n
   unfolding checkFunctionDeclaration
   found15 i (At m) = held15 (eqb (kindOf ns (m .0)) k.Function) (strictCode ns ss n) i (m .0)
   found15 i Nothing = andFalse (strictCode ns ss n)
 
-  found16 : (i : Bool) (r : Found) → nodesOf 16 (checkFound r (checkFunctionDeclaration ns ss n i)) ≡ only (not i && (not (strictCode ns ss n) && isFunction ns r)) n
+  found16 : (i : Bool) (r : Found) → ofCheck 16 (checkFound r (checkFunctionDeclaration ns ss n i)) ≡ only (not i && (not (strictCode ns ss n) && isFunction ns r)) n
   unfolding checkFunctionDeclaration
   found16 i (At m) = held16 (eqb (kindOf ns (m .0)) k.Function) (strictCode ns ss n) i (m .0)
   found16 true Nothing = refl
   found16 false Nothing = andFalse (not (strictCode ns ss n))
 
   -- CODE 15 at a loop or With, and at both Statements of an If
-  pub bodyStrict : endsInStatement ns n ≡ true → nodesOf code.functionDeclarationStrict (checkBody ns ss n) ≡ only (strictFunction ns ss n) n
+  pub bodyStrict : endsInStatement ns n ≡ true → ofCheck code.functionDeclarationStrict (checkBody ns ss n) ≡ only (strictFunction ns ss n) n
   unfolding strictFunction
   bodyStrict q = rw q (found15 false (heldOf ns n))
 
-  pub consequentStrict : endsInStatement ns n ≡ true → nodesOf code.functionDeclarationStrict (checkConsequent ns ss n) ≡ only (strictFunction ns ss n) n
+  pub consequentStrict : endsInStatement ns n ≡ true → ofCheck code.functionDeclarationStrict (checkConsequent ns ss n) ≡ only (strictFunction ns ss n) n
   unfolding strictFunction
   consequentStrict q = rw q (found15 true (heldOf ns n))
 
-  pub alternateStrict : kindOf ns n ≡ k.If → nodesOf code.functionDeclarationStrict (checkAlternate ns ss n) ≡ only (strictFunctionElse ns ss n) n
+  pub alternateStrict : kindOf ns n ≡ k.If → ofCheck code.functionDeclarationStrict (checkAlternate ns ss n) ≡ only (strictFunctionElse ns ss n) n
   unfolding strictFunctionElse
   alternateStrict q = rw (eq-eqb (kindOf ns n) k.If q) (found15 true (alternateOf ns n))
 
   -- CODE 16 at a loop or With; none at an If
-  pub bodySloppy : endsInStatement ns n ≡ true → eqb (kindOf ns n) k.If ≡ false → nodesOf code.functionDeclarationNonStrict (checkBody ns ss n) ≡ only (sloppyFunction ns ss n) n
+  pub bodySloppy : endsInStatement ns n ≡ true → eqb (kindOf ns n) k.If ≡ false → ofCheck code.functionDeclarationNonStrict (checkBody ns ss n) ≡ only (sloppyFunction ns ss n) n
   unfolding sloppyFunction
   bodySloppy q e = rw (q, e) (found16 false (heldOf ns n))
 
-  pub ifSloppy : (r : Found) → nodesOf code.functionDeclarationNonStrict (checkFound r (checkFunctionDeclaration ns ss n true)) ≡ []
+  pub ifSloppy : (r : Found) → ofCheck code.functionDeclarationNonStrict (checkFound r (checkFunctionDeclaration ns ss n true)) ≡ []
   ifSloppy r = found16 true r
 
 -- A LABELLED FUNCTION
@@ -108,7 +108,7 @@ module _ (ns : List ℕ) (t : Tree ns) (n s : ℕ) where
 
 module _ (ns ss : List ℕ) (t : Tree ns) (n : ℕ) (h : n < count ns) where
   item15 : (f s l : Bool) (m : ℕ)
-      → nodesOf 15 (cond f (cond s (errorAt ns code.functionDeclarationStrict n m context.none) (cond l (errorAt ns code.functionDeclarationNonStrict n m context.none) Clear)) Clear) ≡ only (s && f) n
+      → ofCheck 15 (cond f (cond s (errorAt ns code.functionDeclarationStrict n m context.none) (cond l (errorAt ns code.functionDeclarationNonStrict n m context.none) Clear)) Clear) ≡ only (s && f) n
   item15 true true l m = refl
   item15 true false true m = refl
   item15 true false false m = refl
@@ -116,29 +116,29 @@ module _ (ns ss : List ℕ) (t : Tree ns) (n : ℕ) (h : n < count ns) where
   item15 false false l m = refl
 
   item16 : (f s l : Bool) (m : ℕ)
-      → nodesOf 16 (cond f (cond s (errorAt ns code.functionDeclarationStrict n m context.none) (cond l (errorAt ns code.functionDeclarationNonStrict n m context.none) Clear)) Clear) ≡ only (f && (not s && l)) n
+      → ofCheck 16 (cond f (cond s (errorAt ns code.functionDeclarationStrict n m context.none) (cond l (errorAt ns code.functionDeclarationNonStrict n m context.none) Clear)) Clear) ≡ only (f && (not s && l)) n
   item16 true true l m = refl
   item16 true false true m = refl
   item16 true false false m = refl
   item16 false s l m = refl
 
-  labelled15 : (r : Found) → nodesOf 15 (checkFound r (checkLabeledItem ns ss n)) ≡ only (strictCode ns ss n && isFunction ns r) n
+  labelled15 : (r : Found) → ofCheck 15 (checkFound r (checkLabeledItem ns ss n)) ≡ only (strictCode ns ss n && isFunction ns r) n
   unfolding checkLabeledItem
   labelled15 (At m) = rw (labelledIs ns t n (m .0) n h) (item15 (eqb (kindOf ns (m .0)) k.Function) (strictCode ns ss n) (endsInStatement ns (unitOf ns (labelEdge ns) n)) (m .0))
   labelled15 Nothing = andFalse ns ss n (strictCode ns ss n)
 
-  labelled16 : (r : Found) → nodesOf 16 (checkFound r (checkLabeledItem ns ss n)) ≡ only (isFunction ns r && (not (strictCode ns ss n) && endsInStatement ns (unitOf ns (labelEdge ns) n))) n
+  labelled16 : (r : Found) → ofCheck 16 (checkFound r (checkLabeledItem ns ss n)) ≡ only (isFunction ns r && (not (strictCode ns ss n) && endsInStatement ns (unitOf ns (labelEdge ns) n))) n
   unfolding checkLabeledItem
   labelled16 (At m) = rw (labelledIs ns t n (m .0) n h) (item16 (eqb (kindOf ns (m .0)) k.Function) (strictCode ns ss n) (endsInStatement ns (unitOf ns (labelEdge ns) n)) (m .0))
   labelled16 Nothing = refl
 
   -- CODE 15 at a Labeled
-  pub labelStrict : kindOf ns n ≡ k.Labeled → nodesOf code.functionDeclarationStrict (checkFunctionDeclarationInLabeledStatement ns ss n) ≡ only (strictFunction ns ss n) n
+  pub labelStrict : kindOf ns n ≡ k.Labeled → ofCheck code.functionDeclarationStrict (checkFunctionDeclarationInLabeledStatement ns ss n) ≡ only (strictFunction ns ss n) n
   unfolding strictFunction
   labelStrict q = rw q (labelled15 (heldOf ns n))
 
   -- CODE 16 at a Labeled
-  pub labelSloppy : kindOf ns n ≡ k.Labeled → nodesOf code.functionDeclarationNonStrict (checkFunctionDeclarationInLabeledStatement ns ss n) ≡ only (labelledFunctionSaid ns ss n) n
+  pub labelSloppy : kindOf ns n ≡ k.Labeled → ofCheck code.functionDeclarationNonStrict (checkFunctionDeclarationInLabeledStatement ns ss n) ≡ only (labelledFunctionSaid ns ss n) n
   unfolding labelledFunctionSaid
   labelSloppy q = rw (eq-eqb (kindOf ns n) k.Labeled q) (labelled16 (heldOf ns n))
 

@@ -20,7 +20,7 @@ use Rattle.diagnostics.specs.Contexts as context
 use Rattle.diagnostics.specs.declared.Raised.the-variants.{Clear}
 use Rattle.identifiers.specs.Identifiers.{strictContext, awaitFinding, isStrictWord, checkIdentifier, isNotSimple, checkDirective}
 use Rattle.trees.specs.Walk.{only}
-use Rattle.ecma_strict.specs.Nodes.{nodesOf}
+use Rattle.ecma_strict.specs.Nodes.{ofCheck}
 use Rattle.ecma_base.specs.Strict.{strictCode}
 use Rattle.ecma_strict.specs.StatementsLaws.{ifOnly}
 use Rattle.ecma_strict.specs.Identifiers.{goalModule, identifier, strictReserved, reservedName, useStrictDirective, simpleParameters, useStrictThere}
@@ -40,7 +40,7 @@ awaitApart ns names n e = go (nameOf ns names n) (same-eq (nameOf ns names n) wo
 module _ (sourceType : ℕ) (ns ss names : List ℕ) (n : ℕ) where
   -- a: `await`; w: a word of strict code; s: strict code; m: a module; b: the scope is a static block's
   name2 : (a w s m b : Bool) (x : ℕ) → (a ≡ true → w ≡ false)
-      → nodesOf 2 (cond a (cond m (errorAt ns code.reservedKeyword n n context.moduleAwait) (cond b (errorAt ns code.classStaticBlockAwait n n context.none) Clear)) (cond (w && s) (errorAt ns code.reservedKeyword n n x) Clear))
+      → ofCheck 2 (cond a (cond m (errorAt ns code.reservedKeyword n n context.moduleAwait) (cond b (errorAt ns code.classStaticBlockAwait n n context.none) Clear)) (cond (w && s) (errorAt ns code.reservedKeyword n n x) Clear))
       ≡ only ((s && w) || (m && a)) n
   name2 true true s m b x h = never (h refl)
   name2 true false true true b x h = refl
@@ -58,7 +58,7 @@ module _ (sourceType : ℕ) (ns ss names : List ℕ) (n : ℕ) where
   name2 false false false false b x h = refl
 
   name3 : (a w s m b : Bool) (x : ℕ)
-      → nodesOf 3 (cond a (cond m (errorAt ns code.reservedKeyword n n context.moduleAwait) (cond b (errorAt ns code.classStaticBlockAwait n n context.none) Clear)) (cond (w && s) (errorAt ns code.reservedKeyword n n x) Clear))
+      → ofCheck 3 (cond a (cond m (errorAt ns code.reservedKeyword n n context.moduleAwait) (cond b (errorAt ns code.classStaticBlockAwait n n context.none) Clear)) (cond (w && s) (errorAt ns code.reservedKeyword n n x) Clear))
       ≡ only (a && (not m && b)) n
   name3 true w s true b x = refl
   name3 true w s false true x = refl
@@ -68,7 +68,7 @@ module _ (sourceType : ℕ) (ns ss names : List ℕ) (n : ℕ) where
   name3 false false s m b x = refl
 
   -- CODE 2
-  pub reservedIs : identifier ns n ≡ true → nodesOf code.reservedKeyword (checkIdentifier sourceType ns ss names n) ≡ only (reservedName sourceType ns ss names n) n
+  pub reservedIs : identifier ns n ≡ true → ofCheck code.reservedKeyword (checkIdentifier sourceType ns ss names n) ≡ only (reservedName sourceType ns ss names n) n
   unfolding checkIdentifier awaitFinding isStrictWord reservedName
   reservedIs q =
       rw q
@@ -76,7 +76,7 @@ module _ (sourceType : ℕ) (ns ss names : List ℕ) (n : ℕ) where
       (strictContext sourceType ns n) (awaitApart ns names n))
 
   -- CODE 3, at a name
-  pub awaitNameIs : identifier ns n ≡ true → nodesOf code.classStaticBlockAwait (checkIdentifier sourceType ns ss names n) ≡ only (awaitNameScoped sourceType ns ss names n) n
+  pub awaitNameIs : identifier ns n ≡ true → ofCheck code.classStaticBlockAwait (checkIdentifier sourceType ns ss names n) ≡ only (awaitNameScoped sourceType ns ss names n) n
   unfolding checkIdentifier awaitFinding isStrictWord awaitNameScoped
   awaitNameIs q =
       rw q
@@ -84,7 +84,7 @@ module _ (sourceType : ℕ) (ns ss names : List ℕ) (n : ℕ) where
       (strictContext sourceType ns n))
 
 -- CODE 12
-pub useStrictIs : (ns ss names : List ℕ) (n : ℕ) → kindOf ns n ≡ k.Directive → nodesOf code.illegalUseStrict (checkDirective ns ss names n) ≡ only (useStrictScoped ns ss names n) n
+pub useStrictIs : (ns ss names : List ℕ) (n : ℕ) → kindOf ns n ≡ k.Directive → ofCheck code.illegalUseStrict (checkDirective ns ss names n) ≡ only (useStrictScoped ns ss names n) n
 unfolding checkDirective useStrictScoped
 useStrictIs ns ss names n q =
     rw (eq-eqb (kindOf ns n) k.Directive q)

@@ -21,7 +21,7 @@ use Rattle.literals.specs.declared.Escape.the-variants.{LegacyOctal, NonOctalDe
 use Rattle.literals.specs.Escapes.{digitNext, isLegacyOctal, isNonOctalDecimal, escapeOf, orElse, badEscape}
 use Rattle.literals.specs.Literals.{sourceText, leadingZero, escapeFinding, checkStringLiteral, checkNumberLiteral}
 use Rattle.trees.specs.Walk.{only}
-use Rattle.ecma_strict.specs.Nodes.{nodesOf}
+use Rattle.ecma_strict.specs.Nodes.{ofCheck}
 use Rattle.ecma_base.specs.Strict.{strictCode}
 use Rattle.ecma_strict.specs.Literals.{textOf, decimalDigit, octalDigit, nonOctalDigit, next, legacyOctalInteger, octalsThenNonOctal, nonOctalDecimalInteger, numericLiteral, strictOctal, strictNonOctal, legacyOctalEscape, nonOctalDecimalEscape, escapes, stringLiteral, strictOctalEscape, strictNonOctalEscape}
 use Rattle.ecma_strict.specs.Changed.{zeroThenDigit, toldOctal, toldNonOctal, octalFirst, nonOctalFirst, looksPlain, firstOctalEscape, firstNonOctalEscape, BaseTold, EscapesTold}
@@ -342,12 +342,12 @@ apart true true false a b e = refl
 apart true false q a b e = refl
 apart false s q a b e = refl
 
-firstOf : (c s e s2 e2 n : ℕ) (d : ℕ) → (a b : Bool) → eqb d c ≡ false → nodesOf c (cond a (errorSpan c n s e context.none) (cond b (errorSpan d n s2 e2 context.none) Clear)) ≡ only a n
+firstOf : (c s e s2 e2 n : ℕ) (d : ℕ) → (a b : Bool) → eqb d c ≡ false → ofCheck c (cond a (errorSpan c n s e context.none) (cond b (errorSpan d n s2 e2 context.none) Clear)) ≡ only a n
 firstOf c s e s2 e2 n d true b q = rw (eq-eqb c c refl)
 firstOf c s e s2 e2 n d false true q = rw q
 firstOf c s e s2 e2 n d false false q = refl
 
-secondOf : (c s e s2 e2 n : ℕ) (d : ℕ) → (a b : Bool) → eqb d c ≡ false → (a && b) ≡ false → nodesOf c (cond a (errorSpan d n s2 e2 context.none) (cond b (errorSpan c n s e context.none) Clear)) ≡ only b n
+secondOf : (c s e s2 e2 n : ℕ) (d : ℕ) → (a b : Bool) → eqb d c ≡ false → (a && b) ≡ false → ofCheck c (cond a (errorSpan d n s2 e2 context.none) (cond b (errorSpan c n s e context.none) Clear)) ≡ only b n
 secondOf c s e s2 e2 n d true true q x = never x
 secondOf c s e s2 e2 n d true false q x = rw q
 secondOf c s e s2 e2 n d false true q x = rw (eq-eqb c c refl)
@@ -355,25 +355,25 @@ secondOf c s e s2 e2 n d false false q x = refl
 
 module _ (ns ss source : List ℕ) (n : ℕ) where
   -- 9 at a number
-  pub numberOctal : kindOf ns n ≡ k.NumericLiteral → nodesOf code.legacyOctal (checkNumberLiteral ns ss source n) ≡ only (toldOctal ns ss source n) n
-  numberOctal q = ap (nodesOf 9) (numberIs ns ss source n q) ∙ firstOf 9 (spanStartOf ns n) (spanEndOf ns n) (spanStartOf ns n) (spanEndOf ns n) n 10 (toldOctal ns ss source n) (toldNonOctal ns ss source n) refl
+  pub numberOctal : kindOf ns n ≡ k.NumericLiteral → ofCheck code.legacyOctal (checkNumberLiteral ns ss source n) ≡ only (toldOctal ns ss source n) n
+  numberOctal q = ap (ofCheck 9) (numberIs ns ss source n q) ∙ firstOf 9 (spanStartOf ns n) (spanEndOf ns n) (spanStartOf ns n) (spanEndOf ns n) n 10 (toldOctal ns ss source n) (toldNonOctal ns ss source n) refl
 
   -- 10 at a number
-  pub numberNonOctal : kindOf ns n ≡ k.NumericLiteral → nodesOf code.leadingZeroDecimal (checkNumberLiteral ns ss source n) ≡ only (toldNonOctal ns ss source n) n
+  pub numberNonOctal : kindOf ns n ≡ k.NumericLiteral → ofCheck code.leadingZeroDecimal (checkNumberLiteral ns ss source n) ≡ only (toldNonOctal ns ss source n) n
   unfolding toldOctal toldNonOctal
   numberNonOctal q =
-      ap (nodesOf 10) (numberIs ns ss source n q)
+      ap (ofCheck 10) (numberIs ns ss source n q)
       ∙ secondOf 10 (spanStartOf ns n) (spanEndOf ns n) (spanStartOf ns n) (spanEndOf ns n) n 9 (toldOctal ns ss source n) (toldNonOctal ns ss source n) refl
       (apart (numericLiteral ns n) (strictCode ns ss n) (zeroThenDigit (textOf ns source n)) (eqb (extraOf ns n) extra.Octal) (eqb (extraOf ns n) extra.Decimal || eqb (extraOf ns n) extra.Float) (basesApart (extraOf ns n)))
 
   -- 9 at a string
-  pub stringOctal : kindOf ns n ≡ k.StringLiteral → nodesOf code.legacyOctal (checkStringLiteral ns ss source n) ≡ only (firstOctalEscape ns ss source n) n
-  stringOctal q = ap (nodesOf 9) (stringIs ns ss source n q) ∙ firstOf 9 (spanStartOf ns n) (spanEndOf ns n) (spanStartOf ns n) (spanEndOf ns n) n 11 (firstOctalEscape ns ss source n) (firstNonOctalEscape ns ss source n) refl
+  pub stringOctal : kindOf ns n ≡ k.StringLiteral → ofCheck code.legacyOctal (checkStringLiteral ns ss source n) ≡ only (firstOctalEscape ns ss source n) n
+  stringOctal q = ap (ofCheck 9) (stringIs ns ss source n q) ∙ firstOf 9 (spanStartOf ns n) (spanEndOf ns n) (spanStartOf ns n) (spanEndOf ns n) n 11 (firstOctalEscape ns ss source n) (firstNonOctalEscape ns ss source n) refl
 
   -- 11 at a string
-  pub stringNonOctal : kindOf ns n ≡ k.StringLiteral → nodesOf code.nonOctalDecimalEscapeSequence (checkStringLiteral ns ss source n) ≡ only (firstNonOctalEscape ns ss source n) n
+  pub stringNonOctal : kindOf ns n ≡ k.StringLiteral → ofCheck code.nonOctalDecimalEscapeSequence (checkStringLiteral ns ss source n) ≡ only (firstNonOctalEscape ns ss source n) n
   unfolding firstOctalEscape firstNonOctalEscape
   stringNonOctal q =
-      ap (nodesOf 11) (stringIs ns ss source n q)
+      ap (ofCheck 11) (stringIs ns ss source n q)
       ∙ secondOf 11 (spanStartOf ns n) (spanEndOf ns n) (spanStartOf ns n) (spanEndOf ns n) n 9 (firstOctalEscape ns ss source n) (firstNonOctalEscape ns ss source n) refl
       (apart (stringLiteral ns n) (strictCode ns ss n) (not (looksPlain ns source n)) (octalFirst (escapes (textOf ns source n))) (nonOctalFirst (escapes (textOf ns source n))) (firstApart (escapes (textOf ns source n))))

@@ -1,7 +1,7 @@
 -- From what one check raises to the findings of a node, and from these to the findings of the tree.
 use Prim.Native.Nat.{ℕ, _<_}
 use mathlib.Core.Path.{_≡_, refl, ap, sym, _∙_}
-use mathlib.Core.List.{List, [], _∷_, _++_, map, flatMap}
+use mathlib.Core.List.{List, [], _∷_, _++_, flatMap}
 use mathlib.Core.Bool.{Bool, true, false, cond}
 use lib.Dec.{eqb}
 use Rattle.common.specs.Upto.{upto}
@@ -15,62 +15,35 @@ use Rattle.checker.specs.Findings.{findingsAt, findingsOf}
 use Rattle.trees.specs.Walk.{each, only}
 use Rattle.trees.specs.WalkLaws.{eachSame}
 use Rattle.ecma_dispatch.specs.WithCode.{withCode}
-use Rattle.ecma_dispatch.specs.WithCodeLaws.{withAppend}
 use Rattle.ecma_dispatch.specs.Dispatch.{wholeOther}
-use Rattle.ecma_strict.specs.Nodes.{raised, nodesOf}
+use Rattle.ecma_dispatch.specs.NodesOf.{nodesOf, raised}
+use Rattle.ecma_dispatch.specs.NodesOfLaws.{nodesAppend, raisedNil, raisedAppend, raisedAgain}
+use Rattle.ecma_strict.specs.Nodes.{ofCheck}
 
 -- a check
-pub raisedListed : (c : ℕ) (r : Raised) → raised c (listed r) ≡ nodesOf c r
-unfolding raised withCode
+pub raisedListed : (c : ℕ) (r : Raised) → raised c (listed r) ≡ ofCheck c r
+unfolding nodesOf withCode
 raisedListed c (Error f) = go (eqb (f .code) c)
   where
-    go : (b : Bool) → map (λ (f : Finding). f .node .0) (cond b (f ∷ []) []) ≡ only b (f .node .0)
+    go : (b : Bool) → nodesOf (cond b (f ∷ []) []) ≡ only b (f .node .0)
     go true = refl
     go false = refl
 raisedListed c Clear = refl
-
--- two lists
-pub mapAppend : (fs gs : List Finding) → map (λ (f : Finding). f .node .0) (fs ++ gs) ≡ map (λ (f : Finding). f .node .0) fs ++ map (λ (f : Finding). f .node .0) gs
-mapAppend [] gs = refl
-mapAppend (f ∷ fs) gs = ap (λ l. f .node .0 ∷ l) (mapAppend fs gs)
-
-pub raisedAppend : (c : ℕ) (fs gs : List Finding) → raised c (fs ++ gs) ≡ raised c fs ++ raised c gs
-unfolding raised
-raisedAppend c fs gs = ap (map (λ (f : Finding). f .node .0)) (withAppend c fs gs) ∙ mapAppend (withCode c fs) (withCode c gs)
-
--- those with the code, taken once more
-again : (c : ℕ) (fs : List Finding) → withCode c (withCode c fs) ≡ withCode c fs
-unfolding withCode
-again c [] = refl
-again c (f ∷ fs) = go (eqb (f .code) c) refl (again c fs)
-  where
-    go : (b : Bool) → eqb (f .code) c ≡ b → withCode c (withCode c fs) ≡ withCode c fs
-        → withCode c (cond (eqb (f .code) c) (f ∷ withCode c fs) (withCode c fs)) ≡ cond (eqb (f .code) c) (f ∷ withCode c fs) (withCode c fs)
-    go true e h = rw e (rw e (ap (λ l. f ∷ l) h))
-    go false e h = rw e h
-
-pub raisedAgain : (c : ℕ) (fs : List Finding) → raised c (withCode c fs) ≡ raised c fs
-unfolding raised
-raisedAgain c fs = ap (map (λ (f : Finding). f .node .0)) (again c fs)
 
 -- a check that is made where a test says so, given what the findings with the code are
 pub raisedIf : (c : ℕ) (b : Bool) (fs gs : List Finding) → raised c (cond b fs gs) ≡ cond b (raised c fs) (raised c gs)
 raisedIf c true fs gs = refl
 raisedIf c false fs gs = refl
 
-pub raisedNil : (c : ℕ) → raised c [] ≡ []
-unfolding raised withCode
-raisedNil c = refl
-
 pub raisedBy : (c : ℕ) (fs gs : List Finding) → withCode c fs ≡ gs → raised c fs ≡ raised c gs
 raisedBy c fs gs e = sym (raisedAgain c fs) ∙ ap (raised c) e
 
 -- one check, at the nodes where k says so; there it raises what the rule says, and elsewhere the rule says nothing
-module _ (c n : ℕ) (fs : List Finding) (k rule : Bool) (r : Raised) (yes : k ≡ true → nodesOf c r ≡ only rule n) (not' : k ≡ false → rule ≡ false) where
-  pub byTest : cond k (nodesOf c r) [] ≡ only rule n
+module _ (c n : ℕ) (fs : List Finding) (k rule : Bool) (r : Raised) (yes : k ≡ true → ofCheck c r ≡ only rule n) (not' : k ≡ false → rule ≡ false) where
+  pub byTest : cond k (ofCheck c r) [] ≡ only rule n
   byTest = go k refl
     where
-      go : (b : Bool) → k ≡ b → cond b (nodesOf c r) [] ≡ only rule n
+      go : (b : Bool) → k ≡ b → cond b (ofCheck c r) [] ≡ only rule n
       go true e = yes e
       go false e = ap (λ x. only x n) (sym (not' e))
 
@@ -81,13 +54,13 @@ module _ (c n : ℕ) (fs : List Finding) (k rule : Bool) (r : Raised) (yes : k �
   atWith e = raisedBy c fs (cond k (withCode c (listed r)) []) e ∙ raisedIf c k (withCode c (listed r)) [] ∙ rw (raisedAgain c (listed r), raisedListed c r, raisedNil c) byTest
 
 -- two checks, at nodes of two kinds
-module _ (c n : ℕ) (fs : List Finding) (k j rule : Bool) (r s : Raised) (yes : k ≡ true → nodesOf c r ≡ only rule n) (other : k ≡ false → j ≡ true → nodesOf c s ≡ only rule n)
+module _ (c n : ℕ) (fs : List Finding) (k j rule : Bool) (r s : Raised) (yes : k ≡ true → ofCheck c r ≡ only rule n) (other : k ≡ false → j ≡ true → ofCheck c s ≡ only rule n)
     (not' : k ≡ false → j ≡ false → rule ≡ false)
   where
-    byTests : cond k (nodesOf c r) (cond j (nodesOf c s) []) ≡ only rule n
+    byTests : cond k (ofCheck c r) (cond j (ofCheck c s) []) ≡ only rule n
     byTests = go k j refl refl
       where
-        go : (a b : Bool) → k ≡ a → j ≡ b → cond a (nodesOf c r) (cond b (nodesOf c s) []) ≡ only rule n
+        go : (a b : Bool) → k ≡ a → j ≡ b → cond a (ofCheck c r) (cond b (ofCheck c s) []) ≡ only rule n
         go true b e d = yes e
         go false true e d = other e d
         go false false e d = ap (λ x. only x n) (sym (not' e d))
@@ -108,16 +81,15 @@ module _ (c n : ℕ) (fs : List Finding) (k j rule : Bool) (r s : Raised) (yes :
         ∙ rw (raisedIf c j (listed s) [], raisedAgain c (listed r), raisedListed c r, raisedListed c s, raisedNil c) byTests
 
 -- the findings of the tree, node by node
-raisedFlat : (c : ℕ) (f : ℕ → List Finding) (l : List ℕ) → map (λ (f : Finding). f .node .0) (flatMap (λ j. withCode c (f j)) l) ≡ each (λ j. raised c (f j)) l
-unfolding raised flatMap
-raisedFlat c f [] = refl
-raisedFlat c f (j ∷ l) = mapAppend (withCode c (f j)) (flatMap (λ j. withCode c (f j)) l) ∙ ap (λ m. map (λ (f : Finding). f .node .0) (withCode c (f j)) ++ m) (raisedFlat c f l)
+nodesFlat : (g : ℕ → List Finding) (l : List ℕ) → nodesOf (flatMap g l) ≡ each (λ j. nodesOf (g j)) l
+unfolding nodesOf flatMap
+nodesFlat g [] = refl
+nodesFlat g (j ∷ l) = nodesAppend (g j) (flatMap g l) ∙ ap (λ m. nodesOf (g j) ++ m) (nodesFlat g l)
 
 pub wholeIs : (c t : ℕ) (ns ss source names : List ℕ) (rule : ℕ → List ℕ) → member c (1 ∷ []) ≡ false
     → ((j : ℕ) → j < count ns → raised c (findingsAt t ns ss source names j) ≡ rule j)
     → raised c (findingsOf t ns ss source names) ≡ each rule (upto 0 (count ns))
-unfolding raised
 wholeIs c t ns ss source names rule e h =
-    ap (map (λ (f : Finding). f .node .0)) (wholeOther t ns ss source names c e)
-    ∙ raisedFlat c (findingsAt t ns ss source names) (upto 0 (count ns))
+    ap nodesOf (wholeOther t ns ss source names c e)
+    ∙ nodesFlat (λ j. withCode c (findingsAt t ns ss source names j)) (upto 0 (count ns))
     ∙ eachSame (λ j. raised c (findingsAt t ns ss source names j)) rule 0 (count ns) (λ j p q. h j q)

@@ -36,7 +36,7 @@ use Rattle.statements.specs.Statements.{checkForOfStatement, checkAwaitUsing}
 use Rattle.standing.specs.StandingLaws.{Placed}
 use Rattle.trees.specs.Walk.{only}
 use Rattle.trees.specs.Trail.{unitOf}
-use Rattle.ecma_strict.specs.Nodes.{nodesOf}
+use Rattle.ecma_strict.specs.Nodes.{ofCheck}
 use Rattle.ecma_base.specs.Strict.{strictCode}
 use Rattle.ecma_strict.specs.StatementsLaws.{ifOnly}
 use Rattle.ecma_strict.specs.Identifiers.{evalOrArguments, bindsEval, assignsEval}
@@ -122,7 +122,7 @@ module _ (ns : List ℕ) (t : Tree ns) (n : ℕ) where
   module _ (sourceType : ℕ) (ss names : List ℕ) (h : n < count ns) where
     -- s: strict code, e: eval or arguments, l: `let`, d: a lexical declaration binds it
     binding4 : (s e l d : Bool) (x : ℕ)
-        → nodesOf 4 (cond s (cond e (errorAt ns code.unexpectedIdentifierAssign n n x) Clear) (cond l (cond d (errorAt ns code.invalidLetDeclaration n n context.none) Clear) Clear)) ≡ only (e && s) n
+        → ofCheck 4 (cond s (cond e (errorAt ns code.unexpectedIdentifierAssign n n x) Clear) (cond l (cond d (errorAt ns code.invalidLetDeclaration n n context.none) Clear) Clear)) ≡ only (e && s) n
     binding4 true true l d x = refl
     binding4 true false l d x = refl
     binding4 false true true true x = refl
@@ -133,7 +133,7 @@ module _ (ns : List ℕ) (t : Tree ns) (n : ℕ) where
     binding4 false false false d x = refl
 
     binding5 : (s e l d : Bool) (x : ℕ)
-        → nodesOf 5 (cond s (cond e (errorAt ns code.unexpectedIdentifierAssign n n x) Clear) (cond l (cond d (errorAt ns code.invalidLetDeclaration n n context.none) Clear) Clear)) ≡ only (l && (not s && d)) n
+        → ofCheck 5 (cond s (cond e (errorAt ns code.unexpectedIdentifierAssign n n x) Clear) (cond l (cond d (errorAt ns code.invalidLetDeclaration n n context.none) Clear) Clear)) ≡ only (l && (not s && d)) n
     binding5 true true true d x = refl
     binding5 true true false d x = refl
     binding5 true false true d x = refl
@@ -143,14 +143,14 @@ module _ (ns : List ℕ) (t : Tree ns) (n : ℕ) where
     binding5 false e false d x = refl
 
     -- CODE 4, at a binding
-    pub bindingIs : kindOf ns n ≡ k.BindingIdentifier → nodesOf code.unexpectedIdentifierAssign (its.checkBindingIdentifier sourceType ns ss names n) ≡ only (bindsEval ns ss names n) n
+    pub bindingIs : kindOf ns n ≡ k.BindingIdentifier → ofCheck code.unexpectedIdentifierAssign (its.checkBindingIdentifier sourceType ns ss names n) ≡ only (bindsEval ns ss names n) n
     unfolding its.checkBindingIdentifier bindsEval
     bindingIs q =
         rw (eq-eqb (kindOf ns n) k.BindingIdentifier q, letIs n h)
         (binding4 (strictCode ns ss n) (evalOrArguments ns names n) (nameIs ns names n word.letWord) (lexicalDeclaration ns (unitOf ns (letEdge ns) n)) (its.strictContext sourceType ns n))
 
     -- CODE 5
-    pub letBoundIs : kindOf ns n ≡ k.BindingIdentifier → nodesOf code.invalidLetDeclaration (its.checkBindingIdentifier sourceType ns ss names n) ≡ only (letBoundSaid ns ss names n) n
+    pub letBoundIs : kindOf ns n ≡ k.BindingIdentifier → ofCheck code.invalidLetDeclaration (its.checkBindingIdentifier sourceType ns ss names n) ≡ only (letBoundSaid ns ss names n) n
     unfolding its.checkBindingIdentifier letBoundSaid
     letBoundIs q =
         rw (eq-eqb (kindOf ns n) k.BindingIdentifier q, letIs n h)
@@ -267,7 +267,7 @@ module _ (ns : List ℕ) (t : Tree ns) (n : ℕ) where
 
     -- v: an invalid target, a: `arguments`, c: in a class, f: in a field or a static block
     reference6 : (v a c f : Bool) (x : ℕ) → (f ≡ true → c ≡ true)
-        → nodesOf 6 (cond v (errorAt ns code.unexpectedIdentifierAssign n n x) (cond (a && c) (cond f (errorAt ns code.unexpectedArguments n n context.none) Clear) Clear)) ≡ only (a && (not v && f)) n
+        → ofCheck 6 (cond v (errorAt ns code.unexpectedIdentifierAssign n n x) (cond (a && c) (cond f (errorAt ns code.unexpectedArguments n n context.none) Clear) Clear)) ≡ only (a && (not v && f)) n
     reference6 true true c f x h = refl
     reference6 true false c f x h = refl
     reference6 false true true true x h = refl
@@ -277,7 +277,7 @@ module _ (ns : List ℕ) (t : Tree ns) (n : ℕ) where
     reference6 false false c f x h = refl
 
     reference4 : (v a c f : Bool) (x : ℕ)
-        → nodesOf 4 (cond v (errorAt ns code.unexpectedIdentifierAssign n n x) (cond (a && c) (cond f (errorAt ns code.unexpectedArguments n n context.none) Clear) Clear)) ≡ only v n
+        → ofCheck 4 (cond v (errorAt ns code.unexpectedIdentifierAssign n n x) (cond (a && c) (cond f (errorAt ns code.unexpectedArguments n n context.none) Clear) Clear)) ≡ only v n
     reference4 true a c f x = refl
     reference4 false true true true x = refl
     reference4 false true true false x = refl
@@ -286,14 +286,14 @@ module _ (ns : List ℕ) (t : Tree ns) (n : ℕ) where
 
     module _ (sourceType : ℕ) (ss names : List ℕ) (h : n < count ns) where
       -- CODE 4, at a reference
-      pub referenceIs : kindOf ns n ≡ k.IdentifierReference → nodesOf code.unexpectedIdentifierAssign (its.checkIdentifierReference sourceType ns ss names n) ≡ only (assignsEval ns ss names n) n
+      pub referenceIs : kindOf ns n ≡ k.IdentifierReference → ofCheck code.unexpectedIdentifierAssign (its.checkIdentifierReference sourceType ns ss names n) ≡ only (assignsEval ns ss names n) n
       unfolding its.checkIdentifierReference assignsEval
       referenceIs q =
           rw (eq-eqb (kindOf ns n) k.IdentifierReference q, argumentsIs n h)
           (reference4 (its.isInvalidTarget ns ss names n) (nameIs ns names n word.argumentsWord) (its.inClassBody ns n) (fieldHome ns (unitOf ns (fieldEdge ns) n)) (its.strictContext sourceType ns n))
 
       -- CODE 6
-      pub argumentsSaidIs : kindOf ns n ≡ k.IdentifierReference → nodesOf code.unexpectedArguments (its.checkIdentifierReference sourceType ns ss names n) ≡ only (argumentsSaid ns ss names n) n
+      pub argumentsSaidIs : kindOf ns n ≡ k.IdentifierReference → ofCheck code.unexpectedArguments (its.checkIdentifierReference sourceType ns ss names n) ≡ only (argumentsSaid ns ss names n) n
       unfolding its.checkIdentifierReference argumentsSaid assignsEval
       argumentsSaidIs q =
           rw (eq-eqb (kindOf ns n) k.IdentifierReference q, argumentsIs n h)
@@ -328,20 +328,20 @@ module _ (ns : List ℕ) (t : Tree ns) where
               parameter-on ns t i (parentOf ns i) z h refl (parameterSame (parentOf ns i) ∙ x) e ∙ p
               ∙ ap (λ (x : ℕ). parameter ns x) (sym (unitPass ns t (throughClassEdge ns) i z h (λ c. rw (e, x))))
 
-  pub parameterIs : (n : ℕ) → n < count ns → awaitOrYield ns n ≡ true → nodesOf code.awaitOrYieldInParameter (inParameter ns n) ≡ only (awaitInParameterSaid ns n) n
+  pub parameterIs : (n : ℕ) → n < count ns → awaitOrYield ns n ≡ true → ofCheck code.awaitOrYieldInParameter (inParameter ns n) ≡ only (awaitInParameterSaid ns n) n
   unfolding inParameter awaitInParameterSaid
   parameterIs n h q = rw (q, parametersIs n h) (ifOnly 33 (spanStartOf ns n) (spanEndOf ns n) n context.none (parameter ns (unitOf ns (throughClassEdge ns) n)))
 
 -- CODES 3, 14 AND 25, by scopes
 module _ (ns ss : List ℕ) (n : ℕ) where
-  pub awaitBlockIs : kindOf ns n ≡ k.Await → nodesOf code.classStaticBlockAwait (inBlock ns ss n) ≡ only (awaitExpression ns n && scopedInBlock ns ss n) n
+  pub awaitBlockIs : kindOf ns n ≡ k.Await → ofCheck code.classStaticBlockAwait (inBlock ns ss n) ≡ only (awaitExpression ns n && scopedInBlock ns ss n) n
   unfolding inBlock inStaticBlock scopedInBlock
   awaitBlockIs q = rw (eq-eqb (kindOf ns n) k.Await q) (ifOnly 3 (spanStartOf ns n) (spanStartOf ns n + 5) n context.none (scopedInBlock ns ss n))
 
-  pub awaitUsingIs : kindOf ns n ≡ k.VariableDeclaration → nodesOf code.classStaticBlockAwaitUsing (checkAwaitUsing ns ss n) ≡ only (awaitUsing ns n && scopedInBlock ns ss n) n
+  pub awaitUsingIs : kindOf ns n ≡ k.VariableDeclaration → ofCheck code.classStaticBlockAwaitUsing (checkAwaitUsing ns ss n) ≡ only (awaitUsing ns n && scopedInBlock ns ss n) n
   unfolding checkAwaitUsing inStaticBlock scopedInBlock
   awaitUsingIs q = rw (eq-eqb (kindOf ns n) k.VariableDeclaration q) (ifOnly 14 (spanStartOf ns n) (spanEndOf ns n) n context.none (eqb (extraOf ns n) extra.AwaitUsing && scopedInBlock ns ss n))
 
-  pub forAwaitIs : kindOf ns n ≡ k.ForOf → nodesOf code.classStaticBlockForAwait (checkForOfStatement ns ss n) ≡ only (forAwait ns n && scopedInBlock ns ss n) n
+  pub forAwaitIs : kindOf ns n ≡ k.ForOf → ofCheck code.classStaticBlockForAwait (checkForOfStatement ns ss n) ≡ only (forAwait ns n && scopedInBlock ns ss n) n
   unfolding checkForOfStatement inStaticBlock scopedInBlock
   forAwaitIs q = rw (eq-eqb (kindOf ns n) k.ForOf q) (ifOnly 25 (spanStartOf ns n) (spanEndOf ns n) n context.none (hasFlag (flagsOf ns n) flag.ForAwait && scopedInBlock ns ss n))

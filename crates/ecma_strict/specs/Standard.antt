@@ -14,7 +14,7 @@ use Rattle.checker.specs.Findings.{findingsAt}
 use Rattle.input.specs.InputLaws.{WellFormed}
 use Rattle.trees.specs.Walk.{only}
 use Rattle.trees.specs.Trail.{unitOf}
-use Rattle.ecma_strict.specs.Nodes.{raised}
+use Rattle.ecma_dispatch.specs.NodesOf.{raised}
 use Rattle.ecma_base.specs.Strict.{strictCode}
 use Rattle.ecma_strict.specs.Literals.{strictOctal, strictNonOctal, strictOctalEscape, strictNonOctalEscape}
 use Rattle.ecma_strict.specs.LiteralsLaws.{octalAgrees, nonOctalAgrees, octalEscapeAgrees, nonOctalEscapeAgrees}

@@ -23,19 +23,19 @@ use Rattle.diagnostics.specs.Contexts as context
 use Rattle.diagnostics.specs.declared.Raised.the-variants.{Clear}
 use Rattle.statements.specs.Statements.{checkFound, checkWithStatement, declaratorOf, declarators, checkInitialiser, checkLeft, checkForStatementLeft, checkUsing}
 use Rattle.trees.specs.Walk.{only}
-use Rattle.ecma_strict.specs.Nodes.{nodesOf}
+use Rattle.ecma_strict.specs.Nodes.{ofCheck}
 use Rattle.ecma_base.specs.Strict.{strictCode}
 use Rattle.ecma_strict.specs.Statements.{strictWith, declaratorsOf, initialized, plainName, single, annexHead, badHead, headOf, ofHead, initializedHead, heldUsing, badUsing}
 use Rattle.ecma_base.specs.Scopes.{topScope}
 use Rattle.ecma_strict.specs.Changed.{unsaid, saidHead, topUsing, UsingTold}
 
 -- one finding where a test says so
-pub ifOnly : (c s e n x : ℕ) (b : Bool) → nodesOf c (cond b (errorSpan c n s e x) Clear) ≡ only b n
+pub ifOnly : (c s e n x : ℕ) (b : Bool) → ofCheck c (cond b (errorSpan c n s e x) Clear) ≡ only b n
 ifOnly c s e n x true = rw (eq-eqb c c refl)
 ifOnly c s e n x false = refl
 
 -- CODE 17
-pub withIs : (ns ss : List ℕ) (n : ℕ) → kindOf ns n ≡ k.With → nodesOf code.withStatement (checkWithStatement ns ss n) ≡ only (strictWith ns ss n) n
+pub withIs : (ns ss : List ℕ) (n : ℕ) → kindOf ns n ≡ k.With → ofCheck code.withStatement (checkWithStatement ns ss n) ≡ only (strictWith ns ss n) n
 unfolding checkWithStatement strictWith
 withIs ns ss n q = rw (eq-eqb (kindOf ns n) k.With q) (ifOnly 17 (spanStartOf ns n) (spanStartOf ns n + 4) n context.none (strictCode ns ss n))
 
@@ -81,7 +81,7 @@ module _ (ns ss : List ℕ) (n : ℕ) (f : Bool) (e : eqb (kindOf ns n) k.ForIn 
   several d a b l q = rw (q, lt-leb (length (a ∷ b ∷ l)) 1 (omega arith)) (andFalse (badHead ns ss n d))
 
   headLeft : (d : ℕ) → (x : Bool) → eqb (kindOf ns d) k.VariableDeclaration ≡ x → (r : Found) → declaratorOf ns d ≡ r
-      → nodesOf 24 (cond x (cond (single (declaratorsOf ns d)) (checkFound r (checkInitialiser ns ss n f d)) Clear) Clear) ≡ only (badHead ns ss n d && not (unsaid ns n d)) n
+      → ofCheck 24 (cond x (cond (single (declaratorsOf ns d)) (checkFound r (checkInitialiser ns ss n f d)) Clear) Clear) ≡ only (badHead ns ss n d && not (unsaid ns n d)) n
   unfolding badHead annexHead checkInitialiser
   headLeft d false x r q = rw x
   headLeft d true x Nothing q =
@@ -90,23 +90,23 @@ module _ (ns ss : List ℕ) (n : ℕ) (f : Bool) (e : eqb (kindOf ns n) k.ForIn 
   headLeft d true x (At v) q = go (keep (isChild ns d 25 25 0 7) (upto (v .0 + 1) (count ns))) (kept-first (isChild ns d 25 25 0 7) (count ns) (d + 1) (v .0) q)
     where
       go : (l : List ℕ) → declaratorsOf ns d ≡ v .0 ∷ l
-          → nodesOf 24 (cond true (cond (single (declaratorsOf ns d)) (checkInitialiser ns ss n f d (v .0)) Clear) Clear) ≡ only (badHead ns ss n d && not (unsaid ns n d)) n
+          → ofCheck 24 (cond true (cond (single (declaratorsOf ns d)) (checkInitialiser ns ss n f d (v .0)) Clear) Clear) ≡ only (badHead ns ss n d && not (unsaid ns n d)) n
       go [] z =
           rw (x, z, orFalse (initialized ns (v .0)), andTrue (plainName ns (v .0)), e)
-          (ap (λ b. nodesOf 24 (cond b (errorAt ns code.unexpectedInitializerInForLoopHead n d context.none) Clear))
+          (ap (λ b. ofCheck 24 (cond b (errorAt ns code.unexpectedInitializerInForLoopHead n d context.none) Clear))
           (oneHead (initialized ns (v .0)) (strictCode ns ss n) (eqb (extraOf ns d) extra.Var) f (plainName ns (v .0)))
           ∙ ifOnly 24 (spanStartOf ns d) (spanEndOf ns d) n context.none
           ((initialized ns (v .0) && not ((f && eqb (extraOf ns d) extra.Var) && (plainName ns (v .0) && not (strictCode ns ss n)))) && not ((f && not (eqb (extraOf ns d) extra.Var)) && plainName ns (v .0))))
       go (b ∷ l) z =
           let y : single (declaratorsOf ns d) ≡ false = ap (λ (m : List ℕ). single m) z ∙ lt-leb (length (v .0 ∷ b ∷ l)) 1 (omega arith) in
-          ap (λ b. nodesOf 24 (cond true (cond b (checkInitialiser ns ss n f d (v .0)) Clear) Clear)) y ∙ ap (λ y. only y n) (sym (several d (v .0) b l z))
+          ap (λ b. ofCheck 24 (cond true (cond b (checkInitialiser ns ss n f d (v .0)) Clear) Clear)) y ∙ ap (λ y. only y n) (sym (several d (v .0) b l z))
 
-  headBy : (r : Found) → nodesOf 24 (checkFound r (checkLeft ns ss n f)) ≡ only (ofHead (λ d. badHead ns ss n d && not (unsaid ns n d)) r) n
+  headBy : (r : Found) → ofCheck 24 (checkFound r (checkLeft ns ss n f)) ≡ only (ofHead (λ d. badHead ns ss n d && not (unsaid ns n d)) r) n
   unfolding checkLeft
   headBy (At d) = rw (howManyIs ns (d .0)) (headLeft (d .0) (eqb (kindOf ns (d .0)) k.VariableDeclaration) refl (declaratorOf ns (d .0)) refl)
   headBy Nothing = refl
 
-  pub headIs : within (kindOf ns n) k.ForIn k.ForOf ≡ true → nodesOf code.unexpectedInitializerInForLoopHead (checkForStatementLeft ns ss n f) ≡ only (saidHead ns ss n) n
+  pub headIs : within (kindOf ns n) k.ForIn k.ForOf ≡ true → ofCheck code.unexpectedInitializerInForLoopHead (checkForStatementLeft ns ss n f) ≡ only (saidHead ns ss n) n
   unfolding saidHead
   headIs q = rw q (headBy (headOf ns n))
 
@@ -121,7 +121,7 @@ headAgrees ns ss n e = ap (λ b. within (kindOf ns n) k.ForIn k.ForOf && b) (go 
 
 -- CODE 13
 pub usingIs : (sourceType : ℕ) (ns ss : List ℕ) (n : ℕ) → kindOf ns n ≡ k.VariableDeclaration
-    → nodesOf code.usingDeclarationNotAllowedInScript (checkUsing sourceType ns ss n) ≡ only (topUsing sourceType ns ss n) n
+    → ofCheck code.usingDeclarationNotAllowedInScript (checkUsing sourceType ns ss n) ≡ only (topUsing sourceType ns ss n) n
 unfolding checkUsing topUsing
 usingIs sourceType ns ss n q =
     rw (eq-eqb (kindOf ns n) k.VariableDeclaration q)

@@ -29,8 +29,9 @@ use Rattle.wellformed.specs.WellFormedLaws.{input-well-formed}
 use Rattle.trees.specs.Walk.{each, only}
 use Rattle.ecma_dispatch.specs.WithCode.{withCode}
 use Rattle.ecma_dispatch.specs.Dispatch.{at2, at3, at4, at5, at6, at9, at10, at11, at12, at13, at14, at15, at16, at17, at24, at25, at31, at32, at33}
-use Rattle.ecma_strict.specs.Nodes.{raised}
-use Rattle.ecma_strict.specs.NodesLaws.{raisedBy, raisedNil, raisedAgain, raisedListed, raisedAppend, atListed, atWith, atTwo, atTwoListed, atTwoMixed, wholeIs}
+use Rattle.ecma_dispatch.specs.NodesOf.{raised}
+use Rattle.ecma_dispatch.specs.NodesOfLaws.{raisedNil, raisedAgain, raisedAppend}
+use Rattle.ecma_strict.specs.NodesLaws.{raisedBy, raisedListed, atListed, atWith, atTwo, atTwoListed, atTwoMixed, wholeIs}
 use Rattle.ecma_base.specs.Strict.{strictCode}
 use Rattle.ecma_strict.specs.LiteralsLaws.{numberOctal, numberNonOctal, stringOctal, stringNonOctal}
 use Rattle.ecma_strict.specs.Delete.{deletesName}

@@ -24,7 +24,7 @@ use Rattle.trees.specs.Rose.{partsOf, marksAll}
 use Rattle.trees.specs.Walk.{each, some, only}
 use Rattle.trees.specs.WalkLaws.{someAppend, someOnly, eachSame}
 use Rattle.trees.specs.Trail.{unitOf}
-use Rattle.ecma_strict.specs.Nodes.{raised}
+use Rattle.ecma_dispatch.specs.NodesOf.{raised}
 use Rattle.ecma_base.specs.Strict.{strictCode}
 use Rattle.ecma_strict.specs.Identifiers.{strictReserved, reservedName, bindsEval, assignsEval, useStrictDirective, simpleParameters, containsUseStrict, useStrictThere}
 use Rattle.ecma_base.specs.Contains.{containsFrom, isNode, initializer, containsInto}
