@@ -37,12 +37,3 @@ isNode Nothing j = false
 
 abbrev pub initializer : List ℕ → ℕ → ℕ → Bool
 initializer ns i j = within (kindOf ns i) k.PropertyDefinition k.AccessorProperty && isNode (valueOf ns i) j
-
--- 8.5.1: of a function and of a ClassStaticBlockBody it is false; of a class it looks at the heritage and, by 8.5.2 ComputedPropertyContains, at the computed keys, so not into the Initializer of a
--- field. Of an arrow function: "If symbol is not one of NewTarget, SuperProperty, SuperCall, super, or this, return false."
-abbrev pub containsInto : List ℕ → ℕ → ℕ → Bool
-containsInto ns i j = not (within (kindOf ns i) k.Function k.StaticBlock || initializer ns i j)
-
--- what it does not look into for one of these symbols
-abbrev pub superShut : List ℕ → ℕ → ℕ → Bool
-superShut ns i j = eqb (kindOf ns i) k.Function || (eqb (kindOf ns i) k.StaticBlock || initializer ns i j)

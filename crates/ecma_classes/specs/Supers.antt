@@ -13,16 +13,19 @@ use Rattle.tables.specs.NodeFlag as flag
 use Rattle.tables.specs.ScopeFlag as scope
 use Rattle.children.specs.Children.{valueOf}
 use Rattle.trees.specs.Trail.{unitOf}
-use Rattle.ecma_base.specs.Contains.{isNode, containsIn, superShut}
+use Rattle.ecma_base.specs.Contains.{isNode, initializer, containsIn}
 use Rattle.ecma_classes.specs.ClassElements.{namesConstructor, isFirstConstructor}
 
 abbrev pub isValue : List ℕ → ℕ → ℕ → Bool
 isValue ns p j = isNode (valueOf ns p) j
 
--- A unit begins with what Contains does not look into for SuperCall and SuperProperty: FormalParameters and FunctionBody, ClassStaticBlockStatementList, Initializer; the program's StatementList or
--- ModuleItemList is the outermost.
+-- What Contains does not look into for SuperCall and SuperProperty (8.5.1, 8.5.2 ComputedPropertyContains) begins a unit: FormalParameters and FunctionBody of a function, ClassStaticBlockStatementList,
+-- the Initializer of a field. It looks into arrow functions, a ClassHeritage and computed keys. The program's StatementList or ModuleItemList is the outermost unit.
 unfoldable pub begins : List ℕ → ℕ → ℕ → Bool
-begins ns i j = eqb i 0 || superShut ns i j
+begins ns i j =
+    eqb i 0
+    || (eqb (kindOf ns i) k.Function
+    || (eqb (kindOf ns i) k.StaticBlock || initializer ns i j))
 
 -- 8.5.1 Contains, of the parts with which u begins a unit
 abbrev pub unitContains : List ℕ → (ℕ → Bool) → ℕ → Bool

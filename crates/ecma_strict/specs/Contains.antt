@@ -13,6 +13,11 @@ use Rattle.names.specs.Words as word
 use Rattle.trees.specs.Trail.{unitOf}
 use Rattle.ecma_base.specs.Contains.{initializer}
 
+-- 8.5.1: of a function and of a ClassStaticBlockBody it is false; of an arrow function too, "If symbol is not one of NewTarget, SuperProperty, SuperCall, super, or this"; of a class it looks at the
+-- heritage and, by 8.5.2 ComputedPropertyContains, at the computed keys, so not into the Initializer of a field
+abbrev pub containsInto : List ℕ → ℕ → ℕ → Bool
+containsInto ns i j = not (within (kindOf ns i) k.Function k.StaticBlock || initializer ns i j)
+
 -- 15.7.1: "It is a Syntax Error if ClassStaticBlockStatementList Contains await is true."
 abbrev pub staticBlock : List ℕ → ℕ → Bool
 staticBlock ns u = eqb (kindOf ns u) k.StaticBlock

@@ -17,8 +17,8 @@ use Rattle.tables.specs.Extras as extra
 use Rattle.children.specs.Children.{valueOf}
 use Rattle.trees.specs.Trail.{unitOf}
 use Rattle.trees.specs.TrailLaws.{handedLaw}
-use Rattle.ecma_base.specs.Contains.{isNode, initializer, containsInto}
-use Rattle.ecma_strict.specs.Contains.{staticBlock, blockBegin, awaitEdge, argumentsBegin, argumentsInto, argumentsEdge, argumentsHome, parameter, parameterBegin, parameterEdge, lexicalDeclaration, boundBegin, boundInto, boundEdge}
+use Rattle.ecma_base.specs.Contains.{isNode, initializer}
+use Rattle.ecma_strict.specs.Contains.{containsInto, staticBlock, blockBegin, awaitEdge, argumentsBegin, argumentsInto, argumentsEdge, argumentsHome, parameter, parameterBegin, parameterEdge, lexicalDeclaration, boundBegin, boundInto, boundEdge}
 use Rattle.ecma_base.specs.ContainsLaws.{upward, unitUp, unitRoot, comes, comesHome}
 use Rattle.ecma_strict.specs.SearchLaws.{positive}
 
