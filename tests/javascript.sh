@@ -58,6 +58,7 @@ it returned after 3 entries and 2 answers; left over: 4' ./show-route rules/offi
 check "no route of a rule with an error" says 'routeview: no route: the rule has an early error, or a jump without a target (line 1)' ./show-route rules/block-label.js ''
 
 if [ -d ../shared/test262 ]; then check "test262" tools/test262; else unrun "test262" "its files are not beside the repository"; fi
+check "the conditions of the theorems, on trees of texts" tools/conditions 4000 3 rules
 check "V8's verdicts" tools/v8-verdicts 1000 3
 check "a text for each disagreement" tools/v8-verdicts --texts
 check "each of them told" told
