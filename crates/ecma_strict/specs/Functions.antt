@@ -24,20 +24,21 @@ isFunction ns Nothing = false
 abbrev pub endsInStatement : List ℕ → ℕ → Bool
 endsInStatement ns n = within (kindOf ns n) k.For k.With
 
--- B.3.3, "if ( Expression ) FunctionDeclaration", also behind else, and B.3.1 with 14.13.1, LabelledItem : FunctionDeclaration: an if or a label may hold one in code that is not strict ..
+-- THE EXCEPTION OF ANNEX B: B.3.3, "if ( Expression ) FunctionDeclaration", also behind else, and B.3.1, LabelledItem : FunctionDeclaration, in code that is not strict. So n may hold one ..
 abbrev pub annexHolder : List ℕ → List ℕ → ℕ → Bool
 annexHolder ns ss n = not (strictCode ns ss n) && (eqb (kindOf ns n) k.If || eqb (kindOf ns n) k.Labeled)
 
--- .. and neither an async function nor a generator f is a FunctionDeclaration
+-- .. which is neither an async function nor a generator
 abbrev pub annexAllows : Telling → List ℕ → List ℕ → ℕ → ℕ → Bool
 annexAllows told ns ss n f = annexHolder ns ss n && not (special told f)
 
--- 14.6, 14.7, 14.11, 14.13.1: no Statement is a function, and no LabelledItem. Of a part of n: it is one, and Annex B does not allow it.
+-- 14.6, 14.7, 14.11, 14.13: no Statement is a FunctionDeclaration, GeneratorDeclaration, AsyncFunctionDeclaration or AsyncGeneratorDeclaration. 14.13.1, LabelledItem :
+-- FunctionDeclaration: "It is a Syntax Error if any source text is matched by this production." Of a part of n: it is a function, and Annex B does not allow it.
 abbrev pub misplaced : Telling → List ℕ → List ℕ → ℕ → Found → Bool
 misplaced told ns ss n (At m) = eqb (kindOf ns (m .0)) k.Function && not (annexAllows told ns ss n (m .0))
 misplaced told ns ss n Nothing = false
 
--- of the Statement that n ends in, or its LabelledItem; of an if the first
+-- of the Statement of n, or its LabelledItem; of an if the first Statement
 unfoldable pub functionMisplaced : Telling → List ℕ → List ℕ → ℕ → Bool
 functionMisplaced told ns ss n = (endsInStatement ns n || eqb (kindOf ns n) k.Labeled) && misplaced told ns ss n (heldOf ns n)
 

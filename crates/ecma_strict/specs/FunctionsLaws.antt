@@ -6,6 +6,7 @@ use mathlib.Core.Bool.{Bool, true, false, cond, not, _&&_, _||_}
 use borrow.Author.Tests.{eq-eqb, eqb-true, eqb-false}
 use lib.Dec.{eqb}
 use Rattle.common.specs.Bools.{never}
+use Rattle.common.specs.Upto.{and-left, and-right}
 use Rattle.tables.specs.Table.{kindOf, parentOf, count}
 use Rattle.tables.specs.Facts.{Tree}
 use Rattle.tables.specs.Kinds as k
@@ -30,45 +31,52 @@ use Rattle.ecma_strict.specs.SearchLaws.{unitHere, unitPass}
 use Rattle.ecma_strict.specs.Changed.{labelledFunctionSaid, specialFunction, OrdinaryHeld}
 
 module _ (ns ss : List ℕ) (n : ℕ) where
-  -- Annex B is of code that is not strict, and of an if or a label
-  strictHolder : strictCode ns ss n ≡ true → annexHolder ns ss n ≡ false
-  strictHolder s = rw s
+  andTrue : (b : Bool) → (b && true) ≡ b
+  andTrue true = refl
+  andTrue false = refl
 
-  sloppyHolder : (i : Bool) → (eqb (kindOf ns n) k.If || eqb (kindOf ns n) k.Labeled) ≡ i → strictCode ns ss n ≡ false → annexHolder ns ss n ≡ i
-  sloppyHolder i e s = rw s e
+  -- ANNEX B: nothing in strict code, no special function, and of ordinary ones those of an if and a label
+  strictDenied : (told : Telling) (f : ℕ) → strictCode ns ss n ≡ true → annexAllows told ns ss n f ≡ false
+  strictDenied told f s = rw s
+
+  specialDenied : (told : Telling) (f : ℕ) → special told f ≡ true → annexAllows told ns ss n f ≡ false
+  specialDenied told f e = rw e (by (annexHolder ns ss n))
+    where
+      by : (a : Bool) → (a && false) ≡ false
+      by true = refl
+      by false = refl
+
+  ordinaryAllowed : (i : Bool) → (eqb (kindOf ns n) k.If || eqb (kindOf ns n) k.Labeled) ≡ i → (f : ℕ) → strictCode ns ss n ≡ false → annexAllows ordinary ns ss n f ≡ i
+  ordinaryAllowed i e f s = rw s (andTrue (eqb (kindOf ns n) k.If || eqb (kindOf ns n) k.Labeled) ∙ e)
 
   -- so in strict code every function is misplaced
   pub strictMisplaced : (told : Telling) (r : Found) → strictCode ns ss n ≡ true → misplaced told ns ss n r ≡ isFunction ns r
-  strictMisplaced told (At m) s = rw (strictHolder s) (andTrue (eqb (kindOf ns (m .0)) k.Function))
-    where
-      andTrue : (b : Bool) → (b && true) ≡ b
-      andTrue true = refl
-      andTrue false = refl
+  strictMisplaced told (At m) s = ap (λ v. eqb (kindOf ns (m .0)) k.Function && not v) (strictDenied told (m .0) s) ∙ andTrue (eqb (kindOf ns (m .0)) k.Function)
   strictMisplaced told Nothing s = refl
 
-  -- what is raised for the statement that was found: f it is a function, s strict code, i the holder is an if; a: Annex B has the holder, p: the function is special
-  held15 : (f s a p : Bool) (m : ℕ) (x : Raised) → ofCheck 15 x ≡ [] → (s ≡ true → a ≡ false)
-      → ofCheck 15 (cond f (cond s (errorAt ns code.functionDeclarationStrict n m context.none) x) Clear) ≡ only (s && (f && not (a && not p))) n
-  held15 true true true p m x q e = never (e refl)
-  held15 true true false p m x q e = refl
-  held15 true false a p m x q e = q
-  held15 false true a p m x q e = refl
-  held15 false false a p m x q e = refl
+  -- what is raised for the statement that was found: f it is a function, s strict code, v Annex B allows it; i the holder is an if
+  held15 : (f s v : Bool) (m : ℕ) (x : Raised) → ofCheck 15 x ≡ [] → (s ≡ true → v ≡ false)
+      → ofCheck 15 (cond f (cond s (errorAt ns code.functionDeclarationStrict n m context.none) x) Clear) ≡ only (s && (f && not v)) n
+  held15 true true true m x q e = never (e refl)
+  held15 true true false m x q e = refl
+  held15 true false v m x q e = q
+  held15 false true v m x q e = refl
+  held15 false false v m x q e = refl
 
   other15 : (i : Bool) (m : ℕ) → ofCheck 15 (cond i Clear (errorAt ns code.functionDeclarationNonStrict n m context.none)) ≡ []
   other15 true m = refl
   other15 false m = refl
 
-  held16 : (f s i a : Bool) (m : ℕ) → (s ≡ false → a ≡ i)
+  held16 : (f s i v : Bool) (m : ℕ) → (s ≡ false → v ≡ i)
       → ofCheck 16 (cond f (cond s (errorAt ns code.functionDeclarationStrict n m context.none) (cond i Clear (errorAt ns code.functionDeclarationNonStrict n m context.none))) Clear)
-      ≡ only (not s && (f && not (a && true))) n
-  held16 true true i a m e = refl
+      ≡ only (not s && (f && not v)) n
+  held16 true true i v m e = refl
   held16 true false true true m e = refl
   held16 true false true false m e = never (sym (e refl))
   held16 true false false true m e = never (e refl)
   held16 true false false false m e = refl
-  held16 false true i a m e = refl
-  held16 false false i a m e = refl
+  held16 false true i v m e = refl
+  held16 false false i v m e = refl
 
   pub andFalse : (b : Bool) → [] ≡ only (b && false) n
   andFalse true = refl
@@ -77,14 +85,14 @@ module _ (ns ss : List ℕ) (n : ℕ) where
   found15 : (told : Telling) (i : Bool) (r : Found) → ofCheck 15 (checkFound r (checkFunctionDeclaration ns ss n i)) ≡ only (strictCode ns ss n && misplaced told ns ss n r) n
   unfolding checkFunctionDeclaration
   found15 told i (At m) =
-      held15 (eqb (kindOf ns (m .0)) k.Function) (strictCode ns ss n) (annexHolder ns ss n) (special told (m .0)) (m .0)
-      (cond i Clear (errorAt ns code.functionDeclarationNonStrict n (m .0) context.none)) (other15 i (m .0)) strictHolder
+      held15 (eqb (kindOf ns (m .0)) k.Function) (strictCode ns ss n) (annexAllows told ns ss n (m .0)) (m .0)
+      (cond i Clear (errorAt ns code.functionDeclarationNonStrict n (m .0) context.none)) (other15 i (m .0)) (strictDenied told (m .0))
   found15 told i Nothing = andFalse (strictCode ns ss n)
 
   found16 : (i : Bool) → (eqb (kindOf ns n) k.If || eqb (kindOf ns n) k.Labeled) ≡ i → (r : Found)
       → ofCheck 16 (checkFound r (checkFunctionDeclaration ns ss n i)) ≡ only (not (strictCode ns ss n) && misplaced ordinary ns ss n r) n
   unfolding checkFunctionDeclaration
-  found16 i e (At m) = held16 (eqb (kindOf ns (m .0)) k.Function) (strictCode ns ss n) i (annexHolder ns ss n) (m .0) (sloppyHolder i e)
+  found16 i e (At m) = held16 (eqb (kindOf ns (m .0)) k.Function) (strictCode ns ss n) i (annexAllows ordinary ns ss n (m .0)) (m .0) (ordinaryAllowed i e (m .0))
   found16 i e Nothing = andFalse (not (strictCode ns ss n))
 
   -- CODE 15 at a loop or With, and at both Statements of an If
@@ -122,16 +130,17 @@ module _ (ns ss : List ℕ) (n : ℕ) where
       either true b e = refl
       either false b e = e
 
-      free : (s x f a : Bool) → (s ≡ false → a ≡ true) → (not s && (x && (f && not (a && true)))) ≡ false
-      free true x f a e = refl
-      free false false f a e = refl
-      free false true false a e = refl
+      free : (s x f v : Bool) → (s ≡ false → v ≡ true) → (not s && (x && (f && not v))) ≡ false
+      free true x f v e = refl
+      free false false f v e = refl
+      free false true false v e = refl
       free false true true true e = refl
       free false true true false e = never (sym (e refl))
 
       go : (x : Bool) (r : Found) → (not (strictCode ns ss n) && (x && misplaced ordinary ns ss n r)) ≡ false
       go x (At m) =
-          free (strictCode ns ss n) x (eqb (kindOf ns (m .0)) k.Function) (annexHolder ns ss n) (sloppyHolder true (either (eqb (kindOf ns n) k.If) (eqb (kindOf ns n) k.Labeled) q))
+          free (strictCode ns ss n) x (eqb (kindOf ns (m .0)) k.Function) (annexAllows ordinary ns ss n (m .0))
+          (ordinaryAllowed true (either (eqb (kindOf ns n) k.If) (eqb (kindOf ns n) k.Labeled) q) (m .0))
       go x Nothing = free (strictCode ns ss n) x false true (λ e. refl)
 
 -- A LABELLED FUNCTION
@@ -173,8 +182,8 @@ module _ (ns ss : List ℕ) (t : Tree ns) (n : ℕ) (h : n < count ns) where
   labelled15 told (At m) =
       let l = endsInStatement ns (unitOf ns (labelEdge ns) n) in
       rw (labelledIs ns t n (m .0) n h)
-      (held15 ns ss n (eqb (kindOf ns (m .0)) k.Function) (strictCode ns ss n) (annexHolder ns ss n) (special told (m .0)) (m .0)
-      (cond l (errorAt ns code.functionDeclarationNonStrict n (m .0) context.none) Clear) (item15 l (m .0)) (strictHolder ns ss n))
+      (held15 ns ss n (eqb (kindOf ns (m .0)) k.Function) (strictCode ns ss n) (annexAllows told ns ss n (m .0)) (m .0)
+      (cond l (errorAt ns code.functionDeclarationNonStrict n (m .0) context.none) Clear) (item15 l (m .0)) (strictDenied ns ss n told (m .0)))
   labelled15 told Nothing = andFalse ns ss n (strictCode ns ss n)
 
   labelled16 : (r : Found) → ofCheck 16 (checkFound r (checkLabeledItem ns ss n)) ≡ only (isFunction ns r && (not (strictCode ns ss n) && endsInStatement ns (unitOf ns (labelEdge ns) n))) n
@@ -221,9 +230,9 @@ module _ (told : Telling) (ns ss : List ℕ) (n : ℕ) where
   allowsSame : (f : ℕ) → (annexHolder ns ss n ≡ true → special told f ≡ false) → annexAllows ordinary ns ss n f ≡ annexAllows told ns ss n f
   allowsSame f c = go (annexHolder ns ss n) refl
     where
-      go : (a : Bool) → annexHolder ns ss n ≡ a → (a && true) ≡ (a && not (special told f))
+      go : (a : Bool) → annexHolder ns ss n ≡ a → annexAllows ordinary ns ss n f ≡ annexAllows told ns ss n f
       go true e = let q = ap not (c e) in cc
-      go false e = refl
+      go false e = rw e
 
   misplacedSame : (r : Found) → (annexHolder ns ss n ≡ true → specialFunction told ns r ≡ false) → misplaced ordinary ns ss n r ≡ misplaced told ns ss n r
   misplacedSame (At m) c = by (eqb (kindOf ns (m .0)) k.Function) refl
@@ -243,14 +252,8 @@ module _ (told : Telling) (ns ss : List ℕ) (n : ℕ) where
 
   -- elsewhere it is not: of a function there that is special the standard's rule says an error, and the changed one none
   pub misplacedDiffers : (r : Found) → annexHolder ns ss n ≡ true → specialFunction told ns r ≡ true → (misplaced told ns ss n r ≡ true) × (misplaced ordinary ns ss n r ≡ false)
-  misplacedDiffers (At m) a q = (go (eqb (kindOf ns (m .0)) k.Function) (special told (m .0)) q, no (eqb (kindOf ns (m .0)) k.Function))
-    where
-      go : (f s : Bool) → (f && s) ≡ true → (f && not (annexHolder ns ss n && not s)) ≡ true
-      go true true e = rw a
-      go true false e = never (sym e)
-      go false s e = never (sym e)
-
-      no : (f : Bool) → (f && not (annexHolder ns ss n && true)) ≡ false
-      no true = rw a
-      no false = refl
+  misplacedDiffers (At m) a q =
+      let d = specialDenied ns ss n told (m .0) (and-right (eqb (kindOf ns (m .0)) k.Function) (special told (m .0)) q) in
+      let f = and-left (eqb (kindOf ns (m .0)) k.Function) (special told (m .0)) q in
+      (ap (λ v. eqb (kindOf ns (m .0)) k.Function && not v) d ∙ rw f, rw (f, a))
   misplacedDiffers Nothing a q = never (sym q)
