@@ -165,12 +165,14 @@ labelledFunctionSaid ns ss n = labelsFunction ns n && (not (strictCode ns ss n) 
 
 -- 15, 16: functions in statement position
 
--- The Rust's rules are functionMisplaced and functionMisplacedElse at the telling `ordinary`: no function that it finds is async or a generator.
+-- The rules are functionMisplaced and functionMisplacedElse at the telling `ordinary`: every function that is found counts as neither async nor a generator.
+
+-- it is a function, and one of the two
 abbrev pub specialFunction : Telling → List ℕ → Found → Bool
 specialFunction told ns (At m) = eqb (kindOf ns (m .0)) k.Function && special told (m .0)
 specialFunction told ns Nothing = false
 
--- where they agree: what an if or a label holds in code that is not strict is neither; in strict code, and of the loops and with, they always agree
+-- where they agree: where Annex B lets n hold a function, it holds none of these. So in strict code, and at the loops and with, they always agree.
 pub record OrdinaryHeld (told : Telling) (ns ss : List ℕ) (n : ℕ) : Type 0 where
   pub held : annexHolder ns ss n ≡ true → specialFunction told ns (heldOf ns n) ≡ false
   pub behindElse : annexHolder ns ss n ≡ true → specialFunction told ns (alternateOf ns n) ≡ false
