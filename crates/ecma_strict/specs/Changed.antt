@@ -12,9 +12,12 @@ use Rattle.tables.specs.Table.{kindOf, parentOf, extraOf, scopeOf, scopeFlagsOf
 use Rattle.tables.specs.Kinds as k
 use Rattle.tables.specs.Extras as extra
 use Rattle.tables.specs.ScopeFlag as scope
-use Rattle.children.specs.Children.{valueOf}
+use Rattle.tables.specs.declared.Found.{Found}
+use Rattle.tables.specs.declared.Found.the-variants.{At, Nothing}
+use Rattle.children.specs.Children.{valueOf, heldOf, alternateOf}
 use Rattle.trees.specs.Trail.{unitOf}
 use Rattle.ecma_base.specs.Strict.{strictCode}
+use Rattle.ecma_base.specs.Telling.{Telling, special}
 use Rattle.ecma_base.specs.Scopes.{mayMakeScope, blockScope, topScope}
 use Rattle.ecma_strict.specs.Literals.{textOf, decimalDigit, next, legacyOctalInteger, nonOctalDecimalInteger, numericLiteral, legacyOctalEscape, nonOctalDecimalEscape, escapes, stringLiteral}
 use Rattle.ecma_strict.specs.Delete.{privateReference, derives, deleteExpression}
@@ -22,7 +25,7 @@ use Rattle.ecma_strict.specs.Statements.{declaratorsOf, plainName, singl
 use Rattle.ecma_strict.specs.Identifiers.{goalModule, assignsEval, useStrictDirective, simpleParameters}
 use Rattle.ecma_base.specs.Contains.{isNode}
 use Rattle.ecma_strict.specs.Contains.{staticBlock, awaitNameEdge, awaitName, argumentsReference, parameter, awaitOrYield, lexicalDeclaration, letName}
-use Rattle.ecma_strict.specs.Functions.{endsInStatement, labelsFunction, labelEdge}
+use Rattle.ecma_strict.specs.Functions.{endsInStatement, annexHolder, labelsFunction, labelEdge}
 
 -- 9, 10, 11: literals
 
@@ -159,3 +162,17 @@ pub record AwaitNameTold (ns ss : List ℕ) (n : ℕ) : Type 0 where
 -- not in strict code, where the labelled function itself is raised
 unfoldable pub labelledFunctionSaid : List ℕ → List ℕ → ℕ → Bool
 labelledFunctionSaid ns ss n = labelsFunction ns n && (not (strictCode ns ss n) && endsInStatement ns (unitOf ns (labelEdge ns) n))
+
+-- 15, 16: functions in statement position
+
+-- The rules are functionMisplaced and functionMisplacedElse at the telling `ordinary`: every function that is found counts as neither async nor a generator.
+
+-- it is a function, and one of the two
+abbrev pub specialFunction : Telling → List ℕ → Found → Bool
+specialFunction told ns (At m) = eqb (kindOf ns (m .0)) k.Function && special told (m .0)
+specialFunction told ns Nothing = false
+
+-- where they agree: where Annex B lets n hold a function, it holds none of these. So in strict code, and at the loops and with, they always agree.
+pub record OrdinaryHeld (told : Telling) (ns ss : List ℕ) (n : ℕ) : Type 0 where
+  pub held : annexHolder ns ss n ≡ true → specialFunction told ns (heldOf ns n) ≡ false
+  pub behindElse : annexHolder ns ss n ≡ true → specialFunction told ns (alternateOf ns n) ≡ false

@@ -3,19 +3,21 @@ use Prim.Native.Nat.{ℕ}
 use mathlib.Core.Path.{_≡_, refl}
 use mathlib.Core.List.{List, [], _∷_, map}
 use mathlib.Core.Bool.{Bool, true, false}
+use lib.Dec.{eqb}
 use Rattle.names.specs.Name.{same, nameOf}
 use Rattle.walk.specs.Above.{above, climb}
 use Rattle.common.specs.Upto.{upto, range}
 use Rattle.children.specs.Children.{keep, children, isChild, firstNode}
 use Rattle.trees.specs.Rose.{kids, others, forest, partsOf}
 use Rattle.trees.specs.Trail as trails
+use Rattle.ecma_base.specs.Telling.{Telling, ordinary}
 use Rattle.ecma_base.specs.Scopes.{followsAt, flaggedAt, classAt, scopesFollow}
 use Rattle.ecma_strict.specs.Literals.{textOf, legacyOctalInteger, octalsThenNonOctal, nonOctalDecimalInteger, legacyOctalEscape, nonOctalDecimalEscape, escapes, strictOctalEscape, strictNonOctalEscape}
 use Rattle.ecma_strict.specs.Delete.{ultimately, privateReference, deletesPrivate}
 use Rattle.ecma_strict.specs.Statements.{annexHead, badHead, initializedHead, heldUsing, badUsing}
 use Rattle.ecma_strict.specs.Identifiers.{reservedName, assignsEval}
 use Rattle.ecma_strict.specs.Contains.{awaitInBlock, awaitNameInBlock, argumentsInClass, awaitInParameter, letBound}
-use Rattle.ecma_strict.specs.Functions.{strictFunction, isLabelledFunction, labelledAmong, endsInLabelled, labelledFunctionAt}
+use Rattle.ecma_strict.specs.Functions.{functionMisplaced, functionMisplacedElse, isLabelledFunction, labelledAmong, endsInLabelled, labelledFunctionAt}
 use Rattle.ecma_strict.specs.Changed.{octalFirst, nonOctalFirst, firstOctalEscape, firstNonOctalEscape, deletesPrivateAnywhere, saidHead, topUsing, scopedInBlock, awaitNameScoped, letBoundSaid, argumentsSaid, awaitInParameterSaid, labelledFunctionSaid}
 
 -- 12.9.3: numbers that are a LegacyOctalIntegerLiteral, and that begin with a NonOctalDecimalIntegerLiteral
@@ -448,8 +450,8 @@ strictLabelTree = record {
 }
 
 -- 14.7.3.1 and 14.13.1: the Rust raises 15 only
-pub strictLabel : endsInLabelled (strictLabelTree .nodes) 3 ∷ labelledFunctionAt (strictLabelTree .nodes) 5 ∷ labelledFunctionSaid (strictLabelTree .nodes) (strictLabelTree .scopes) 5 ∷ strictFunction (strictLabelTree .nodes) (strictLabelTree .scopes) 5 ∷ [] ≡ true ∷ true ∷ false ∷ true ∷ []
-unfolding endsInLabelled isLabelledFunction labelledAmong labelledFunctionAt labelledFunctionSaid strictFunction same nameOf above climb upto range keep children isChild firstNode kids others forest partsOf trails.climb trails.trail
+pub strictLabel : endsInLabelled (strictLabelTree .nodes) 3 ∷ labelledFunctionAt (strictLabelTree .nodes) 5 ∷ labelledFunctionSaid (strictLabelTree .nodes) (strictLabelTree .scopes) 5 ∷ functionMisplaced ordinary (strictLabelTree .nodes) (strictLabelTree .scopes) 5 ∷ [] ≡ true ∷ true ∷ false ∷ true ∷ []
+unfolding endsInLabelled isLabelledFunction labelledAmong labelledFunctionAt labelledFunctionSaid functionMisplaced same nameOf above climb upto range keep children isChild firstNode kids others forest partsOf trails.climb trails.trail
 strictLabel = refl
 
 -- `while (1) a: b: function f() {}`
@@ -477,6 +479,80 @@ twoLabelsTree = record {
 pub twoLabels : endsInLabelled (twoLabelsTree .nodes) 1 ∷ labelledFunctionAt (twoLabelsTree .nodes) 5 ∷ labelledFunctionSaid (twoLabelsTree .nodes) (twoLabelsTree .scopes) 5 ∷ [] ≡ true ∷ true ∷ true ∷ []
 unfolding endsInLabelled isLabelledFunction labelledAmong labelledFunctionAt labelledFunctionSaid same nameOf above climb upto range keep children isChild firstNode kids others forest partsOf trails.climb trails.trail
 twoLabels = refl
+
+-- of these texts the tables don't tell what the function at a node is
+abbrev asyncAt : ℕ → Telling
+asyncAt n = record { async = λ f. eqb f n; generator = λ f. false }
+
+abbrev generatorAt : ℕ → Telling
+generatorAt n = record { async = λ f. false; generator = λ f. eqb f n }
+
+-- `if (1) async function f() {}`
+abbrev asyncIfTree : Tree
+asyncIfTree = record {
+  nodes =
+      0 ∷ 0 ∷ 0 ∷ 0 ∷ 28 ∷ 0 ∷ 0 ∷ 0 ∷ 0 ∷ 0
+      ∷ 12 ∷ 0 ∷ 3 ∷ 0 ∷ 28 ∷ 0 ∷ 0 ∷ 0 ∷ 0 ∷ 0
+      ∷ 35 ∷ 1 ∷ 0 ∷ 4 ∷ 5 ∷ 0 ∷ 0 ∷ 0 ∷ 0 ∷ 0
+      ∷ 1 ∷ 1 ∷ 3 ∷ 7 ∷ 28 ∷ 0 ∷ 1568 ∷ 0 ∷ 0 ∷ 0
+      ∷ 31 ∷ 3 ∷ 0 ∷ 22 ∷ 23 ∷ 1 ∷ 0 ∷ 0 ∷ 0 ∷ 1
+      ∷ 55 ∷ 3 ∷ 0 ∷ 23 ∷ 25 ∷ 1 ∷ 0 ∷ 0 ∷ 0 ∷ 0
+      ∷ 4 ∷ 3 ∷ 3 ∷ 26 ∷ 28 ∷ 1 ∷ 0 ∷ 0 ∷ 0 ∷ 0
+      ∷ [];
+  scopes = 0 ∷ 2 ∷ 0 ∷ 0 ∷ 4 ∷ 3 ∷ [];
+  names = 102 ∷ [];
+  source = [];
+}
+
+-- 14.6 and B.3.3: an async function is no Statement of an if; the Rust takes it for an ordinary one
+pub asyncIf : functionMisplaced (asyncAt 3) (asyncIfTree .nodes) (asyncIfTree .scopes) 1 ∷ functionMisplaced ordinary (asyncIfTree .nodes) (asyncIfTree .scopes) 1 ∷ [] ≡ true ∷ false ∷ []
+unfolding functionMisplaced upto range firstNode isChild
+asyncIf = refl
+
+-- `if (1); else function* f() {}`
+abbrev generatorElseTree : Tree
+generatorElseTree = record {
+  nodes =
+      0 ∷ 0 ∷ 0 ∷ 0 ∷ 29 ∷ 0 ∷ 0 ∷ 0 ∷ 0 ∷ 0
+      ∷ 12 ∷ 0 ∷ 3 ∷ 0 ∷ 29 ∷ 0 ∷ 0 ∷ 0 ∷ 0 ∷ 0
+      ∷ 35 ∷ 1 ∷ 0 ∷ 4 ∷ 5 ∷ 0 ∷ 0 ∷ 0 ∷ 0 ∷ 0
+      ∷ 22 ∷ 1 ∷ 3 ∷ 6 ∷ 7 ∷ 0 ∷ 0 ∷ 0 ∷ 0 ∷ 0
+      ∷ 1 ∷ 1 ∷ 4 ∷ 13 ∷ 29 ∷ 0 ∷ 1568 ∷ 0 ∷ 0 ∷ 0
+      ∷ 31 ∷ 4 ∷ 0 ∷ 23 ∷ 24 ∷ 1 ∷ 0 ∷ 0 ∷ 0 ∷ 1
+      ∷ 55 ∷ 4 ∷ 0 ∷ 24 ∷ 26 ∷ 1 ∷ 0 ∷ 0 ∷ 0 ∷ 0
+      ∷ 4 ∷ 4 ∷ 3 ∷ 27 ∷ 29 ∷ 1 ∷ 0 ∷ 0 ∷ 0 ∷ 0
+      ∷ [];
+  scopes = 0 ∷ 2 ∷ 0 ∷ 0 ∷ 4 ∷ 4 ∷ [];
+  names = 102 ∷ [];
+  source = [];
+}
+
+-- 14.6 and B.3.3: nor is a generator behind else
+pub generatorElse : functionMisplacedElse (generatorAt 4) (generatorElseTree .nodes) (generatorElseTree .scopes) 1 ∷ functionMisplacedElse ordinary (generatorElseTree .nodes) (generatorElseTree .scopes) 1 ∷ [] ≡ true ∷ false ∷ []
+unfolding functionMisplacedElse upto range firstNode isChild
+generatorElse = refl
+
+-- `a: async function f() {}`
+abbrev asyncLabelTree : Tree
+asyncLabelTree = record {
+  nodes =
+      0 ∷ 0 ∷ 0 ∷ 0 ∷ 24 ∷ 0 ∷ 0 ∷ 0 ∷ 0 ∷ 0
+      ∷ 6 ∷ 0 ∷ 3 ∷ 0 ∷ 24 ∷ 0 ∷ 0 ∷ 0 ∷ 0 ∷ 0
+      ∷ 33 ∷ 1 ∷ 6 ∷ 0 ∷ 1 ∷ 0 ∷ 0 ∷ 0 ∷ 0 ∷ 1
+      ∷ 1 ∷ 1 ∷ 3 ∷ 3 ∷ 24 ∷ 0 ∷ 1568 ∷ 0 ∷ 0 ∷ 0
+      ∷ 31 ∷ 3 ∷ 0 ∷ 18 ∷ 19 ∷ 1 ∷ 0 ∷ 0 ∷ 1 ∷ 1
+      ∷ 55 ∷ 3 ∷ 0 ∷ 19 ∷ 21 ∷ 1 ∷ 0 ∷ 0 ∷ 0 ∷ 0
+      ∷ 4 ∷ 3 ∷ 3 ∷ 22 ∷ 24 ∷ 1 ∷ 0 ∷ 0 ∷ 0 ∷ 0
+      ∷ [];
+  scopes = 0 ∷ 2 ∷ 0 ∷ 0 ∷ 4 ∷ 3 ∷ [];
+  names = 97 ∷ 102 ∷ [];
+  source = [];
+}
+
+-- 14.13 and B.3.1: nor a LabelledItem
+pub asyncLabel : functionMisplaced (asyncAt 3) (asyncLabelTree .nodes) (asyncLabelTree .scopes) 1 ∷ functionMisplaced ordinary (asyncLabelTree .nodes) (asyncLabelTree .scopes) 1 ∷ [] ≡ true ∷ false ∷ []
+unfolding functionMisplaced upto range firstNode isChild
+asyncLabel = refl
 
 -- `"use strict"; "\1\8";`
 abbrev twoEscapesTree : Tree
@@ -532,6 +608,6 @@ unfolding deletesPrivate ultimately privateReference deletesPrivateAnywhere same
 privateChain = refl
 
 -- the scopes of all these trees follow the tree
-pub scopesHold : map (λ t. scopesFollow (t .nodes) (t .scopes)) (blockNameTree ∷ arrowParameterTree ∷ arrowBodyTree ∷ functionNameTree ∷ expressionNameTree ∷ parameterBlockTree ∷ accessorTree ∷ assignedTree ∷ strictLetTree ∷ letHeadTree ∷ varHeadTree ∷ usingClauseTree ∷ usingTopTree ∷ usingBlockTree ∷ usingForTree ∷ strictLabelTree ∷ twoLabelsTree ∷ twoEscapesTree ∷ privateChainTree ∷ []) ≡ map (λ t. true) (blockNameTree ∷ arrowParameterTree ∷ arrowBodyTree ∷ functionNameTree ∷ expressionNameTree ∷ parameterBlockTree ∷ accessorTree ∷ assignedTree ∷ strictLetTree ∷ letHeadTree ∷ varHeadTree ∷ usingClauseTree ∷ usingTopTree ∷ usingBlockTree ∷ usingForTree ∷ strictLabelTree ∷ twoLabelsTree ∷ twoEscapesTree ∷ privateChainTree ∷ [])
+pub scopesHold : map (λ t. scopesFollow (t .nodes) (t .scopes)) (blockNameTree ∷ arrowParameterTree ∷ arrowBodyTree ∷ functionNameTree ∷ expressionNameTree ∷ parameterBlockTree ∷ accessorTree ∷ assignedTree ∷ strictLetTree ∷ letHeadTree ∷ varHeadTree ∷ usingClauseTree ∷ usingTopTree ∷ usingBlockTree ∷ usingForTree ∷ strictLabelTree ∷ twoLabelsTree ∷ asyncIfTree ∷ generatorElseTree ∷ asyncLabelTree ∷ twoEscapesTree ∷ privateChainTree ∷ []) ≡ map (λ t. true) (blockNameTree ∷ arrowParameterTree ∷ arrowBodyTree ∷ functionNameTree ∷ expressionNameTree ∷ parameterBlockTree ∷ accessorTree ∷ assignedTree ∷ strictLetTree ∷ letHeadTree ∷ varHeadTree ∷ usingClauseTree ∷ usingTopTree ∷ usingBlockTree ∷ usingForTree ∷ strictLabelTree ∷ twoLabelsTree ∷ asyncIfTree ∷ generatorElseTree ∷ asyncLabelTree ∷ twoEscapesTree ∷ privateChainTree ∷ [])
 unfolding scopesFollow flaggedAt followsAt classAt upto range
 scopesHold = refl

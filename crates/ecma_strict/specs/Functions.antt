@@ -13,8 +13,9 @@ use Rattle.children.specs.Children.{heldOf, alternateOf}
 use Rattle.trees.specs.Rose.{Rose, Roses, node, rnil, rcons, idx, partsOf}
 use Rattle.trees.specs.Trail.{unitOf}
 use Rattle.ecma_base.specs.Strict.{strictCode}
+use Rattle.ecma_base.specs.Telling.{Telling, special}
 
--- a FunctionDeclaration: a function that is held as a statement is one
+-- a FunctionDeclaration, GeneratorDeclaration, AsyncFunctionDeclaration or AsyncGeneratorDeclaration: a function that is held as a statement is one of these
 abbrev pub isFunction : List ℕ → Found → Bool
 isFunction ns (At m) = eqb (kindOf ns (m .0)) k.Function
 isFunction ns Nothing = false
@@ -23,20 +24,45 @@ isFunction ns Nothing = false
 abbrev pub endsInStatement : List ℕ → ℕ → Bool
 endsInStatement ns n = within (kindOf ns n) k.For k.With
 
--- 14.6, 14.7, 14.11: no Statement is a FunctionDeclaration. 14.13.1 with B.3.1, LabelledItem : FunctionDeclaration: an error in strict mode code.
-unfoldable pub strictFunction : List ℕ → List ℕ → ℕ → Bool
-strictFunction ns ss n = (endsInStatement ns n || eqb (kindOf ns n) k.Labeled) && (strictCode ns ss n && isFunction ns (heldOf ns n))
+-- THE EXCEPTION OF ANNEX B: B.3.3, "if ( Expression ) FunctionDeclaration", also behind else, and B.3.1, LabelledItem : FunctionDeclaration, in code that is not strict. So n may hold one ..
+abbrev pub annexHolder : List ℕ → List ℕ → ℕ → Bool
+annexHolder ns ss n = not (strictCode ns ss n) && (eqb (kindOf ns n) k.If || eqb (kindOf ns n) k.Labeled)
 
--- 14.6: the same of the Statement behind else
-unfoldable pub strictFunctionElse : List ℕ → List ℕ → ℕ → Bool
-strictFunctionElse ns ss n = eqb (kindOf ns n) k.If && (strictCode ns ss n && isFunction ns (alternateOf ns n))
+-- .. which is neither an async function nor a generator
+abbrev pub annexAllows : Telling → List ℕ → List ℕ → ℕ → ℕ → Bool
+annexAllows told ns ss n f = annexHolder ns ss n && not (special told f)
 
--- B.3.3: in code that is not strict the Statement of an if may be one, and by B.3.1 a LabelledItem
-unfoldable pub sloppyFunction : List ℕ → List ℕ → ℕ → Bool
-sloppyFunction ns ss n = (endsInStatement ns n && not (eqb (kindOf ns n) k.If)) && (not (strictCode ns ss n) && isFunction ns (heldOf ns n))
+-- 14.6, 14.7, 14.11, 14.13: no Statement is a FunctionDeclaration, GeneratorDeclaration, AsyncFunctionDeclaration or AsyncGeneratorDeclaration. 14.13.1, LabelledItem :
+-- FunctionDeclaration: "It is a Syntax Error if any source text is matched by this production." Of a part of n: it is a function, and Annex B does not allow it.
+abbrev pub misplaced : Telling → List ℕ → List ℕ → ℕ → Found → Bool
+misplaced told ns ss n (At m) = eqb (kindOf ns (m .0)) k.Function && not (annexAllows told ns ss n (m .0))
+misplaced told ns ss n Nothing = false
+
+-- of the Statement of n, or its LabelledItem; of an if the first Statement
+unfoldable pub functionMisplaced : Telling → List ℕ → List ℕ → ℕ → Bool
+functionMisplaced told ns ss n = (endsInStatement ns n || eqb (kindOf ns n) k.Labeled) && misplaced told ns ss n (heldOf ns n)
+
+-- 14.6: of the Statement behind else
+unfoldable pub functionMisplacedElse : Telling → List ℕ → List ℕ → ℕ → Bool
+functionMisplacedElse told ns ss n = eqb (kindOf ns n) k.If && misplaced told ns ss n (alternateOf ns n)
+
+-- the two parts of the rule: code 15 is of strict code ..
+abbrev pub strictFunction : Telling → List ℕ → List ℕ → ℕ → Bool
+strictFunction told ns ss n = strictCode ns ss n && functionMisplaced told ns ss n
+
+abbrev pub strictFunctionElse : Telling → List ℕ → List ℕ → ℕ → Bool
+strictFunctionElse told ns ss n = strictCode ns ss n && functionMisplacedElse told ns ss n
+
+-- .. and code 16 of code that is not strict
+abbrev pub sloppyFunction : Telling → List ℕ → List ℕ → ℕ → Bool
+sloppyFunction told ns ss n = not (strictCode ns ss n) && functionMisplaced told ns ss n
+
+abbrev pub sloppyFunctionElse : Telling → List ℕ → List ℕ → ℕ → Bool
+sloppyFunctionElse told ns ss n = not (strictCode ns ss n) && functionMisplacedElse told ns ss n
 
 -- IsLabelledFunction(stmt): "1. If stmt is not a LabelledStatement, return false. 2. Let item be the LabelledItem of stmt. 3. If item is LabelledItem : FunctionDeclaration,
--- return true. 4. Let subStmt be the Statement of item. 5. Return IsLabelledFunction(subStmt)."
+-- return true. 4. Let subStmt be the Statement of item. 5. Return IsLabelledFunction(subStmt)." (An async function or a generator is no LabelledItem at all: behind a label it is
+-- functionMisplaced, whatever holds the label; so here no telling is asked for.)
 module _ (ns : List ℕ) where
   unfoldable mutual
     pub isLabelledFunction : Rose → Bool

@@ -2,7 +2,7 @@
 -- (2, 4, 15, 17 and 31 need no condition: Theorems.)
 use Prim.Native.Nat.{ℕ, _<_}
 use mathlib.Core.Path.{_≡_, refl, ap, _∙_}
-use mathlib.Core.List.{List}
+use mathlib.Core.List.{List, [], _++_, append-nil}
 use mathlib.Core.Bool.{Bool, true, false, not, _&&_, _||_}
 use native.Mathlib.Omega.{arith}
 use borrow.Author.Tests.{eqb-true}
@@ -16,6 +16,7 @@ use Rattle.trees.specs.Walk.{only}
 use Rattle.trees.specs.Trail.{unitOf}
 use Rattle.ecma_dispatch.specs.NodesOf.{raised}
 use Rattle.ecma_base.specs.Strict.{strictCode}
+use Rattle.ecma_base.specs.Telling.{Telling}
 use Rattle.ecma_strict.specs.Literals.{strictOctal, strictNonOctal, strictOctalEscape, strictNonOctalEscape}
 use Rattle.ecma_strict.specs.LiteralsLaws.{octalAgrees, nonOctalAgrees, octalEscapeAgrees, nonOctalEscapeAgrees}
 use Rattle.ecma_strict.specs.Delete.{deletesPrivate}
@@ -29,10 +30,10 @@ use Rattle.ecma_base.specs.Scopes.{scopesFollow}
 use Rattle.ecma_base.specs.ScopesLaws.{notProgram}
 use Rattle.ecma_strict.specs.ScopesLaws.{scopesTold, awaitNameTold, directiveTold, usingTold}
 use Rattle.ecma_strict.specs.AgreeLaws.{letAgrees, argumentsAgree, classPart, parameterAgrees, blockAgrees, awaitNameAgrees}
-use Rattle.ecma_strict.specs.Functions.{sloppyFunction, labelledFunctionAt}
-use Rattle.ecma_strict.specs.FunctionsLaws.{labelledAgrees}
-use Rattle.ecma_strict.specs.Theorems.{code3, code5, code6, code9, code10, code11, code12, code13, code14, code16, code24, code25, code32, code33}
-use Rattle.ecma_strict.specs.Changed.{firstOctalEscape, BaseTold, EscapesTold, unsaid, otherScope, useStrictScoped, directivePlaced, awaitNameScoped, scopedInBlock}
+use Rattle.ecma_strict.specs.Functions.{functionMisplaced, functionMisplacedElse, sloppyFunction, sloppyFunctionElse, labelsFunction, labelledFunctionAt}
+use Rattle.ecma_strict.specs.FunctionsLaws.{labelledAgrees, labelledStrict, misplacedAgrees, misplacedElseAgrees}
+use Rattle.ecma_strict.specs.Theorems.{code3, code5, code6, code9, code10, code11, code12, code13, code14, code15, code16, code24, code25, code32, code33}
+use Rattle.ecma_strict.specs.Changed.{firstOctalEscape, BaseTold, EscapesTold, unsaid, otherScope, useStrictScoped, directivePlaced, awaitNameScoped, scopedInBlock, labelledFunctionSaid, OrdinaryHeld}
 
 module _ (t : ℕ) (ns ss source names : List ℕ) (w : WellFormed t ns ss source names) (n : ℕ) (h : n < count ns) where
   abbrev at : ℕ → List ℕ
@@ -101,9 +102,26 @@ module _ (t : ℕ) (ns ss source names : List ℕ) (w : WellFormed t ns ss sourc
   standard14 s e =
       code14 t ns ss source names w n h ∙ ap (λ x. only (awaitUsing ns n && x) n) (blockAgrees ns ss (w .input .tree) (w .input .chained) (w .input .scoped) (scopesTold ns ss (w .input .tree) s) n h e)
 
-  -- in sloppy code: in strict code 15 is raised at the label
-  pub standard16 : strictCode ns ss n ≡ false → Rule 16 (sloppyFunction ns ss n || labelledFunctionAt ns n)
-  standard16 s = code16 t ns ss source names w n h ∙ ap (λ x. only (sloppyFunction ns ss n || x) n) (labelledAgrees ns ss n s)
+  -- in sloppy code (in strict code 15 is raised at the label), where an if or a label holds no async function and no generator
+  pub standard16 : (told : Telling) → OrdinaryHeld told ns ss n → strictCode ns ss n ≡ false
+      → at 16 ≡ only (sloppyFunction told ns ss n || labelledFunctionAt ns n) n ++ only (sloppyFunctionElse told ns ss n) n
+  standard16 told c s = code16 t ns ss source names w n h ∙ rw (misplacedAgrees told ns ss n c, misplacedElseAgrees told ns ss n c, labelledAgrees ns ss n s)
+
+  -- 15 and 16 together, in strict code and in sloppy code: one for a function that is misplaced or labelled, and one for a function that is misplaced behind else
+  pub standard15with16 : (told : Telling) → OrdinaryHeld told ns ss n
+      → at 15 ++ at 16 ≡ only (functionMisplaced told ns ss n || labelledFunctionAt ns n) n ++ only (functionMisplacedElse told ns ss n) n
+  unfolding labelledFunctionSaid
+  standard15with16 told c = go (strictCode ns ss n) refl
+    where
+      none : (a : Bool) (l : List ℕ) → l ++ (only (a && false) n ++ []) ≡ l
+      none true l = append-nil l
+      none false l = append-nil l
+
+      go : (b : Bool) → strictCode ns ss n ≡ b → at 15 ++ at 16 ≡ only (functionMisplaced told ns ss n || labelledFunctionAt ns n) n ++ only (functionMisplacedElse told ns ss n) n
+      go true s =
+          rw (code15 t ns ss source names w n h told, code16 t ns ss source names w n h, labelledStrict told ns ss n s)
+          (rw s (none (labelsFunction ns n) (only (functionMisplaced told ns ss n) n ++ only (functionMisplacedElse told ns ss n) n)))
+      go false s = rw (code15 t ns ss source names w n h told, standard16 told c s) (rw s)
 
   -- where the head has one declaration, and it is no `let` or `const` with a plain name in a for-in
   pub standard24 : ofHead (unsaid ns n) (headOf ns n) ≡ false → Rule 24 (initializedHead ns ss n)

@@ -14,7 +14,6 @@ use Rattle.common.specs.Tests.{within}
 use Rattle.common.specs.Bools.{never, in-range, range-of}
 use Rattle.tables.specs.Table.{kindOf, count}
 use Rattle.tables.specs.Kinds as k
-use Rattle.children.specs.Children.{heldOf, alternateOf}
 use Rattle.diagnostics.specs.declared.Finding.{Finding}
 use Rattle.diagnostics.specs.Finding.{listed}
 use Rattle.statements.specs.Statements.{checkBody, checkConsequent, checkAlternate, checkFunctionDeclarationInLabeledStatement, checkWithStatement, checkForStatementLeft, checkForOfStatement, checkUsing, checkAwaitUsing}
@@ -31,8 +30,9 @@ use Rattle.ecma_dispatch.specs.WithCode.{withCode}
 use Rattle.ecma_dispatch.specs.Dispatch.{at2, at3, at4, at5, at6, at9, at10, at11, at12, at13, at14, at15, at16, at17, at24, at25, at31, at32, at33}
 use Rattle.ecma_dispatch.specs.NodesOf.{raised}
 use Rattle.ecma_dispatch.specs.NodesOfLaws.{raisedNil, raisedAgain, raisedAppend}
-use Rattle.ecma_strict.specs.NodesLaws.{raisedBy, raisedListed, atListed, atWith, atTwo, atTwoListed, atTwoMixed, wholeIs}
 use Rattle.ecma_base.specs.Strict.{strictCode}
+use Rattle.ecma_strict.specs.Nodes.{ofCheck}
+use Rattle.ecma_strict.specs.NodesLaws.{raisedBy, raisedListed, atListed, atWith, atTwo, atTwoListed, atTwoMixed, wholeIs}
 use Rattle.ecma_strict.specs.LiteralsLaws.{numberOctal, numberNonOctal, stringOctal, stringNonOctal}
 use Rattle.ecma_strict.specs.Delete.{deletesName}
 use Rattle.ecma_strict.specs.DeleteLaws.{deleteName, deletePrivate}
@@ -42,8 +42,9 @@ use Rattle.ecma_strict.specs.Identifiers.{identifier, reservedName, bind
 use Rattle.ecma_strict.specs.IdentifiersLaws.{reservedIs, awaitNameIs, useStrictIs}
 use Rattle.ecma_strict.specs.Contains.{awaitExpression, awaitUsing, forAwait, awaitOrYield}
 use Rattle.ecma_strict.specs.SearchLaws.{bindingIs, letBoundIs, referenceIs, argumentsSaidIs, parameterIs, awaitBlockIs, awaitUsingIs, forAwaitIs}
-use Rattle.ecma_strict.specs.Functions.{isFunction, strictFunction, strictFunctionElse, sloppyFunction}
-use Rattle.ecma_strict.specs.FunctionsLaws.{bodyStrict, consequentStrict, alternateStrict, bodySloppy, ifSloppy, labelStrict, labelSloppy}
+use Rattle.ecma_base.specs.Telling.{Telling, ordinary}
+use Rattle.ecma_strict.specs.Functions.{functionMisplaced, functionMisplacedElse, strictFunction, strictFunctionElse, sloppyFunction, sloppyFunctionElse}
+use Rattle.ecma_strict.specs.FunctionsLaws.{andFalse, bodyStrict, consequentStrict, alternateStrict, bodySloppy, consequentSloppy, alternateSloppy, labelStrict, labelSloppy, labelFree}
 use Rattle.ecma_strict.specs.Changed.{toldOctal, toldNonOctal, firstOctalEscape, firstNonOctalEscape, deletesPrivateAnywhere, saidHead, topUsing, useStrictScoped, scopedInBlock, awaitNameScoped, letBoundSaid, argumentsSaid, awaitInParameterSaid, labelledFunctionSaid}
 
 -- one of two rules, where the other says nothing
@@ -158,62 +159,63 @@ module _ (t : ℕ) (ns ss source names : List ℕ) (w : WellFormed t ns ss sourc
       (cond (eqb (kindOf ns n) 12) (withCode c (listed (checkConsequent ns ss n)) ++ withCode c (listed (checkAlternate ns ss n)))
       (cond (within (kindOf ns n) 7 13) (withCode c (listed (checkBody ns ss n))) []))
 
-  -- 15: a function in statement position, in strict code; both Statements of an if (14.6, 14.7, 14.11, 14.13.1)
-  pub code15 : raised 15 at ≡ only (strictFunction ns ss n) n ++ only (strictFunctionElse ns ss n) n
-  unfolding strictFunction strictFunctionElse
-  code15 =
-      raisedBy 15 at (byKind 15) (at15 t ns ss source names n)
-      ∙ go (eqb (kindOf ns n) 6) refl (eqb (kindOf ns n) 12) refl (within (kindOf ns n) 7 13) refl
+  -- what is raised, if it is so for each kind
+  byHolder : (c : ℕ) (r : List ℕ)
+      → (eqb (kindOf ns n) 6 ≡ true → ofCheck c (checkFunctionDeclarationInLabeledStatement ns ss n) ≡ r)
+      → (eqb (kindOf ns n) 12 ≡ true → ofCheck c (checkConsequent ns ss n) ++ ofCheck c (checkAlternate ns ss n) ≡ r)
+      → (eqb (kindOf ns n) 6 ≡ false → eqb (kindOf ns n) 12 ≡ false → within (kindOf ns n) 7 13 ≡ true → ofCheck c (checkBody ns ss n) ≡ r)
+      → (eqb (kindOf ns n) 6 ≡ false → eqb (kindOf ns n) 12 ≡ false → within (kindOf ns n) 7 13 ≡ false → [] ≡ r)
+      → raised c (byKind c) ≡ r
+  byHolder c r label both body other = go (eqb (kindOf ns n) 6) refl (eqb (kindOf ns n) 12) refl (within (kindOf ns n) 7 13) refl
     where
-      alone : (b c : Bool) → c ≡ false → only b n ≡ only b n ++ only c n
-      alone true c e = rw e
-      alone false c e = rw e
-
       go : (x : Bool) → eqb (kindOf ns n) 6 ≡ x → (y : Bool) → eqb (kindOf ns n) 12 ≡ y → (z : Bool) → within (kindOf ns n) 7 13 ≡ z
-          → raised 15 (cond x (withCode 15 (listed (checkFunctionDeclarationInLabeledStatement ns ss n)))
-          (cond y (withCode 15 (listed (checkConsequent ns ss n)) ++ withCode 15 (listed (checkAlternate ns ss n)))
-          (cond z (withCode 15 (listed (checkBody ns ss n))) [])))
-          ≡ only (strictFunction ns ss n) n ++ only (strictFunctionElse ns ss n) n
+          → raised c (cond x (withCode c (listed (checkFunctionDeclarationInLabeledStatement ns ss n)))
+          (cond y (withCode c (listed (checkConsequent ns ss n)) ++ withCode c (listed (checkAlternate ns ss n)))
+          (cond z (withCode c (listed (checkBody ns ss n))) [])))
+          ≡ r
       go true x y f z g =
-          raisedAgain 15 (listed (checkFunctionDeclarationInLabeledStatement ns ss n)) ∙ raisedListed 15 (checkFunctionDeclarationInLabeledStatement ns ss n)
-          ∙ labelStrict ns ss (w .input .tree) n h (eqb-true (kindOf ns n) 6 x)
-          ∙ alone (strictFunction ns ss n) (strictFunctionElse ns ss n) (rw (apart (kindOf ns n) 6 12 x refl))
+          raisedAgain c (listed (checkFunctionDeclarationInLabeledStatement ns ss n)) ∙ raisedListed c (checkFunctionDeclarationInLabeledStatement ns ss n) ∙ label x
       go false x true f z g =
-          let q = eqb-true (kindOf ns n) 12 f in
-          raisedAppend 15 (withCode 15 (listed (checkConsequent ns ss n))) (withCode 15 (listed (checkAlternate ns ss n)))
-          ∙ rw (raisedAgain 15 (listed (checkConsequent ns ss n)), raisedAgain 15 (listed (checkAlternate ns ss n)), raisedListed 15 (checkConsequent ns ss n), raisedListed 15 (checkAlternate ns ss n), consequentStrict ns ss n (in-range (kindOf ns n) 7 13 (omega arith) (omega arith)), alternateStrict ns ss n q)
-      go false x false f true g =
-          raisedAgain 15 (listed (checkBody ns ss n)) ∙ raisedListed 15 (checkBody ns ss n) ∙ bodyStrict ns ss n g ∙ alone (strictFunction ns ss n) (strictFunctionElse ns ss n) (rw f)
-      go false x false f false g = raisedNil 15 ∙ rw (x, f, g)
+          raisedAppend c (withCode c (listed (checkConsequent ns ss n))) (withCode c (listed (checkAlternate ns ss n)))
+          ∙ rw (raisedAgain c (listed (checkConsequent ns ss n)), raisedAgain c (listed (checkAlternate ns ss n)), raisedListed c (checkConsequent ns ss n), raisedListed c (checkAlternate ns ss n)) (both f)
+      go false x false f true g = raisedAgain c (listed (checkBody ns ss n)) ∙ raisedListed c (checkBody ns ss n) ∙ body x f g
+      go false x false f false g = raisedNil c ∙ other x f g
 
-  -- 16 (changed: labelledAgrees): a function in statement position, in sloppy code (14.7, 14.11, B.3.3), and a labelled one (14.6.1 and others)
-  pub code16 : raised 16 at ≡ only (sloppyFunction ns ss n || labelledFunctionSaid ns ss n) n
-  unfolding sloppyFunction labelledFunctionSaid
+  -- an if ends in a Statement
+  ifEnds : eqb (kindOf ns n) 12 ≡ true → within (kindOf ns n) 7 13 ≡ true
+  ifEnds e = rw (eqb-true (kindOf ns n) 12 e)
+
+  -- the first of two parts, where nothing is behind else
+  alone : (b s : Bool) {c : Bool} → c ≡ false → only b n ≡ only b n ++ only (s && c) n
+  alone true true e = rw e
+  alone true false e = refl
+  alone false true e = rw e
+  alone false false e = refl
+
+  -- 15: a function in statement position, in strict code; both Statements of an if (14.6, 14.7, 14.11, 14.13.1)
+  pub code15 : (told : Telling) → raised 15 at ≡ only (strictFunction told ns ss n) n ++ only (strictFunctionElse told ns ss n) n
+  unfolding functionMisplaced functionMisplacedElse
+  code15 told =
+      raisedBy 15 at (byKind 15) (at15 t ns ss source names n)
+      ∙ byHolder 15 (only (strictFunction told ns ss n) n ++ only (strictFunctionElse told ns ss n) n)
+      (λ x. labelStrict ns ss (w .input .tree) n h told (eqb-true (kindOf ns n) 6 x) ∙ alone (strictFunction told ns ss n) (strictCode ns ss n) (rw (apart (kindOf ns n) 6 12 x refl)))
+      (λ f. rw (consequentStrict ns ss n told (ifEnds f), alternateStrict ns ss n told (eqb-true (kindOf ns n) 12 f)))
+      (λ x f g. bodyStrict ns ss n told g ∙ alone (strictFunction told ns ss n) (strictCode ns ss n) (rw f))
+      (λ x f g. rw (x, f, g) (andFalse ns ss n (strictCode ns ss n) ∙ alone (strictCode ns ss n && false) (strictCode ns ss n) refl))
+
+  -- 16 (changed: misplacedAgrees, misplacedElseAgrees, labelledAgrees): a function in statement position, in sloppy code (14.6, 14.7, 14.11, 14.13, B.3.1, B.3.3), and a labelled one (14.6.1 and others)
+  pub code16 : raised 16 at ≡ only (sloppyFunction ordinary ns ss n || labelledFunctionSaid ns ss n) n ++ only (sloppyFunctionElse ordinary ns ss n) n
+  unfolding functionMisplaced functionMisplacedElse labelledFunctionSaid
   code16 =
       raisedBy 16 at (byKind 16) (at16 t ns ss source names n)
-      ∙ go (eqb (kindOf ns n) 6) refl (eqb (kindOf ns n) 12) refl (within (kindOf ns n) 7 13) refl
-    where
-      go : (x : Bool) → eqb (kindOf ns n) 6 ≡ x → (y : Bool) → eqb (kindOf ns n) 12 ≡ y → (z : Bool) → within (kindOf ns n) 7 13 ≡ z
-          → raised 16 (cond x (withCode 16 (listed (checkFunctionDeclarationInLabeledStatement ns ss n)))
-          (cond y (withCode 16 (listed (checkConsequent ns ss n)) ++ withCode 16 (listed (checkAlternate ns ss n)))
-          (cond z (withCode 16 (listed (checkBody ns ss n))) [])))
-          ≡ only (sloppyFunction ns ss n || labelledFunctionSaid ns ss n) n
-      go true x y f z g =
-          raisedAgain 16 (listed (checkFunctionDeclarationInLabeledStatement ns ss n)) ∙ raisedListed 16 (checkFunctionDeclarationInLabeledStatement ns ss n)
-          ∙ labelSloppy ns ss (w .input .tree) n h (eqb-true (kindOf ns n) 6 x)
-          ∙ right (sloppyFunction ns ss n) (labelledFunctionSaid ns ss n) n (rw (outside (kindOf ns n) 6 7 13 x refl))
-      go false x true f z g =
-          let q = eqb-true (kindOf ns n) 12 f in
-          raisedAppend 16 (withCode 16 (listed (checkConsequent ns ss n))) (withCode 16 (listed (checkAlternate ns ss n)))
-          ∙ rw (raisedAgain 16 (listed (checkConsequent ns ss n)), raisedAgain 16 (listed (checkAlternate ns ss n)), raisedListed 16 (checkConsequent ns ss n), raisedListed 16 (checkAlternate ns ss n), ifSloppy ns ss n (heldOf ns n), ifSloppy ns ss n (alternateOf ns n))
-          (rw (f, x) (none (within (kindOf ns n) 7 13)))
-        where
-          none : (b : Bool) → [] ≡ only ((b && false) && (not (strictCode ns ss n) && isFunction ns (heldOf ns n)) || false) n
-          none true = refl
-          none false = refl
-      go false x false f true g =
-          raisedAgain 16 (listed (checkBody ns ss n)) ∙ raisedListed 16 (checkBody ns ss n) ∙ bodySloppy ns ss n g f ∙ left (sloppyFunction ns ss n) (labelledFunctionSaid ns ss n) n (rw x)
-      go false x false f false g = raisedNil 16 ∙ rw (x, g)
+      ∙ byHolder 16 (only (sloppyFunction ordinary ns ss n || labelledFunctionSaid ns ss n) n ++ only (sloppyFunctionElse ordinary ns ss n) n)
+      (λ x. labelSloppy ns ss (w .input .tree) n h (eqb-true (kindOf ns n) 6 x) ∙ right (sloppyFunction ordinary ns ss n) (labelledFunctionSaid ns ss n) n (labelFree ns ss n x)
+      ∙ alone (sloppyFunction ordinary ns ss n || labelledFunctionSaid ns ss n) (not (strictCode ns ss n)) (rw (apart (kindOf ns n) 6 12 x refl)))
+      (λ f. rw (consequentSloppy ns ss n (ifEnds f) f, alternateSloppy ns ss n f)
+      (ap (λ l. l ++ only (sloppyFunctionElse ordinary ns ss n) n) (left (sloppyFunction ordinary ns ss n) (labelledFunctionSaid ns ss n) n (rw (apart (kindOf ns n) 12 6 f refl)))))
+      (λ x f g. bodySloppy ns ss n g f x ∙ left (sloppyFunction ordinary ns ss n) (labelledFunctionSaid ns ss n) n (rw x)
+      ∙ alone (sloppyFunction ordinary ns ss n || labelledFunctionSaid ns ss n) (not (strictCode ns ss n)) (rw f))
+      (λ x f g. let s = not (strictCode ns ss n) in rw (x, f, g) (andFalse ns ss n s ∙ left (s && false) false n refl ∙ alone (s && false || false) s refl))
 
   -- 17: with in strict code (14.11.1)
   pub code17 : raised 17 at ≡ only (strictWith ns ss n) n
@@ -286,8 +288,8 @@ pub record EarlyErrors (t : ℕ) (ns ss source names : List ℕ) : Type 0 where
   pub useStrict : Exactly 12 t ns ss source names (λ n. only (useStrictScoped ns ss names n) n)
   pub usingInScript : Exactly 13 t ns ss source names (λ n. only (topUsing t ns ss n) n)
   pub awaitUsingInBlock : Exactly 14 t ns ss source names (λ n. only (awaitUsing ns n && scopedInBlock ns ss n) n)
-  pub strictFunctions : Exactly 15 t ns ss source names (λ n. only (strictFunction ns ss n) n ++ only (strictFunctionElse ns ss n) n)
-  pub sloppyFunctions : Exactly 16 t ns ss source names (λ n. only (sloppyFunction ns ss n || labelledFunctionSaid ns ss n) n)
+  pub strictFunctions : (told : Telling) → Exactly 15 t ns ss source names (λ n. only (strictFunction told ns ss n) n ++ only (strictFunctionElse told ns ss n) n)
+  pub sloppyFunctions : Exactly 16 t ns ss source names (λ n. only (sloppyFunction ordinary ns ss n || labelledFunctionSaid ns ss n) n ++ only (sloppyFunctionElse ordinary ns ss n) n)
   pub withStatement : Exactly 17 t ns ss source names (λ n. only (strictWith ns ss n) n)
   pub forHead : Exactly 24 t ns ss source names (λ n. only (saidHead ns ss n) n)
   pub forAwaitInBlock : Exactly 25 t ns ss source names (λ n. only (forAwait ns n && scopedInBlock ns ss n) n)
@@ -308,8 +310,8 @@ earlyErrors t ns ss source names w = record {
   useStrict = wholeIs 12 t ns ss source names (λ n. only (useStrictScoped ns ss names n) n) refl (code12 t ns ss source names w);
   usingInScript = wholeIs 13 t ns ss source names (λ n. only (topUsing t ns ss n) n) refl (code13 t ns ss source names w);
   awaitUsingInBlock = wholeIs 14 t ns ss source names (λ n. only (awaitUsing ns n && scopedInBlock ns ss n) n) refl (code14 t ns ss source names w);
-  strictFunctions = wholeIs 15 t ns ss source names (λ n. only (strictFunction ns ss n) n ++ only (strictFunctionElse ns ss n) n) refl (code15 t ns ss source names w);
-  sloppyFunctions = wholeIs 16 t ns ss source names (λ n. only (sloppyFunction ns ss n || labelledFunctionSaid ns ss n) n) refl (code16 t ns ss source names w);
+  strictFunctions = λ told. wholeIs 15 t ns ss source names (λ n. only (strictFunction told ns ss n) n ++ only (strictFunctionElse told ns ss n) n) refl (λ n h. code15 t ns ss source names w n h told);
+  sloppyFunctions = wholeIs 16 t ns ss source names (λ n. only (sloppyFunction ordinary ns ss n || labelledFunctionSaid ns ss n) n ++ only (sloppyFunctionElse ordinary ns ss n) n) refl (code16 t ns ss source names w);
   withStatement = wholeIs 17 t ns ss source names (λ n. only (strictWith ns ss n) n) refl (code17 t ns ss source names w);
   forHead = wholeIs 24 t ns ss source names (λ n. only (saidHead ns ss n) n) refl (code24 t ns ss source names w);
   forAwaitInBlock = wholeIs 25 t ns ss source names (λ n. only (forAwait ns n && scopedInBlock ns ss n) n) refl (code25 t ns ss source names w);

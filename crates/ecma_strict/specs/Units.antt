@@ -26,6 +26,7 @@ use Rattle.trees.specs.WalkLaws.{someAppend, someOnly, eachSame}
 use Rattle.trees.specs.Trail.{unitOf}
 use Rattle.ecma_dispatch.specs.NodesOf.{raised}
 use Rattle.ecma_base.specs.Strict.{strictCode}
+use Rattle.ecma_base.specs.Telling.{ordinary}
 use Rattle.ecma_strict.specs.Identifiers.{strictReserved, reservedName, bindsEval, assignsEval, useStrictDirective, simpleParameters, containsUseStrict, useStrictThere}
 use Rattle.ecma_base.specs.Contains.{containsFrom, isNode, initializer}
 use Rattle.ecma_strict.specs.Contains.{containsInto, staticBlock, blockBegin, awaitExpression, forAwait, awaitUsing, argumentsReference, argumentsBegin, argumentsInto, parameter, parameterBegin, awaitOrYield, lexicalDeclaration, boundBegin, boundInto, letName}
@@ -35,7 +36,8 @@ use Rattle.ecma_base.specs.Contains.{containsIn}
 use Rattle.ecma_base.specs.ContainsLaws.{containsIs, comes, comesIs, comesHome}
 use Rattle.ecma_strict.specs.SearchLaws.{positive}
 use Rattle.ecma_strict.specs.AgreeLaws.{blockEdge, scopesAre}
-use Rattle.ecma_strict.specs.Functions.{isFunction, endsInStatement, endsInLabelled, labelledAmong, labelsFunction, labelEdge, strictFunction, strictFunctionElse, sloppyFunction}
+use Rattle.ecma_strict.specs.Functions.{isFunction, endsInStatement, endsInLabelled, labelledAmong, labelsFunction, labelEdge, functionMisplaced, strictFunction, strictFunctionElse, sloppyFunction, sloppyFunctionElse}
+use Rattle.ecma_strict.specs.FunctionsLaws.{strictMisplaced}
 use Rattle.ecma_strict.specs.LabelledLaws.{statementsOf}
 use Rattle.ecma_strict.specs.Standard.{standard12}
 use Rattle.ecma_strict.specs.Theorems.{code2, code3, code4, code5, code6, code14, code15, code16, code25, code33}
@@ -241,23 +243,25 @@ module _ (t : ℕ) (ns ss source names : List ℕ) (w : WellFormed t ns ss sourc
   -- 14.6.1 and others: "IsLabelledFunction(Statement)": 16, or 15 in strict code
   pub statementIsLabelled : (u : ℕ) → u < count ns → endsInStatement ns u ≡ true
       → endsInLabelled ns u ≡ some (foundIn (labelsFunction ns) (labelEdge ns) u (λ j. at 16 j ++ at 15 j))
-  unfolding endsInLabelled strictFunction labelledFunctionSaid
+  unfolding endsInLabelled functionMisplaced labelledFunctionSaid
   statementIsLabelled u h q =
       ap (λ b. b && labelledAmong ns (partsOf ns u)) q
       ∙ statementsOf ns (w .input .tree) (w .listed) (w .shaped) u h q
       ∙ unitFindings (labelsFunction ns) (labelEdge ns) (λ j. rw root) (λ j. at 16 j ++ at 15 j) u h (λ j l e f. someAppend (at 16 j) (at 15 j) ∙ go j l e f (strictCode ns ss j) refl)
     where
+      firstOf : (l : List ℕ) (b c : Bool) (j : ℕ) → l ≡ only b j ++ only c j → b ≡ true → some l ≡ true
+      firstOf l b c j e q = ap some e ∙ someAppend (only b j) (only c j) ∙ orLeft (some (only b j)) (some (only c j)) (someOnly b j ∙ q)
+
       go : (j : ℕ) → j < count ns → unitOf ns (labelEdge ns) j ≡ u → labelsFunction ns j ≡ true → (b : Bool) → strictCode ns ss j ≡ b → (some (at 16 j) || some (at 15 j)) ≡ true
       go j l e f true x =
           orRight (some (at 16 j)) (some (at 15 j))
-          (ap some (code15 t ns ss source names w j l) ∙ someAppend (only (strictFunction ns ss j) j) (only (strictFunctionElse ns ss j) j)
-          ∙ orLeft (some (only (strictFunction ns ss j) j)) (some (only (strictFunctionElse ns ss j) j))
-          (someOnly (strictFunction ns ss j) j
-          ∙ rw (x, and-left (eqb (kindOf ns j) 6) (isFunction ns (heldOf ns j)) f, and-right (eqb (kindOf ns j) 6) (isFunction ns (heldOf ns j)) f) (orTrue (endsInStatement ns j))))
+          (firstOf (at 15 j) (strictFunction ordinary ns ss j) (strictFunctionElse ordinary ns ss j) j (code15 t ns ss source names w j l ordinary)
+          (rw (strictMisplaced ns ss j ordinary (heldOf ns j) x)
+          (rw (x, and-left (eqb (kindOf ns j) 6) (isFunction ns (heldOf ns j)) f, and-right (eqb (kindOf ns j) 6) (isFunction ns (heldOf ns j)) f) (orTrue (endsInStatement ns j)))))
       go j l e f false x =
           orLeft (some (at 16 j)) (some (at 15 j))
-          (someOf (at 16 j) (sloppyFunction ns ss j || labelledFunctionSaid ns ss j) j (code16 t ns ss source names w j l)
-          (orRight (sloppyFunction ns ss j) (labelledFunctionSaid ns ss j) (rw (f, x, e, q))))
+          (firstOf (at 16 j) (sloppyFunction ordinary ns ss j || labelledFunctionSaid ns ss j) (sloppyFunctionElse ordinary ns ss j) j (code16 t ns ss source names w j l)
+          (orRight (sloppyFunction ordinary ns ss j) (labelledFunctionSaid ns ss j) (rw (f, x, e, q))))
 
   -- 15.2.1: FunctionBodyContainsUseStrict, of a function or an arrow f whose parameters are not simple, with body b: 12 at a directive
   pub bodyContainsUseStrict : scopesFollow ns ss ≡ true → (f b : ℕ) → functionBodyOf ns f ≡ At (record { 0 = b }) → within (kindOf ns f) k.Function k.Arrow ≡ true → simpleParameters ns f ≡ false
