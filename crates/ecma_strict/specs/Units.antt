@@ -26,7 +26,7 @@ use Rattle.trees.specs.WalkLaws.{someAppend, someOnly, eachSame}
 use Rattle.trees.specs.Trail.{unitOf}
 use Rattle.ecma_dispatch.specs.NodesOf.{raised}
 use Rattle.ecma_base.specs.Strict.{strictCode}
-use Rattle.ecma_strict.specs.Identifiers.{strictReserved, reservedName, bindsEval, assignsEval, useStrictDirective, simpleParameters, containsUseStrict, useStrictThere}
+use Rattle.ecma_strict.specs.Identifiers.{strictReserved, bindsEval, assignsEval, useStrictDirective, simpleParameters, containsUseStrict, useStrictThere}
 use Rattle.ecma_base.specs.Contains.{containsFrom, isNode, initializer}
 use Rattle.ecma_strict.specs.Contains.{containsInto, staticBlock, blockBegin, awaitExpression, forAwait, awaitUsing, argumentsReference, argumentsBegin, argumentsInto, parameter, parameterBegin, awaitOrYield, lexicalDeclaration, boundBegin, boundInto, letName}
 use Rattle.ecma_base.specs.Scopes.{scopesFollow}
@@ -39,7 +39,7 @@ use Rattle.ecma_strict.specs.Functions.{isFunction, endsInStatement, end
 use Rattle.ecma_strict.specs.LabelledLaws.{statementsOf}
 use Rattle.ecma_strict.specs.Standard.{standard12}
 use Rattle.ecma_strict.specs.Theorems.{code2, code3, code4, code5, code6, code14, code15, code16, code25, code33}
-use Rattle.ecma_strict.specs.Changed.{scopedInBlock, awaitNameScoped, letEdge, letBoundSaid, fieldEdge, fieldHome, argumentsSaid, throughClassEdge, awaitInParameterSaid, labelledFunctionSaid}
+use Rattle.ecma_strict.specs.Changed.{reservedName, scopedInBlock, awaitNameScoped, letEdge, letBoundSaid, fieldEdge, fieldHome, argumentsSaid, throughClassEdge, awaitInParameterSaid, labelledFunctionSaid}
 
 -- two ways to say something, of which each says something where the other does
 someSame : (f g : ℕ → List ℕ) (n : ℕ) → ((j : ℕ) → j < n → some (f j) ≡ some (g j)) → (i : ℕ) → some (each f (upto i n)) ≡ some (each g (upto i n))
