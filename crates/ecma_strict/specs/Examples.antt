@@ -15,6 +15,7 @@ use Rattle.ecma_base.specs.Scopes.{followsAt, flaggedAt, classAt, scopesFollow}
 use Rattle.ecma_strict.specs.Literals.{textOf, legacyOctalInteger, octalsThenNonOctal, nonOctalDecimalInteger, legacyOctalEscape, nonOctalDecimalEscape, escapes, strictOctalEscape, strictNonOctalEscape}
 use Rattle.ecma_strict.specs.Delete.{ultimately, privateReference, deletesPrivate}
 use Rattle.ecma_strict.specs.Statements.{annexHead, badHead, initializedHead, heldUsing, badUsing}
+use Rattle.ecma_strict.specs.Parameters.{awaitParameter}
 use Rattle.ecma_strict.specs.Identifiers.{identifierError, assignsEval}
 use Rattle.ecma_strict.specs.Contains.{awaitInBlock, argumentsInClass, awaitInParameter, letBound}
 use Rattle.ecma_strict.specs.Functions.{strictFunction, isLabelledFunction, labelledAmong, endsInLabelled, labelledFunctionAt}
@@ -251,6 +252,11 @@ asyncTree = record {
 pub async : identifierError asyncFirst 0 (asyncTree .nodes) (asyncTree .scopes) (asyncTree .names) 7 ∷ identifierError ordinary 0 (asyncTree .nodes) (asyncTree .scopes) (asyncTree .names) 7 ∷ reservedName 0 (asyncTree .nodes) (asyncTree .scopes) (asyncTree .names) 7 ∷ awaitNameScoped 0 (asyncTree .nodes) (asyncTree .scopes) (asyncTree .names) 7 ∷ [] ≡ true ∷ false ∷ false ∷ false ∷ []
 unfolding identifierError reservedName awaitNameScoped same nameOf above climb upto range keep children isChild firstNode kids others forest partsOf trails.climb trails.trail
 async = refl
+
+-- ModuleItem has +Await, the name of a declaration has it from there, and the body of a function has its own
+pub moduleAwait : map (awaitParameter ordinary 1 (asyncTree .nodes)) (1 ∷ 2 ∷ 7 ∷ []) ≡ true ∷ true ∷ false ∷ []
+unfolding upto range keep children isChild firstNode trails.climb trails.trail
+moduleAwait = refl
 
 -- `async function f(x = class { static { await 1; } }) {}`
 abbrev parameterBlockTree : Tree

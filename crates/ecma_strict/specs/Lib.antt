@@ -18,6 +18,7 @@ pub mod SearchLaws
 pub mod NodeRules
 pub mod AgreeLaws
 pub mod ScopesLaws
+pub mod ParametersLaws
 pub mod FunctionsLaws
 pub mod LabelledLaws
 pub mod Theorems

@@ -1,6 +1,6 @@
 -- 13.1.1 and the codes 2 and 3 at a name: they agree just where NameTold says.
 use Prim.Native.Nat.{ℕ}
-use mathlib.Core.Path.{_≡_, refl, ap, sym, subst, _∙_}
+use mathlib.Core.Path.{_≡_, refl, ap, sym, _∙_}
 use mathlib.Core.List.{List, [], _∷_, _++_}
 use mathlib.Core.Bool.{Bool, true, false, not, _&&_, _||_}
 use Rattle.common.specs.Upto.{any}
@@ -98,6 +98,14 @@ awaitScoped s false false true false p q b true f g k e i j = never (k refl .0)
 awaitScoped s false false true false p true b false f g k e i j = sym (rw (andFalse s, andFalse p) at e)
 awaitScoped s false false true false p false b false f g k e i j = sym (rw (andFalse s, andFalse p) at e)
 
+-- one way only: x, z: two of the bullets as they are
+sound : (x m a z q b r : Bool) → (b ≡ true → q ≡ true) → ((x || (m && a)) || (a && (not m && b))) ≡ true → (x || ((m && a) || (z || ((q && a) || r)))) ≡ true
+sound true m a z q b r h e = refl
+sound false m false z q b r h e = never (sym (rw (andFalse m) at e))
+sound false true true z q b r h e = refl
+sound false false true z q true r h e = rw (h refl, orTrue z)
+sound false false true z q false r h e = never (sym e)
+
 -- AT A NAME
 module _ (told : Telling) (t : ℕ) (ns ss names : List ℕ) (n : ℕ) where
   abbrev s : Bool
@@ -141,6 +149,13 @@ module _ (told : Telling) (t : ℕ) (ns ss names : List ℕ) (n : ℕ) where
   namesAgree e w =
       rw e
       (agree s strictWord m a y p c b reservedWord n (awaitApart ns names n) yieldIs (w .reserved) (w .yield) (w .await))
+
+  -- a finding is right where [Await] is in all of a static block's own scope
+  pub namesSound : identifier ns n ≡ true → (blockScope ns ss n ≡ true → awaitParameter told t ns n ≡ true)
+      → some (only (reservedName t ns ss names n) n ++ only (awaitNameScoped t ns ss names n) n) ≡ true
+      → identifierError told t ns ss names n ≡ true
+  unfolding reservedName awaitNameScoped identifierError
+  namesSound e f q = rw e (sound (s && strictWord) m a (p && y) c b reservedWord f (sym (foundIs s strictWord m a b n) ∙ (rw e at q)))
 
   -- and nowhere else
   pub namesAgreeOnly : identifier ns n ≡ true

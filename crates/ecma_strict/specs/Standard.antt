@@ -12,7 +12,7 @@ use Rattle.tables.specs.Table.{kindOf, parentOf, count, scopeOf, scopeNodeOf}
 use Rattle.tables.specs.Kinds as k
 use Rattle.checker.specs.Findings.{findingsAt}
 use Rattle.input.specs.InputLaws.{WellFormed}
-use Rattle.trees.specs.Walk.{only}
+use Rattle.trees.specs.Walk.{some, only}
 use Rattle.trees.specs.Trail.{unitOf}
 use Rattle.ecma_dispatch.specs.NodesOf.{raised}
 use Rattle.ecma_base.specs.Telling.{Telling}
@@ -25,7 +25,8 @@ use Rattle.ecma_strict.specs.Statements.{headOf, ofHead, initializedHead
 use Rattle.ecma_strict.specs.StatementsLaws.{headAgrees, usingAgrees}
 use Rattle.ecma_strict.specs.Identifiers.{identifier, identifierError, assignsEval, useStrictThere}
 use Rattle.ecma_strict.specs.IdentifiersLaws.{useStrictAgrees}
-use Rattle.ecma_strict.specs.NamesLaws.{namesAgree, namesAgreeOnly}
+use Rattle.ecma_strict.specs.NamesLaws.{namesAgree, namesAgreeOnly, namesSound}
+use Rattle.ecma_strict.specs.ParametersLaws.{blockParameters}
 use Rattle.ecma_strict.specs.Contains.{awaitEdge, argumentsEdge, parameterEdge, boundEdge, awaitExpression, forAwait, awaitUsing, awaitInBlock, argumentsInClass, awaitInParameter, letBound}
 use Rattle.ecma_base.specs.Scopes.{scopesFollow}
 use Rattle.ecma_base.specs.ScopesLaws.{notProgram}
@@ -57,9 +58,14 @@ module _ (t : ℕ) (ns ss source names : List ℕ) (w : WellFormed t ns ss sourc
     pub standardNames : NameTold told t ns ss names n → at 2 ++ at 3 ≡ only (identifierError told t ns ss names n) n
     standardNames q = codes ∙ namesAgree told t ns ss names n i q
 
-    -- and the condition is the weakest one
+    -- and the condition is the weakest one (`nameTold` gives it by the node where [Yield] and [Await] come from)
     pub onlyNames : at 2 ++ at 3 ≡ only (identifierError told t ns ss names n) n → NameTold told t ns ss names n
     onlyNames q = namesAgreeOnly told t ns ss names n i (sym codes ∙ q)
+
+    -- where the scopes follow the tree, each finding is right, whatever is told
+    pub soundNames : scopesFollow ns ss ≡ true → some (at 2 ++ at 3) ≡ true → identifierError told t ns ss names n ≡ true
+    soundNames s q =
+        namesSound told t ns ss names n i (λ e. ap (λ x. x .await) (blockParameters told t ns (w .input .tree) ss s (w .shaped .placed) n h e)) (ap some (sym codes) ∙ q)
 
   -- 3 at what is no name: where the scopes follow the tree, and no Initializer of a field stands between
   pub standard3 : identifier ns n ≡ false → (awaitExpression ns n ≡ true → (scopesFollow ns ss ≡ true) × (within (kindOf ns (unitOf ns (awaitEdge ns) n)) k.PropertyDefinition k.AccessorProperty ≡ false))
