@@ -6,7 +6,6 @@ use mathlib.Core.Bool.{Bool, true, false, not, _&&_, _||_}
 use Rattle.common.specs.Upto.{any}
 use Rattle.common.specs.Bools.{never, or-first, or-second}
 use Rattle.names.specs.Name.{same, nameOf, nameIs}
-use Rattle.names.specs.NameLaws.{same-eq}
 use Rattle.names.specs.Words as word
 use Rattle.trees.specs.Walk.{some, only}
 use Rattle.trees.specs.WalkLaws.{someAppend, someOnly}
@@ -80,7 +79,8 @@ noReserved s w m true y p q b true k e = k refl .0
 noReserved s true m false y p q b true k e = k refl .1
 noReserved s false m false y p q b true k e = sym (rw (andFalse s, andFalse m, andFalse q, orTrue (p && y)) at e)
 
-noYield : (s w m a y p q b r : Bool) → (a ≡ true → w ≡ false) → (y ≡ true → w ≡ true) → (r ≡ true → (a ≡ false) × (w ≡ false)) → Same s w m a y p q b r → y ≡ true → s ≡ false → p ≡ false
+noYield : (s w m a y p q b r : Bool) → (a ≡ true → w ≡ false) → (y ≡ true → w ≡ true) → (r ≡ true → (a ≡ false) × (w ≡ false))
+    → Same s w m a y p q b r → y ≡ true → s ≡ false → p ≡ false
 noYield true w m a y p q b r f g k e i j = never j
 noYield false w m a false p q b r f g k e i j = never (sym i)
 noYield false false m a true p q b r f g k e i j = never (sym (g refl))
@@ -89,7 +89,8 @@ noYield false true m false true p q b true f g k e i j = never (k refl .1)
 noYield false true m false true true q b false f g k e i j = sym (rw (andFalse m) at e)
 noYield false true m false true false q b false f g k e i j = refl
 
-awaitScoped : (s w m a y p q b r : Bool) → (a ≡ true → w ≡ false) → (y ≡ true → w ≡ true) → (r ≡ true → (a ≡ false) × (w ≡ false)) → Same s w m a y p q b r → a ≡ true → m ≡ false → q ≡ b
+awaitScoped : (s w m a y p q b r : Bool) → (a ≡ true → w ≡ false) → (y ≡ true → w ≡ true) → (r ≡ true → (a ≡ false) × (w ≡ false))
+    → Same s w m a y p q b r → a ≡ true → m ≡ false → q ≡ b
 awaitScoped s w m false y p q b r f g k e i j = never (sym i)
 awaitScoped s w true true y p q b r f g k e i j = never j
 awaitScoped s true false true y p q b r f g k e i j = never (f refl)

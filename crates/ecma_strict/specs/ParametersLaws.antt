@@ -26,8 +26,8 @@ use Rattle.trees.specs.TrailLaws.{handedLaw, handedRoot}
 use Rattle.ecma_base.specs.Telling.{Telling}
 use Rattle.ecma_base.specs.Strict.{strictCode}
 use Rattle.ecma_base.specs.Contains.{isNode, initializer}
-use Rattle.ecma_base.specs.ContainsLaws.{upward, unitUp, unitRoot}
-use Rattle.ecma_base.specs.Scopes.{makesScope, scopesFollow, blockScope, scopeKind}
+use Rattle.ecma_base.specs.ContainsLaws.{upward, unitRoot}
+use Rattle.ecma_base.specs.Scopes.{makesScope, scopesFollow, blockScope}
 use Rattle.ecma_base.specs.ScopesLaws.{notProgram, Made, blockFlag, made, sameOrMade, sameOnly, madeKind, classBody, rootKind, root}
 use Rattle.ecma_strict.specs.ReservedWords.{reservedWords}
 use Rattle.ecma_strict.specs.Contains.{staticBlock}
@@ -49,8 +49,9 @@ ownOf told sourceType ns u =
     (cond (staticBlock ns u) (record { yield = false; await = true })
     (cond (within (kindOf ns u) k.PropertyDefinition k.AccessorProperty) (record { yield = false; await = false }) (ofGoal sourceType))))
 
-abbrev pub source : List ℕ → ℕ → ℕ
-source ns n = unitOf ns (ownEdge ns) n
+-- the node that gives n its parameters
+abbrev pub giver : List ℕ → ℕ → ℕ
+giver ns n = unitOf ns (ownEdge ns) n
 
 module _ (told : Telling) (s : ℕ) (ns : List ℕ) where
   -- one step down
@@ -109,21 +110,21 @@ module _ (told : Telling) (s : ℕ) (ns : List ℕ) where
     up : (j : ℕ) → 0 < j → j < count ns → at j ≡ handsOn told ns (parentOf ns j) j (at (parentOf ns j))
     up j z h = handedLaw ns (handsOn told ns) (ofGoal s) t j z h
 
-    first : at 0 ≡ ownOf told s ns (source ns 0)
+    first : at 0 ≡ ownOf told s ns (giver ns 0)
     first = handedRoot ns (handsOn told ns) (ofGoal s) ∙ sym (ap (ownOf told s ns) (unitRoot ns t (ownEdge ns)) ∙ rw (t .root))
 
     -- where the node sets them anew, and where it hands them on
-    here : (j : ℕ) → 0 < j → j < count ns → ownEdge ns (parentOf ns j) j ≡ true → at j ≡ ownOf told s ns (source ns j)
+    here : (j : ℕ) → 0 < j → j < count ns → ownEdge ns (parentOf ns j) j ≡ true → at j ≡ ownOf told s ns (giver ns j)
     here j z h e = up j z h ∙ sets (parentOf ns j) j (at (parentOf ns j)) e ∙ ap (ownOf told s ns) (sym (unitHere ns t (ownEdge ns) j z h e))
 
     -- [YIELD] AT EVERY NODE
-    pub yieldFrom : (n : ℕ) → n < count ns → yieldParameter told s ns n ≡ (eqb (kindOf ns (source ns n)) k.Function && told .generator (source ns n))
-    yieldFrom n h = upward ns t (λ j. at j .yield ≡ ownOf told s ns (source ns j) .yield) (ap (λ x. x .yield) first) step n h ∙ own (source ns n)
+    pub yieldFrom : (n : ℕ) → n < count ns → yieldParameter told s ns n ≡ (eqb (kindOf ns (giver ns n)) k.Function && told .generator (giver ns n))
+    yieldFrom n h = upward ns t (λ j. at j .yield ≡ ownOf told s ns (giver ns j) .yield) (ap (λ x. x .yield) first) step n h ∙ own (giver ns n)
       where
-        step : (j : ℕ) → 0 < j → j < count ns → at (parentOf ns j) .yield ≡ ownOf told s ns (source ns (parentOf ns j)) .yield → at j .yield ≡ ownOf told s ns (source ns j) .yield
+        step : (j : ℕ) → 0 < j → j < count ns → at (parentOf ns j) .yield ≡ ownOf told s ns (giver ns (parentOf ns j)) .yield → at j .yield ≡ ownOf told s ns (giver ns j) .yield
         step j z h p = go (ownEdge ns (parentOf ns j) j) refl
           where
-            go : (b : Bool) → ownEdge ns (parentOf ns j) j ≡ b → at j .yield ≡ ownOf told s ns (source ns j) .yield
+            go : (b : Bool) → ownEdge ns (parentOf ns j) j ≡ b → at j .yield ≡ ownOf told s ns (giver ns j) .yield
             go true e = ap (λ x. x .yield) (here j z h e)
             go false e =
                 ap (λ x. x .yield) (up j z h)
@@ -143,59 +144,62 @@ module _ (told : Telling) (s : ℕ) (ns : List ℕ) where
             go false false false true = refl
             go false false false false = refl
 
-    above : (i : ℕ) → 0 < i → i < count ns → (source ns i ≡ parentOf ns i) ⊎ (source ns i ≡ source ns (parentOf ns i))
+    above : (i : ℕ) → 0 < i → i < count ns → (giver ns i ≡ parentOf ns i) ⊎ (giver ns i ≡ giver ns (parentOf ns i))
     above i z h = go (ownEdge ns (parentOf ns i) i) refl
       where
-        go : (b : Bool) → ownEdge ns (parentOf ns i) i ≡ b → (source ns i ≡ parentOf ns i) ⊎ (source ns i ≡ source ns (parentOf ns i))
+        go : (b : Bool) → ownEdge ns (parentOf ns i) i ≡ b → (giver ns i ≡ parentOf ns i) ⊎ (giver ns i ≡ giver ns (parentOf ns i))
         go true e = inl (unitHere ns t (ownEdge ns) i z h e)
         go false e = inr (unitPass ns t (ownEdge ns) i z h (λ c. e))
 
-    below : (i : ℕ) → 0 < i → i < count ns → source ns i < i
-    below i z h = upward ns t (λ j. 0 < j → source ns j < j) (λ y. absurd (omega arith)) step i h z
+    below : (i : ℕ) → 0 < i → i < count ns → giver ns i < i
+    below i z h = upward ns t (λ j. 0 < j → giver ns j < j) (λ y. absurd (omega arith)) step i h z
       where
-        step : (j : ℕ) → 0 < j → j < count ns → (0 < parentOf ns j → source ns (parentOf ns j) < parentOf ns j) → 0 < j → source ns j < j
+        step : (j : ℕ) → 0 < j → j < count ns → (0 < parentOf ns j → giver ns (parentOf ns j) < parentOf ns j) → 0 < j → giver ns j < j
         step j z h p y =
             let l = t .falls j z h in
-            ⊎-elim (λ (q : source ns j ≡ parentOf ns j). omega arith)
-            (λ (q : source ns j ≡ source ns (parentOf ns j)).
-            ⊎-elim (λ (o : 0 ≡ parentOf ns j). let r : source ns (parentOf ns j) ≡ 0 = ap (source ns) (sym o) ∙ unitRoot ns t (ownEdge ns) in omega arith) (λ (o : 0 < parentOf ns j). let r = p o in omega arith) (eq-or-lt-of-le (omega arith)))
+            ⊎-elim (λ (q : giver ns j ≡ parentOf ns j). omega arith)
+            (λ (q : giver ns j ≡ giver ns (parentOf ns j)).
+            ⊎-elim (λ (o : 0 ≡ parentOf ns j). let r : giver ns (parentOf ns j) ≡ 0 = ap (giver ns) (sym o) ∙ unitRoot ns t (ownEdge ns) in omega arith)
+            (λ (o : 0 < parentOf ns j). let r = p o in omega arith)
+            (eq-or-lt-of-le (omega arith)))
             (above j z h)
 
     module _ (ss : List ℕ) (w : scopesFollow ns ss ≡ true) where
-      -- BOTH, AT A NODE THAT HAS THE SCOPE OF THE NODE WHERE THEY COME FROM: they are that node's own
-      pub parametersFrom : (n : ℕ) → n < count ns → scopeNodeOf ss (scopeOf ns n) ≡ source ns n → at n ≡ ownOf told s ns (source ns n)
-      parametersFrom = upward ns t (λ j. scopeNodeOf ss (scopeOf ns j) ≡ source ns j → at j ≡ ownOf told s ns (source ns j)) (λ e. first) step
+      -- BOTH, AT A NODE THAT HAS ITS GIVER'S SCOPE: they are the giver's own
+      pub parametersFrom : (n : ℕ) → n < count ns → scopeNodeOf ss (scopeOf ns n) ≡ giver ns n → at n ≡ ownOf told s ns (giver ns n)
+      parametersFrom = upward ns t (λ j. scopeNodeOf ss (scopeOf ns j) ≡ giver ns j → at j ≡ ownOf told s ns (giver ns j)) (λ e. first) step
         where
-          step : (j : ℕ) → 0 < j → j < count ns → (scopeNodeOf ss (scopeOf ns (parentOf ns j)) ≡ source ns (parentOf ns j) → at (parentOf ns j) ≡ ownOf told s ns (source ns (parentOf ns j)))
-              → scopeNodeOf ss (scopeOf ns j) ≡ source ns j → at j ≡ ownOf told s ns (source ns j)
+          step : (j : ℕ) → 0 < j → j < count ns → (scopeNodeOf ss (scopeOf ns (parentOf ns j)) ≡ giver ns (parentOf ns j) → at (parentOf ns j) ≡ ownOf told s ns (giver ns (parentOf ns j)))
+              → scopeNodeOf ss (scopeOf ns j) ≡ giver ns j → at j ≡ ownOf told s ns (giver ns j)
           step j z h p e = go (ownEdge ns (parentOf ns j) j) refl
             where
               -- a scope that the parent makes is not that of a node further up
-              notMade : source ns j ≡ source ns (parentOf ns j) → 0 < parentOf ns j → Made ns ss j → ⊥
+              notMade : giver ns j ≡ giver ns (parentOf ns j) → 0 < parentOf ns j → Made ns ss j → ⊥
               notMade q o m = let l = below (parentOf ns j) o (parent-in ns t j h) in let r = m .whose in omega arith
 
-              go : (b : Bool) → ownEdge ns (parentOf ns j) j ≡ b → at j ≡ ownOf told s ns (source ns j)
+              go : (b : Bool) → ownEdge ns (parentOf ns j) j ≡ b → at j ≡ ownOf told s ns (giver ns j)
               go true x = here j z h x
               go false x =
                   ⊎-elim (λ y. up j z h ∙ y ∙ on ∙ ap (ownOf told s ns) (sym q))
                   (λ y. absurd (notMade q (notProgram ns t (parentOf ns j) (λ (c : kindOf ns (parentOf ns j) ≡ 0). let d = y .0 in omega arith)) (made ns ss t w j z h (rw (y .0)))))
                   (passes (parentOf ns j) j (at (parentOf ns j)) x)
                 where
-                  q : source ns j ≡ source ns (parentOf ns j)
+                  q : giver ns j ≡ giver ns (parentOf ns j)
                   q = unitPass ns t (ownEdge ns) j z h (λ c. x)
 
-                  on : at (parentOf ns j) ≡ ownOf told s ns (source ns (parentOf ns j))
+                  on : at (parentOf ns j) ≡ ownOf told s ns (giver ns (parentOf ns j))
                   on =
-                      ⊎-elim (λ (o : 0 ≡ parentOf ns j). ap at (sym o) ∙ first ∙ ap (λ x. ownOf told s ns (source ns x)) o)
+                      ⊎-elim (λ (o : 0 ≡ parentOf ns j). ap at (sym o) ∙ first ∙ ap (λ x. ownOf told s ns (giver ns x)) o)
                       (λ (o : 0 < parentOf ns j).
                       ⊎-elim (λ c. p (ap (λ (x : ℕ). scopeNodeOf ss x) (sym c) ∙ e ∙ q)) (λ m. absurd (notMade q o m)) (sameOrMade ns ss t w j z h))
                       (eq-or-lt-of-le (omega arith))
 
       -- `await` in a script: [Await] is there just where its own scope is a static block's
-      awaitTold : goalModule s ≡ false → (n : ℕ) → n < count ns → scopeNodeOf ss (scopeOf ns n) ≡ source ns n → (within (kindOf ns (source ns n)) k.Function k.Arrow && told .async (source ns n)) ≡ false
+      awaitTold : goalModule s ≡ false → (n : ℕ) → n < count ns → scopeNodeOf ss (scopeOf ns n) ≡ giver ns n
+          → (within (kindOf ns (giver ns n)) k.Function k.Arrow && told .async (giver ns n)) ≡ false
           → awaitParameter told s ns n ≡ blockScope ns ss n
       awaitTold g n h e a =
-          ap (λ x. x .await) (parametersFrom n h e) ∙ own (source ns n) a ∙ sym (blockFlag ns ss t w n h ∙ ap (λ (x : ℕ). eqb (kindOf ns x) 3) e)
+          ap (λ x. x .await) (parametersFrom n h e) ∙ own (giver ns n) a ∙ sym (blockFlag ns ss t w n h ∙ ap (λ (x : ℕ). eqb (kindOf ns x) 3) e)
         where
           own : (u : ℕ) → (within (kindOf ns u) 1 2 && told .async u) ≡ false → ownOf told s ns u .await ≡ eqb (kindOf ns u) 3
           own u a = go (eqb (kindOf ns u) 1) refl (eqb (kindOf ns u) 2) refl (eqb (kindOf ns u) 3) refl (within (kindOf ns u) 29 30) refl
@@ -208,11 +212,11 @@ module _ (told : Telling) (s : ℕ) (ns : List ℕ) where
               go false f false x false y true z = rw (f, x, y, z)
               go false f false x false y false z = rw (f, x, y, z) g
 
-      -- THE CONDITION OF 13.1.1, by the node where the parameters come from: no generator, nothing async, and the name has its scope
+      -- THE CONDITION ON A NAME, by its giver: a sloppy `yield` has no generator's; an `await` of a script has nothing async's, and has its giver's scope
       pub nameTold : (names : List ℕ) (n : ℕ) → n < count ns → any (λ x. nameIs ns names n x) reservedWords ≡ false
-          → (nameIs ns names n word.yieldWord ≡ true → strictCode ns ss n ≡ false → (eqb (kindOf ns (source ns n)) k.Function && told .generator (source ns n)) ≡ false)
+          → (nameIs ns names n word.yieldWord ≡ true → strictCode ns ss n ≡ false → (eqb (kindOf ns (giver ns n)) k.Function && told .generator (giver ns n)) ≡ false)
           → (nameIs ns names n word.awaitWord ≡ true → goalModule s ≡ false
-          → (scopeNodeOf ss (scopeOf ns n) ≡ source ns n) × ((within (kindOf ns (source ns n)) k.Function k.Arrow && told .async (source ns n)) ≡ false))
+          → (scopeNodeOf ss (scopeOf ns n) ≡ giver ns n) × ((within (kindOf ns (giver ns n)) k.Function k.Arrow && told .async (giver ns n)) ≡ false))
           → NameTold told s ns ss names n
       nameTold names n h r y a = record {
         reserved = r;
@@ -237,7 +241,9 @@ module _ (told : Telling) (s : ℕ) (ns : List ℕ) where
             ∙ ap (λ (x : ℕ). eqb x 3) (madeKind ns ss t w (parentOf ns i) (classBody ns ss t w (parentOf ns i) y l b .0) ∙ v .classBody (parentOf ns i) l b)
 
         pub blockParameters : (n : ℕ) → n < count ns → blockScope ns ss n ≡ true → at n ≡ record { yield = false; await = true }
-        blockParameters = upward ns t (λ j. blockScope ns ss j ≡ true → at j ≡ record { yield = false; await = true }) (λ e. never (sym e ∙ blockFlag ns ss t w 0 (t .some) ∙ rw (rootKind ns ss t w 0 (root ns ss t w)))) step
+        blockParameters =
+            upward ns t (λ j. blockScope ns ss j ≡ true → at j ≡ record { yield = false; await = true })
+            (λ e. never (sym e ∙ blockFlag ns ss t w 0 (t .some) ∙ rw (rootKind ns ss t w 0 (root ns ss t w)))) step
           where
             step : (j : ℕ) → 0 < j → j < count ns → (blockScope ns ss (parentOf ns j) ≡ true → at (parentOf ns j) ≡ record { yield = false; await = true })
                 → blockScope ns ss j ≡ true → at j ≡ record { yield = false; await = true }

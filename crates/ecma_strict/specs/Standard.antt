@@ -8,7 +8,7 @@ use native.Mathlib.Omega.{arith}
 use borrow.Author.Tests.{eqb-true}
 use lib.Dec.{eqb}
 use Rattle.common.specs.Tests.{within}
-use Rattle.tables.specs.Table.{kindOf, parentOf, count, scopeOf, scopeNodeOf}
+use Rattle.tables.specs.Table.{kindOf, parentOf, count}
 use Rattle.tables.specs.Kinds as k
 use Rattle.checker.specs.Findings.{findingsAt}
 use Rattle.input.specs.InputLaws.{WellFormed}
@@ -58,7 +58,7 @@ module _ (t : ℕ) (ns ss source names : List ℕ) (w : WellFormed t ns ss sourc
     pub standardNames : NameTold told t ns ss names n → at 2 ++ at 3 ≡ only (identifierError told t ns ss names n) n
     standardNames q = codes ∙ namesAgree told t ns ss names n i q
 
-    -- and the condition is the weakest one (`nameTold` gives it by the node where [Yield] and [Await] come from)
+    -- and the condition is the weakest one (`nameTold` gives it by the node that gives the name its parameters)
     pub onlyNames : at 2 ++ at 3 ≡ only (identifierError told t ns ss names n) n → NameTold told t ns ss names n
     onlyNames q = namesAgreeOnly told t ns ss names n i (sym codes ∙ q)
 
