@@ -103,7 +103,7 @@ pub record UsingTold (ns ss : List ℕ) (n : ℕ) : Type 0 where
 
 -- 2, and 3 at a name: reserved words
 
--- of 13.1.1 what the tables tell of every name: the words of strict code, and `await` in a module
+-- 2: of 13.1.1 only the words of strict code, and `await` in a module
 unfoldable pub reservedName : ℕ → List ℕ → List ℕ → List ℕ → ℕ → Bool
 reservedName sourceType ns ss names n =
     identifier ns n && ((strictCode ns ss n && any (λ w. nameIs ns names n w) strictReserved) || (goalModule sourceType && nameIs ns names n word.awaitWord))
