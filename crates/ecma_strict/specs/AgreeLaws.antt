@@ -18,13 +18,13 @@ use Rattle.scoping.specs.Scoping.{inStaticBlock}
 use Rattle.scoping.specs.ScopingLaws.{static-here, static-function, static-up, static-root}
 use Rattle.trees.specs.Trail.{unitOf}
 use Rattle.ecma_base.specs.Strict.{strictCode}
-use Rattle.ecma_strict.specs.Identifiers.{goalModule, assignsEval}
+use Rattle.ecma_strict.specs.Identifiers.{assignsEval}
 use Rattle.ecma_base.specs.Contains.{isNode, initializer}
-use Rattle.ecma_strict.specs.Contains.{awaitEdge, staticBlock, awaitName, argumentsEdge, argumentsHome, argumentsReference, parameter, parameterEdge, boundEdge, awaitInBlock, awaitNameInBlock, argumentsInClass, awaitInParameter, letBound}
+use Rattle.ecma_strict.specs.Contains.{awaitEdge, staticBlock, argumentsEdge, argumentsHome, argumentsReference, parameter, parameterEdge, boundEdge, awaitInBlock, argumentsInClass, awaitInParameter, letBound}
 use Rattle.ecma_base.specs.Scopes.{blockScope, functionScope}
 use Rattle.ecma_base.specs.ContainsLaws.{upward, unitRoot}
 use Rattle.ecma_strict.specs.SearchLaws.{unitHere, unitPass}
-use Rattle.ecma_strict.specs.Changed.{scopedInBlock, awaitNameScoped, letEdge, letBoundSaid, fieldEdge, fieldHome, argumentsSaid, throughClassEdge, awaitInParameterSaid, AwaitNameTold}
+use Rattle.ecma_strict.specs.Changed.{scopedInBlock, letEdge, letBoundSaid, fieldEdge, fieldHome, argumentsSaid, throughClassEdge, awaitInParameterSaid}
 
 -- two sets of edges, one larger: where the nearest of the larger set is none of the surplus, it is the nearest of the smaller too
 module _ (ns : List ℕ) (t : Tree ns) (large small : ℕ → ℕ → Bool) (surplus : ℕ → Bool)
@@ -228,8 +228,3 @@ module _ (ns ss : List ℕ) (t : Tree ns) (c : Chained ss) (s : Scoped ns ss) (w
 
       more : (i j : ℕ) → awaitEdge ns i j ≡ true → blockEdge ns i j ≡ false → within (kindOf ns i) 29 30 ≡ true
       more i j e f = andLeft (within (kindOf ns i) 29 30) (isNode (valueOf ns i) j) (rest (within (kindOf ns i) 0 3) (initializer ns i j) e f)
-
--- CODE 3 AT A NAME: in a script, where the name's scope is that of the node where its [Await] comes from
-pub awaitNameAgrees : (sourceType : ℕ) (ns ss names : List ℕ) (n : ℕ) → goalModule sourceType ≡ false → AwaitNameTold ns ss n → awaitNameScoped sourceType ns ss names n ≡ awaitNameInBlock ns names n
-unfolding awaitNameScoped awaitNameInBlock
-awaitNameAgrees sourceType ns ss names n m w = ap (λ b. awaitName ns names n && b) (rw m (w .flagged ∙ ap (λ (x : ℕ). staticBlock ns x) (w .whose)))

@@ -16,15 +16,19 @@ use Rattle.tables.specs.declared.Found.{Found}
 use Rattle.tables.specs.declared.Found.the-variants.{At, Nothing}
 use Rattle.children.specs.Children.{valueOf, heldOf, alternateOf}
 use Rattle.trees.specs.Trail.{unitOf}
-use Rattle.ecma_base.specs.Strict.{strictCode}
+use Rattle.names.specs.Name.{nameIs}
+use Rattle.names.specs.Words as word
 use Rattle.ecma_base.specs.Telling.{Telling, special}
+use Rattle.ecma_base.specs.Strict.{strictCode}
 use Rattle.ecma_base.specs.Scopes.{mayMakeScope, blockScope, topScope}
 use Rattle.ecma_strict.specs.Literals.{textOf, decimalDigit, next, legacyOctalInteger, nonOctalDecimalInteger, numericLiteral, legacyOctalEscape, nonOctalDecimalEscape, escapes, stringLiteral}
 use Rattle.ecma_strict.specs.Delete.{privateReference, derives, deleteExpression}
 use Rattle.ecma_strict.specs.Statements.{declaratorsOf, plainName, single, badHead, headOf, ofHead, usingDeclaration, heldUsing}
-use Rattle.ecma_strict.specs.Identifiers.{goalModule, assignsEval, useStrictDirective, simpleParameters}
+use Rattle.ecma_strict.specs.ReservedWords.{reservedWords}
+use Rattle.ecma_strict.specs.Parameters.{goalModule, yieldParameter, awaitParameter}
+use Rattle.ecma_strict.specs.Identifiers.{identifier, strictReserved, assignsEval, useStrictDirective, simpleParameters}
 use Rattle.ecma_base.specs.Contains.{isNode}
-use Rattle.ecma_strict.specs.Contains.{staticBlock, awaitNameEdge, awaitName, argumentsReference, parameter, awaitOrYield, lexicalDeclaration, letName}
+use Rattle.ecma_strict.specs.Contains.{argumentsReference, parameter, awaitOrYield, lexicalDeclaration, letName}
 use Rattle.ecma_strict.specs.Functions.{endsInStatement, annexHolder, labelsFunction, labelEdge}
 
 -- 9, 10, 11: literals
@@ -99,6 +103,25 @@ pub record UsingTold (ns ss : List ℕ) (n : ℕ) : Type 0 where
   pub top : topScope ns ss n ≡ not (heldUsing ns n)
   pub clause : eqb (kindOf ns (parentOf ns n)) k.SwitchCase ≡ false
 
+-- 2, and 3 at a name: reserved words
+
+-- 2: of 13.1.1 only the words of strict code, and `await` in a module
+unfoldable pub reservedName : ℕ → List ℕ → List ℕ → List ℕ → ℕ → Bool
+reservedName sourceType ns ss names n =
+    identifier ns n && ((strictCode ns ss n && any (λ w. nameIs ns names n w) strictReserved) || (goalModule sourceType && nameIs ns names n word.awaitWord))
+
+-- 3: of [Await], only where the name's own scope is a static block's, and not in a module, where 2 is raised
+unfoldable pub awaitNameScoped : ℕ → List ℕ → List ℕ → List ℕ → ℕ → Bool
+awaitNameScoped sourceType ns ss names n = identifier ns n && (nameIs ns names n word.awaitWord && (not (goalModule sourceType) && blockScope ns ss n))
+
+-- where they agree, and nowhere else: the name is no word that is reserved everywhere (of which no parser gives a tree); a sloppy `yield` stands in no generator; an `await` of a script
+-- has [Await] just where its own scope is a static block's, so it stands in nothing async, in no further scope within a static block, in no parameters of an arrow there, and is not
+-- the name of a declaration there
+pub record NameTold (told : Telling) (sourceType : ℕ) (ns ss names : List ℕ) (n : ℕ) : Type 0 where
+  pub reserved : any (λ w. nameIs ns names n w) reservedWords ≡ false
+  pub yield : nameIs ns names n word.yieldWord ≡ true → strictCode ns ss n ≡ false → yieldParameter told sourceType ns n ≡ false
+  pub await : nameIs ns names n word.awaitWord ≡ true → goalModule sourceType ≡ false → awaitParameter told sourceType ns n ≡ blockScope ns ss n
+
 -- 12: "use strict"
 
 -- the function is the one whose scope is the directive's
@@ -124,10 +147,6 @@ unfoldable pub scopedInBlock : List ℕ → List ℕ → ℕ → Bool
 scopedInBlock ns ss n =
     foldr (λ t r. cond (hasFlag (scopeFlagsOf ss t) scope.StaticBlockScope) true (cond (hasFlag (scopeFlagsOf ss t) scope.FunctionScope) false r)) false (scopeOf ns n ∷ outer ss (scopeOf ns n))
 
--- 3 at a name: only where the name's own scope is a static block's, and not in a module, where 2 is raised
-unfoldable pub awaitNameScoped : ℕ → List ℕ → List ℕ → List ℕ → ℕ → Bool
-awaitNameScoped sourceType ns ss names n = awaitName ns names n && (not (goalModule sourceType) && hasFlag (scopeFlagsOf ss (scopeOf ns n)) scope.StaticBlockScope)
-
 -- 5: not in strict code, where 2 is raised; and the name of a class in the Initializer counts as bound
 abbrev pub letEdge : List ℕ → ℕ → ℕ → Bool
 letEdge ns i j = within (kindOf ns i) k.Program k.Arrow || eqb (kindOf ns i) k.VariableDeclaration
@@ -151,11 +170,6 @@ throughClassEdge ns i j = within (kindOf ns i) k.Program k.Arrow || parameter ns
 
 unfoldable pub awaitInParameterSaid : List ℕ → ℕ → Bool
 awaitInParameterSaid ns n = awaitOrYield ns n && parameter ns (unitOf ns (throughClassEdge ns) n)
-
--- the scope of the name n is that of the node where its [Await] parameter comes from, and is flagged as a static block's if it is one
-pub record AwaitNameTold (ns ss : List ℕ) (n : ℕ) : Type 0 where
-  pub flagged : blockScope ns ss n ≡ staticBlock ns (scopeNodeOf ss (scopeOf ns n))
-  pub whose : scopeNodeOf ss (scopeOf ns n) ≡ unitOf ns (awaitNameEdge ns) n
 
 -- 16: labelled functions
 

@@ -35,17 +35,6 @@ forAwait ns n = eqb (kindOf ns n) k.ForOf && hasFlag (flagsOf ns n) flag.ForAwai
 abbrev pub awaitUsing : List ℕ → ℕ → Bool
 awaitUsing ns n = eqb (kindOf ns n) k.VariableDeclaration && eqb (extraOf ns n) extra.AwaitUsing
 
--- 13.1.1: "this production has an [Await] parameter and the StringValue of Identifier is "await"": so in the statements of a static block, but not in the bodies of functions and
--- arrows, nor in a function's parameters and a FunctionExpression's name, nor in the Initializer of a field.
-abbrev pub awaitNameEdge : List ℕ → ℕ → ℕ → Bool
-awaitNameEdge ns i j =
-    (eqb (kindOf ns i) k.Program || eqb (kindOf ns i) k.StaticBlock)
-    || ((eqb (kindOf ns i) k.Function && not (hasFlag (flagsOf ns i) flag.Declaration && eqb (kindOf ns j) k.BindingIdentifier))
-    || ((eqb (kindOf ns i) k.Arrow && eqb (kindOf ns j) k.FunctionBody) || initializer ns i j))
-
-abbrev pub awaitName : List ℕ → List ℕ → ℕ → Bool
-awaitName ns names n = within (kindOf ns n) k.BindingIdentifier k.LabelIdentifier && nameIs ns names n word.awaitWord
-
 -- IdentifierReference : Identifier: "If the StringValue of Identifier is "arguments", return true."
 abbrev pub argumentsReference : List ℕ → List ℕ → ℕ → Bool
 argumentsReference ns names n = eqb (kindOf ns n) k.IdentifierReference && nameIs ns names n word.argumentsWord
@@ -55,9 +44,9 @@ argumentsReference ns names n = eqb (kindOf ns n) k.IdentifierReference && nameI
 abbrev pub argumentsBegin : List ℕ → ℕ → ℕ → Bool
 argumentsBegin ns i j = eqb (kindOf ns i) k.StaticBlock || initializer ns i j
 
--- 15.7.9: of a function it is false (of a method it looks at the ClassElementName: what else the method has is a function); else it goes into every child, arrows and fields too
+-- 15.7.9: of a function it is false (of a method it looks at the ClassElementName: what else the method has is a function); else it goes into every child: arrows, fields and static blocks too
 abbrev pub argumentsInto : List ℕ → ℕ → ℕ → Bool
-argumentsInto ns i j = not (eqb (kindOf ns i) k.Function || eqb (kindOf ns i) k.StaticBlock)
+argumentsInto ns i j = not (eqb (kindOf ns i) k.Function)
 
 -- 15.3.1, 15.5.1, 15.6.1, 15.8.1, 15.9.1: "It is a Syntax Error if FormalParameters Contains YieldExpression is true", "Contains AwaitExpression".
 -- FormalParameter, FunctionRestParameter : BindingRestElement
@@ -103,9 +92,6 @@ boundEdge ns i j = (within (kindOf ns i) k.Program k.Arrow || eqb (kindOf ns i) 
 
 unfoldable pub awaitInBlock : List ℕ → ℕ → Bool
 awaitInBlock ns n = staticBlock ns (unitOf ns (awaitEdge ns) n)
-
-unfoldable pub awaitNameInBlock : List ℕ → List ℕ → ℕ → Bool
-awaitNameInBlock ns names n = awaitName ns names n && staticBlock ns (unitOf ns (awaitNameEdge ns) n)
 
 unfoldable pub argumentsInClass : List ℕ → List ℕ → ℕ → Bool
 argumentsInClass ns names n = argumentsReference ns names n && argumentsHome ns (unitOf ns (argumentsEdge ns) n)

@@ -15,10 +15,11 @@ use Rattle.ecma_base.specs.Scopes.{followsAt, flaggedAt, classAt, scopesFollow}
 use Rattle.ecma_strict.specs.Literals.{textOf, legacyOctalInteger, octalsThenNonOctal, nonOctalDecimalInteger, legacyOctalEscape, nonOctalDecimalEscape, escapes, strictOctalEscape, strictNonOctalEscape}
 use Rattle.ecma_strict.specs.Delete.{ultimately, privateReference, deletesPrivate}
 use Rattle.ecma_strict.specs.Statements.{annexHead, badHead, initializedHead, heldUsing, badUsing}
-use Rattle.ecma_strict.specs.Identifiers.{reservedName, assignsEval}
-use Rattle.ecma_strict.specs.Contains.{awaitInBlock, awaitNameInBlock, argumentsInClass, awaitInParameter, letBound}
+use Rattle.ecma_strict.specs.Identifiers.{assignsEval, identifierError}
+use Rattle.ecma_strict.specs.Contains.{awaitInBlock, argumentsInClass, awaitInParameter, letBound}
 use Rattle.ecma_strict.specs.Functions.{functionMisplaced, functionMisplacedElse, isLabelledFunction, labelledAmong, endsInLabelled, labelledFunctionAt}
-use Rattle.ecma_strict.specs.Changed.{octalFirst, nonOctalFirst, firstOctalEscape, firstNonOctalEscape, deletesPrivateAnywhere, saidHead, topUsing, scopedInBlock, awaitNameScoped, letBoundSaid, argumentsSaid, awaitInParameterSaid, labelledFunctionSaid}
+use Rattle.ecma_strict.specs.Changed.{octalFirst, nonOctalFirst, firstOctalEscape, firstNonOctalEscape, deletesPrivateAnywhere, saidHead, topUsing, scopedInBlock, awaitNameScoped, letBoundSaid, argumentsSaid, awaitInParameterSaid, labelledFunctionSaid, reservedName}
+use Rattle.ecma_strict.specs.Parameters.{awaitParameter}
 
 -- 12.9.3: numbers that are a LegacyOctalIntegerLiteral, and that begin with a NonOctalDecimalIntegerLiteral
 pub record Number : Type 0 where
@@ -90,8 +91,8 @@ blockNameTree = record {
 }
 
 -- 13.1.1: `await` is no name in a static block; the Rust looks at the name's own scope only
-pub blockName : awaitNameInBlock (blockNameTree .nodes) (blockNameTree .names) 7 ∷ awaitNameScoped 0 (blockNameTree .nodes) (blockNameTree .scopes) (blockNameTree .names) 7 ∷ [] ≡ true ∷ false ∷ []
-unfolding awaitNameInBlock awaitNameScoped same nameOf above climb upto range keep children isChild firstNode kids others forest partsOf trails.climb trails.trail
+pub blockName : identifierError ordinary 0 (blockNameTree .nodes) (blockNameTree .scopes) (blockNameTree .names) 7 ∷ awaitNameScoped 0 (blockNameTree .nodes) (blockNameTree .scopes) (blockNameTree .names) 7 ∷ [] ≡ true ∷ false ∷ []
+unfolding identifierError awaitNameScoped same nameOf above climb upto range keep children isChild firstNode kids others forest partsOf trails.climb trails.trail
 blockName = refl
 
 -- `class C { static { (x = await) => 1; } }`
@@ -119,8 +120,8 @@ arrowParameterTree = record {
 }
 
 -- 13.1.1: nor in the parameters of an arrow
-pub arrowParameter : awaitNameInBlock (arrowParameterTree .nodes) (arrowParameterTree .names) 10 ∷ awaitNameScoped 0 (arrowParameterTree .nodes) (arrowParameterTree .scopes) (arrowParameterTree .names) 10 ∷ [] ≡ true ∷ false ∷ []
-unfolding awaitNameInBlock awaitNameScoped same nameOf above climb upto range keep children isChild firstNode kids others forest partsOf trails.climb trails.trail
+pub arrowParameter : identifierError ordinary 0 (arrowParameterTree .nodes) (arrowParameterTree .scopes) (arrowParameterTree .names) 10 ∷ awaitNameScoped 0 (arrowParameterTree .nodes) (arrowParameterTree .scopes) (arrowParameterTree .names) 10 ∷ [] ≡ true ∷ false ∷ []
+unfolding identifierError awaitNameScoped same nameOf above climb upto range keep children isChild firstNode kids others forest partsOf trails.climb trails.trail
 arrowParameter = refl
 
 -- `class C { static { () => await; } }`
@@ -145,8 +146,8 @@ arrowBodyTree = record {
 }
 
 -- 13.1.1: but in its body it is
-pub arrowBody : awaitNameInBlock (arrowBodyTree .nodes) (arrowBodyTree .names) 10 ∷ awaitNameScoped 0 (arrowBodyTree .nodes) (arrowBodyTree .scopes) (arrowBodyTree .names) 10 ∷ [] ≡ false ∷ false ∷ []
-unfolding awaitNameInBlock awaitNameScoped same nameOf above climb upto range keep children isChild firstNode kids others forest partsOf trails.climb trails.trail
+pub arrowBody : identifierError ordinary 0 (arrowBodyTree .nodes) (arrowBodyTree .scopes) (arrowBodyTree .names) 10 ∷ awaitNameScoped 0 (arrowBodyTree .nodes) (arrowBodyTree .scopes) (arrowBodyTree .names) 10 ∷ [] ≡ false ∷ false ∷ []
+unfolding identifierError awaitNameScoped same nameOf above climb upto range keep children isChild firstNode kids others forest partsOf trails.climb trails.trail
 arrowBody = refl
 
 -- `class C { static { function await() {} } }`
@@ -169,8 +170,8 @@ functionNameTree = record {
 }
 
 -- 13.1.1: nor as the name of a function declaration
-pub functionName : awaitNameInBlock (functionNameTree .nodes) (functionNameTree .names) 6 ∷ awaitNameScoped 0 (functionNameTree .nodes) (functionNameTree .scopes) (functionNameTree .names) 6 ∷ [] ≡ true ∷ false ∷ []
-unfolding awaitNameInBlock awaitNameScoped same nameOf above climb upto range keep children isChild firstNode kids others forest partsOf trails.climb trails.trail
+pub functionName : identifierError ordinary 0 (functionNameTree .nodes) (functionNameTree .scopes) (functionNameTree .names) 6 ∷ awaitNameScoped 0 (functionNameTree .nodes) (functionNameTree .scopes) (functionNameTree .names) 6 ∷ [] ≡ true ∷ false ∷ []
+unfolding identifierError awaitNameScoped same nameOf above climb upto range keep children isChild firstNode kids others forest partsOf trails.climb trails.trail
 functionName = refl
 
 -- `class C { static { (function await() {}); } }`
@@ -195,9 +196,67 @@ expressionNameTree = record {
 }
 
 -- 13.1.1: but of a function expression
-pub expressionName : awaitNameInBlock (expressionNameTree .nodes) (expressionNameTree .names) 8 ∷ awaitNameScoped 0 (expressionNameTree .nodes) (expressionNameTree .scopes) (expressionNameTree .names) 8 ∷ [] ≡ false ∷ false ∷ []
-unfolding awaitNameInBlock awaitNameScoped same nameOf above climb upto range keep children isChild firstNode kids others forest partsOf trails.climb trails.trail
+pub expressionName : identifierError ordinary 0 (expressionNameTree .nodes) (expressionNameTree .scopes) (expressionNameTree .names) 8 ∷ awaitNameScoped 0 (expressionNameTree .nodes) (expressionNameTree .scopes) (expressionNameTree .names) 8 ∷ [] ≡ false ∷ false ∷ []
+unfolding identifierError awaitNameScoped same nameOf above climb upto range keep children isChild firstNode kids others forest partsOf trails.climb trails.trail
 expressionName = refl
+
+-- a telling of node 1 alone: a generator, an async function
+abbrev generatorFirst : Telling
+generatorFirst = record { async = λ f. false; generator = λ f. eqb f 1 }
+
+abbrev asyncFirst : Telling
+asyncFirst = record { async = λ f. eqb f 1; generator = λ f. false }
+
+-- `function* g() { var yield; }`
+abbrev generatorTree : Tree
+generatorTree = record {
+  nodes =
+      0 ∷ 0 ∷ 0 ∷ 0 ∷ 28 ∷ 0 ∷ 0 ∷ 0 ∷ 0 ∷ 0
+      ∷ 1 ∷ 0 ∷ 3 ∷ 0 ∷ 28 ∷ 0 ∷ 1568 ∷ 0 ∷ 0 ∷ 0
+      ∷ 31 ∷ 1 ∷ 0 ∷ 10 ∷ 11 ∷ 1 ∷ 0 ∷ 0 ∷ 0 ∷ 1
+      ∷ 55 ∷ 1 ∷ 0 ∷ 11 ∷ 13 ∷ 1 ∷ 0 ∷ 0 ∷ 0 ∷ 0
+      ∷ 4 ∷ 1 ∷ 3 ∷ 14 ∷ 28 ∷ 1 ∷ 0 ∷ 0 ∷ 0 ∷ 0
+      ∷ 24 ∷ 4 ∷ 3 ∷ 16 ∷ 26 ∷ 1 ∷ 0 ∷ 0 ∷ 0 ∷ 0
+      ∷ 25 ∷ 5 ∷ 0 ∷ 20 ∷ 25 ∷ 1 ∷ 512 ∷ 0 ∷ 0 ∷ 0
+      ∷ 31 ∷ 6 ∷ 0 ∷ 20 ∷ 25 ∷ 1 ∷ 0 ∷ 0 ∷ 1 ∷ 5
+      ∷ [];
+  scopes = 0 ∷ 2 ∷ 0 ∷ 0 ∷ 4 ∷ 1 ∷ [];
+  names = 103 ∷ 121 ∷ 105 ∷ 101 ∷ 108 ∷ 100 ∷ [];
+  source = [];
+}
+
+-- 13.1.1: `yield` is no name in a generator; the Rust does not know of generators
+pub generator : identifierError generatorFirst 0 (generatorTree .nodes) (generatorTree .scopes) (generatorTree .names) 7 ∷ identifierError ordinary 0 (generatorTree .nodes) (generatorTree .scopes) (generatorTree .names) 7 ∷ reservedName 0 (generatorTree .nodes) (generatorTree .scopes) (generatorTree .names) 7 ∷ awaitNameScoped 0 (generatorTree .nodes) (generatorTree .scopes) (generatorTree .names) 7 ∷ [] ≡ true ∷ false ∷ false ∷ false ∷ []
+unfolding identifierError reservedName awaitNameScoped same nameOf above climb upto range keep children isChild firstNode kids others forest partsOf trails.climb trails.trail
+generator = refl
+
+-- `async function f() { var await; }`
+abbrev asyncTree : Tree
+asyncTree = record {
+  nodes =
+      0 ∷ 0 ∷ 0 ∷ 0 ∷ 33 ∷ 0 ∷ 0 ∷ 0 ∷ 0 ∷ 0
+      ∷ 1 ∷ 0 ∷ 3 ∷ 0 ∷ 33 ∷ 0 ∷ 1568 ∷ 0 ∷ 0 ∷ 0
+      ∷ 31 ∷ 1 ∷ 0 ∷ 15 ∷ 16 ∷ 1 ∷ 0 ∷ 0 ∷ 0 ∷ 1
+      ∷ 55 ∷ 1 ∷ 0 ∷ 16 ∷ 18 ∷ 1 ∷ 0 ∷ 0 ∷ 0 ∷ 0
+      ∷ 4 ∷ 1 ∷ 3 ∷ 19 ∷ 33 ∷ 1 ∷ 0 ∷ 0 ∷ 0 ∷ 0
+      ∷ 24 ∷ 4 ∷ 3 ∷ 21 ∷ 31 ∷ 1 ∷ 0 ∷ 0 ∷ 0 ∷ 0
+      ∷ 25 ∷ 5 ∷ 0 ∷ 25 ∷ 30 ∷ 1 ∷ 512 ∷ 0 ∷ 0 ∷ 0
+      ∷ 31 ∷ 6 ∷ 0 ∷ 25 ∷ 30 ∷ 1 ∷ 0 ∷ 0 ∷ 1 ∷ 5
+      ∷ [];
+  scopes = 0 ∷ 2 ∷ 0 ∷ 0 ∷ 4 ∷ 1 ∷ [];
+  names = 102 ∷ 97 ∷ 119 ∷ 97 ∷ 105 ∷ 116 ∷ [];
+  source = [];
+}
+
+-- 13.1.1: nor `await` in an async function
+pub async : identifierError asyncFirst 0 (asyncTree .nodes) (asyncTree .scopes) (asyncTree .names) 7 ∷ identifierError ordinary 0 (asyncTree .nodes) (asyncTree .scopes) (asyncTree .names) 7 ∷ reservedName 0 (asyncTree .nodes) (asyncTree .scopes) (asyncTree .names) 7 ∷ awaitNameScoped 0 (asyncTree .nodes) (asyncTree .scopes) (asyncTree .names) 7 ∷ [] ≡ true ∷ false ∷ false ∷ false ∷ []
+unfolding identifierError reservedName awaitNameScoped same nameOf above climb upto range keep children isChild firstNode kids others forest partsOf trails.climb trails.trail
+async = refl
+
+-- ModuleItem has +Await, the name of a declaration has it from there, and the body of a function has its own
+pub moduleAwait : map (awaitParameter ordinary 1 (asyncTree .nodes)) (1 ∷ 2 ∷ 7 ∷ []) ≡ true ∷ true ∷ false ∷ []
+unfolding upto range keep children isChild firstNode trails.climb trails.trail
+moduleAwait = refl
 
 -- `async function f(x = class { static { await 1; } }) {}`
 abbrev parameterBlockTree : Tree
@@ -608,6 +667,6 @@ unfolding deletesPrivate ultimately privateReference deletesPrivateAnywhere same
 privateChain = refl
 
 -- the scopes of all these trees follow the tree
-pub scopesHold : map (λ t. scopesFollow (t .nodes) (t .scopes)) (blockNameTree ∷ arrowParameterTree ∷ arrowBodyTree ∷ functionNameTree ∷ expressionNameTree ∷ parameterBlockTree ∷ accessorTree ∷ assignedTree ∷ strictLetTree ∷ letHeadTree ∷ varHeadTree ∷ usingClauseTree ∷ usingTopTree ∷ usingBlockTree ∷ usingForTree ∷ strictLabelTree ∷ twoLabelsTree ∷ asyncIfTree ∷ generatorElseTree ∷ asyncLabelTree ∷ twoEscapesTree ∷ privateChainTree ∷ []) ≡ map (λ t. true) (blockNameTree ∷ arrowParameterTree ∷ arrowBodyTree ∷ functionNameTree ∷ expressionNameTree ∷ parameterBlockTree ∷ accessorTree ∷ assignedTree ∷ strictLetTree ∷ letHeadTree ∷ varHeadTree ∷ usingClauseTree ∷ usingTopTree ∷ usingBlockTree ∷ usingForTree ∷ strictLabelTree ∷ twoLabelsTree ∷ asyncIfTree ∷ generatorElseTree ∷ asyncLabelTree ∷ twoEscapesTree ∷ privateChainTree ∷ [])
+pub scopesHold : map (λ t. scopesFollow (t .nodes) (t .scopes)) (blockNameTree ∷ arrowParameterTree ∷ arrowBodyTree ∷ functionNameTree ∷ expressionNameTree ∷ parameterBlockTree ∷ accessorTree ∷ assignedTree ∷ strictLetTree ∷ letHeadTree ∷ varHeadTree ∷ usingClauseTree ∷ usingTopTree ∷ usingBlockTree ∷ usingForTree ∷ strictLabelTree ∷ twoLabelsTree ∷ asyncIfTree ∷ generatorElseTree ∷ asyncLabelTree ∷ twoEscapesTree ∷ privateChainTree ∷ generatorTree ∷ asyncTree ∷ []) ≡ map (λ t. true) (blockNameTree ∷ arrowParameterTree ∷ arrowBodyTree ∷ functionNameTree ∷ expressionNameTree ∷ parameterBlockTree ∷ accessorTree ∷ assignedTree ∷ strictLetTree ∷ letHeadTree ∷ varHeadTree ∷ usingClauseTree ∷ usingTopTree ∷ usingBlockTree ∷ usingForTree ∷ strictLabelTree ∷ twoLabelsTree ∷ asyncIfTree ∷ generatorElseTree ∷ asyncLabelTree ∷ twoEscapesTree ∷ privateChainTree ∷ generatorTree ∷ asyncTree ∷ [])
 unfolding scopesFollow flaggedAt followsAt classAt upto range
 scopesHold = refl

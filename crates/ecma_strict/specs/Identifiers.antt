@@ -12,10 +12,9 @@ use Rattle.children.specs.Children.{children}
 use Rattle.names.specs.Name.{nameIs}
 use Rattle.names.specs.Words as word
 use Rattle.ecma_base.specs.Strict.{strictCode}
-
--- the goal symbol of the syntactic grammar is Module
-abbrev pub goalModule : ℕ → Bool
-goalModule sourceType = eqb sourceType 1
+use Rattle.ecma_base.specs.Telling.{Telling}
+use Rattle.ecma_strict.specs.ReservedWords.{reservedWords}
+use Rattle.ecma_strict.specs.Parameters.{goalModule, yieldParameter, awaitParameter}
 
 -- BindingIdentifier, IdentifierReference, LabelIdentifier
 abbrev pub identifier : List ℕ → ℕ → Bool
@@ -34,12 +33,22 @@ strictReserved =
     ∷ word.yieldWord
     ∷ []
 
--- 13.1.1, Identifier: "It is a Syntax Error if IsStrict(this phrase) is true and the StringValue of IdentifierName is one of" these, and "if the goal symbol of the syntactic
--- grammar is Module and the StringValue of IdentifierName is "await"." Not here: a word that is reserved everywhere (no tree has it as a name), and `yield` and `await` where the
--- production has the parameter [Yield] or [Await], since the tables don't tell which functions are generators or async. For `await` in a static block see Contains.
-unfoldable pub reservedName : ℕ → List ℕ → List ℕ → List ℕ → ℕ → Bool
-reservedName sourceType ns ss names n =
-    identifier ns n && ((strictCode ns ss n && any (λ w. nameIs ns names n w) strictReserved) || (goalModule sourceType && nameIs ns names n word.awaitWord))
+-- 13.1.1, of an Identifier, and of the unescaped `yield` or `await` that stands for one by productions of their own ("IdentifierReference : [~Yield] yield", "BindingIdentifier : await" and so on: where
+-- the parameter is there, they are outside the grammar or an error by the same words). The local name of an ExportSpecifier is an IdentifierName, of which 16.2.3.1 forbids the same words.
+-- "It is a Syntax Error if ..
+unfoldable pub identifierError : Telling → ℕ → List ℕ → List ℕ → List ℕ → ℕ → Bool
+identifierError told sourceType ns ss names n =
+    identifier ns n
+    -- .. IsStrict(this phrase) is true and the StringValue of IdentifierName is one of" these,
+    && ((strictCode ns ss n && any (λ w. nameIs ns names n w) strictReserved)
+    -- ".. the goal symbol of the syntactic grammar is Module and the StringValue of IdentifierName is "await"",
+    || ((goalModule sourceType && nameIs ns names n word.awaitWord)
+    -- ".. this production has a [Yield] parameter and StringValue of Identifier is "yield"",
+    || ((yieldParameter told sourceType ns n && nameIs ns names n word.yieldWord)
+    -- ".. this production has an [Await] parameter and StringValue of Identifier is "await"",
+    || ((awaitParameter told sourceType ns n && nameIs ns names n word.awaitWord)
+    -- ".. the StringValue of IdentifierName is the StringValue of any ReservedWord except for yield or await."
+    || any (λ w. nameIs ns names n w) reservedWords))))
 
 abbrev pub evalOrArguments : List ℕ → List ℕ → ℕ → Bool
 evalOrArguments ns names n = nameIs ns names n word.evalWord || nameIs ns names n word.argumentsWord

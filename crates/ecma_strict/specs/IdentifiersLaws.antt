@@ -1,6 +1,6 @@
 -- What the checks of names and directives raise is what the rules say.
 use Prim.Native.Nat.{ℕ}
-use mathlib.Core.Path.{_≡_, refl, ap, sym, subst}
+use mathlib.Core.Path.{_≡_, refl, ap, _∙_}
 use mathlib.Core.List.{List}
 use mathlib.Core.Bool.{Bool, true, false, cond, not, _&&_, _||_}
 use borrow.Author.Tests.{eq-eqb, eqb-true}
@@ -23,19 +23,21 @@ use Rattle.trees.specs.Walk.{only}
 use Rattle.ecma_strict.specs.Nodes.{ofCheck}
 use Rattle.ecma_base.specs.Strict.{strictCode}
 use Rattle.ecma_strict.specs.StatementsLaws.{ifOnly}
-use Rattle.ecma_strict.specs.Identifiers.{goalModule, identifier, strictReserved, reservedName, useStrictDirective, simpleParameters, useStrictThere}
-use Rattle.ecma_strict.specs.Changed.{useStrictScoped, DirectiveTold, awaitNameScoped}
+use Rattle.ecma_strict.specs.Parameters.{goalModule}
+use Rattle.ecma_strict.specs.Identifiers.{identifier, strictReserved, useStrictDirective, simpleParameters, useStrictThere}
+use Rattle.ecma_strict.specs.Changed.{reservedName, awaitNameScoped, useStrictScoped, DirectiveTold}
 
 -- `await` is none of the words that are reserved in strict code
 apart : any (λ w. same word.awaitWord w) strictReserved ≡ false
 unfolding same
 apart = refl
 
-awaitApart : (ns names : List ℕ) (n : ℕ) → nameIs ns names n word.awaitWord ≡ true → any (λ w. nameIs ns names n w) strictReserved ≡ false
-awaitApart ns names n e = go (nameOf ns names n) (same-eq (nameOf ns names n) word.awaitWord e)
-  where
-    go : (x : List ℕ) → x ≡ word.awaitWord → any (λ w. same x w) strictReserved ≡ false
-    go x q = subst (λ (y : List ℕ). any (λ w. same y w) strictReserved ≡ false) (sym q) apart
+-- a name is among words as the word that it is
+pub amongAs : {b : Bool} (x w : List ℕ) (l : List (List ℕ)) → same x w ≡ true → any (λ v. same w v) l ≡ b → any (λ v. same x v) l ≡ b
+amongAs x w l e q = ap (λ (y : List ℕ). any (λ v. same y v) l) (same-eq x w e) ∙ q
+
+pub awaitApart : (ns names : List ℕ) (n : ℕ) → nameIs ns names n word.awaitWord ≡ true → any (λ w. nameIs ns names n w) strictReserved ≡ false
+awaitApart ns names n e = amongAs (nameOf ns names n) word.awaitWord strictReserved e apart
 
 module _ (sourceType : ℕ) (ns ss names : List ℕ) (n : ℕ) where
   -- a: `await`; w: a word of strict code; s: strict code; m: a module; b: the scope is a static block's

@@ -145,7 +145,7 @@ module _ (ns : List ℕ) (t : Tree ns) (n : ℕ) (h : n < count ns) where
               let r = range-of (kindOf ns i) 0 1 q in
               let r1 = r .1 in
               let p = positive (kindOf ns i) z in
-              clash (sym (or-first (eqb (kindOf ns i) 1) (eqb (kindOf ns i) 3) (not-true (eqb (kindOf ns i) 1 || eqb (kindOf ns i) 3) x)) ∙ eq-eqb (kindOf ns i) 1 (omega arith))
+              clash (sym (not-true (eqb (kindOf ns i) 1) x) ∙ eq-eqb (kindOf ns i) 1 (omega arith))
           by false q true c d e = refl
           by false q false true d e = refl
           by false q false false d e = e
@@ -166,7 +166,7 @@ module _ (ns : List ℕ) (t : Tree ns) (n : ℕ) (h : n < count ns) where
       through : (i j : ℕ) → argumentsEdge ns i j ≡ false → argumentsInto ns i j ≡ true
       through i j e =
           let o = or-first (within (kindOf ns i) 0 1 || eqb (kindOf ns i) 3) (initializer ns i j) e in
-          rw (ne-eqb (kindOf ns i) 1 (λ q. clash (sym (or-first (within (kindOf ns i) 0 1) (eqb (kindOf ns i) 3) o) ∙ in-range (kindOf ns i) 0 1 (omega arith) (omega arith))), or-second (within (kindOf ns i) 0 1) (eqb (kindOf ns i) 3) o)
+          rw (ne-eqb (kindOf ns i) 1 (λ q. clash (sym (or-first (within (kindOf ns i) 0 1) (eqb (kindOf ns i) 3) o) ∙ in-range (kindOf ns i) 0 1 (omega arith) (omega arith))))
 
   -- 15.3.1 and others, Contains
   pub parameterRule : (parameter ns (unitOf ns (parameterEdge ns) n) ≡ true) ↔ Reached ns (containsInto ns) (parameterBegin ns) (parameter ns) n

@@ -19,11 +19,9 @@ use Rattle.standing.specs.StandingLaws.{Placed}
 use Rattle.ecma_base.specs.Scopes.{makesScope, mayMakeScope, scopesFollow}
 use Rattle.ecma_base.specs.ScopesLaws.{notProgram, Made, root, blockFlag, functionFlag, topFlag, made, sameOrMade, sameOnly, madeKind, rootKind}
 use Rattle.ecma_strict.specs.Statements.{holdsUsing, heldUsing}
-use Rattle.ecma_strict.specs.Contains.{awaitNameEdge}
 use Rattle.ecma_strict.specs.AgreeLaws.{ScopesTold}
 use Rattle.ecma_base.specs.ContainsLaws.{rootOnly, upward}
-use Rattle.trees.specs.Trail.{unitOf}
-use Rattle.ecma_strict.specs.Changed.{otherScope, UsingTold, directivePlaced, DirectiveTold, AwaitNameTold}
+use Rattle.ecma_strict.specs.Changed.{otherScope, UsingTold, directivePlaced, DirectiveTold}
 
 -- the holders of a using declaration, but for FunctionBody, make a scope; what is no holder, no function and no arrow makes none
 holdersMake : (a : ℕ) → holdsUsing a ≡ true → eqb a 4 ≡ false → makesScope a ≡ true
@@ -98,10 +96,6 @@ module _ (ns ss : List ℕ) (t : Tree ns) (w : scopesFollow ns ss ≡ true) wher
         ))
         (sameOrMade ns ss t w i z h);
   }
-
-  -- a name whose scope is that of the node where its [Await] comes from
-  pub awaitNameTold : (n : ℕ) → n < count ns → scopeNodeOf ss (scopeOf ns n) ≡ unitOf ns (awaitNameEdge ns) n → AwaitNameTold ns ss n
-  awaitNameTold n h e = record { flagged = blockFlag ns ss t w n h; whose = e }
 
   module _ (v : Placed ns) where
     -- a directive under the program or in the body of a function

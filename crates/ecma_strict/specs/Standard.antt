@@ -1,39 +1,41 @@
 -- THE STANDARD'S RULES WHERE THE RUST'S DIFFER: off each named condition the findings of a node with the code are one where the rule of ECMA-262 is broken, and none elsewhere.
--- (2, 4, 15, 17 and 31 need no condition: Theorems.)
+-- (4, 15, 17 and 31 need no condition: Theorems.)
 use Prim.Native.Nat.{ℕ, _<_}
-use mathlib.Core.Path.{_≡_, refl, ap, _∙_}
+use mathlib.Core.Path.{_≡_, refl, ap, _∙_, sym}
 use mathlib.Core.List.{List, [], _++_, append-nil}
 use mathlib.Core.Bool.{Bool, true, false, not, _&&_, _||_}
 use native.Mathlib.Omega.{arith}
 use borrow.Author.Tests.{eqb-true}
 use lib.Dec.{eqb}
 use Rattle.common.specs.Tests.{within}
-use Rattle.tables.specs.Table.{kindOf, parentOf, count, scopeOf, scopeNodeOf}
+use Rattle.tables.specs.Table.{kindOf, parentOf, count}
 use Rattle.tables.specs.Kinds as k
 use Rattle.checker.specs.Findings.{findingsAt}
 use Rattle.input.specs.InputLaws.{WellFormed}
-use Rattle.trees.specs.Walk.{only}
+use Rattle.trees.specs.Walk.{some, only}
 use Rattle.trees.specs.Trail.{unitOf}
 use Rattle.ecma_dispatch.specs.NodesOf.{raised}
-use Rattle.ecma_base.specs.Strict.{strictCode}
 use Rattle.ecma_base.specs.Telling.{Telling}
+use Rattle.ecma_base.specs.Strict.{strictCode}
 use Rattle.ecma_strict.specs.Literals.{strictOctal, strictNonOctal, strictOctalEscape, strictNonOctalEscape}
 use Rattle.ecma_strict.specs.LiteralsLaws.{octalAgrees, nonOctalAgrees, octalEscapeAgrees, nonOctalEscapeAgrees}
 use Rattle.ecma_strict.specs.Delete.{deletesPrivate}
 use Rattle.ecma_strict.specs.DeleteLaws.{deletePrivateAgrees}
 use Rattle.ecma_strict.specs.Statements.{headOf, ofHead, initializedHead, heldUsing, badUsing}
 use Rattle.ecma_strict.specs.StatementsLaws.{headAgrees, usingAgrees}
-use Rattle.ecma_strict.specs.Identifiers.{goalModule, assignsEval, useStrictThere}
+use Rattle.ecma_strict.specs.Identifiers.{identifier, identifierError, assignsEval, useStrictThere}
 use Rattle.ecma_strict.specs.IdentifiersLaws.{useStrictAgrees}
-use Rattle.ecma_strict.specs.Contains.{awaitEdge, argumentsEdge, parameterEdge, boundEdge, awaitExpression, forAwait, awaitUsing, awaitInBlock, awaitName, awaitNameInBlock, argumentsInClass, awaitInParameter, letBound, awaitNameEdge}
+use Rattle.ecma_strict.specs.NamesLaws.{namesAgree, namesAgreeOnly, namesSound}
+use Rattle.ecma_strict.specs.ParametersLaws.{blockParameters}
+use Rattle.ecma_strict.specs.Contains.{awaitEdge, argumentsEdge, parameterEdge, boundEdge, awaitExpression, forAwait, awaitUsing, awaitInBlock, argumentsInClass, awaitInParameter, letBound}
 use Rattle.ecma_base.specs.Scopes.{scopesFollow}
 use Rattle.ecma_base.specs.ScopesLaws.{notProgram}
-use Rattle.ecma_strict.specs.ScopesLaws.{scopesTold, awaitNameTold, directiveTold, usingTold}
-use Rattle.ecma_strict.specs.AgreeLaws.{letAgrees, argumentsAgree, classPart, parameterAgrees, blockAgrees, awaitNameAgrees}
+use Rattle.ecma_strict.specs.ScopesLaws.{scopesTold, directiveTold, usingTold}
+use Rattle.ecma_strict.specs.AgreeLaws.{letAgrees, argumentsAgree, classPart, parameterAgrees, blockAgrees}
 use Rattle.ecma_strict.specs.Functions.{functionMisplaced, functionMisplacedElse, sloppyFunction, sloppyFunctionElse, labelsFunction, labelledFunctionAt}
 use Rattle.ecma_strict.specs.FunctionsLaws.{labelledAgrees, labelledStrict, misplacedAgrees, misplacedElseAgrees}
-use Rattle.ecma_strict.specs.Theorems.{code3, code5, code6, code9, code10, code11, code12, code13, code14, code15, code16, code24, code25, code32, code33}
-use Rattle.ecma_strict.specs.Changed.{firstOctalEscape, BaseTold, EscapesTold, unsaid, otherScope, useStrictScoped, directivePlaced, awaitNameScoped, scopedInBlock, labelledFunctionSaid, OrdinaryHeld}
+use Rattle.ecma_strict.specs.Theorems.{code3, code5, code6, code9, code10, code11, code12, code13, code14, code15, code16, code24, code25, code32, code33, beyond, code2}
+use Rattle.ecma_strict.specs.Changed.{firstOctalEscape, BaseTold, EscapesTold, unsaid, otherScope, useStrictScoped, directivePlaced, awaitNameScoped, scopedInBlock, labelledFunctionSaid, OrdinaryHeld, reservedName, NameTold}
 
 module _ (t : ℕ) (ns ss source names : List ℕ) (w : WellFormed t ns ss source names) (n : ℕ) (h : n < count ns) where
   abbrev at : ℕ → List ℕ
@@ -42,21 +44,35 @@ module _ (t : ℕ) (ns ss source names : List ℕ) (w : WellFormed t ns ss sourc
   abbrev Rule : ℕ → Bool → Type 0
   Rule c rule = at c ≡ only rule n
 
-  -- at a name: in a script, where its scope is that of the node where its [Await] comes from; at an AwaitExpression: where the scopes follow the tree, and no Initializer of a
-  -- field stands between
-  pub standard3 : (awaitName ns names n ≡ true → (goalModule t ≡ false) × (scopesFollow ns ss ≡ true) × (scopeNodeOf ss (scopeOf ns n) ≡ unitOf ns (awaitNameEdge ns) n))
-      → (awaitExpression ns n ≡ true → (scopesFollow ns ss ≡ true) × (within (kindOf ns (unitOf ns (awaitEdge ns) n)) k.PropertyDefinition k.AccessorProperty ≡ false))
-      → Rule 3 (awaitNameInBlock ns names n || (awaitExpression ns n && awaitInBlock ns n))
-  unfolding awaitNameScoped awaitNameInBlock
-  standard3 f g = code3 t ns ss source names w n h ∙ ap (λ x. only x n) (both (name (awaitName ns names n) refl) (expression (awaitExpression ns n) refl))
+  -- 2 and 3 at a name: one finding, where 13.1.1 is broken
+  module _ (told : Telling) (i : identifier ns n ≡ true) where
+    codes : at 2 ++ at 3 ≡ only (reservedName t ns ss names n) n ++ only (awaitNameScoped t ns ss names n) n
+    codes =
+        let e : awaitExpression ns n ≡ false = beyond (kindOf ns n) 47 31 33 i refl in
+        rw (code2 t ns ss source names w n h, code3 t ns ss source names w n h, e, orFalse (awaitNameScoped t ns ss names n))
+      where
+        orFalse : (b : Bool) → (b || false) ≡ b
+        orFalse true = refl
+        orFalse false = refl
+
+    pub standardNames : NameTold told t ns ss names n → at 2 ++ at 3 ≡ only (identifierError told t ns ss names n) n
+    standardNames q = codes ∙ namesAgree told t ns ss names n i q
+
+    -- and the condition is the weakest one (`nameTold` gives it by the node that gives the name its parameters)
+    pub onlyNames : at 2 ++ at 3 ≡ only (identifierError told t ns ss names n) n → NameTold told t ns ss names n
+    onlyNames q = namesAgreeOnly told t ns ss names n i (sym codes ∙ q)
+
+    -- where the scopes follow the tree, each finding is right, whatever is told
+    pub soundNames : scopesFollow ns ss ≡ true → some (at 2 ++ at 3) ≡ true → identifierError told t ns ss names n ≡ true
+    soundNames s q =
+        namesSound told t ns ss names n i (λ e. ap (λ x. x .await) (blockParameters told t ns (w .input .tree) ss s (w .shaped .placed) n h e)) (ap some (sym codes) ∙ q)
+
+  -- 3 at what is no name: where the scopes follow the tree, and no Initializer of a field stands between
+  pub standard3 : identifier ns n ≡ false → (awaitExpression ns n ≡ true → (scopesFollow ns ss ≡ true) × (within (kindOf ns (unitOf ns (awaitEdge ns) n)) k.PropertyDefinition k.AccessorProperty ≡ false))
+      → Rule 3 (awaitExpression ns n && awaitInBlock ns n)
+  unfolding awaitNameScoped
+  standard3 f g = code3 t ns ss source names w n h ∙ rw f (ap (λ x. only x n) (expression (awaitExpression ns n) refl))
     where
-      both : {a b c d : Bool} → a ≡ b → c ≡ d → (a || c) ≡ (b || d)
-      both p q = rw (p, q)
-
-      name : (b : Bool) → awaitName ns names n ≡ b → awaitNameScoped t ns ss names n ≡ awaitNameInBlock ns names n
-      name true e = awaitNameAgrees t ns ss names n (f e .0) (awaitNameTold ns ss (w .input .tree) (f e .1) n h (f e .2))
-      name false e = rw e
-
       expression : (b : Bool) → awaitExpression ns n ≡ b → (awaitExpression ns n && scopedInBlock ns ss n) ≡ (awaitExpression ns n && awaitInBlock ns n)
       expression true e = ap (λ x. awaitExpression ns n && x) (blockAgrees ns ss (w .input .tree) (w .input .chained) (w .input .scoped) (scopesTold ns ss (w .input .tree) (g e .0)) n h (g e .1))
       expression false e = rw e

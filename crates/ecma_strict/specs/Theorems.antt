@@ -38,14 +38,14 @@ use Rattle.ecma_strict.specs.Delete.{deletesName}
 use Rattle.ecma_strict.specs.DeleteLaws.{deleteName, deletePrivate}
 use Rattle.ecma_strict.specs.Statements.{strictWith}
 use Rattle.ecma_strict.specs.StatementsLaws.{withIs, headIs, usingIs}
-use Rattle.ecma_strict.specs.Identifiers.{identifier, reservedName, bindsEval, assignsEval}
+use Rattle.ecma_strict.specs.Identifiers.{identifier, bindsEval, assignsEval}
 use Rattle.ecma_strict.specs.IdentifiersLaws.{reservedIs, awaitNameIs, useStrictIs}
 use Rattle.ecma_strict.specs.Contains.{awaitExpression, awaitUsing, forAwait, awaitOrYield}
 use Rattle.ecma_strict.specs.SearchLaws.{bindingIs, letBoundIs, referenceIs, argumentsSaidIs, parameterIs, awaitBlockIs, awaitUsingIs, forAwaitIs}
 use Rattle.ecma_base.specs.Telling.{Telling, ordinary}
 use Rattle.ecma_strict.specs.Functions.{functionMisplaced, functionMisplacedElse, strictFunction, strictFunctionElse, sloppyFunction, sloppyFunctionElse}
 use Rattle.ecma_strict.specs.FunctionsLaws.{andFalse, bodyStrict, consequentStrict, alternateStrict, bodySloppy, consequentSloppy, alternateSloppy, labelStrict, labelSloppy, labelFree}
-use Rattle.ecma_strict.specs.Changed.{toldOctal, toldNonOctal, firstOctalEscape, firstNonOctalEscape, deletesPrivateAnywhere, saidHead, topUsing, useStrictScoped, scopedInBlock, awaitNameScoped, letBoundSaid, argumentsSaid, awaitInParameterSaid, labelledFunctionSaid}
+use Rattle.ecma_strict.specs.Changed.{toldOctal, toldNonOctal, firstOctalEscape, firstNonOctalEscape, deletesPrivateAnywhere, saidHead, topUsing, useStrictScoped, scopedInBlock, awaitNameScoped, letBoundSaid, argumentsSaid, awaitInParameterSaid, labelledFunctionSaid, reservedName}
 
 -- one of two rules, where the other says nothing
 left : (a b : Bool) (n : ℕ) → b ≡ false → only a n ≡ only (a || b) n
@@ -63,19 +63,19 @@ apart x a b e f = ap (λ (y : ℕ). eqb y b) (eqb-true x a e) ∙ f
 outside : (x a lo hi : ℕ) → eqb x a ≡ true → within a lo hi ≡ false → within x lo hi ≡ false
 outside x a lo hi e f = ap (λ (y : ℕ). within y lo hi) (eqb-true x a e) ∙ f
 
-beyond : (x a lo hi : ℕ) → within x lo hi ≡ true → within a lo hi ≡ false → eqb x a ≡ false
+pub beyond : (x a lo hi : ℕ) → within x lo hi ≡ true → within a lo hi ≡ false → eqb x a ≡ false
 beyond x a lo hi e f = ne-eqb x a (λ q. never (sym e ∙ ap (λ (y : ℕ). within y lo hi) q ∙ f))
 
 module _ (t : ℕ) (ns ss source names : List ℕ) (w : WellFormed t ns ss source names) (n : ℕ) (h : n < count ns) where
   abbrev at : List Finding
   at = findingsAt t ns ss source names n
 
-  -- 2: a reserved word (13.1.1)
+  -- 2 (changed: namesAgree): a reserved word (13.1.1)
   pub code2 : raised 2 at ≡ only (reservedName t ns ss names n) n
   unfolding reservedName
   code2 = atWith 2 n at (identifier ns n) (reservedName t ns ss names n) (checkIdentifier t ns ss names n) (reservedIs t ns ss names n) (λ e. rw e) (at2 t ns ss source names n)
 
-  -- 3 (changed: awaitNameAgrees, blockAgrees): `await` in a static block (13.1.1, 15.7.1)
+  -- 3 (changed: namesAgree, blockAgrees): `await` in a static block (13.1.1, 15.7.1)
   pub code3 : raised 3 at ≡ only (awaitNameScoped t ns ss names n || (awaitExpression ns n && scopedInBlock ns ss n)) n
   unfolding awaitNameScoped
   code3 =

@@ -27,12 +27,11 @@ use Rattle.trees.specs.Trail.{unitOf}
 use Rattle.ecma_dispatch.specs.NodesOf.{raised}
 use Rattle.ecma_base.specs.Strict.{strictCode}
 use Rattle.ecma_base.specs.Telling.{ordinary}
-use Rattle.ecma_strict.specs.Identifiers.{strictReserved, reservedName, bindsEval, assignsEval, useStrictDirective, simpleParameters, containsUseStrict, useStrictThere}
-use Rattle.ecma_base.specs.Contains.{containsFrom, isNode, initializer}
+use Rattle.ecma_strict.specs.Identifiers.{strictReserved, bindsEval, assignsEval, useStrictDirective, simpleParameters, containsUseStrict, useStrictThere}
+use Rattle.ecma_base.specs.Contains.{containsFrom, isNode, initializer, containsIn}
 use Rattle.ecma_strict.specs.Contains.{containsInto, staticBlock, blockBegin, awaitExpression, forAwait, awaitUsing, argumentsReference, argumentsBegin, argumentsInto, parameter, parameterBegin, awaitOrYield, lexicalDeclaration, boundBegin, boundInto, letName}
 use Rattle.ecma_base.specs.Scopes.{scopesFollow}
 use Rattle.ecma_strict.specs.ScopesLaws.{scopesTold}
-use Rattle.ecma_base.specs.Contains.{containsIn}
 use Rattle.ecma_base.specs.ContainsLaws.{containsIs, comes, comesIs, comesHome}
 use Rattle.ecma_strict.specs.SearchLaws.{positive}
 use Rattle.ecma_strict.specs.AgreeLaws.{blockEdge, scopesAre}
@@ -41,7 +40,7 @@ use Rattle.ecma_strict.specs.FunctionsLaws.{strictMisplaced}
 use Rattle.ecma_strict.specs.LabelledLaws.{statementsOf}
 use Rattle.ecma_strict.specs.Standard.{standard12}
 use Rattle.ecma_strict.specs.Theorems.{code2, code3, code4, code5, code6, code14, code15, code16, code25, code33}
-use Rattle.ecma_strict.specs.Changed.{scopedInBlock, awaitNameScoped, letEdge, letBoundSaid, fieldEdge, fieldHome, argumentsSaid, throughClassEdge, awaitInParameterSaid, labelledFunctionSaid}
+use Rattle.ecma_strict.specs.Changed.{reservedName, scopedInBlock, awaitNameScoped, letEdge, letBoundSaid, fieldEdge, fieldHome, argumentsSaid, throughClassEdge, awaitInParameterSaid, labelledFunctionSaid}
 
 -- two ways to say something, of which each says something where the other does
 someSame : (f g : ℕ → List ℕ) (n : ℕ) → ((j : ℕ) → j < n → some (f j) ≡ some (g j)) → (i : ℕ) → some (each f (upto i n)) ≡ some (each g (upto i n))
@@ -167,7 +166,7 @@ module _ (t : ℕ) (ns ss source names : List ℕ) (w : WellFormed t ns ss sourc
           low z = let r = range-of (kindOf ns i) 0 1 z in let r1 = r .1 in let r2 = positive (kindOf ns i) n in eq-eqb (kindOf ns i) 1 (omega arith)
 
           by : (a : Bool) → within (kindOf ns i) 0 1 ≡ a → (b c d : Bool) → ((a || b) || (c && d)) ≡ true → (b || c) ≡ true
-          by true z b c d e = clash (sym (or-first (eqb (kindOf ns i) 1) (eqb (kindOf ns i) 3) (not-true (eqb (kindOf ns i) 1 || eqb (kindOf ns i) 3) x)) ∙ low z)
+          by true z b c d e = clash (sym (not-true (eqb (kindOf ns i) 1) x) ∙ low z)
           by false z true c d e = refl
           by false z false true d e = refl
           by false z false false d e = e
