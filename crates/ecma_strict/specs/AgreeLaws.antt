@@ -24,7 +24,7 @@ use Rattle.ecma_strict.specs.Contains.{awaitEdge, staticBlock, arguments
 use Rattle.ecma_base.specs.Scopes.{blockScope, functionScope}
 use Rattle.ecma_base.specs.ContainsLaws.{upward, unitRoot}
 use Rattle.ecma_strict.specs.SearchLaws.{unitHere, unitPass}
-use Rattle.ecma_strict.specs.Changed.{scopedInBlock, letEdge, letBoundSaid, fieldEdge, fieldHome, argumentsSaid, throughClassEdge, awaitInParameterSaid}
+use Rattle.ecma_strict.specs.Changed.{classPart, scopedInBlock, letEdge, letBoundSaid, fieldEdge, fieldHome, argumentsSaid, throughClassEdge, awaitInParameterSaid}
 
 -- two sets of edges, one larger: where the nearest of the larger set is none of the surplus, it is the nearest of the smaller too
 module _ (ns : List ℕ) (t : Tree ns) (large small : ℕ → ℕ → Bool) (surplus : ℕ → Bool)
@@ -129,9 +129,6 @@ argumentsAgree ns ss names n t h s e =
         go false x false y = refl
 
 -- CODE 33: where neither a static block nor the Initializer of a field stands between
-abbrev pub classPart : List ℕ → ℕ → Bool
-classPart ns u = eqb (kindOf ns u) k.StaticBlock || within (kindOf ns u) k.PropertyDefinition k.AccessorProperty
-
 upTo3 : (a : ℕ) → within a 0 3 ≡ (within a 0 2 || eqb a 3)
 upTo3 a = go (within a 0 3) refl (within a 0 2) refl (eqb a 3) refl
   where

@@ -20,7 +20,7 @@ use Rattle.names.specs.Name.{nameIs}
 use Rattle.names.specs.Words as word
 use Rattle.ecma_base.specs.Telling.{Telling, special}
 use Rattle.ecma_base.specs.Strict.{strictCode}
-use Rattle.ecma_base.specs.Scopes.{mayMakeScope, blockScope, topScope}
+use Rattle.ecma_base.specs.Scopes.{mayMakeScope, blockScope, topScope, scopesFollow}
 use Rattle.ecma_strict.specs.Literals.{textOf, decimalDigit, next, legacyOctalInteger, nonOctalDecimalInteger, numericLiteral, legacyOctalEscape, nonOctalDecimalEscape, escapes, stringLiteral}
 use Rattle.ecma_strict.specs.Delete.{privateReference, derives, deleteExpression}
 use Rattle.ecma_strict.specs.Statements.{declaratorsOf, plainName, single, badHead, headOf, ofHead, usingDeclaration, heldUsing}
@@ -28,7 +28,7 @@ use Rattle.ecma_strict.specs.ReservedWords.{reservedWords}
 use Rattle.ecma_strict.specs.Parameters.{goalModule, yieldParameter, awaitParameter}
 use Rattle.ecma_strict.specs.Identifiers.{identifier, strictReserved, assignsEval, useStrictDirective, simpleParameters}
 use Rattle.ecma_base.specs.Contains.{isNode}
-use Rattle.ecma_strict.specs.Contains.{argumentsReference, parameter, awaitOrYield, lexicalDeclaration, letName}
+use Rattle.ecma_strict.specs.Contains.{awaitEdge, argumentsEdge, parameterEdge, boundEdge, argumentsReference, parameter, awaitOrYield, lexicalDeclaration, letName}
 use Rattle.ecma_strict.specs.Functions.{endsInStatement, annexHolder, labelsFunction, labelEdge}
 
 -- 9, 10, 11: literals
@@ -76,9 +76,13 @@ pub record EscapesTold (ns source : List ℕ) (n : ℕ) : Type 0 where
 
 -- 32: delete of a private reference
 
--- strict code is not asked for, since a private name stands in a class only
+-- strict code is not asked for: in sloppy code a private name stands in no class, so it is an error by another rule (7)
 unfoldable pub deletesPrivateAnywhere : List ℕ → ℕ → Bool
 deletesPrivateAnywhere ns n = deleteExpression ns n && derives ns (privateReference ns) (valueOf ns n)
+
+-- where they agree: the delete stands in strict code
+abbrev pub DeleteTold : List ℕ → List ℕ → ℕ → Type 0
+DeleteTold ns ss n = deletesPrivateAnywhere ns n ≡ true → strictCode ns ss n ≡ true
 
 -- 24: heads of for-in and for-of; 13: using
 
@@ -89,6 +93,10 @@ unsaid ns n d =
 
 unfoldable pub saidHead : List ℕ → List ℕ → ℕ → Bool
 saidHead ns ss n = within (kindOf ns n) k.ForIn k.ForOf && ofHead (λ d. badHead ns ss n d && not (unsaid ns n d)) (headOf ns n)
+
+-- where they agree: the head has one declaration, and it is no such `let` or `const`
+abbrev pub HeadTold : List ℕ → ℕ → Type 0
+HeadTold ns n = ofHead (unsaid ns n) (headOf ns n) ≡ false
 
 -- in a script, where the scope is the top one
 unfoldable pub topUsing : ℕ → List ℕ → List ℕ → ℕ → Bool
@@ -147,12 +155,22 @@ unfoldable pub scopedInBlock : List ℕ → List ℕ → ℕ → Bool
 scopedInBlock ns ss n =
     foldr (λ t r. cond (hasFlag (scopeFlagsOf ss t) scope.StaticBlockScope) true (cond (hasFlag (scopeFlagsOf ss t) scope.FunctionScope) false r)) false (scopeOf ns n ∷ outer ss (scopeOf ns n))
 
+-- where they agree: the scopes follow the tree, and no Initializer of a field stands between the block and n
+pub record BlockTold (ns ss : List ℕ) (n : ℕ) : Type 0 where
+  pub follow : scopesFollow ns ss ≡ true
+  pub field : within (kindOf ns (unitOf ns (awaitEdge ns) n)) k.PropertyDefinition k.AccessorProperty ≡ false
+
 -- 5: not in strict code, where 2 is raised; and the name of a class in the Initializer counts as bound
 abbrev pub letEdge : List ℕ → ℕ → ℕ → Bool
 letEdge ns i j = within (kindOf ns i) k.Program k.Arrow || eqb (kindOf ns i) k.VariableDeclaration
 
 unfoldable pub letBoundSaid : List ℕ → List ℕ → List ℕ → ℕ → Bool
 letBoundSaid ns ss names n = letName ns names n && (not (strictCode ns ss n) && lexicalDeclaration ns (unitOf ns (letEdge ns) n))
+
+-- where they agree: the `let` stands in sloppy code, and is not the name of a class in an Initializer
+pub record LetTold (ns ss names : List ℕ) (n : ℕ) : Type 0 where
+  pub sloppy : letName ns names n ≡ true → strictCode ns ss n ≡ false
+  pub class : letName ns names n ≡ true → eqb (kindOf ns (unitOf ns (boundEdge ns) n)) k.Class ≡ false
 
 -- 6: the Initializer of an auto-accessor is passed over; and a reference at which 4 is raised is left
 abbrev pub fieldEdge : List ℕ → ℕ → ℕ → Bool
@@ -164,12 +182,24 @@ fieldHome ns u = eqb (kindOf ns u) k.StaticBlock || eqb (kindOf ns u) k.Property
 unfoldable pub argumentsSaid : List ℕ → List ℕ → List ℕ → ℕ → Bool
 argumentsSaid ns ss names n = argumentsReference ns names n && (not (assignsEval ns ss names n) && fieldHome ns (unitOf ns (fieldEdge ns) n))
 
+-- where they agree: the `arguments` is not assigned to in strict code, and stands in no auto-accessor
+pub record ArgumentsTold (ns ss names : List ℕ) (n : ℕ) : Type 0 where
+  pub read : argumentsReference ns names n ≡ true → assignsEval ns ss names n ≡ false
+  pub field : argumentsReference ns names n ≡ true → eqb (kindOf ns (unitOf ns (argumentsEdge ns) n)) k.AccessorProperty ≡ false
+
 -- 33: static blocks and the Initializers of fields within a parameter count as its parts
 abbrev pub throughClassEdge : List ℕ → ℕ → ℕ → Bool
 throughClassEdge ns i j = within (kindOf ns i) k.Program k.Arrow || parameter ns i
 
 unfoldable pub awaitInParameterSaid : List ℕ → ℕ → Bool
 awaitInParameterSaid ns n = awaitOrYield ns n && parameter ns (unitOf ns (throughClassEdge ns) n)
+
+-- where they agree: neither a static block nor the Initializer of a field stands between the parameter and n
+abbrev pub classPart : List ℕ → ℕ → Bool
+classPart ns u = eqb (kindOf ns u) k.StaticBlock || within (kindOf ns u) k.PropertyDefinition k.AccessorProperty
+
+abbrev pub ParameterTold : List ℕ → ℕ → Type 0
+ParameterTold ns n = awaitOrYield ns n ≡ true → classPart ns (unitOf ns (parameterEdge ns) n) ≡ false
 
 -- 16: labelled functions
 

@@ -1,41 +1,38 @@
--- THE STANDARD'S RULES WHERE THE RUST'S DIFFER: off each named condition the findings of a node with the code are one where the rule of ECMA-262 is broken, and none elsewhere.
+-- THE STANDARD'S RULES WHERE THE RUST'S DIFFER: on each named condition (Changed) the findings of a node with the code are one where the rule of ECMA-262 is broken, and none elsewhere.
 -- (4, 15, 17 and 31 need no condition: Theorems.)
 use Prim.Native.Nat.{ℕ, _<_}
 use mathlib.Core.Path.{_≡_, refl, ap, _∙_, sym}
 use mathlib.Core.List.{List, [], _++_, append-nil}
-use mathlib.Core.Bool.{Bool, true, false, not, _&&_, _||_}
-use native.Mathlib.Omega.{arith}
+use mathlib.Core.Bool.{Bool, true, false, _&&_, _||_}
 use borrow.Author.Tests.{eqb-true}
 use lib.Dec.{eqb}
-use Rattle.common.specs.Tests.{within}
-use Rattle.tables.specs.Table.{kindOf, parentOf, count}
+use Rattle.tables.specs.Table.{kindOf, count}
 use Rattle.tables.specs.Kinds as k
 use Rattle.checker.specs.Findings.{findingsAt}
 use Rattle.input.specs.InputLaws.{WellFormed}
 use Rattle.trees.specs.Walk.{some, only}
-use Rattle.trees.specs.Trail.{unitOf}
 use Rattle.ecma_dispatch.specs.NodesOf.{raised}
 use Rattle.ecma_base.specs.Telling.{Telling}
 use Rattle.ecma_base.specs.Strict.{strictCode}
 use Rattle.ecma_strict.specs.Literals.{strictOctal, strictNonOctal, strictOctalEscape, strictNonOctalEscape}
 use Rattle.ecma_strict.specs.LiteralsLaws.{octalAgrees, nonOctalAgrees, octalEscapeAgrees, nonOctalEscapeAgrees}
-use Rattle.ecma_strict.specs.Delete.{deletesPrivate}
+use Rattle.ecma_strict.specs.Delete.{privateReference, derives, deleteExpression, deletesPrivate}
+use Rattle.children.specs.Children.{valueOf}
 use Rattle.ecma_strict.specs.DeleteLaws.{deletePrivateAgrees}
-use Rattle.ecma_strict.specs.Statements.{headOf, ofHead, initializedHead, heldUsing, badUsing}
+use Rattle.ecma_strict.specs.Statements.{usingDeclaration, initializedHead, badUsing}
 use Rattle.ecma_strict.specs.StatementsLaws.{headAgrees, usingAgrees}
-use Rattle.ecma_strict.specs.Identifiers.{identifier, identifierError, assignsEval, useStrictThere}
+use Rattle.ecma_strict.specs.Identifiers.{identifier, identifierError, useStrictThere}
 use Rattle.ecma_strict.specs.IdentifiersLaws.{useStrictAgrees}
 use Rattle.ecma_strict.specs.NamesLaws.{namesAgree, namesAgreeOnly, namesSound}
 use Rattle.ecma_strict.specs.ParametersLaws.{blockParameters}
-use Rattle.ecma_strict.specs.Contains.{awaitEdge, argumentsEdge, parameterEdge, boundEdge, awaitExpression, forAwait, awaitUsing, awaitInBlock, argumentsInClass, awaitInParameter, letBound}
+use Rattle.ecma_strict.specs.Contains.{letName, argumentsReference, awaitOrYield, awaitExpression, forAwait, awaitUsing, awaitInBlock, argumentsInClass, awaitInParameter, letBound}
 use Rattle.ecma_base.specs.Scopes.{scopesFollow}
-use Rattle.ecma_base.specs.ScopesLaws.{notProgram}
 use Rattle.ecma_strict.specs.ScopesLaws.{scopesTold, directiveTold, usingTold}
-use Rattle.ecma_strict.specs.AgreeLaws.{letAgrees, argumentsAgree, classPart, parameterAgrees, blockAgrees}
+use Rattle.ecma_strict.specs.AgreeLaws.{letAgrees, argumentsAgree, parameterAgrees, blockAgrees}
 use Rattle.ecma_strict.specs.Functions.{functionMisplaced, functionMisplacedElse, sloppyFunction, sloppyFunctionElse, labelsFunction, labelledFunctionAt}
 use Rattle.ecma_strict.specs.FunctionsLaws.{labelledAgrees, labelledStrict, misplacedAgrees, misplacedElseAgrees}
 use Rattle.ecma_strict.specs.Theorems.{code3, code5, code6, code9, code10, code11, code12, code13, code14, code15, code16, code24, code25, code32, code33, beyond, code2}
-use Rattle.ecma_strict.specs.Changed.{firstOctalEscape, BaseTold, EscapesTold, unsaid, otherScope, useStrictScoped, directivePlaced, awaitNameScoped, scopedInBlock, labelledFunctionSaid, OrdinaryHeld, reservedName, NameTold}
+use Rattle.ecma_strict.specs.Changed.{BlockTold, LetTold, ArgumentsTold, DirectiveTold, UsingTold, HeadTold, DeleteTold, ParameterTold, letBoundSaid, argumentsSaid, topUsing, deletesPrivateAnywhere, awaitInParameterSaid, firstOctalEscape, BaseTold, EscapesTold, useStrictScoped, awaitNameScoped, scopedInBlock, labelledFunctionSaid, OrdinaryHeld, reservedName, NameTold}
 
 module _ (t : ℕ) (ns ss source names : List ℕ) (w : WellFormed t ns ss source names) (n : ℕ) (h : n < count ns) where
   abbrev at : ℕ → List ℕ
@@ -67,23 +64,33 @@ module _ (t : ℕ) (ns ss source names : List ℕ) (w : WellFormed t ns ss sourc
     soundNames s q =
         namesSound told t ns ss names n i (λ e. ap (λ x. x .await) (blockParameters told t ns (w .input .tree) ss s (w .shaped .placed) n h e)) (ap some (sym codes) ∙ q)
 
-  -- 3 at what is no name: where the scopes follow the tree, and no Initializer of a field stands between
-  pub standard3 : identifier ns n ≡ false → (awaitExpression ns n ≡ true → (scopesFollow ns ss ≡ true) × (within (kindOf ns (unitOf ns (awaitEdge ns) n)) k.PropertyDefinition k.AccessorProperty ≡ false))
-      → Rule 3 (awaitExpression ns n && awaitInBlock ns n)
+  block : BlockTold ns ss n → scopedInBlock ns ss n ≡ awaitInBlock ns n
+  block q = blockAgrees ns ss (w .input .tree) (w .input .chained) (w .input .scoped) (scopesTold ns ss (w .input .tree) (q .follow)) n h (q .field)
+
+  -- 3 at what is no name
+  pub standard3 : identifier ns n ≡ false → (awaitExpression ns n ≡ true → BlockTold ns ss n) → Rule 3 (awaitExpression ns n && awaitInBlock ns n)
   unfolding awaitNameScoped
-  standard3 f g = code3 t ns ss source names w n h ∙ rw f (ap (λ x. only x n) (expression (awaitExpression ns n) refl))
+  standard3 f q = code3 t ns ss source names w n h ∙ rw f (ap (λ x. only x n) (go (awaitExpression ns n) refl))
     where
-      expression : (b : Bool) → awaitExpression ns n ≡ b → (awaitExpression ns n && scopedInBlock ns ss n) ≡ (awaitExpression ns n && awaitInBlock ns n)
-      expression true e = ap (λ x. awaitExpression ns n && x) (blockAgrees ns ss (w .input .tree) (w .input .chained) (w .input .scoped) (scopesTold ns ss (w .input .tree) (g e .0)) n h (g e .1))
-      expression false e = rw e
+      go : (b : Bool) → awaitExpression ns n ≡ b → (awaitExpression ns n && scopedInBlock ns ss n) ≡ (awaitExpression ns n && awaitInBlock ns n)
+      go true e = rw (block (q e))
+      go false e = rw e
 
-  -- in sloppy code, not as the name of a class in an Initializer
-  pub standard5 : strictCode ns ss n ≡ false → eqb (kindOf ns (unitOf ns (boundEdge ns) n)) k.Class ≡ false → Rule 5 (letBound ns names n)
-  standard5 s e = code5 t ns ss source names w n h ∙ ap (λ x. only x n) (letAgrees ns ss names n (w .input .tree) h s e)
+  pub standard5 : LetTold ns ss names n → Rule 5 (letBound ns names n)
+  unfolding letBoundSaid letBound
+  standard5 q = code5 t ns ss source names w n h ∙ ap (λ x. only x n) (go (letName ns names n) refl)
+    where
+      go : (b : Bool) → letName ns names n ≡ b → letBoundSaid ns ss names n ≡ letBound ns names n
+      go true e = letAgrees ns ss names n (w .input .tree) h (q .sloppy e) (q .class e)
+      go false e = rw e
 
-  -- where `arguments` is not assigned to in strict code, and in no auto-accessor
-  pub standard6 : assignsEval ns ss names n ≡ false → eqb (kindOf ns (unitOf ns (argumentsEdge ns) n)) k.AccessorProperty ≡ false → Rule 6 (argumentsInClass ns names n)
-  standard6 s e = code6 t ns ss source names w n h ∙ ap (λ x. only x n) (argumentsAgree ns ss names n (w .input .tree) h s e)
+  pub standard6 : ArgumentsTold ns ss names n → Rule 6 (argumentsInClass ns names n)
+  unfolding argumentsSaid argumentsInClass
+  standard6 q = code6 t ns ss source names w n h ∙ ap (λ x. only x n) (go (argumentsReference ns names n) refl)
+    where
+      go : (b : Bool) → argumentsReference ns names n ≡ b → argumentsSaid ns ss names n ≡ argumentsInClass ns names n
+      go true e = argumentsAgree ns ss names n (w .input .tree) h (q .read e) (q .field e)
+      go false e = rw e
 
   -- where the table's base is that of the text, the value's length tells of escapes, and no string has both kinds of escape
   pub standard9 : BaseTold ns source n → EscapesTold ns source n → Rule 9 (strictOctal ns ss source n || strictOctalEscape ns ss source n)
@@ -97,26 +104,30 @@ module _ (t : ℕ) (ns ss source names : List ℕ) (w : WellFormed t ns ss sourc
   pub standard11 : EscapesTold ns source n → Rule 11 (strictNonOctalEscape ns ss source n)
   standard11 e = code11 t ns ss source names w n h ∙ ap (λ x. only x n) (nonOctalEscapeAgrees ns ss source n e)
 
-  -- where the scopes follow the tree, and a directive stands in the prologue of a program or a function
-  pub standard12 : scopesFollow ns ss ≡ true → (kindOf ns n ≡ k.Directive → directivePlaced ns n ≡ true) → Rule 12 (useStrictThere ns names n)
+  -- (`directiveTold` gives the condition where the scopes follow the tree, and a directive stands in the prologue of a program or a function)
+  pub standard12 : (kindOf ns n ≡ k.Directive → DirectiveTold ns ss n) → Rule 12 (useStrictThere ns names n)
   unfolding useStrictScoped useStrictThere
-  standard12 s d = code12 t ns ss source names w n h ∙ ap (λ x. only x n) (go (eqb (kindOf ns n) k.Directive) refl)
+  standard12 q = code12 t ns ss source names w n h ∙ ap (λ x. only x n) (go (eqb (kindOf ns n) k.Directive) refl)
     where
       go : (b : Bool) → eqb (kindOf ns n) k.Directive ≡ b → useStrictScoped ns ss names n ≡ useStrictThere ns names n
-      go true e =
-          let q = eqb-true (kindOf ns n) 23 e in
-          useStrictAgrees ns ss names n
-          (directiveTold ns ss (w .input .tree) s (w .shaped .placed) n (notProgram ns (w .input .tree) n (λ (c : kindOf ns n ≡ 0). omega arith)) h (d q))
+      go true e = useStrictAgrees ns ss names n (q (eqb-true (kindOf ns n) 23 e))
       go false e = rw e
 
-  -- where the scopes follow the tree, no clause of a switch holds the declaration, and nothing around it makes a scope but a Block and the like
-  pub standard13 : scopesFollow ns ss ≡ true → eqb (kindOf ns (parentOf ns n)) k.SwitchCase ≡ false → (otherScope ns n && not (heldUsing ns n)) ≡ false → Rule 13 (badUsing t ns n)
-  standard13 s c o = code13 t ns ss source names w n h ∙ ap (λ x. only x n) (usingAgrees t ns ss n (usingTold ns ss (w .input .tree) s (w .shaped .placed) n h o c))
+  -- (`usingTold` gives the condition where the scopes follow the tree, no clause of a switch holds the declaration, and nothing around it makes a scope but a Block and the like)
+  pub standard13 : (usingDeclaration ns n ≡ true → UsingTold ns ss n) → Rule 13 (badUsing t ns n)
+  unfolding topUsing badUsing
+  standard13 q = code13 t ns ss source names w n h ∙ ap (λ x. only x n) (go (usingDeclaration ns n) refl)
+    where
+      go : (b : Bool) → usingDeclaration ns n ≡ b → topUsing t ns ss n ≡ badUsing t ns n
+      go true e = usingAgrees t ns ss n (q e)
+      go false e = rw e
 
-  -- where the scopes follow the tree, and no Initializer of a field stands between
-  pub standard14 : scopesFollow ns ss ≡ true → within (kindOf ns (unitOf ns (awaitEdge ns) n)) k.PropertyDefinition k.AccessorProperty ≡ false → Rule 14 (awaitUsing ns n && awaitInBlock ns n)
-  standard14 s e =
-      code14 t ns ss source names w n h ∙ ap (λ x. only (awaitUsing ns n && x) n) (blockAgrees ns ss (w .input .tree) (w .input .chained) (w .input .scoped) (scopesTold ns ss (w .input .tree) s) n h e)
+  pub standard14 : (awaitUsing ns n ≡ true → BlockTold ns ss n) → Rule 14 (awaitUsing ns n && awaitInBlock ns n)
+  standard14 q = code14 t ns ss source names w n h ∙ ap (λ x. only x n) (go (awaitUsing ns n) refl)
+    where
+      go : (b : Bool) → awaitUsing ns n ≡ b → (awaitUsing ns n && scopedInBlock ns ss n) ≡ (awaitUsing ns n && awaitInBlock ns n)
+      go true e = rw (block (q e))
+      go false e = rw e
 
   -- in sloppy code (in strict code 15 is raised at the label), where an if or a label holds no async function and no generator
   pub standard16 : (told : Telling) → OrdinaryHeld told ns ss n → strictCode ns ss n ≡ false
@@ -139,18 +150,33 @@ module _ (t : ℕ) (ns ss source names : List ℕ) (w : WellFormed t ns ss sourc
           (rw s (none (labelsFunction ns n) (only (functionMisplaced told ns ss n) n ++ only (functionMisplacedElse told ns ss n) n)))
       go false s = rw (code15 t ns ss source names w n h told, standard16 told c s) (rw s)
 
-  -- where the head has one declaration, and it is no `let` or `const` with a plain name in a for-in
-  pub standard24 : ofHead (unsaid ns n) (headOf ns n) ≡ false → Rule 24 (initializedHead ns ss n)
-  standard24 u = code24 t ns ss source names w n h ∙ ap (λ x. only x n) (headAgrees ns ss n u)
+  pub standard24 : HeadTold ns n → Rule 24 (initializedHead ns ss n)
+  standard24 q = code24 t ns ss source names w n h ∙ ap (λ x. only x n) (headAgrees ns ss n q)
 
-  pub standard25 : scopesFollow ns ss ≡ true → within (kindOf ns (unitOf ns (awaitEdge ns) n)) k.PropertyDefinition k.AccessorProperty ≡ false → Rule 25 (forAwait ns n && awaitInBlock ns n)
-  standard25 s e =
-      code25 t ns ss source names w n h ∙ ap (λ x. only (forAwait ns n && x) n) (blockAgrees ns ss (w .input .tree) (w .input .chained) (w .input .scoped) (scopesTold ns ss (w .input .tree) s) n h e)
+  pub standard25 : (forAwait ns n ≡ true → BlockTold ns ss n) → Rule 25 (forAwait ns n && awaitInBlock ns n)
+  standard25 q = code25 t ns ss source names w n h ∙ ap (λ x. only x n) (go (forAwait ns n) refl)
+    where
+      go : (b : Bool) → forAwait ns n ≡ b → (forAwait ns n && scopedInBlock ns ss n) ≡ (forAwait ns n && awaitInBlock ns n)
+      go true e = rw (block (q e))
+      go false e = rw e
 
-  -- in strict code
-  pub standard32 : strictCode ns ss n ≡ true → Rule 32 (deletesPrivate ns ss n)
-  standard32 s = code32 t ns ss source names w n h ∙ ap (λ x. only x n) (deletePrivateAgrees ns ss n s)
+  pub standard32 : DeleteTold ns ss n → Rule 32 (deletesPrivate ns ss n)
+  unfolding deletesPrivateAnywhere deletesPrivate
+  standard32 q = code32 t ns ss source names w n h ∙ ap (λ x. only x n) (go (deletesPrivateAnywhere ns n) refl)
+    where
+      none : (a b c : Bool) → (a && c) ≡ false → (a && (b && c)) ≡ false
+      none true true c f = f
+      none true false c f = refl
+      none false b c f = refl
 
-  -- where neither a static block nor the Initializer of a field stands between
-  pub standard33 : classPart ns (unitOf ns (parameterEdge ns) n) ≡ false → Rule 33 (awaitInParameter ns n)
-  standard33 e = code33 t ns ss source names w n h ∙ ap (λ x. only x n) (parameterAgrees ns n (w .input .tree) h e)
+      go : (b : Bool) → deletesPrivateAnywhere ns n ≡ b → deletesPrivateAnywhere ns n ≡ deletesPrivate ns ss n
+      go true e = deletePrivateAgrees ns ss n (q e)
+      go false e = e ∙ sym (none (deleteExpression ns n) (strictCode ns ss n) (derives ns (privateReference ns) (valueOf ns n)) e)
+
+  pub standard33 : ParameterTold ns n → Rule 33 (awaitInParameter ns n)
+  unfolding awaitInParameterSaid awaitInParameter
+  standard33 q = code33 t ns ss source names w n h ∙ ap (λ x. only x n) (go (awaitOrYield ns n) refl)
+    where
+      go : (b : Bool) → awaitOrYield ns n ≡ b → awaitInParameterSaid ns n ≡ awaitInParameter ns n
+      go true e = parameterAgrees ns n (w .input .tree) h (q e)
+      go false e = rw e
