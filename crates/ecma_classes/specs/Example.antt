@@ -29,10 +29,11 @@ use Rattle.ecma_dispatch.specs.WithCode.{withCode}
 use Rattle.trees.specs.Rose.{kids, others, forest, partsOf}
 use Rattle.trees.specs.Walk.{walk}
 use Rattle.trees.specs.Trail.{trail, climb}
-use Rattle.ecma_dispatch.specs.NodesOf.{nodesOf, raised}
-use Rattle.ecma_classes.specs.ClassElements.{propName, namesConstructor, isConstructorKind, constructorMethod, isFirstConstructor, classElements, isConstructor, builtTwice, nameMissing, isKeyedProto, protoAgain}
-use Rattle.ecma_classes.specs.PrivateNames.{isPrivateBound, privateName, entries, matched, isEntered, privateEntered, clashIn, privateAgain, invalid, isTableUse, bodyAround, isOutside}
-use Rattle.ecma_classes.specs.Supers.{begins, isTableCall, isTableProperty, isMethod, isObjectMethod, isConstructorMethod, hasHeritage, takesProperty, bareCall, strayCall, strayProperty}
+use Rattle.ecma_dispatch.specs.NodesOf.{raised}
+use Rattle.ecma_classes.specs.ClassElements.{propName, namesConstructor, isConstructorKind, constructorMethod, isFirstConstructor, classElements, nameMissing, keyName}
+use Rattle.ecma_classes.specs.PrivateNames.{isPrivateBound, entries, matched, invalid, bodyAround}
+use Rattle.ecma_classes.specs.Supers.{begins, isMethod, isObjectMethod, isConstructorMethod, hasHeritage, isBare, barsProperty}
+use Rattle.ecma_classes.specs.Changed.{isConstructor, builtTwice, isKeyedProto, protoAgain, isEntered, privateEntered, clashIn, privateAgain, isTableUse, isOutside, isTableCall, isTableProperty}
 use Rattle.ecma_base.specs.Scopes.{followsAt, flaggedAt, classAt, scopesFollow}
 use Rattle.ecma_classes.specs.Theorems.{code1, code7, code8, code26, code27, code28, code29, code30}
 
@@ -128,7 +129,7 @@ unfolding builtTwice classElements isConstructor children firstNode upto range i
 found27 = code27 0 table scopes source bytes well
 
 pub found1 : raised 1 findings ≡ 0 ∷ 49 ∷ []
-unfolding privateAgain privateEntered isPrivateBound isEntered clashIn entries privateName matched protoAgain isKeyedProto children firstNode upto range isChild keep flatMap same nameOf xor
+unfolding privateAgain privateEntered isPrivateBound isEntered clashIn entries keyName matched protoAgain isKeyedProto children firstNode upto range isChild keep flatMap same nameOf xor
 found1 = code1 0 table scopes source bytes well
 
 pub found7 : raised 7 findings ≡ 38 ∷ []
@@ -136,22 +137,22 @@ unfolding isOutside bodyAround a.climb a.above upto range keep
 found7 = code7 0 table scopes source bytes well
 
 pub found8 : withCode 8 findings ≡ record { code = 8; node = record { 0 = 1 }; start = 82; end = 84; start2 = 0; end2 = 0; context = 0 } ∷ []
-unfolding invalid isTableUse privateEntered isPrivateBound isEntered privateName bodyAround walk partsOf forest kids others children firstNode upto range isChild keep flatMap same nameOf a.climb a.above
+unfolding invalid isTableUse privateEntered isPrivateBound isEntered keyName bodyAround walk partsOf forest kids others children firstNode upto range isChild keep flatMap same nameOf a.climb a.above
 found8 = code8 0 table scopes source bytes well
 
 -- of the two constructors of C the standard asks the first of its SuperCall
 pub first28 : keep (isFirstConstructor table bytes) (upto 0 56) ≡ 4 ∷ []
-unfolding isFirstConstructor constructorMethod isConstructorKind namesConstructor propName children firstNode upto range isChild keep same nameOf
+unfolding isFirstConstructor constructorMethod isConstructorKind namesConstructor propName keyName children firstNode upto range isChild keep same nameOf
 first28 = refl
 
 pub found28 : raised 28 findings ≡ 11 ∷ []
-unfolding bareCall isTableCall isConstructorMethod isMethod hasHeritage begins trail climb firstNode upto range isChild keep
+unfolding isBare isTableCall isConstructorMethod isMethod hasHeritage begins trail climb firstNode upto range isChild keep
 found28 = code28 0 table scopes source bytes well fit
 
 pub found29 : raised 29 findings ≡ 28 ∷ []
-unfolding strayCall isTableCall isConstructorMethod isMethod begins trail climb firstNode upto range isChild keep
+unfolding isTableCall isConstructorMethod isMethod begins trail climb firstNode upto range isChild keep
 found29 = code29 0 table scopes source bytes well fit
 
 pub found30 : raised 30 findings ≡ 45 ∷ []
-unfolding strayProperty isTableProperty takesProperty isMethod isObjectMethod begins trail climb firstNode upto range isChild keep
+unfolding isTableProperty barsProperty isMethod isObjectMethod begins trail climb firstNode upto range isChild keep
 found30 = code30 0 table scopes source bytes well fit

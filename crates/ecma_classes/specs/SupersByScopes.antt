@@ -10,7 +10,7 @@ use Rattle.tables.specs.Kinds as k
 use Rattle.supers.specs.Super.{reachOf}
 use Rattle.supers.specs.declared.Reach.{Reach}
 use Rattle.supers.specs.declared.Reach.the-variants.{Legal, Illegal, Underived, Fails}
-use Rattle.ecma_classes.specs.Supers.{isTableCall, isTableProperty}
+use Rattle.ecma_classes.specs.Changed.{isTableCall, isTableProperty}
 
 -- the search ends in a constructor of a class without heritage ..
 abbrev pub isUnderived : Reach → Bool
