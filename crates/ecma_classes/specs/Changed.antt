@@ -19,6 +19,7 @@ use Rattle.names.specs.Name.{same}
 use Rattle.names.specs.Words as word
 use Rattle.children.specs.Children.{keep, children, keyOf, valueOf, functionBodyOf}
 use Rattle.trees.specs.Rose.{treeOf}
+use Rattle.ecma_base.specs.Telling.{Telling, special}
 use Rattle.ecma_classes.specs.ClassElements.{found, keyName, computed, classElements, namesConstructor, constructorTwice, isColon}
 use Rattle.ecma_classes.specs.PrivateNames.{isPrivateBound, entries, isSetter, matched, invalid, isUse, bodyAround}
 use Rattle.ecma_classes.specs.Supers.{isSuperCall, isMethod, isConstructorMethod, isBare, barsProperty, unit}
@@ -170,6 +171,10 @@ tableProperty ns n = isTableProperty ns n && barsProperty ns (unit ns n)
 abbrev pub SupersStand : List ℕ → Type 0
 SupersStand ns = (n : ℕ) → n < count ns → kindOf ns n ≡ k.Super → (kindOf ns (parentOf ns n) ≡ k.Call) ⊎ (kindOf ns (parentOf ns n) ≡ k.OtherMember)
 
--- CONDITION: a method of a class is called "constructor" just where the table calls it one
-abbrev pub MethodsNamed : List ℕ → List ℕ → Type 0
-MethodsNamed ns names = (u : ℕ) → u < count ns → isMethod ns u ≡ true → isTableConstructor ns (parentOf ns u) ≡ namesConstructor ns names (parentOf ns u)
+-- CONDITION: the table calls a method of a class a constructor just where it is called "constructor" and is neither async nor a generator
+abbrev pub MethodsNamed : Telling → List ℕ → List ℕ → Type 0
+MethodsNamed told ns names = (u : ℕ) → u < count ns → isMethod ns u ≡ true → isTableConstructor ns (parentOf ns u) ≡ (namesConstructor ns names (parentOf ns u) && not (special told u))
+
+-- CONDITION: no method called "constructor" is async or a generator; else 28 may be broken too (15.7.1), and the Rust raises 29 alone
+abbrev pub ConstructorsOrdinary : Telling → List ℕ → List ℕ → Type 0
+ConstructorsOrdinary told ns names = (u : ℕ) → u < count ns → isMethod ns u ≡ true → namesConstructor ns names (parentOf ns u) ≡ true → special told u ≡ false

@@ -1,9 +1,11 @@
 -- A table for which all conditions hold: it is well-formed and its scopes are the tree's, so that the theorems apply. It is that of
--- `class C { constructor() { super(); } constructor() {} #p; #p; m() { super(); this.#q; } } class { } a.#b; function f() { super.x; } ({ __proto__: 1, __proto__: 2 })`.
+-- `class C { constructor() { super(); } constructor() {} #p; #p; m() { super(); this.#q; } } class { } a.#b; function f() { super.x; } ({ __proto__: 1, __proto__: 2 });
+-- class E extends C { *constructor() { super(); } static constructor() { super(); } } ({ constructor() { super(); } })`.
 use Prim.Native.Nat.{ℕ}
 use mathlib.Core.Path.{_≡_, refl}
 use mathlib.Core.List.{List, [], _∷_, flatMap}
-use mathlib.Core.Bool.{true, xor}
+use mathlib.Core.Bool.{true, false, xor}
+use lib.Dec.{eqb}
 use Rattle.common.specs.Upto.{upto, range}
 use Rattle.names.specs.Name.{same, nameOf}
 use Rattle.fields.specs.Fields.{wrongTable, wrongSizes, listedFlags, mostExtra, listedExtra, unlistedAt, strayAt}
@@ -30,16 +32,17 @@ use Rattle.trees.specs.Rose.{kids, others, forest, partsOf}
 use Rattle.trees.specs.Walk.{walk}
 use Rattle.trees.specs.Trail.{trail, climb}
 use Rattle.ecma_dispatch.specs.NodesOf.{raised}
-use Rattle.ecma_classes.specs.ClassElements.{propName, namesConstructor, isConstructorKind, constructorMethod, isFirstConstructor, classElements, nameMissing, keyName}
+use Rattle.ecma_classes.specs.ClassElements.{keyName, propName, namesConstructor, isConstructorKind, constructorMethod, isFirstConstructor, classElements, nameMissing}
 use Rattle.ecma_classes.specs.PrivateNames.{isPrivateBound, entries, matched, invalid, bodyAround}
-use Rattle.ecma_classes.specs.Supers.{begins, isMethod, isObjectMethod, isConstructorMethod, hasHeritage, isBare, barsProperty}
+use Rattle.ecma_classes.specs.Supers.{isSuperCall, begins, isMethod, isObjectMethod, isConstructorMethod, hasHeritage, isBare, barsCall, barsProperty, standardStray}
 use Rattle.ecma_classes.specs.Changed.{isConstructor, builtTwice, isKeyedProto, protoAgain, isEntered, privateEntered, clashIn, privateAgain, isTableUse, isOutside, isTableCall, isTableProperty}
+use Rattle.ecma_base.specs.Telling.{Telling, ordinary}
 use Rattle.ecma_base.specs.Scopes.{followsAt, flaggedAt, classAt, scopesFollow}
 use Rattle.ecma_classes.specs.Theorems.{code1, code7, code8, code26, code27, code28, code29, code30}
 
 abbrev pub table : List ℕ
 table =
-    0 ∷ 0 ∷ 0 ∷ 0 ∷ 164 ∷ 0 ∷ 0 ∷ 0 ∷ 0 ∷ 0 ∷
+    0 ∷ 0 ∷ 0 ∷ 0 ∷ 282 ∷ 0 ∷ 0 ∷ 0 ∷ 0 ∷ 0 ∷
     26 ∷ 0 ∷ 3 ∷ 0 ∷ 89 ∷ 0 ∷ 544 ∷ 1 ∷ 0 ∷ 0 ∷
     31 ∷ 1 ∷ 0 ∷ 6 ∷ 7 ∷ 1 ∷ 0 ∷ 0 ∷ 0 ∷ 1 ∷
     27 ∷ 1 ∷ 3 ∷ 8 ∷ 89 ∷ 1 ∷ 0 ∷ 0 ∷ 0 ∷ 0 ∷
@@ -86,7 +89,7 @@ table =
     40 ∷ 43 ∷ 0 ∷ 121 ∷ 128 ∷ 6 ∷ 0 ∷ 0 ∷ 0 ∷ 0 ∷
     37 ∷ 44 ∷ 0 ∷ 121 ∷ 126 ∷ 6 ∷ 0 ∷ 0 ∷ 0 ∷ 0 ∷
     55 ∷ 44 ∷ 0 ∷ 127 ∷ 128 ∷ 6 ∷ 0 ∷ 0 ∷ 0 ∷ 0 ∷
-    22 ∷ 0 ∷ 3 ∷ 132 ∷ 164 ∷ 0 ∷ 0 ∷ 0 ∷ 0 ∷ 0 ∷
+    22 ∷ 0 ∷ 3 ∷ 132 ∷ 165 ∷ 0 ∷ 0 ∷ 0 ∷ 0 ∷ 0 ∷
     55 ∷ 47 ∷ 0 ∷ 132 ∷ 164 ∷ 0 ∷ 0 ∷ 1 ∷ 0 ∷ 0 ∷
     43 ∷ 48 ∷ 1 ∷ 133 ∷ 163 ∷ 0 ∷ 0 ∷ 0 ∷ 0 ∷ 0 ∷
     44 ∷ 49 ∷ 0 ∷ 135 ∷ 147 ∷ 0 ∷ 0 ∷ 0 ∷ 0 ∷ 0 ∷
@@ -94,16 +97,47 @@ table =
     35 ∷ 50 ∷ 1 ∷ 146 ∷ 147 ∷ 0 ∷ 0 ∷ 0 ∷ 0 ∷ 0 ∷
     44 ∷ 49 ∷ 0 ∷ 149 ∷ 161 ∷ 0 ∷ 0 ∷ 0 ∷ 0 ∷ 0 ∷
     55 ∷ 53 ∷ 2 ∷ 149 ∷ 158 ∷ 0 ∷ 0 ∷ 0 ∷ 39 ∷ 9 ∷
-    35 ∷ 53 ∷ 1 ∷ 160 ∷ 161 ∷ 0 ∷ 0 ∷ 0 ∷ 0 ∷ 0 ∷ []
+    35 ∷ 53 ∷ 1 ∷ 160 ∷ 161 ∷ 0 ∷ 0 ∷ 0 ∷ 0 ∷ 0 ∷
+    26 ∷ 0 ∷ 3 ∷ 166 ∷ 249 ∷ 0 ∷ 608 ∷ 7 ∷ 0 ∷ 0 ∷
+    31 ∷ 56 ∷ 0 ∷ 172 ∷ 173 ∷ 7 ∷ 0 ∷ 0 ∷ 48 ∷ 1 ∷
+    32 ∷ 56 ∷ 0 ∷ 182 ∷ 183 ∷ 7 ∷ 0 ∷ 0 ∷ 49 ∷ 1 ∷
+    27 ∷ 56 ∷ 3 ∷ 184 ∷ 249 ∷ 7 ∷ 0 ∷ 0 ∷ 0 ∷ 0 ∷
+    28 ∷ 59 ∷ 0 ∷ 186 ∷ 213 ∷ 7 ∷ 0 ∷ 1 ∷ 0 ∷ 0 ∷
+    55 ∷ 60 ∷ 2 ∷ 187 ∷ 198 ∷ 7 ∷ 0 ∷ 0 ∷ 50 ∷ 11 ∷
+    1 ∷ 60 ∷ 1 ∷ 198 ∷ 213 ∷ 7 ∷ 1024 ∷ 0 ∷ 0 ∷ 0 ∷
+    55 ∷ 62 ∷ 0 ∷ 198 ∷ 200 ∷ 8 ∷ 0 ∷ 0 ∷ 0 ∷ 0 ∷
+    4 ∷ 62 ∷ 3 ∷ 201 ∷ 213 ∷ 8 ∷ 0 ∷ 0 ∷ 0 ∷ 0 ∷
+    22 ∷ 64 ∷ 3 ∷ 203 ∷ 211 ∷ 8 ∷ 0 ∷ 0 ∷ 0 ∷ 0 ∷
+    38 ∷ 65 ∷ 0 ∷ 203 ∷ 210 ∷ 8 ∷ 0 ∷ 0 ∷ 0 ∷ 0 ∷
+    37 ∷ 66 ∷ 0 ∷ 203 ∷ 208 ∷ 8 ∷ 0 ∷ 0 ∷ 0 ∷ 0 ∷
+    28 ∷ 59 ∷ 0 ∷ 214 ∷ 247 ∷ 7 ∷ 2 ∷ 1 ∷ 0 ∷ 0 ∷
+    55 ∷ 68 ∷ 2 ∷ 221 ∷ 232 ∷ 7 ∷ 0 ∷ 0 ∷ 61 ∷ 11 ∷
+    1 ∷ 68 ∷ 1 ∷ 232 ∷ 247 ∷ 7 ∷ 1024 ∷ 0 ∷ 0 ∷ 0 ∷
+    55 ∷ 70 ∷ 0 ∷ 232 ∷ 234 ∷ 9 ∷ 0 ∷ 0 ∷ 0 ∷ 0 ∷
+    4 ∷ 70 ∷ 3 ∷ 235 ∷ 247 ∷ 9 ∷ 0 ∷ 0 ∷ 0 ∷ 0 ∷
+    22 ∷ 72 ∷ 3 ∷ 237 ∷ 245 ∷ 9 ∷ 0 ∷ 0 ∷ 0 ∷ 0 ∷
+    38 ∷ 73 ∷ 0 ∷ 237 ∷ 244 ∷ 9 ∷ 0 ∷ 0 ∷ 0 ∷ 0 ∷
+    37 ∷ 74 ∷ 0 ∷ 237 ∷ 242 ∷ 9 ∷ 0 ∷ 0 ∷ 0 ∷ 0 ∷
+    22 ∷ 0 ∷ 3 ∷ 250 ∷ 282 ∷ 0 ∷ 0 ∷ 0 ∷ 0 ∷ 0 ∷
+    55 ∷ 76 ∷ 0 ∷ 250 ∷ 282 ∷ 0 ∷ 0 ∷ 1 ∷ 0 ∷ 0 ∷
+    43 ∷ 77 ∷ 1 ∷ 251 ∷ 281 ∷ 0 ∷ 0 ∷ 0 ∷ 0 ∷ 0 ∷
+    44 ∷ 78 ∷ 0 ∷ 253 ∷ 279 ∷ 0 ∷ 128 ∷ 0 ∷ 0 ∷ 0 ∷
+    55 ∷ 79 ∷ 2 ∷ 253 ∷ 264 ∷ 0 ∷ 0 ∷ 0 ∷ 72 ∷ 11 ∷
+    1 ∷ 79 ∷ 1 ∷ 264 ∷ 279 ∷ 0 ∷ 1024 ∷ 0 ∷ 0 ∷ 0 ∷
+    55 ∷ 81 ∷ 0 ∷ 264 ∷ 266 ∷ 10 ∷ 0 ∷ 0 ∷ 0 ∷ 0 ∷
+    4 ∷ 81 ∷ 3 ∷ 267 ∷ 279 ∷ 10 ∷ 0 ∷ 0 ∷ 0 ∷ 0 ∷
+    22 ∷ 83 ∷ 3 ∷ 269 ∷ 277 ∷ 10 ∷ 0 ∷ 0 ∷ 0 ∷ 0 ∷
+    38 ∷ 84 ∷ 0 ∷ 269 ∷ 276 ∷ 10 ∷ 0 ∷ 0 ∷ 0 ∷ 0 ∷
+    37 ∷ 85 ∷ 0 ∷ 269 ∷ 274 ∷ 10 ∷ 0 ∷ 0 ∷ 0 ∷ 0 ∷ []
 
 abbrev pub scopes : List ℕ
-scopes = 0 ∷ 2 ∷ 0 ∷ 0 ∷ 1 ∷ 1 ∷ 1 ∷ 5 ∷ 6 ∷ 1 ∷ 5 ∷ 14 ∷ 1 ∷ 5 ∷ 23 ∷ 0 ∷ 1 ∷ 33 ∷ 0 ∷ 4 ∷ 39 ∷ []
+scopes = 0 ∷ 2 ∷ 0 ∷ 0 ∷ 1 ∷ 1 ∷ 1 ∷ 5 ∷ 6 ∷ 1 ∷ 5 ∷ 14 ∷ 1 ∷ 5 ∷ 23 ∷ 0 ∷ 1 ∷ 33 ∷ 0 ∷ 4 ∷ 39 ∷ 0 ∷ 1 ∷ 56 ∷ 7 ∷ 5 ∷ 62 ∷ 7 ∷ 5 ∷ 70 ∷ 0 ∷ 4 ∷ 81 ∷ []
 
 abbrev pub bytes : List ℕ
-bytes = 67 ∷ 99 ∷ 111 ∷ 110 ∷ 115 ∷ 116 ∷ 114 ∷ 117 ∷ 99 ∷ 116 ∷ 111 ∷ 114 ∷ 99 ∷ 111 ∷ 110 ∷ 115 ∷ 116 ∷ 114 ∷ 117 ∷ 99 ∷ 116 ∷ 111 ∷ 114 ∷ 112 ∷ 112 ∷ 109 ∷ 113 ∷ 97 ∷ 98 ∷ 102 ∷ 95 ∷ 95 ∷ 112 ∷ 114 ∷ 111 ∷ 116 ∷ 111 ∷ 95 ∷ 95 ∷ 95 ∷ 95 ∷ 112 ∷ 114 ∷ 111 ∷ 116 ∷ 111 ∷ 95 ∷ 95 ∷ []
+bytes = 67 ∷ 99 ∷ 111 ∷ 110 ∷ 115 ∷ 116 ∷ 114 ∷ 117 ∷ 99 ∷ 116 ∷ 111 ∷ 114 ∷ 99 ∷ 111 ∷ 110 ∷ 115 ∷ 116 ∷ 114 ∷ 117 ∷ 99 ∷ 116 ∷ 111 ∷ 114 ∷ 112 ∷ 112 ∷ 109 ∷ 113 ∷ 97 ∷ 98 ∷ 102 ∷ 95 ∷ 95 ∷ 112 ∷ 114 ∷ 111 ∷ 116 ∷ 111 ∷ 95 ∷ 95 ∷ 95 ∷ 95 ∷ 112 ∷ 114 ∷ 111 ∷ 116 ∷ 111 ∷ 95 ∷ 95 ∷ 69 ∷ 67 ∷ 99 ∷ 111 ∷ 110 ∷ 115 ∷ 116 ∷ 114 ∷ 117 ∷ 99 ∷ 116 ∷ 111 ∷ 114 ∷ 99 ∷ 111 ∷ 110 ∷ 115 ∷ 116 ∷ 114 ∷ 117 ∷ 99 ∷ 116 ∷ 111 ∷ 114 ∷ 99 ∷ 111 ∷ 110 ∷ 115 ∷ 116 ∷ 114 ∷ 117 ∷ 99 ∷ 116 ∷ 111 ∷ 114 ∷ []
 
 abbrev pub source : List ℕ
-source = 99 ∷ 108 ∷ 97 ∷ 115 ∷ 115 ∷ 32 ∷ 67 ∷ 32 ∷ 123 ∷ 32 ∷ 99 ∷ 111 ∷ 110 ∷ 115 ∷ 116 ∷ 114 ∷ 117 ∷ 99 ∷ 116 ∷ 111 ∷ 114 ∷ 40 ∷ 41 ∷ 32 ∷ 123 ∷ 32 ∷ 115 ∷ 117 ∷ 112 ∷ 101 ∷ 114 ∷ 40 ∷ 41 ∷ 59 ∷ 32 ∷ 125 ∷ 32 ∷ 99 ∷ 111 ∷ 110 ∷ 115 ∷ 116 ∷ 114 ∷ 117 ∷ 99 ∷ 116 ∷ 111 ∷ 114 ∷ 40 ∷ 41 ∷ 32 ∷ 123 ∷ 125 ∷ 32 ∷ 35 ∷ 112 ∷ 59 ∷ 32 ∷ 35 ∷ 112 ∷ 59 ∷ 32 ∷ 109 ∷ 40 ∷ 41 ∷ 32 ∷ 123 ∷ 32 ∷ 115 ∷ 117 ∷ 112 ∷ 101 ∷ 114 ∷ 40 ∷ 41 ∷ 59 ∷ 32 ∷ 116 ∷ 104 ∷ 105 ∷ 115 ∷ 46 ∷ 35 ∷ 113 ∷ 59 ∷ 32 ∷ 125 ∷ 32 ∷ 125 ∷ 32 ∷ 99 ∷ 108 ∷ 97 ∷ 115 ∷ 115 ∷ 32 ∷ 123 ∷ 32 ∷ 125 ∷ 32 ∷ 97 ∷ 46 ∷ 35 ∷ 98 ∷ 59 ∷ 32 ∷ 102 ∷ 117 ∷ 110 ∷ 99 ∷ 116 ∷ 105 ∷ 111 ∷ 110 ∷ 32 ∷ 102 ∷ 40 ∷ 41 ∷ 32 ∷ 123 ∷ 32 ∷ 115 ∷ 117 ∷ 112 ∷ 101 ∷ 114 ∷ 46 ∷ 120 ∷ 59 ∷ 32 ∷ 125 ∷ 32 ∷ 40 ∷ 123 ∷ 32 ∷ 95 ∷ 95 ∷ 112 ∷ 114 ∷ 111 ∷ 116 ∷ 111 ∷ 95 ∷ 95 ∷ 58 ∷ 32 ∷ 49 ∷ 44 ∷ 32 ∷ 95 ∷ 95 ∷ 112 ∷ 114 ∷ 111 ∷ 116 ∷ 111 ∷ 95 ∷ 95 ∷ 58 ∷ 32 ∷ 50 ∷ 32 ∷ 125 ∷ 41 ∷ []
+source = 99 ∷ 108 ∷ 97 ∷ 115 ∷ 115 ∷ 32 ∷ 67 ∷ 32 ∷ 123 ∷ 32 ∷ 99 ∷ 111 ∷ 110 ∷ 115 ∷ 116 ∷ 114 ∷ 117 ∷ 99 ∷ 116 ∷ 111 ∷ 114 ∷ 40 ∷ 41 ∷ 32 ∷ 123 ∷ 32 ∷ 115 ∷ 117 ∷ 112 ∷ 101 ∷ 114 ∷ 40 ∷ 41 ∷ 59 ∷ 32 ∷ 125 ∷ 32 ∷ 99 ∷ 111 ∷ 110 ∷ 115 ∷ 116 ∷ 114 ∷ 117 ∷ 99 ∷ 116 ∷ 111 ∷ 114 ∷ 40 ∷ 41 ∷ 32 ∷ 123 ∷ 125 ∷ 32 ∷ 35 ∷ 112 ∷ 59 ∷ 32 ∷ 35 ∷ 112 ∷ 59 ∷ 32 ∷ 109 ∷ 40 ∷ 41 ∷ 32 ∷ 123 ∷ 32 ∷ 115 ∷ 117 ∷ 112 ∷ 101 ∷ 114 ∷ 40 ∷ 41 ∷ 59 ∷ 32 ∷ 116 ∷ 104 ∷ 105 ∷ 115 ∷ 46 ∷ 35 ∷ 113 ∷ 59 ∷ 32 ∷ 125 ∷ 32 ∷ 125 ∷ 32 ∷ 99 ∷ 108 ∷ 97 ∷ 115 ∷ 115 ∷ 32 ∷ 123 ∷ 32 ∷ 125 ∷ 32 ∷ 97 ∷ 46 ∷ 35 ∷ 98 ∷ 59 ∷ 32 ∷ 102 ∷ 117 ∷ 110 ∷ 99 ∷ 116 ∷ 105 ∷ 111 ∷ 110 ∷ 32 ∷ 102 ∷ 40 ∷ 41 ∷ 32 ∷ 123 ∷ 32 ∷ 115 ∷ 117 ∷ 112 ∷ 101 ∷ 114 ∷ 46 ∷ 120 ∷ 59 ∷ 32 ∷ 125 ∷ 32 ∷ 40 ∷ 123 ∷ 32 ∷ 95 ∷ 95 ∷ 112 ∷ 114 ∷ 111 ∷ 116 ∷ 111 ∷ 95 ∷ 95 ∷ 58 ∷ 32 ∷ 49 ∷ 44 ∷ 32 ∷ 95 ∷ 95 ∷ 112 ∷ 114 ∷ 111 ∷ 116 ∷ 111 ∷ 95 ∷ 95 ∷ 58 ∷ 32 ∷ 50 ∷ 32 ∷ 125 ∷ 41 ∷ 59 ∷ 32 ∷ 99 ∷ 108 ∷ 97 ∷ 115 ∷ 115 ∷ 32 ∷ 69 ∷ 32 ∷ 101 ∷ 120 ∷ 116 ∷ 101 ∷ 110 ∷ 100 ∷ 115 ∷ 32 ∷ 67 ∷ 32 ∷ 123 ∷ 32 ∷ 42 ∷ 99 ∷ 111 ∷ 110 ∷ 115 ∷ 116 ∷ 114 ∷ 117 ∷ 99 ∷ 116 ∷ 111 ∷ 114 ∷ 40 ∷ 41 ∷ 32 ∷ 123 ∷ 32 ∷ 115 ∷ 117 ∷ 112 ∷ 101 ∷ 114 ∷ 40 ∷ 41 ∷ 59 ∷ 32 ∷ 125 ∷ 32 ∷ 115 ∷ 116 ∷ 97 ∷ 116 ∷ 105 ∷ 99 ∷ 32 ∷ 99 ∷ 111 ∷ 110 ∷ 115 ∷ 116 ∷ 114 ∷ 117 ∷ 99 ∷ 116 ∷ 111 ∷ 114 ∷ 40 ∷ 41 ∷ 32 ∷ 123 ∷ 32 ∷ 115 ∷ 117 ∷ 112 ∷ 101 ∷ 114 ∷ 40 ∷ 41 ∷ 59 ∷ 32 ∷ 125 ∷ 32 ∷ 125 ∷ 32 ∷ 40 ∷ 123 ∷ 32 ∷ 99 ∷ 111 ∷ 110 ∷ 115 ∷ 116 ∷ 114 ∷ 117 ∷ 99 ∷ 116 ∷ 111 ∷ 114 ∷ 40 ∷ 41 ∷ 32 ∷ 123 ∷ 32 ∷ 115 ∷ 117 ∷ 112 ∷ 101 ∷ 114 ∷ 40 ∷ 41 ∷ 59 ∷ 32 ∷ 125 ∷ 32 ∷ 125 ∷ 41 ∷ []
 
 passes : inputRefusal 0 table scopes source bytes ≡ Passed
 unfolding wrongTable wrongSizes listedFlags mostExtra listedExtra unlistedAt strayAt misplacedAt depthFrom depthIf brokenAt chainOn misscopedAt isStatement mayBeStatement isHolder strayStatement strayHeld strayAlternate strayInSwitch strayCase tryPart strayInTry strayClause strayInClause strayFunctionBody strayClassBody strayElement strayValue misplacedStatement misplacedPart misplacedElement misplaced misplacedChildAt isDefault defaults wrongBody wrongAlternate wrongDefault wrongTry wrongClause wrongLabel wrongFunction wrongClass wrongValue wrongElement wrongStatement wrongPart wrongHome wrongCountAt misshapenAt lower refusalOf inputRefusal first keep children howMany isChild firstNode a.climb a.above on nearestOf isValueOf partOf placeOf objectUse methodUse functionUse stepAt reachFrom reachOf failsAt upto range
@@ -140,19 +174,32 @@ pub found8 : withCode 8 findings ≡ record { code = 8; node = record { 0 = 1 };
 unfolding invalid isTableUse privateEntered isPrivateBound isEntered keyName bodyAround walk partsOf forest kids others children firstNode upto range isChild keep flatMap same nameOf a.climb a.above
 found8 = code8 0 table scopes source bytes well
 
--- of the two constructors of C the standard asks the first of its SuperCall
-pub first28 : keep (isFirstConstructor table bytes) (upto 0 56) ≡ 4 ∷ []
-unfolding isFirstConstructor constructorMethod isConstructorKind namesConstructor propName keyName children firstNode upto range isChild keep same nameOf
-first28 = refl
-
 pub found28 : raised 28 findings ≡ 11 ∷ []
 unfolding isBare isTableCall isConstructorMethod isMethod hasHeritage begins trail climb firstNode upto range isChild keep
 found28 = code28 0 table scopes source bytes well fit
 
-pub found29 : raised 29 findings ≡ 28 ∷ []
+pub found29 : raised 29 findings ≡ 28 ∷ 67 ∷ 75 ∷ 86 ∷ []
 unfolding isTableCall isConstructorMethod isMethod begins trail climb firstNode upto range isChild keep
 found29 = code29 0 table scopes source bytes well fit
 
 pub found30 : raised 30 findings ≡ 45 ∷ []
 unfolding isTableProperty barsProperty isMethod isObjectMethod begins trail climb firstNode upto range isChild keep
 found30 = code30 0 table scopes source bytes well fit
+
+-- the standard's rules: of the two constructors of C the first is asked of its SuperCall; a static method and an object's method are none, whatever their names
+pub first28 : keep (isFirstConstructor table bytes) (upto 0 87) ≡ 4 ∷ 60 ∷ []
+unfolding isFirstConstructor constructorMethod isConstructorKind namesConstructor propName keyName children firstNode upto range isChild keep same nameOf
+first28 = refl
+
+-- 62 is the generator
+abbrev pub told : Telling
+told = record { async = λ f. false; generator = λ f. eqb f 62 }
+
+pub standard29 : keep (standardStray told table bytes) (upto 0 87) ≡ 28 ∷ 67 ∷ 75 ∷ 86 ∷ []
+unfolding isSuperCall barsCall isMethod isObjectMethod namesConstructor propName keyName begins trail climb children firstNode upto range isChild keep same nameOf
+standard29 = refl
+
+-- were it none, its SuperCall would be no error
+pub ordinary29 : keep (standardStray ordinary table bytes) (upto 0 87) ≡ 28 ∷ 75 ∷ 86 ∷ []
+unfolding isSuperCall barsCall isMethod isObjectMethod namesConstructor propName keyName begins trail climb children firstNode upto range isChild keep same nameOf
+ordinary29 = refl

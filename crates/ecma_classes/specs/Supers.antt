@@ -10,6 +10,7 @@ use Rattle.tables.specs.Extras as extra
 use Rattle.tables.specs.NodeFlag as flag
 use Rattle.children.specs.Children.{valueOf}
 use Rattle.trees.specs.Trail.{unitOf}
+use Rattle.ecma_base.specs.Telling.{Telling, special}
 use Rattle.ecma_base.specs.Contains.{isNode, initializer, containsIn}
 use Rattle.ecma_classes.specs.ClassElements.{namesConstructor, isFirstConstructor}
 
@@ -66,8 +67,8 @@ isConstructorMethod ns constructs u = isMethod ns u && constructs (parentOf ns u
 unfoldable pub isBare : List ℕ → (ℕ → Bool) → ℕ → Bool
 isBare ns constructs u = isConstructorMethod ns constructs u && not (hasHeritage ns u)
 
-unfoldable pub barsCall : List ℕ → List ℕ → ℕ → Bool
-barsCall ns names u =
+unfoldable pub barsCall : Telling → List ℕ → List ℕ → ℕ → Bool
+barsCall told ns names u =
     -- 16.1.1 ScriptBody, 16.2.1.1 ModuleBody: "Contains super"
     eqb u 0
     -- 15.7.1 ClassStaticBlockBody, FieldDefinition: "Contains SuperCall"
@@ -76,8 +77,10 @@ barsCall ns names u =
     || (isObjectMethod ns u
     -- 15.7.1 ClassElement : MethodDefinition, its PropName not "constructor", and static MethodDefinition: "HasDirectSuper of MethodDefinition"
     || ((isMethod ns u && not (namesConstructor ns names (parentOf ns u)))
+    -- 15.5.1 GeneratorMethod, 15.6.1 AsyncGeneratorMethod, 15.8.1 AsyncMethod: "HasDirectSuper of GeneratorMethod" and so on, whatever the PropName
+    || (((isMethod ns u || isObjectMethod ns u) && special told u)
     -- 15.2.1, 15.5.1, 15.6.1, 15.8.1, functions: "Contains SuperCall"
-    || isPlainFunction ns u)))
+    || isPlainFunction ns u))))
 
 unfoldable pub barsProperty : List ℕ → ℕ → Bool
 barsProperty ns u =
@@ -91,15 +94,15 @@ abbrev pub bareError : List ℕ → List ℕ → ℕ → Bool
 bareError ns names u = isBare ns (isFirstConstructor ns names) u && unitContains ns (isSuperCall ns) u
 
 -- .. 29 ..
-abbrev pub callError : List ℕ → List ℕ → ℕ → Bool
-callError ns names u = barsCall ns names u && unitContains ns (isSuperCall ns) u
+abbrev pub callError : Telling → List ℕ → List ℕ → ℕ → Bool
+callError told ns names u = barsCall told ns names u && unitContains ns (isSuperCall ns) u
 
 -- .. 30
 abbrev pub propertyError : List ℕ → ℕ → Bool
 propertyError ns u = barsProperty ns u && unitContains ns (isSuperProperty ns) u
 
-abbrev pub superError : List ℕ → List ℕ → ℕ → Bool
-superError ns names u = bareError ns names u || (callError ns names u || propertyError ns u)
+abbrev pub superError : Telling → List ℕ → List ℕ → ℕ → Bool
+superError told ns names u = bareError ns names u || (callError told ns names u || propertyError ns u)
 
 -- THE SAME AT THE SUPER: it is a SuperCall or a SuperProperty, and the unit that it is in is such a unit (units28 to units30)
 abbrev pub unit : List ℕ → ℕ → ℕ
@@ -108,8 +111,8 @@ unit ns n = unitOf ns (begins ns) n
 abbrev pub standardBare : List ℕ → List ℕ → ℕ → Bool
 standardBare ns names n = isSuperCall ns n && isBare ns (isFirstConstructor ns names) (unit ns n)
 
-abbrev pub standardStray : List ℕ → List ℕ → ℕ → Bool
-standardStray ns names n = isSuperCall ns n && barsCall ns names (unit ns n)
+abbrev pub standardStray : Telling → List ℕ → List ℕ → ℕ → Bool
+standardStray told ns names n = isSuperCall ns n && barsCall told ns names (unit ns n)
 
 abbrev pub standardProperty : List ℕ → ℕ → Bool
 standardProperty ns n = isSuperProperty ns n && barsProperty ns (unit ns n)

@@ -1,6 +1,6 @@
 -- CHANGED RULES BY THE SCOPES, codes 28 to 30. "Tables that no source text yields are judged by the definitions" (document 01): where a table's scopes are not the tree's, the Rust's search
 -- through the scopes (crates/supers, specs/Super.antt: reachOf) decides. The rules of this file name that search, and no other definition of this crate does. Where the scopes
--- follow the tree (scopesFollow), they are the rules by the tree of Supers.antt: bare-by-tree, stray-by-tree, property-by-tree.
+-- follow the tree (scopesFollow), they are the rules by the tree of Changed.antt: bare-by-tree, stray-by-tree, property-by-tree.
 use Prim.Native.Nat.{ℕ}
 use mathlib.Core.List.{List}
 use mathlib.Core.Bool.{Bool, true, false, _&&_}

@@ -29,10 +29,11 @@ use Rattle.checker.specs.Findings.{findingsAt}
 use Rattle.ecma_dispatch.specs.WithCode.{withCode}
 use Rattle.ecma_dispatch.specs.Dispatch.{at28, at29, at30}
 use Rattle.ecma_dispatch.specs.NodesOf.{nodesOf, raised}
+use Rattle.ecma_base.specs.Telling.{Telling, special}
 use Rattle.ecma_classes.specs.RaisingLaws.{raising-code}
 use Rattle.ecma_classes.specs.ClassElements.{namesConstructor}
 use Rattle.ecma_classes.specs.Supers.{begins, isMethod, isConstructorMethod, classOf, hasHeritage, isObjectMethod, isBlockOrField, isBare, barsCall, barsProperty, isSuperCall, isSuperProperty, standardStray, standardProperty}
-use Rattle.ecma_classes.specs.Changed.{eachBare, isTableConstructor, isTableCall, isTableProperty, tableBare, tableStray, tableProperty, MethodsNamed, SupersStand}
+use Rattle.ecma_classes.specs.Changed.{eachBare, isTableConstructor, isTableCall, isTableProperty, tableBare, tableStray, tableProperty, SupersStand, MethodsNamed, ConstructorsOrdinary}
 use Rattle.ecma_classes.specs.ScopesFitLaws.{ScopesFit}
 use Rattle.ecma_classes.specs.SuperSearchLaws.{isValue, value-is, inUnit, search-is, no-root, above-other, above-body}
 
@@ -246,7 +247,7 @@ method-kind ns u e =
     eqb-true (kindOf ns (parentOf ns u)) k.MethodDefinition
     (and-left (eqb (kindOf ns (parentOf ns u)) k.MethodDefinition) (isValue ns (parentOf ns u) u) (and-right (eqb (kindOf ns u) k.Function) (eqb (kindOf ns (parentOf ns u)) k.MethodDefinition && isValue ns (parentOf ns u) u) e))
 
--- where each Super stands in a SuperCall or a SuperProperty, the rules are the standard's; of 28, asked of each constructor
+-- where each Super stands in a SuperCall or a SuperProperty and the table calls constructors what is, the rules are the standard's; of 28, asked of each constructor
 module _ (ns names : List ℕ) (tree : Tree ns) (stand : SupersStand ns) (n : ℕ) (h : n < count ns) where
   call-same : isTableCall ns n ≡ isSuperCall ns n
   unfolding isTableCall isSuperCall
@@ -270,18 +271,6 @@ module _ (ns names : List ℕ) (tree : Tree ns) (stand : SupersStand ns) (n : �
   below : u < count ns
   below = unit-is ns tree n h .below
 
-  constructor-same : MethodsNamed ns names → isConstructorMethod ns (isTableConstructor ns) u ≡ isConstructorMethod ns (namesConstructor ns names) u
-  unfolding isConstructorMethod
-  constructor-same w = go (isMethod ns u) refl
-    where
-      go : (b : Bool) → isMethod ns u ≡ b → (b && isTableConstructor ns (parentOf ns u)) ≡ (b && namesConstructor ns names (parentOf ns u))
-      go true e = w u below e
-      go false e = refl
-
-  pub bare-same : MethodsNamed ns names → tableBare ns n ≡ eachBare ns names n
-  unfolding isBare
-  bare-same w = rw (call-same, constructor-same w)
-
   -- no two of the productions
   not-program : u ≡ 0 → isMethod ns u ≡ false
   unfolding isMethod
@@ -301,33 +290,71 @@ module _ (ns names : List ℕ) (tree : Tree ns) (stand : SupersStand ns) (n : �
       off true = refl
       off false = refl
 
-  -- a unit bars SuperCall unless it is a constructor
-  bars-call : MethodsNamed ns names → barsCall ns names u ≡ not (isConstructorMethod ns (isTableConstructor ns) u)
-  unfolding barsCall isConstructorMethod
-  bars-call w =
-      ⊎-elim (λ (q : u ≡ 0). rw (not-program q, q))
-      (λ (q : unitKind ns u ≡ true). go (eqb u 0) refl (eqb (kindOf ns u) k.Function) (isBlockOrField ns u) refl q (isObjectMethod ns u) refl (isMethod ns u) refl) (unit-is ns tree n h .kind)
-    where
-      by : (a b : Bool) → a ≡ b → (not b || false) ≡ not a
-      by true true e = refl
-      by true false e = never e
-      by false true e = never (sym e)
-      by false false e = refl
-
-      go : (z : Bool) → eqb u 0 ≡ z → (f b : Bool) → isBlockOrField ns u ≡ b → (f || b) ≡ true → (o : Bool) → isObjectMethod ns u ≡ o → (m : Bool) → isMethod ns u ≡ m
-          → (z || (b || (o || ((m && not (namesConstructor ns names (parentOf ns u))) || (f && not (m || o)))))) ≡ not (m && isTableConstructor ns (parentOf ns u))
-      go true p f b q r o s true t = never (sym t ∙ not-program (eqb-true u 0 p))
-      go true p f b q r o s false t = refl
-      go false p f true q r o s true t = never (sym t ∙ not-function q)
-      go false p f true q r o s false t = refl
-      go false p true false q r true s true t = never (sym t ∙ not-object s)
-      go false p true false q r true s false t = refl
-      go false p true false q r false s true t = by (isTableConstructor ns (parentOf ns u)) (namesConstructor ns names (parentOf ns u)) (w u below t)
-      go false p true false q r false s false t = refl
-      go false p false false q r o s m t = never (sym r)
-
-  pub stray-same : MethodsNamed ns names → tableStray ns n ≡ standardStray ns names n
-  stray-same w = rw (call-same, bars-call w)
-
   pub property-rule-same : tableProperty ns n ≡ standardProperty ns n
   property-rule-same = rw property-same
+
+  module _ (told : Telling) (w : MethodsNamed told ns names) where
+    -- a unit bars SuperCall unless it is a constructor
+    bars-call : barsCall told ns names u ≡ not (isConstructorMethod ns (isTableConstructor ns) u)
+    unfolding barsCall isConstructorMethod
+    bars-call =
+        ⊎-elim (λ (q : u ≡ 0). rw (not-program q, q))
+        (λ (q : unitKind ns u ≡ true). go (eqb u 0) refl (eqb (kindOf ns u) k.Function) (isBlockOrField ns u) refl q (isObjectMethod ns u) refl (isMethod ns u) refl) (unit-is ns tree n h .kind)
+      where
+        by : (t b s : Bool) → t ≡ (b && not s) → (not b || (s || false)) ≡ not t
+        by t true true e = rw e
+        by t true false e = rw e
+        by t false s e = rw e
+
+        go : (z : Bool) → eqb u 0 ≡ z → (f b : Bool) → isBlockOrField ns u ≡ b → (f || b) ≡ true → (o : Bool) → isObjectMethod ns u ≡ o → (m : Bool) → isMethod ns u ≡ m
+            → (z || (b || (o || ((m && not (namesConstructor ns names (parentOf ns u))) || (((m || o) && special told u) || (f && not (m || o))))))) ≡ not (m && isTableConstructor ns (parentOf ns u))
+        go true x f b q r o s true t = never (sym t ∙ not-program (eqb-true u 0 x))
+        go true x f b q r o s false t = refl
+        go false x f true q r o s true t = never (sym t ∙ not-function q)
+        go false x f true q r o s false t = refl
+        go false x true false q r true s true t = never (sym t ∙ not-object s)
+        go false x true false q r true s false t = refl
+        go false x true false q r false s true t = by (isTableConstructor ns (parentOf ns u)) (namesConstructor ns names (parentOf ns u)) (special told u) (w u below t)
+        go false x true false q r false s false t = refl
+        go false x false false q r o s m t = never (sym r)
+
+    pub stray-same : tableStray ns n ≡ standardStray told ns names n
+    stray-same = rw (call-same, bars-call)
+
+    constructor-same : ConstructorsOrdinary told ns names → isConstructorMethod ns (isTableConstructor ns) u ≡ isConstructorMethod ns (namesConstructor ns names) u
+    unfolding isConstructorMethod
+    constructor-same o = go (isMethod ns u) refl
+      where
+        by : isMethod ns u ≡ true → (b : Bool) → namesConstructor ns names (parentOf ns u) ≡ b → (b && not (special told u)) ≡ b
+        by e true q = rw (o u below e q)
+        by e false q = refl
+
+        go : (b : Bool) → isMethod ns u ≡ b → (b && isTableConstructor ns (parentOf ns u)) ≡ (b && namesConstructor ns names (parentOf ns u))
+        go true e = w u below e ∙ by e (namesConstructor ns names (parentOf ns u)) refl
+        go false e = refl
+
+    pub bare-same : ConstructorsOrdinary told ns names → tableBare ns n ≡ eachBare ns names n
+    unfolding isBare
+    bare-same o = rw (call-same, constructor-same o)
+
+    -- without that condition one of the three rules is broken where one of the standard's is: what is a constructor by its name alone breaks that of 29
+    named-too : isConstructorMethod ns (isTableConstructor ns) u ≡ true → isConstructorMethod ns (namesConstructor ns names) u ≡ true
+    unfolding isConstructorMethod
+    named-too e =
+        let m = and-left (isMethod ns u) (isTableConstructor ns (parentOf ns u)) e in
+        rw m (and-left (namesConstructor ns names (parentOf ns u)) (not (special told u)) (sym (w u below m) ∙ and-right (isMethod ns u) (isTableConstructor ns (parentOf ns u)) e))
+
+    pub super-same : (eachBare ns names n || (standardStray told ns names n || standardProperty ns n)) ≡ (tableBare ns n || (tableStray ns n || tableProperty ns n))
+    unfolding isBare
+    super-same = rw (call-same, bars-call, property-same) (go (isSuperCall ns n) (isConstructorMethod ns (isTableConstructor ns) u) refl)
+      where
+        first : (a x : Bool) → (a || (true || x)) ≡ true
+        first true x = refl
+        first false x = refl
+
+        go : (c b : Bool) → isConstructorMethod ns (isTableConstructor ns) u ≡ b
+            → ((c && (isConstructorMethod ns (namesConstructor ns names) u && not (hasHeritage ns u))) || ((c && not b) || standardProperty ns n))
+            ≡ ((c && (b && not (hasHeritage ns u))) || ((c && not b) || standardProperty ns n))
+        go true true e = rw (named-too e)
+        go true false e = first (isConstructorMethod ns (namesConstructor ns names) u && not (hasHeritage ns u)) (standardProperty ns n)
+        go false b e = refl

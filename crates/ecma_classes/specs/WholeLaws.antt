@@ -179,8 +179,8 @@ module _ (ns : List ℕ) (tree : Tree ns) where
       go false r = r
 
   -- some unit has a node that breaks a rule just where some node breaks it, if the program doesn't
-  units-all : (rule : ℕ → Bool) → rule 0 ≡ false → any (λ u. some (inUnit ns rule u)) (upto 0 (count ns)) ≡ some (keep rule (upto 0 (count ns)))
-  units-all rule e = both-ways _ _ to from ∙ sym (some-kept rule (upto 0 (count ns)))
+  units-all : (rule : ℕ → Bool) → rule 0 ≡ false → any (λ u. some (inUnit ns rule u)) (upto 0 (count ns)) ≡ any rule (upto 0 (count ns))
+  units-all rule e = both-ways _ _ to from
     where
       positive : (j : ℕ) → rule j ≡ true → 0 < j
       positive j r = ⊎-elim (λ (q : 0 ≡ j). never (sym (subst (λ (x : ℕ). rule x ≡ true) (sym q) r) ∙ e)) (λ (q : 0 < j). q) (eq-or-lt-of-le (omega arith))
@@ -206,7 +206,7 @@ module _ (ns : List ℕ) (tree : Tree ns) where
 
   -- some unit breaks a rule, by Contains (8.5.1), just where some node does
   pub any-unit : (sought rule : ℕ → Bool) → sought 0 ≡ false
-      → any (λ u. rule u && unitContains ns sought u) (upto 0 (count ns)) ≡ some (keep (λ n. sought n && rule (unitOf ns (begins ns) n)) (upto 0 (count ns)))
+      → any (λ u. rule u && unitContains ns sought u) (upto 0 (count ns)) ≡ any (λ n. sought n && rule (unitOf ns (begins ns) n)) (upto 0 (count ns))
   any-unit sought rule e =
       any-upto (λ u. rule u && unitContains ns sought u) (λ u. some (inUnit ns (λ n. sought n && rule (unitOf ns (begins ns) n)) u)) 0 (count ns) (λ u a b. unit-rule ns sought tree rule u b)
       ∙ units-all (λ n. sought n && rule (unitOf ns (begins ns) n)) (rw e)
