@@ -2,11 +2,17 @@
 -- `class C { constructor() { super(); } constructor() {} #p; #p; m() { super(); this.#q; } } class { } a.#b; function f() { super.x; } ({ __proto__: 1, __proto__: 2 });
 -- class E extends C { *constructor() { super(); } static constructor() { super(); } } ({ constructor() { super(); } })`.
 use Prim.Native.Nat.{ℕ}
-use mathlib.Core.Path.{_≡_, refl}
+use mathlib.Core.Path.{_≡_, refl, sym, _∙_}
 use mathlib.Core.List.{List, [], _∷_, flatMap}
-use mathlib.Core.Bool.{true, false, xor}
+use mathlib.Core.Bool.{Bool, true, false, not, xor, _&&_, _||_}
+use mathlib.Core.Logic.{_⊎_, inl, inr, ⊎-elim}
+use native.Mathlib.Omega.{arith}
+use borrow.Author.Tests.{eq-eqb, eqb-true}
 use lib.Dec.{eqb}
-use Rattle.common.specs.Upto.{upto, range}
+use Rattle.common.specs.Upto.{upto, range, all, all-upto}
+use Rattle.common.specs.Bools.{never, either}
+use Rattle.tables.specs.Table.{kindOf, parentOf, count}
+use Rattle.tables.specs.Kinds as k
 use Rattle.names.specs.Name.{same, nameOf}
 use Rattle.fields.specs.Fields.{wrongTable, wrongSizes, listedFlags, mostExtra, listedExtra, unlistedAt, strayAt}
 use Rattle.tree.specs.Tree.{misplacedAt, depthFrom, depthIf}
@@ -34,11 +40,12 @@ use Rattle.trees.specs.Trail.{trail, climb}
 use Rattle.ecma_dispatch.specs.NodesOf.{raised}
 use Rattle.ecma_classes.specs.ClassElements.{keyName, propName, namesConstructor, isConstructorKind, constructorMethod, isFirstConstructor, classElements, nameMissing}
 use Rattle.ecma_classes.specs.PrivateNames.{isPrivateBound, entries, matched, invalid, bodyAround}
-use Rattle.ecma_classes.specs.Supers.{isSuperCall, begins, isMethod, isObjectMethod, isConstructorMethod, hasHeritage, isBare, barsCall, barsProperty, standardStray}
-use Rattle.ecma_classes.specs.Changed.{isConstructor, builtTwice, isKeyedProto, protoAgain, isEntered, privateEntered, clashIn, privateAgain, isTableUse, isOutside, isTableCall, isTableProperty}
-use Rattle.ecma_base.specs.Telling.{Telling, ordinary}
+use Rattle.ecma_classes.specs.Supers.{isSuperCall, begins, isMethod, isObjectMethod, isConstructorMethod, hasHeritage, isBare, isSuperProperty, barsCall, barsProperty, superError, standardStray}
+use Rattle.ecma_classes.specs.Changed.{isConstructor, builtTwice, isKeyedProto, protoAgain, isEntered, privateEntered, clashIn, privateAgain, isTableUse, isOutside, isTableCall, isTableProperty, isTableConstructor, SupersStand, MethodsNamed}
+use Rattle.ecma_base.specs.Contains.{contains, containsAny}
+use Rattle.ecma_base.specs.Telling.{Telling, special, ordinary}
 use Rattle.ecma_base.specs.Scopes.{followsAt, flaggedAt, classAt, scopesFollow}
-use Rattle.ecma_classes.specs.Theorems.{code1, code7, code8, code26, code27, code28, code29, code30}
+use Rattle.ecma_classes.specs.Theorems.{code1, code7, code8, code26, code27, code28, code29, code29-standard, code30}
 
 abbrev pub table : List ℕ
 table =
@@ -203,3 +210,43 @@ standard29 = refl
 pub ordinary29 : keep (standardStray ordinary table bytes) (upto 0 87) ≡ 28 ∷ 75 ∷ 86 ∷ []
 unfolding isSuperCall barsCall isMethod isObjectMethod namesConstructor propName keyName begins trail climb children firstNode upto range isChild keep same nameOf
 ordinary29 = refl
+
+-- the units that break some rule on `super`, by Contains: the first constructor of C, m, f, the constructors of E and that of the object
+pub broken : keep (superError told table bytes) (upto 0 87) ≡ 6 ∷ 23 ∷ 39 ∷ 62 ∷ 70 ∷ 81 ∷ []
+unfolding isBare isConstructorMethod isFirstConstructor constructorMethod isConstructorKind hasHeritage isSuperCall isSuperProperty barsCall barsProperty isMethod isObjectMethod namesConstructor propName keyName begins contains containsAny partsOf forest kids others children firstNode upto range isChild keep same nameOf
+broken = refl
+
+-- the conditions of 29 and 30 hold, so that theorem applies
+stand-test : all (λ n. not (eqb (kindOf table n) k.Super) || (eqb (kindOf table (parentOf table n)) k.Call || eqb (kindOf table (parentOf table n)) k.OtherMember)) (upto 0 (count table)) ≡ true
+unfolding upto range
+stand-test = refl
+
+pub stand : SupersStand table
+stand n h e =
+    go (all-upto (λ n. not (eqb (kindOf table n) k.Super) || (eqb (kindOf table (parentOf table n)) k.Call || eqb (kindOf table (parentOf table n)) k.OtherMember)) 0 (count table) stand-test n (omega arith) h)
+  where
+    go : (not (eqb (kindOf table n) k.Super) || (eqb (kindOf table (parentOf table n)) k.Call || eqb (kindOf table (parentOf table n)) k.OtherMember)) ≡ true
+        → (kindOf table (parentOf table n) ≡ k.Call) ⊎ (kindOf table (parentOf table n) ≡ k.OtherMember)
+    go x =
+        ⊎-elim (λ q. inl (eqb-true (kindOf table (parentOf table n)) k.Call q)) (λ q. inr (eqb-true (kindOf table (parentOf table n)) k.OtherMember q))
+        (either (eqb (kindOf table (parentOf table n)) k.Call) (eqb (kindOf table (parentOf table n)) k.OtherMember) (sym (rw (eq-eqb (kindOf table n) k.Super e)) ∙ x))
+
+abbrev alike : ℕ → Bool
+alike u = not (isMethod table u) || not (xor (isTableConstructor table (parentOf table u)) (namesConstructor table bytes (parentOf table u) && not (special told u)))
+
+named-test : all alike (upto 0 (count table)) ≡ true
+unfolding isMethod namesConstructor propName keyName firstNode upto range isChild same nameOf xor
+named-test = refl
+
+pub named : MethodsNamed told table bytes
+unfolding xor
+named u h e = go (isTableConstructor table (parentOf table u)) (namesConstructor table bytes (parentOf table u) && not (special told u)) (sym (rw e) ∙ all-upto alike 0 (count table) named-test u (omega arith) h)
+  where
+    go : (a b : Bool) → not (xor a b) ≡ true → a ≡ b
+    go true true x = refl
+    go true false x = never (sym x)
+    go false true x = never (sym x)
+    go false false x = refl
+
+pub applies : raised 29 findings ≡ keep (standardStray told table bytes) (upto 0 (count table))
+applies = code29-standard 0 table scopes source bytes well fit stand told named
