@@ -140,11 +140,11 @@ ConstructorsNamed ns names n = (e : ℕ) → member e (classElements ns n) ≡ t
 
 -- 28 to 30: `super`
 
--- CHANGED RULE: 28 asks each constructor, so of a class that has two (27) the second too
+-- CHANGED RULE: 28 asks each constructor, not ConstructorMethod of ClassBody alone, which is the first: so of a class that has two (27) the second too
 abbrev pub eachBare : List ℕ → List ℕ → ℕ → Bool
 eachBare ns names n = isSuperCall ns n && isBare ns (namesConstructor ns names) (unit ns n)
 
--- CONDITION: no class has two (15.7.1)
+-- CONDITION: no class has two, as 15.7.1 wants
 abbrev pub OneConstructor : List ℕ → List ℕ → Type 0
 OneConstructor ns names = (n : ℕ) → n < count ns → constructorTwice ns names n ≡ false
 
@@ -155,15 +155,15 @@ isTableCall ns n = eqb (kindOf ns n) k.Super && within (kindOf ns (parentOf ns n
 unfoldable pub isTableProperty : List ℕ → ℕ → Bool
 isTableProperty ns n = eqb (kindOf ns n) k.Super && not (within (kindOf ns (parentOf ns n)) k.Call k.New)
 
--- CHANGED RULES: of these, and of what the table calls a constructor: 28 in one without heritage ..
+-- CHANGED RULES: by these, and by what the table calls a constructor, not by the name; what is async or a generator isn't asked. 28: a call in a constructor of a class without heritage ..
 abbrev pub tableBare : List ℕ → ℕ → Bool
 tableBare ns n = isTableCall ns n && isBare ns (isTableConstructor ns) (unit ns n)
 
--- .. 29 in all but constructors ..
+-- .. 29: a call in no constructor ..
 abbrev pub tableStray : List ℕ → ℕ → Bool
 tableStray ns n = isTableCall ns n && not (isConstructorMethod ns (isTableConstructor ns) (unit ns n))
 
--- .. 30
+-- .. 30: any other Super where the standard bars a SuperProperty
 abbrev pub tableProperty : List ℕ → ℕ → Bool
 tableProperty ns n = isTableProperty ns n && barsProperty ns (unit ns n)
 

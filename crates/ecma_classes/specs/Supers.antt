@@ -33,7 +33,7 @@ begins ns i j =
 abbrev pub unitContains : List ℕ → (ℕ → Bool) → ℕ → Bool
 unitContains ns sought u = containsIn ns sought (begins ns) u
 
--- a function is that of a MethodDefinition of a class ..
+-- THE PRODUCTIONS: a function is that of a MethodDefinition of a class ..
 unfoldable pub isMethod : List ℕ → ℕ → Bool
 isMethod ns u = eqb (kindOf ns u) k.Function && (eqb (kindOf ns (parentOf ns u)) k.MethodDefinition && isNode (valueOf ns (parentOf ns u)) u)
 
@@ -62,49 +62,52 @@ hasHeritage ns u = hasFlag (flagsOf ns (classOf ns u)) flag.Heritage
 unfoldable pub isConstructorMethod : List ℕ → (ℕ → Bool) → ℕ → Bool
 isConstructorMethod ns constructs u = isMethod ns u && constructs (parentOf ns u)
 
--- THE EARLY ERRORS: the units in which a SuperCall or a SuperProperty is one, production by production
+-- THE EARLY ERRORS, production by production: the units that may not contain a SuperCall, or a SuperProperty. A SuperCall:
 -- 15.7.1, "ClassTail : ClassHeritage opt { ClassBody }": "ClassHeritage is not present and .. HasDirectSuper of constructor"
 unfoldable pub isBare : List ℕ → (ℕ → Bool) → ℕ → Bool
 isBare ns constructs u = isConstructorMethod ns constructs u && not (hasHeritage ns u)
 
+-- all other productions that speak of it
 unfoldable pub barsCall : Telling → List ℕ → List ℕ → ℕ → Bool
 barsCall told ns names u =
     -- 16.1.1 ScriptBody, 16.2.1.1 ModuleBody: "Contains super"
     eqb u 0
-    -- 15.7.1 ClassStaticBlockBody, FieldDefinition: "Contains SuperCall"
+    -- 15.7.1 ClassStaticBlockBody, FieldDefinition: "ClassStaticBlockStatementList Contains SuperCall", "Initializer Contains SuperCall"
     || (isBlockOrField ns u
     -- 13.2.5.1 PropertyDefinition : MethodDefinition: "HasDirectSuper of MethodDefinition"
     || (isObjectMethod ns u
-    -- 15.7.1 ClassElement : MethodDefinition, its PropName not "constructor", and static MethodDefinition: "HasDirectSuper of MethodDefinition"
+    -- 15.7.1 ClassElement : MethodDefinition: "PropName of MethodDefinition is not "constructor" and HasDirectSuper of MethodDefinition"; static MethodDefinition: "HasDirectSuper of MethodDefinition"
     || ((isMethod ns u && not (namesConstructor ns names (parentOf ns u)))
-    -- 15.5.1 GeneratorMethod, 15.6.1 AsyncGeneratorMethod, 15.8.1 AsyncMethod: "HasDirectSuper of GeneratorMethod" and so on, whatever the PropName
+    -- 15.5.1 GeneratorMethod, 15.6.1 AsyncGeneratorMethod, 15.8.1 AsyncMethod: "HasDirectSuper of GeneratorMethod" and so on
     || (((isMethod ns u || isObjectMethod ns u) && special told u)
-    -- 15.2.1, 15.5.1, 15.6.1, 15.8.1, functions: "Contains SuperCall"
+    -- 15.2.1, 15.5.1, 15.6.1, 15.8.1, functions: "FormalParameters Contains SuperCall", "FunctionBody Contains SuperCall"
     || isPlainFunction ns u))))
 
+-- a SuperProperty
 unfoldable pub barsProperty : List ℕ → ℕ → Bool
 barsProperty ns u =
     -- 16.1.1 ScriptBody, 16.2.1.1 ModuleBody: "Contains super"
     eqb u 0
-    -- 15.2.1, 15.5.1, 15.6.1, 15.8.1, functions: "Contains SuperProperty"
+    -- 15.2.1, 15.5.1, 15.6.1, 15.8.1, functions: "FormalParameters Contains SuperProperty", "FunctionBody Contains SuperProperty"
     || isPlainFunction ns u
 
--- .. and the errors. 28: "Let constructor be ConstructorMethod of ClassBody" ..
+-- u breaks one of them. ClassTail: "Let constructor be ConstructorMethod of ClassBody" (code 28) ..
 abbrev pub bareError : List ℕ → List ℕ → ℕ → Bool
 bareError ns names u = isBare ns (isFirstConstructor ns names) u && unitContains ns (isSuperCall ns) u
 
--- .. 29 ..
+-- .. the others on SuperCall (29) ..
 abbrev pub callError : Telling → List ℕ → List ℕ → ℕ → Bool
 callError told ns names u = barsCall told ns names u && unitContains ns (isSuperCall ns) u
 
--- .. 30
+-- .. those on SuperProperty (30) ..
 abbrev pub propertyError : List ℕ → ℕ → Bool
 propertyError ns u = barsProperty ns u && unitContains ns (isSuperProperty ns) u
 
+-- .. any
 abbrev pub superError : Telling → List ℕ → List ℕ → ℕ → Bool
 superError told ns names u = bareError ns names u || (callError told ns names u || propertyError ns u)
 
--- THE SAME AT THE SUPER: it is a SuperCall or a SuperProperty, and the unit that it is in is such a unit (units28 to units30)
+-- THE RULE AT THE SUPER: it is a SuperCall or a SuperProperty, and its unit may not contain one. A unit breaks an error just where one of its Supers does (units28 to units30).
 abbrev pub unit : List ℕ → ℕ → ℕ
 unit ns n = unitOf ns (begins ns) n
 

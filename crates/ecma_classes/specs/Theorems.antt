@@ -38,7 +38,7 @@ use Rattle.ecma_classes.specs.ClassElementsLaws.{class-name, second-cons
 use Rattle.ecma_classes.specs.ObjectsLaws.{times, proto-again, proto-agrees, proto-once}
 use Rattle.ecma_classes.specs.PrivateTwiceLaws.{some-kept, flat-alike, private-again, again-some, again-once, entered-all, entered-rising}
 use Rattle.ecma_classes.specs.PrivateNamesLaws.{invalidAt, invalid-list, valid-none, private-outside, outside-invalid, private-undeclared, invalid-same, class-above, body-of-class}
-use Rattle.ecma_base.specs.Telling.{Telling}
+use Rattle.ecma_base.specs.Telling.{Telling, ordinary}
 use Rattle.ecma_base.specs.Scopes.{scopesFollow}
 use Rattle.ecma_classes.specs.ScopesFitLaws.{ScopesFit, fit-of}
 use Rattle.ecma_classes.specs.SupersLaws.{super-bare, super-call, super-property, bare-same, stray-same, property-rule-same, super-same}
@@ -216,7 +216,14 @@ module _ (t : ℕ) (ns ss source names : List ℕ) (w : WellFormed t ns ss sourc
       pub code30-standard : raised 30 findings ≡ keep (standardProperty ns) nodes
       code30-standard = code30 ∙ keep-upto (tableProperty ns) (standardProperty ns) 0 (count ns) (λ j a b. property-rule-same ns names (w .input .tree) stand j b)
 
-      -- 28 and 29 of every telling of which functions are async or generators
+      -- there is a finding just where some unit breaks the rule
+      pub program30 : some (raised 30 findings) ≡ any (propertyError ns) nodes
+      program30 = ap (λ (l : List ℕ). some l) code30-standard ∙ some-kept (standardProperty ns) nodes ∙ sym any30
+
+      -- 28 and 29 of every telling of which functions are async or generators; at `ordinary`, by which the Rust goes, the condition of 28 holds
+      pub all-ordinary : ConstructorsOrdinary ordinary ns names
+      all-ordinary u h m e = refl
+
       module _ (told : Telling) (named : MethodsNamed told ns names) where
         -- 28 of each constructor, and of the first where no class has two
         pub code28-each : ConstructorsOrdinary told ns names → raised 28 findings ≡ keep (eachBare ns names) nodes
@@ -229,15 +236,11 @@ module _ (t : ℕ) (ns ss source names : List ℕ) (w : WellFormed t ns ss sourc
         pub code29-standard : raised 29 findings ≡ keep (standardStray told ns names) nodes
         code29-standard = code29 ∙ keep-upto (tableStray ns) (standardStray told ns names) 0 (count ns) (λ j a b. stray-same ns names (w .input .tree) stand j b told named)
 
-        -- there is a finding just where some unit breaks the rule
         pub program28 : ConstructorsOrdinary told ns names → OneConstructor ns names → some (raised 28 findings) ≡ any (bareError ns names) nodes
         program28 o once = ap (λ (l : List ℕ). some l) (code28-standard o once) ∙ some-kept (standardBare ns names) nodes ∙ sym any28
 
         pub program29 : some (raised 29 findings) ≡ any (callError told ns names) nodes
         program29 = ap (λ (l : List ℕ). some l) code29-standard ∙ some-kept (standardStray told ns names) nodes ∙ sym (any29 told)
-
-        pub program30 : some (raised 30 findings) ≡ any (propertyError ns) nodes
-        program30 = ap (λ (l : List ℕ). some l) code30-standard ∙ some-kept (standardProperty ns) nodes ∙ sym any30
 
         -- and no finding of the three just where no production's early error on `super` applies
         pub super-clean : OneConstructor ns names → any (superError told ns names) nodes ≡ (some (raised 28 findings) || (some (raised 29 findings) || some (raised 30 findings)))
