@@ -26,12 +26,12 @@ use Rattle.ecma_labels.specs.Breaches.{duplicateLabelAt, breakNotNestedAt}
 use Rattle.ecma_labels.specs.Changed.{plainContinueNotNestedAt, noLabelAt, noLoopAt, inProgram}
 use Rattle.ecma_labels.specs.Theorems as labels
 use Rattle.ecma_strict.specs.Theorems.{EarlyErrors, earlyErrors}
-use Rattle.ecma_classes.specs.ClassElements.{sameNode, nameMissing, builtTwice, protoAgain}
-use Rattle.ecma_classes.specs.ObjectsLaws.{times}
-use Rattle.ecma_classes.specs.PrivateNames.{privateEntered, privateAgain, isClassBody, isOutside, invalidInTable, bodyAround}
-use Rattle.ecma_base.specs.Scopes.{scopesFollow}
-use Rattle.ecma_classes.specs.Supers.{tableBare, tableStray, tableProperty}
+use Rattle.ecma_classes.specs.ClassElements.{nameMissing}
+use Rattle.ecma_classes.specs.PrivateNames.{sameNode, isClassBody, bodyAround}
+use Rattle.ecma_classes.specs.Changed.{builtTwice, protoAgain, privateEntered, privateAgain, isOutside, invalidInTable, tableBare, tableStray, tableProperty}
 use Rattle.ecma_classes.specs.SupersByScopes.{bareByScopes, strayByScopes, propertyByScopes}
+use Rattle.ecma_classes.specs.ObjectsLaws.{times}
+use Rattle.ecma_base.specs.Scopes.{scopesFollow}
 use Rattle.ecma_classes.specs.Theorems as classes
 
 -- a finding 8 for each of these nodes, at the Class whose body is nearest

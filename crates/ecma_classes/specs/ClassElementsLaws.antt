@@ -27,7 +27,8 @@ use Rattle.ecma_dispatch.specs.WithCode.{withCode}
 use Rattle.ecma_dispatch.specs.Dispatch.{at26, at27}
 use Rattle.ecma_dispatch.specs.NodesOf.{nodesOf, raised}
 use Rattle.ecma_classes.specs.RaisingLaws.{raising-code, keep-same, keep-alike}
-use Rattle.ecma_classes.specs.ClassElements.{found, bodyIn, elementsIn, classElements, isConstructor, builtTwice, namesConstructor, constructorTwice, ConstructorsNamed, nameMissing}
+use Rattle.ecma_classes.specs.ClassElements.{found, elementsIn, classElements, namesConstructor, constructorTwice, nameMissing}
+use Rattle.ecma_classes.specs.Changed.{bodyIn, isConstructor, builtTwice, ConstructorsNamed}
 
 found-at : (f : Found) → isAt f ≡ found f
 found-at (At m) = refl

@@ -1,10 +1,18 @@
 -- A table for which all conditions hold: it is well-formed and its scopes are the tree's, so that the theorems apply. It is that of
--- `class C { constructor() { super(); } constructor() {} #p; #p; m() { super(); this.#q; } } class { } a.#b; function f() { super.x; } ({ __proto__: 1, __proto__: 2 })`.
+-- `class C { constructor() { super(); } constructor() {} #p; #p; m() { super(); this.#q; } } class { } a.#b; function f() { super.x; } ({ __proto__: 1, __proto__: 2 });
+-- class E extends C { *constructor() { super(); } static constructor() { super(); } } ({ constructor() { super(); } })`.
 use Prim.Native.Nat.{ℕ}
-use mathlib.Core.Path.{_≡_, refl}
+use mathlib.Core.Path.{_≡_, refl, sym, _∙_}
 use mathlib.Core.List.{List, [], _∷_, flatMap}
-use mathlib.Core.Bool.{true, xor}
-use Rattle.common.specs.Upto.{upto, range}
+use mathlib.Core.Bool.{Bool, true, false, not, xor, _&&_, _||_}
+use mathlib.Core.Logic.{_⊎_, inl, inr, ⊎-elim}
+use native.Mathlib.Omega.{arith}
+use borrow.Author.Tests.{eq-eqb, eqb-true}
+use lib.Dec.{eqb}
+use Rattle.common.specs.Upto.{upto, range, all, all-upto}
+use Rattle.common.specs.Bools.{never, either}
+use Rattle.tables.specs.Table.{kindOf, parentOf, count}
+use Rattle.tables.specs.Kinds as k
 use Rattle.names.specs.Name.{same, nameOf}
 use Rattle.fields.specs.Fields.{wrongTable, wrongSizes, listedFlags, mostExtra, listedExtra, unlistedAt, strayAt}
 use Rattle.tree.specs.Tree.{misplacedAt, depthFrom, depthIf}
@@ -29,16 +37,19 @@ use Rattle.ecma_dispatch.specs.WithCode.{withCode}
 use Rattle.trees.specs.Rose.{kids, others, forest, partsOf}
 use Rattle.trees.specs.Walk.{walk}
 use Rattle.trees.specs.Trail.{trail, climb}
-use Rattle.ecma_dispatch.specs.NodesOf.{nodesOf, raised}
-use Rattle.ecma_classes.specs.ClassElements.{propName, namesConstructor, isConstructorKind, constructorMethod, isFirstConstructor, classElements, isConstructor, builtTwice, nameMissing, isKeyedProto, protoAgain}
-use Rattle.ecma_classes.specs.PrivateNames.{isPrivateBound, privateName, entries, matched, isEntered, privateEntered, clashIn, privateAgain, invalid, isTableUse, bodyAround, isOutside}
-use Rattle.ecma_classes.specs.Supers.{begins, isTableCall, isTableProperty, isMethod, isObjectMethod, isConstructorMethod, hasHeritage, takesProperty, bareCall, strayCall, strayProperty}
+use Rattle.ecma_dispatch.specs.NodesOf.{raised}
+use Rattle.ecma_classes.specs.ClassElements.{keyName, propName, namesConstructor, isConstructorKind, constructorMethod, isFirstConstructor, classElements, nameMissing}
+use Rattle.ecma_classes.specs.PrivateNames.{isPrivateBound, entries, matched, invalid, bodyAround}
+use Rattle.ecma_classes.specs.Supers.{isSuperCall, begins, isMethod, isObjectMethod, isConstructorMethod, hasHeritage, isBare, isSuperProperty, barsCall, barsProperty, superError, standardStray}
+use Rattle.ecma_classes.specs.Changed.{isConstructor, builtTwice, isKeyedProto, protoAgain, isEntered, privateEntered, clashIn, privateAgain, isTableUse, isOutside, isTableCall, isTableProperty, isTableConstructor, SupersStand, MethodsNamed}
+use Rattle.ecma_base.specs.Contains.{contains, containsAny}
+use Rattle.ecma_base.specs.Telling.{Telling, special, ordinary}
 use Rattle.ecma_base.specs.Scopes.{followsAt, flaggedAt, classAt, scopesFollow}
-use Rattle.ecma_classes.specs.Theorems.{code1, code7, code8, code26, code27, code28, code29, code30}
+use Rattle.ecma_classes.specs.Theorems.{code1, code7, code8, code26, code27, code28, code29, code29-standard, code30}
 
 abbrev pub table : List ℕ
 table =
-    0 ∷ 0 ∷ 0 ∷ 0 ∷ 164 ∷ 0 ∷ 0 ∷ 0 ∷ 0 ∷ 0 ∷
+    0 ∷ 0 ∷ 0 ∷ 0 ∷ 282 ∷ 0 ∷ 0 ∷ 0 ∷ 0 ∷ 0 ∷
     26 ∷ 0 ∷ 3 ∷ 0 ∷ 89 ∷ 0 ∷ 544 ∷ 1 ∷ 0 ∷ 0 ∷
     31 ∷ 1 ∷ 0 ∷ 6 ∷ 7 ∷ 1 ∷ 0 ∷ 0 ∷ 0 ∷ 1 ∷
     27 ∷ 1 ∷ 3 ∷ 8 ∷ 89 ∷ 1 ∷ 0 ∷ 0 ∷ 0 ∷ 0 ∷
@@ -85,7 +96,7 @@ table =
     40 ∷ 43 ∷ 0 ∷ 121 ∷ 128 ∷ 6 ∷ 0 ∷ 0 ∷ 0 ∷ 0 ∷
     37 ∷ 44 ∷ 0 ∷ 121 ∷ 126 ∷ 6 ∷ 0 ∷ 0 ∷ 0 ∷ 0 ∷
     55 ∷ 44 ∷ 0 ∷ 127 ∷ 128 ∷ 6 ∷ 0 ∷ 0 ∷ 0 ∷ 0 ∷
-    22 ∷ 0 ∷ 3 ∷ 132 ∷ 164 ∷ 0 ∷ 0 ∷ 0 ∷ 0 ∷ 0 ∷
+    22 ∷ 0 ∷ 3 ∷ 132 ∷ 165 ∷ 0 ∷ 0 ∷ 0 ∷ 0 ∷ 0 ∷
     55 ∷ 47 ∷ 0 ∷ 132 ∷ 164 ∷ 0 ∷ 0 ∷ 1 ∷ 0 ∷ 0 ∷
     43 ∷ 48 ∷ 1 ∷ 133 ∷ 163 ∷ 0 ∷ 0 ∷ 0 ∷ 0 ∷ 0 ∷
     44 ∷ 49 ∷ 0 ∷ 135 ∷ 147 ∷ 0 ∷ 0 ∷ 0 ∷ 0 ∷ 0 ∷
@@ -93,16 +104,47 @@ table =
     35 ∷ 50 ∷ 1 ∷ 146 ∷ 147 ∷ 0 ∷ 0 ∷ 0 ∷ 0 ∷ 0 ∷
     44 ∷ 49 ∷ 0 ∷ 149 ∷ 161 ∷ 0 ∷ 0 ∷ 0 ∷ 0 ∷ 0 ∷
     55 ∷ 53 ∷ 2 ∷ 149 ∷ 158 ∷ 0 ∷ 0 ∷ 0 ∷ 39 ∷ 9 ∷
-    35 ∷ 53 ∷ 1 ∷ 160 ∷ 161 ∷ 0 ∷ 0 ∷ 0 ∷ 0 ∷ 0 ∷ []
+    35 ∷ 53 ∷ 1 ∷ 160 ∷ 161 ∷ 0 ∷ 0 ∷ 0 ∷ 0 ∷ 0 ∷
+    26 ∷ 0 ∷ 3 ∷ 166 ∷ 249 ∷ 0 ∷ 608 ∷ 7 ∷ 0 ∷ 0 ∷
+    31 ∷ 56 ∷ 0 ∷ 172 ∷ 173 ∷ 7 ∷ 0 ∷ 0 ∷ 48 ∷ 1 ∷
+    32 ∷ 56 ∷ 0 ∷ 182 ∷ 183 ∷ 7 ∷ 0 ∷ 0 ∷ 49 ∷ 1 ∷
+    27 ∷ 56 ∷ 3 ∷ 184 ∷ 249 ∷ 7 ∷ 0 ∷ 0 ∷ 0 ∷ 0 ∷
+    28 ∷ 59 ∷ 0 ∷ 186 ∷ 213 ∷ 7 ∷ 0 ∷ 1 ∷ 0 ∷ 0 ∷
+    55 ∷ 60 ∷ 2 ∷ 187 ∷ 198 ∷ 7 ∷ 0 ∷ 0 ∷ 50 ∷ 11 ∷
+    1 ∷ 60 ∷ 1 ∷ 198 ∷ 213 ∷ 7 ∷ 1024 ∷ 0 ∷ 0 ∷ 0 ∷
+    55 ∷ 62 ∷ 0 ∷ 198 ∷ 200 ∷ 8 ∷ 0 ∷ 0 ∷ 0 ∷ 0 ∷
+    4 ∷ 62 ∷ 3 ∷ 201 ∷ 213 ∷ 8 ∷ 0 ∷ 0 ∷ 0 ∷ 0 ∷
+    22 ∷ 64 ∷ 3 ∷ 203 ∷ 211 ∷ 8 ∷ 0 ∷ 0 ∷ 0 ∷ 0 ∷
+    38 ∷ 65 ∷ 0 ∷ 203 ∷ 210 ∷ 8 ∷ 0 ∷ 0 ∷ 0 ∷ 0 ∷
+    37 ∷ 66 ∷ 0 ∷ 203 ∷ 208 ∷ 8 ∷ 0 ∷ 0 ∷ 0 ∷ 0 ∷
+    28 ∷ 59 ∷ 0 ∷ 214 ∷ 247 ∷ 7 ∷ 2 ∷ 1 ∷ 0 ∷ 0 ∷
+    55 ∷ 68 ∷ 2 ∷ 221 ∷ 232 ∷ 7 ∷ 0 ∷ 0 ∷ 61 ∷ 11 ∷
+    1 ∷ 68 ∷ 1 ∷ 232 ∷ 247 ∷ 7 ∷ 1024 ∷ 0 ∷ 0 ∷ 0 ∷
+    55 ∷ 70 ∷ 0 ∷ 232 ∷ 234 ∷ 9 ∷ 0 ∷ 0 ∷ 0 ∷ 0 ∷
+    4 ∷ 70 ∷ 3 ∷ 235 ∷ 247 ∷ 9 ∷ 0 ∷ 0 ∷ 0 ∷ 0 ∷
+    22 ∷ 72 ∷ 3 ∷ 237 ∷ 245 ∷ 9 ∷ 0 ∷ 0 ∷ 0 ∷ 0 ∷
+    38 ∷ 73 ∷ 0 ∷ 237 ∷ 244 ∷ 9 ∷ 0 ∷ 0 ∷ 0 ∷ 0 ∷
+    37 ∷ 74 ∷ 0 ∷ 237 ∷ 242 ∷ 9 ∷ 0 ∷ 0 ∷ 0 ∷ 0 ∷
+    22 ∷ 0 ∷ 3 ∷ 250 ∷ 282 ∷ 0 ∷ 0 ∷ 0 ∷ 0 ∷ 0 ∷
+    55 ∷ 76 ∷ 0 ∷ 250 ∷ 282 ∷ 0 ∷ 0 ∷ 1 ∷ 0 ∷ 0 ∷
+    43 ∷ 77 ∷ 1 ∷ 251 ∷ 281 ∷ 0 ∷ 0 ∷ 0 ∷ 0 ∷ 0 ∷
+    44 ∷ 78 ∷ 0 ∷ 253 ∷ 279 ∷ 0 ∷ 128 ∷ 0 ∷ 0 ∷ 0 ∷
+    55 ∷ 79 ∷ 2 ∷ 253 ∷ 264 ∷ 0 ∷ 0 ∷ 0 ∷ 72 ∷ 11 ∷
+    1 ∷ 79 ∷ 1 ∷ 264 ∷ 279 ∷ 0 ∷ 1024 ∷ 0 ∷ 0 ∷ 0 ∷
+    55 ∷ 81 ∷ 0 ∷ 264 ∷ 266 ∷ 10 ∷ 0 ∷ 0 ∷ 0 ∷ 0 ∷
+    4 ∷ 81 ∷ 3 ∷ 267 ∷ 279 ∷ 10 ∷ 0 ∷ 0 ∷ 0 ∷ 0 ∷
+    22 ∷ 83 ∷ 3 ∷ 269 ∷ 277 ∷ 10 ∷ 0 ∷ 0 ∷ 0 ∷ 0 ∷
+    38 ∷ 84 ∷ 0 ∷ 269 ∷ 276 ∷ 10 ∷ 0 ∷ 0 ∷ 0 ∷ 0 ∷
+    37 ∷ 85 ∷ 0 ∷ 269 ∷ 274 ∷ 10 ∷ 0 ∷ 0 ∷ 0 ∷ 0 ∷ []
 
 abbrev pub scopes : List ℕ
-scopes = 0 ∷ 2 ∷ 0 ∷ 0 ∷ 1 ∷ 1 ∷ 1 ∷ 5 ∷ 6 ∷ 1 ∷ 5 ∷ 14 ∷ 1 ∷ 5 ∷ 23 ∷ 0 ∷ 1 ∷ 33 ∷ 0 ∷ 4 ∷ 39 ∷ []
+scopes = 0 ∷ 2 ∷ 0 ∷ 0 ∷ 1 ∷ 1 ∷ 1 ∷ 5 ∷ 6 ∷ 1 ∷ 5 ∷ 14 ∷ 1 ∷ 5 ∷ 23 ∷ 0 ∷ 1 ∷ 33 ∷ 0 ∷ 4 ∷ 39 ∷ 0 ∷ 1 ∷ 56 ∷ 7 ∷ 5 ∷ 62 ∷ 7 ∷ 5 ∷ 70 ∷ 0 ∷ 4 ∷ 81 ∷ []
 
 abbrev pub bytes : List ℕ
-bytes = 67 ∷ 99 ∷ 111 ∷ 110 ∷ 115 ∷ 116 ∷ 114 ∷ 117 ∷ 99 ∷ 116 ∷ 111 ∷ 114 ∷ 99 ∷ 111 ∷ 110 ∷ 115 ∷ 116 ∷ 114 ∷ 117 ∷ 99 ∷ 116 ∷ 111 ∷ 114 ∷ 112 ∷ 112 ∷ 109 ∷ 113 ∷ 97 ∷ 98 ∷ 102 ∷ 95 ∷ 95 ∷ 112 ∷ 114 ∷ 111 ∷ 116 ∷ 111 ∷ 95 ∷ 95 ∷ 95 ∷ 95 ∷ 112 ∷ 114 ∷ 111 ∷ 116 ∷ 111 ∷ 95 ∷ 95 ∷ []
+bytes = 67 ∷ 99 ∷ 111 ∷ 110 ∷ 115 ∷ 116 ∷ 114 ∷ 117 ∷ 99 ∷ 116 ∷ 111 ∷ 114 ∷ 99 ∷ 111 ∷ 110 ∷ 115 ∷ 116 ∷ 114 ∷ 117 ∷ 99 ∷ 116 ∷ 111 ∷ 114 ∷ 112 ∷ 112 ∷ 109 ∷ 113 ∷ 97 ∷ 98 ∷ 102 ∷ 95 ∷ 95 ∷ 112 ∷ 114 ∷ 111 ∷ 116 ∷ 111 ∷ 95 ∷ 95 ∷ 95 ∷ 95 ∷ 112 ∷ 114 ∷ 111 ∷ 116 ∷ 111 ∷ 95 ∷ 95 ∷ 69 ∷ 67 ∷ 99 ∷ 111 ∷ 110 ∷ 115 ∷ 116 ∷ 114 ∷ 117 ∷ 99 ∷ 116 ∷ 111 ∷ 114 ∷ 99 ∷ 111 ∷ 110 ∷ 115 ∷ 116 ∷ 114 ∷ 117 ∷ 99 ∷ 116 ∷ 111 ∷ 114 ∷ 99 ∷ 111 ∷ 110 ∷ 115 ∷ 116 ∷ 114 ∷ 117 ∷ 99 ∷ 116 ∷ 111 ∷ 114 ∷ []
 
 abbrev pub source : List ℕ
-source = 99 ∷ 108 ∷ 97 ∷ 115 ∷ 115 ∷ 32 ∷ 67 ∷ 32 ∷ 123 ∷ 32 ∷ 99 ∷ 111 ∷ 110 ∷ 115 ∷ 116 ∷ 114 ∷ 117 ∷ 99 ∷ 116 ∷ 111 ∷ 114 ∷ 40 ∷ 41 ∷ 32 ∷ 123 ∷ 32 ∷ 115 ∷ 117 ∷ 112 ∷ 101 ∷ 114 ∷ 40 ∷ 41 ∷ 59 ∷ 32 ∷ 125 ∷ 32 ∷ 99 ∷ 111 ∷ 110 ∷ 115 ∷ 116 ∷ 114 ∷ 117 ∷ 99 ∷ 116 ∷ 111 ∷ 114 ∷ 40 ∷ 41 ∷ 32 ∷ 123 ∷ 125 ∷ 32 ∷ 35 ∷ 112 ∷ 59 ∷ 32 ∷ 35 ∷ 112 ∷ 59 ∷ 32 ∷ 109 ∷ 40 ∷ 41 ∷ 32 ∷ 123 ∷ 32 ∷ 115 ∷ 117 ∷ 112 ∷ 101 ∷ 114 ∷ 40 ∷ 41 ∷ 59 ∷ 32 ∷ 116 ∷ 104 ∷ 105 ∷ 115 ∷ 46 ∷ 35 ∷ 113 ∷ 59 ∷ 32 ∷ 125 ∷ 32 ∷ 125 ∷ 32 ∷ 99 ∷ 108 ∷ 97 ∷ 115 ∷ 115 ∷ 32 ∷ 123 ∷ 32 ∷ 125 ∷ 32 ∷ 97 ∷ 46 ∷ 35 ∷ 98 ∷ 59 ∷ 32 ∷ 102 ∷ 117 ∷ 110 ∷ 99 ∷ 116 ∷ 105 ∷ 111 ∷ 110 ∷ 32 ∷ 102 ∷ 40 ∷ 41 ∷ 32 ∷ 123 ∷ 32 ∷ 115 ∷ 117 ∷ 112 ∷ 101 ∷ 114 ∷ 46 ∷ 120 ∷ 59 ∷ 32 ∷ 125 ∷ 32 ∷ 40 ∷ 123 ∷ 32 ∷ 95 ∷ 95 ∷ 112 ∷ 114 ∷ 111 ∷ 116 ∷ 111 ∷ 95 ∷ 95 ∷ 58 ∷ 32 ∷ 49 ∷ 44 ∷ 32 ∷ 95 ∷ 95 ∷ 112 ∷ 114 ∷ 111 ∷ 116 ∷ 111 ∷ 95 ∷ 95 ∷ 58 ∷ 32 ∷ 50 ∷ 32 ∷ 125 ∷ 41 ∷ []
+source = 99 ∷ 108 ∷ 97 ∷ 115 ∷ 115 ∷ 32 ∷ 67 ∷ 32 ∷ 123 ∷ 32 ∷ 99 ∷ 111 ∷ 110 ∷ 115 ∷ 116 ∷ 114 ∷ 117 ∷ 99 ∷ 116 ∷ 111 ∷ 114 ∷ 40 ∷ 41 ∷ 32 ∷ 123 ∷ 32 ∷ 115 ∷ 117 ∷ 112 ∷ 101 ∷ 114 ∷ 40 ∷ 41 ∷ 59 ∷ 32 ∷ 125 ∷ 32 ∷ 99 ∷ 111 ∷ 110 ∷ 115 ∷ 116 ∷ 114 ∷ 117 ∷ 99 ∷ 116 ∷ 111 ∷ 114 ∷ 40 ∷ 41 ∷ 32 ∷ 123 ∷ 125 ∷ 32 ∷ 35 ∷ 112 ∷ 59 ∷ 32 ∷ 35 ∷ 112 ∷ 59 ∷ 32 ∷ 109 ∷ 40 ∷ 41 ∷ 32 ∷ 123 ∷ 32 ∷ 115 ∷ 117 ∷ 112 ∷ 101 ∷ 114 ∷ 40 ∷ 41 ∷ 59 ∷ 32 ∷ 116 ∷ 104 ∷ 105 ∷ 115 ∷ 46 ∷ 35 ∷ 113 ∷ 59 ∷ 32 ∷ 125 ∷ 32 ∷ 125 ∷ 32 ∷ 99 ∷ 108 ∷ 97 ∷ 115 ∷ 115 ∷ 32 ∷ 123 ∷ 32 ∷ 125 ∷ 32 ∷ 97 ∷ 46 ∷ 35 ∷ 98 ∷ 59 ∷ 32 ∷ 102 ∷ 117 ∷ 110 ∷ 99 ∷ 116 ∷ 105 ∷ 111 ∷ 110 ∷ 32 ∷ 102 ∷ 40 ∷ 41 ∷ 32 ∷ 123 ∷ 32 ∷ 115 ∷ 117 ∷ 112 ∷ 101 ∷ 114 ∷ 46 ∷ 120 ∷ 59 ∷ 32 ∷ 125 ∷ 32 ∷ 40 ∷ 123 ∷ 32 ∷ 95 ∷ 95 ∷ 112 ∷ 114 ∷ 111 ∷ 116 ∷ 111 ∷ 95 ∷ 95 ∷ 58 ∷ 32 ∷ 49 ∷ 44 ∷ 32 ∷ 95 ∷ 95 ∷ 112 ∷ 114 ∷ 111 ∷ 116 ∷ 111 ∷ 95 ∷ 95 ∷ 58 ∷ 32 ∷ 50 ∷ 32 ∷ 125 ∷ 41 ∷ 59 ∷ 32 ∷ 99 ∷ 108 ∷ 97 ∷ 115 ∷ 115 ∷ 32 ∷ 69 ∷ 32 ∷ 101 ∷ 120 ∷ 116 ∷ 101 ∷ 110 ∷ 100 ∷ 115 ∷ 32 ∷ 67 ∷ 32 ∷ 123 ∷ 32 ∷ 42 ∷ 99 ∷ 111 ∷ 110 ∷ 115 ∷ 116 ∷ 114 ∷ 117 ∷ 99 ∷ 116 ∷ 111 ∷ 114 ∷ 40 ∷ 41 ∷ 32 ∷ 123 ∷ 32 ∷ 115 ∷ 117 ∷ 112 ∷ 101 ∷ 114 ∷ 40 ∷ 41 ∷ 59 ∷ 32 ∷ 125 ∷ 32 ∷ 115 ∷ 116 ∷ 97 ∷ 116 ∷ 105 ∷ 99 ∷ 32 ∷ 99 ∷ 111 ∷ 110 ∷ 115 ∷ 116 ∷ 114 ∷ 117 ∷ 99 ∷ 116 ∷ 111 ∷ 114 ∷ 40 ∷ 41 ∷ 32 ∷ 123 ∷ 32 ∷ 115 ∷ 117 ∷ 112 ∷ 101 ∷ 114 ∷ 40 ∷ 41 ∷ 59 ∷ 32 ∷ 125 ∷ 32 ∷ 125 ∷ 32 ∷ 40 ∷ 123 ∷ 32 ∷ 99 ∷ 111 ∷ 110 ∷ 115 ∷ 116 ∷ 114 ∷ 117 ∷ 99 ∷ 116 ∷ 111 ∷ 114 ∷ 40 ∷ 41 ∷ 32 ∷ 123 ∷ 32 ∷ 115 ∷ 117 ∷ 112 ∷ 101 ∷ 114 ∷ 40 ∷ 41 ∷ 59 ∷ 32 ∷ 125 ∷ 32 ∷ 125 ∷ 41 ∷ []
 
 passes : inputRefusal 0 table scopes source bytes ≡ Passed
 unfolding wrongTable wrongSizes listedFlags mostExtra listedExtra unlistedAt strayAt misplacedAt depthFrom depthIf brokenAt chainOn misscopedAt isStatement mayBeStatement isHolder strayStatement strayHeld strayAlternate strayInSwitch strayCase tryPart strayInTry strayClause strayInClause strayFunctionBody strayClassBody strayElement strayValue misplacedStatement misplacedPart misplacedElement misplaced misplacedChildAt isDefault defaults wrongBody wrongAlternate wrongDefault wrongTry wrongClause wrongLabel wrongFunction wrongClass wrongValue wrongElement wrongStatement wrongPart wrongHome wrongCountAt misshapenAt lower refusalOf inputRefusal first keep children howMany isChild firstNode a.climb a.above on nearestOf isValueOf partOf placeOf objectUse methodUse functionUse stepAt reachFrom reachOf failsAt upto range
@@ -128,7 +170,7 @@ unfolding builtTwice classElements isConstructor children firstNode upto range i
 found27 = code27 0 table scopes source bytes well
 
 pub found1 : raised 1 findings ≡ 0 ∷ 49 ∷ []
-unfolding privateAgain privateEntered isPrivateBound isEntered clashIn entries privateName matched protoAgain isKeyedProto children firstNode upto range isChild keep flatMap same nameOf xor
+unfolding privateAgain privateEntered isPrivateBound isEntered clashIn entries keyName matched protoAgain isKeyedProto children firstNode upto range isChild keep flatMap same nameOf xor
 found1 = code1 0 table scopes source bytes well
 
 pub found7 : raised 7 findings ≡ 38 ∷ []
@@ -136,22 +178,75 @@ unfolding isOutside bodyAround a.climb a.above upto range keep
 found7 = code7 0 table scopes source bytes well
 
 pub found8 : withCode 8 findings ≡ record { code = 8; node = record { 0 = 1 }; start = 82; end = 84; start2 = 0; end2 = 0; context = 0 } ∷ []
-unfolding invalid isTableUse privateEntered isPrivateBound isEntered privateName bodyAround walk partsOf forest kids others children firstNode upto range isChild keep flatMap same nameOf a.climb a.above
+unfolding invalid isTableUse privateEntered isPrivateBound isEntered keyName bodyAround walk partsOf forest kids others children firstNode upto range isChild keep flatMap same nameOf a.climb a.above
 found8 = code8 0 table scopes source bytes well
 
--- of the two constructors of C the standard asks the first of its SuperCall
-pub first28 : keep (isFirstConstructor table bytes) (upto 0 56) ≡ 4 ∷ []
-unfolding isFirstConstructor constructorMethod isConstructorKind namesConstructor propName children firstNode upto range isChild keep same nameOf
-first28 = refl
-
 pub found28 : raised 28 findings ≡ 11 ∷ []
-unfolding bareCall isTableCall isConstructorMethod isMethod hasHeritage begins trail climb firstNode upto range isChild keep
+unfolding isBare isTableCall isConstructorMethod isMethod hasHeritage begins trail climb firstNode upto range isChild keep
 found28 = code28 0 table scopes source bytes well fit
 
-pub found29 : raised 29 findings ≡ 28 ∷ []
-unfolding strayCall isTableCall isConstructorMethod isMethod begins trail climb firstNode upto range isChild keep
+pub found29 : raised 29 findings ≡ 28 ∷ 67 ∷ 75 ∷ 86 ∷ []
+unfolding isTableCall isConstructorMethod isMethod begins trail climb firstNode upto range isChild keep
 found29 = code29 0 table scopes source bytes well fit
 
 pub found30 : raised 30 findings ≡ 45 ∷ []
-unfolding strayProperty isTableProperty takesProperty isMethod isObjectMethod begins trail climb firstNode upto range isChild keep
+unfolding isTableProperty barsProperty isMethod isObjectMethod begins trail climb firstNode upto range isChild keep
 found30 = code30 0 table scopes source bytes well fit
+
+-- the standard's rules: of the two constructors of C the first is asked of its SuperCall; a static method and an object's method are none, whatever their names
+pub first28 : keep (isFirstConstructor table bytes) (upto 0 87) ≡ 4 ∷ 60 ∷ []
+unfolding isFirstConstructor constructorMethod isConstructorKind namesConstructor propName keyName children firstNode upto range isChild keep same nameOf
+first28 = refl
+
+-- 62 is the generator
+abbrev pub told : Telling
+told = record { async = λ f. false; generator = λ f. eqb f 62 }
+
+pub standard29 : keep (standardStray told table bytes) (upto 0 87) ≡ 28 ∷ 67 ∷ 75 ∷ 86 ∷ []
+unfolding isSuperCall barsCall isMethod isObjectMethod namesConstructor propName keyName begins trail climb children firstNode upto range isChild keep same nameOf
+standard29 = refl
+
+-- were it none, its SuperCall would be no error
+pub ordinary29 : keep (standardStray ordinary table bytes) (upto 0 87) ≡ 28 ∷ 75 ∷ 86 ∷ []
+unfolding isSuperCall barsCall isMethod isObjectMethod namesConstructor propName keyName begins trail climb children firstNode upto range isChild keep same nameOf
+ordinary29 = refl
+
+-- the units that break some rule on `super`, by Contains: the first constructor of C, m, f, the constructors of E and that of the object
+pub broken : keep (superError told table bytes) (upto 0 87) ≡ 6 ∷ 23 ∷ 39 ∷ 62 ∷ 70 ∷ 81 ∷ []
+unfolding isBare isConstructorMethod isFirstConstructor constructorMethod isConstructorKind hasHeritage isSuperCall isSuperProperty barsCall barsProperty isMethod isObjectMethod namesConstructor propName keyName begins contains containsAny partsOf forest kids others children firstNode upto range isChild keep same nameOf
+broken = refl
+
+-- the conditions of 29 and 30 hold, so that theorem applies
+stand-test : all (λ n. not (eqb (kindOf table n) k.Super) || (eqb (kindOf table (parentOf table n)) k.Call || eqb (kindOf table (parentOf table n)) k.OtherMember)) (upto 0 (count table)) ≡ true
+unfolding upto range
+stand-test = refl
+
+pub stand : SupersStand table
+stand n h e =
+    go (all-upto (λ n. not (eqb (kindOf table n) k.Super) || (eqb (kindOf table (parentOf table n)) k.Call || eqb (kindOf table (parentOf table n)) k.OtherMember)) 0 (count table) stand-test n (omega arith) h)
+  where
+    go : (not (eqb (kindOf table n) k.Super) || (eqb (kindOf table (parentOf table n)) k.Call || eqb (kindOf table (parentOf table n)) k.OtherMember)) ≡ true
+        → (kindOf table (parentOf table n) ≡ k.Call) ⊎ (kindOf table (parentOf table n) ≡ k.OtherMember)
+    go x =
+        ⊎-elim (λ q. inl (eqb-true (kindOf table (parentOf table n)) k.Call q)) (λ q. inr (eqb-true (kindOf table (parentOf table n)) k.OtherMember q))
+        (either (eqb (kindOf table (parentOf table n)) k.Call) (eqb (kindOf table (parentOf table n)) k.OtherMember) (sym (rw (eq-eqb (kindOf table n) k.Super e)) ∙ x))
+
+abbrev alike : ℕ → Bool
+alike u = not (isMethod table u) || not (xor (isTableConstructor table (parentOf table u)) (namesConstructor table bytes (parentOf table u) && not (special told u)))
+
+named-test : all alike (upto 0 (count table)) ≡ true
+unfolding isMethod namesConstructor propName keyName firstNode upto range isChild same nameOf xor
+named-test = refl
+
+pub named : MethodsNamed told table bytes
+unfolding xor
+named u h e = go (isTableConstructor table (parentOf table u)) (namesConstructor table bytes (parentOf table u) && not (special told u)) (sym (rw e) ∙ all-upto alike 0 (count table) named-test u (omega arith) h)
+  where
+    go : (a b : Bool) → not (xor a b) ≡ true → a ≡ b
+    go true true x = refl
+    go true false x = never (sym x)
+    go false true x = never (sym x)
+    go false false x = refl
+
+pub applies : raised 29 findings ≡ keep (standardStray told table bytes) (upto 0 (count table))
+applies = code29-standard 0 table scopes source bytes well fit stand told named

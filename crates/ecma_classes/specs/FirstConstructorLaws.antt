@@ -21,10 +21,12 @@ use Rattle.ancestry.specs.AncestryLaws.{parent-in}
 use Rattle.fields.specs.FieldsLaws.{Listed}
 use Rattle.shape.specs.ShapeLaws.{Shaped}
 use Rattle.trees.specs.Trail.{unitOf}
+use Rattle.ecma_base.specs.Contains.{isNode}
 use Rattle.ecma_classes.specs.ListLaws.{in-kept, upto-in}
-use Rattle.ecma_classes.specs.ClassElements.{sameNode, elementsIn, classElements, namesConstructor, constructorTwice, isConstructorKind, constructorMethod, isFirstConstructor, OneConstructor}
+use Rattle.ecma_classes.specs.ClassElements.{elementsIn, classElements, namesConstructor, constructorTwice, isConstructorKind, constructorMethod, isFirstConstructor}
+use Rattle.ecma_classes.specs.Supers.{begins, isMethod, isConstructorMethod, isBare, standardBare}
+use Rattle.ecma_classes.specs.Changed.{OneConstructor, eachBare}
 use Rattle.ecma_classes.specs.PrivateNamesLaws.{class-above, body-of-class}
-use Rattle.ecma_classes.specs.Supers.{begins, isMethod, isConstructorMethod, bareCall, standardBare, eachBare}
 use Rattle.ecma_classes.specs.SupersLaws.{unit-is, method-kind}
 
 holds-one : (l : List ℕ) (p : ℕ) → member p l ≡ true → 1 ≤ length l
@@ -45,31 +47,27 @@ module _ (ns names : List ℕ) where
       go false = refl
 
   -- ConstructorMethod of a list is of its kind ..
-  first-kind : (l : List ℕ) (p : ℕ) → sameNode (constructorMethod ns names l) (At (record { 0 = p })) ≡ true → isConstructorKind ns names p ≡ true
+  first-kind : (l : List ℕ) (p : ℕ) → isNode (constructorMethod ns names l) p ≡ true → isConstructorKind ns names p ≡ true
   unfolding constructorMethod
   first-kind [] p e = never (sym e)
   first-kind (x ∷ l) p e = go (isConstructorKind ns names x) refl e (λ z. first-kind l p z)
     where
-      go : (b : Bool) → isConstructorKind ns names x ≡ b → sameNode (cond b (At (record { 0 = x })) (constructorMethod ns names l)) (At (record { 0 = p })) ≡ true
-          → (sameNode (constructorMethod ns names l) (At (record { 0 = p })) ≡ true → isConstructorKind ns names p ≡ true) → isConstructorKind ns names p ≡ true
+      go : (b : Bool) → isConstructorKind ns names x ≡ b → isNode (cond b (At (record { 0 = x })) (constructorMethod ns names l)) p ≡ true
+          → (isNode (constructorMethod ns names l) p ≡ true → isConstructorKind ns names p ≡ true) → isConstructorKind ns names p ≡ true
       go true q z r = subst (λ (y : ℕ). isConstructorKind ns names y ≡ true) (eqb-true x p z) q
       go false q z r = r z
 
-  pub first-names : (p : ℕ) → isFirstConstructor ns names p ≡ true → namesConstructor ns names p ≡ true
-  unfolding isFirstConstructor
-  first-names p e = kind-names p (first-kind (children ns (parentOf ns p)) p e)
-
   -- .. and the only one there, if no second element has the name
   only-first : (l : List ℕ) (p : ℕ) → member p l ≡ true → isConstructorKind ns names p ≡ true → ltb 1 (length (keep (namesConstructor ns names) l)) ≡ false
-      → sameNode (constructorMethod ns names l) (At (record { 0 = p })) ≡ true
+      → isNode (constructorMethod ns names l) p ≡ true
   unfolding constructorMethod keep
   only-first [] p m c o = never (sym m)
   only-first (x ∷ l) p m c o = go (eqb p x) refl m (namesConstructor ns names x) refl o (λ z y. only-first l p z c y)
     where
       go : (a : Bool) → eqb p x ≡ a → (a || member p l) ≡ true → (b : Bool) → namesConstructor ns names x ≡ b
           → ltb 1 (length (cond b (x ∷ keep (namesConstructor ns names) l) (keep (namesConstructor ns names) l))) ≡ false
-          → (member p l ≡ true → ltb 1 (length (keep (namesConstructor ns names) l)) ≡ false → sameNode (constructorMethod ns names l) (At (record { 0 = p })) ≡ true)
-          → sameNode (cond (isConstructorKind ns names x) (At (record { 0 = x })) (constructorMethod ns names l)) (At (record { 0 = p })) ≡ true
+          → (member p l ≡ true → ltb 1 (length (keep (namesConstructor ns names) l)) ≡ false → isNode (constructorMethod ns names l) p ≡ true)
+          → isNode (cond (isConstructorKind ns names x) (At (record { 0 = x })) (constructorMethod ns names l)) p ≡ true
       go true q z b r o y = let e : p ≡ x = eqb-true p x q in rw (subst (λ (j : ℕ). isConstructorKind ns names j ≡ true) e c) (eq-eqb x p (sym e))
       go false q z true r o y =
           let s = holds-one (keep (namesConstructor ns names) l) p (in-kept (namesConstructor ns names) l p z (kind-names p c)) in
@@ -108,9 +106,9 @@ module _ (ns names : List ℕ) (tree : Tree ns) (listed : Listed ns) (shaped : S
 
     pub first-only : isFirstConstructor ns names p ≡ namesConstructor ns names p
     unfolding isFirstConstructor
-    first-only = go (namesConstructor ns names p) refl (sameNode (constructorMethod ns names (children ns body)) (At (record { 0 = p }))) refl
+    first-only = go (namesConstructor ns names p) refl (isNode (constructorMethod ns names (children ns body)) p) refl
       where
-        go : (b : Bool) → namesConstructor ns names p ≡ b → (a : Bool) → sameNode (constructorMethod ns names (children ns body)) (At (record { 0 = p })) ≡ a → a ≡ b
+        go : (b : Bool) → namesConstructor ns names p ≡ b → (a : Bool) → isNode (constructorMethod ns names (children ns body)) p ≡ a → a ≡ b
         go true q a r = sym r ∙ only-first ns names (children ns body) p in-body (of-kind q) (sym twice-is ∙ once (parentOf ns body) (parent-in ns tree body in-table))
         go false q true r = never (sym (kind-names ns names p (first-kind ns names (children ns body) p r)) ∙ q)
         go false q false r = refl
@@ -129,5 +127,5 @@ module _ (ns names : List ℕ) (tree : Tree ns) (listed : Listed ns) (shaped : S
 
     -- THE LAW
     pub first-same : eachBare ns names n ≡ standardBare ns names n
-    unfolding bareCall
+    unfolding isBare
     first-same = rw constructor-first

@@ -15,7 +15,7 @@ use Rattle.tables.specs.declared.Found.{Found}
 use Rattle.tables.specs.declared.Found.the-variants.{At, Nothing}
 use Rattle.names.specs.Name.{same, nameOf}
 use Rattle.names.specs.Words as word
-use Rattle.children.specs.Children.{keep, children, isChild, keyOf, innerOf}
+use Rattle.children.specs.Children.{keep, children, isChild, keyOf}
 use Rattle.children.specs.ChildrenLaws.{keep-keep, number}
 use Rattle.classes.specs.ClassesLaws.{within-one}
 use Rattle.fields.specs.FieldsLaws.{Listed}
@@ -26,7 +26,8 @@ use Rattle.ecma_dispatch.specs.WithCode.{withCode}
 use Rattle.ecma_dispatch.specs.Dispatch.{at1}
 use Rattle.ecma_dispatch.specs.NodesOf.{nodesOf, raised}
 use Rattle.ecma_classes.specs.RaisingLaws.{raising-code, keep-upto, keep-alike}
-use Rattle.ecma_classes.specs.ClassElements.{found, nameOfKey, propName, namedBy, isKeyedProto, isProto, later, protoAgain, protoTwice, plainBy, KeysPlain}
+use Rattle.ecma_classes.specs.ClassElements.{nameFound, keyName, computed, propName, isProto, protoTwice}
+use Rattle.ecma_classes.specs.Changed.{isKeyedProto, later, protoAgain, KeysPlain}
 
 -- n for each member of a list
 abbrev pub times : ℕ → List ℕ → List ℕ
@@ -64,7 +65,8 @@ repeats-times ns n [] = refl
 repeats-times ns n (a ∷ l) = after-times ns n a l
 
 module _ (ns names : List ℕ) where
-  key-made : (f : Found) (b : Bool) → toList (cond b (ifProto ns names f) Nothing) ≡ cond (b && namedBy ns names word.proto f) (number f ∷ []) []
+  key-made : (f : Found) (b : Bool) → toList (cond b (ifProto ns names f) Nothing) ≡ cond (b && same (nameFound ns names f) word.proto) (number f ∷ []) []
+  unfolding same
   key-made (At m) true = go (same (nameOf ns names (m .0)) word.proto)
     where
       go : (x : Bool) → toList (cond x (At m) Nothing) ≡ cond x (m .0 ∷ []) []
@@ -76,10 +78,10 @@ module _ (ns names : List ℕ) where
 
   -- the properties, by their key alone
   abbrev keyed : ℕ → Bool
-  keyed p = isPlain ns p && namedBy ns names word.proto (keyOf ns p)
+  keyed p = isPlain ns p && same (keyName ns names p) word.proto
 
   keys-made : (l : List ℕ) → flatMap (λ p. toList (protoKey ns names p)) l ≡ made (λ p. number (keyOf ns p)) (keep keyed l)
-  unfolding protoKey
+  unfolding protoKey keyName
   keys-made l = flat-made (λ p. toList (protoKey ns names p)) (λ p. number (keyOf ns p)) keyed (λ p. key-made (keyOf ns p) (isPlain ns p)) l
 
   property : (n p : ℕ) → roleOf ns p ≤ 7 → (isChild ns n k.ObjectProperty k.ObjectProperty 0 7 p && keyed p) ≡ (eqb (parentOf ns p) n && isKeyedProto ns names p)
@@ -120,20 +122,20 @@ module _ (ns names : List ℕ) where
       go true e = objects w n e
       go false e = sym (ap (times n) (no-object n e))
 
-  key-plain : (f : Found) → plainBy ns names f → namedBy ns names word.proto f ≡ same (nameOfKey ns names f) word.proto
+  -- the name at a key is its PropName
+  key-plain : (p : ℕ) → (same (keyName ns names p) word.proto ≡ true → computed ns (keyOf ns p) ≡ false) → same (keyName ns names p) word.proto ≡ same (cond (computed ns (keyOf ns p)) [] (keyName ns names p)) word.proto
   unfolding same
-  key-plain (At m) w = go (same (nameOf ns names (m .0)) word.proto) refl (found (innerOf ns (m .0))) refl
+  key-plain p w = go (same (keyName ns names p) word.proto) refl (computed ns (keyOf ns p)) refl
     where
-      go : (a : Bool) → same (nameOf ns names (m .0)) word.proto ≡ a → (b : Bool) → found (innerOf ns (m .0)) ≡ b
-          → same (nameOf ns names (m .0)) word.proto ≡ same (cond (found (innerOf ns (m .0))) [] (nameOf ns names (m .0))) word.proto
-      go true p b q = rw (w p)
-      go false p true q = rw (q, p)
-      go false p false q = rw q
-  key-plain Nothing w = refl
+      go : (a : Bool) → same (keyName ns names p) word.proto ≡ a → (b : Bool) → computed ns (keyOf ns p) ≡ b
+          → same (keyName ns names p) word.proto ≡ same (cond (computed ns (keyOf ns p)) [] (keyName ns names p)) word.proto
+      go true q b r = rw (w q)
+      go false q true r = rw (r, q)
+      go false q false r = rw r
 
-  proto-same : (p : ℕ) → hasFlag (flagsOf ns p) flag.PrivateKey ≡ false → plainBy ns names (keyOf ns p) → isKeyedProto ns names p ≡ isProto ns names p
+  proto-same : (p : ℕ) → hasFlag (flagsOf ns p) flag.PrivateKey ≡ false → (same (keyName ns names p) word.proto ≡ true → computed ns (keyOf ns p) ≡ false) → isKeyedProto ns names p ≡ isProto ns names p
   unfolding isKeyedProto isProto propName
-  proto-same p h w = rw (h, key-plain (keyOf ns p) w)
+  proto-same p h w = rw (h, key-plain p w)
 
   some-later : (l : List ℕ) → some (later l) ≡ ltb 1 (length l)
   some-later [] = refl

@@ -1,36 +1,25 @@
 -- ECMA-262, 15.7: private names of classes. 15.7.8 PrivateBoundIdentifiers and the early error on its duplicates (15.7.1); 15.7.7 AllPrivateIdentifiersValid.
-use Prim.Native.Nat.{ℕ, _<_, _≤_}
-use lib.ListN.{length}
-use mathlib.Core.Path.{_≡_}
+use Prim.Native.Nat.{ℕ}
 use mathlib.Core.List.{List, [], _∷_, _++_, foldr}
 use mathlib.Core.Bool.{Bool, true, false, cond, not, xor, _&&_, _||_}
-use lib.Dec.{eqb, ltb}
+use lib.Dec.{eqb}
 use Rattle.common.specs.Upto.{any}
 use Rattle.common.specs.Tests.{within}
-use Rattle.walk.specs.On.{member}
-use Rattle.tables.specs.Table.{kindOf, parentOf, flagsOf, extraOf, nameLenOf, count, ancestors, hasFlag}
+use Rattle.tables.specs.Table.{kindOf, parentOf, flagsOf, extraOf, ancestors, hasFlag}
 use Rattle.tables.specs.Kinds as k
 use Rattle.tables.specs.Extras as extra
 use Rattle.tables.specs.NodeFlag as flag
 use Rattle.tables.specs.declared.Found.{Found}
 use Rattle.tables.specs.declared.Found.the-variants.{At, Nothing}
 use Rattle.names.specs.Name.{same, nameOf}
-use Rattle.children.specs.Children.{keep, children, keyOf, valueOf}
+use Rattle.children.specs.Children.{keep, children}
 use Rattle.trees.specs.Rose.{Rose, Roses, node, rnil, rcons, treeOf}
 use Rattle.trees.specs.Walk.{walk, only}
-use Rattle.ecma_classes.specs.ClassElements.{found, isDefinition, isStatic, bodyIn}
+use Rattle.ecma_classes.specs.ClassElements.{keyName, isDefinition, isStatic}
 
--- 15.7.8: a ClassElement whose ClassElementName is a PrivateIdentifier
+-- 15.7.8: a ClassElement whose ClassElementName is a PrivateIdentifier; keyName is its StringValue
 unfoldable pub isPrivateBound : List ℕ → ℕ → Bool
 isPrivateBound ns e = isDefinition ns e && hasFlag (flagsOf ns e) flag.PrivateKey
-
--- .. and its StringValue
-abbrev pub nameFound : List ℕ → List ℕ → Found → List ℕ
-nameFound ns names (At m) = nameOf ns names (m .0)
-nameFound ns names Nothing = []
-
-unfoldable pub privateName : List ℕ → List ℕ → ℕ → List ℕ
-privateName ns names e = nameFound ns names (keyOf ns e)
 
 -- 15.7.8 PrivateBoundIdentifiers of a ClassBody, as the elements that give an entry
 unfoldable pub privateBound : List ℕ → ℕ → List ℕ
@@ -38,7 +27,7 @@ privateBound ns b = keep (isPrivateBound ns) (children ns b)
 
 -- the entries of a list that have the name of e
 unfoldable pub entries : List ℕ → List ℕ → List ℕ → ℕ → List ℕ
-entries ns names l e = keep (λ d. same (privateName ns names d) (privateName ns names e)) l
+entries ns names l e = keep (λ d. same (keyName ns names d) (keyName ns names e)) l
 
 abbrev pub isGetter : List ℕ → ℕ → Bool
 isGetter ns e = eqb (kindOf ns e) k.MethodDefinition && eqb (extraOf ns e) extra.Get
@@ -62,58 +51,13 @@ allowed ns (a ∷ b ∷ c ∷ l) = false
 unfoldable pub privateTwice : List ℕ → List ℕ → List ℕ → Bool
 privateTwice ns names l = any (λ e. not (allowed ns (entries ns names l e))) l
 
--- The Rust enters no constructor, no method without a body and nothing without a name.
-abbrev pub named : List ℕ → Found → Bool
-named ns (At m) = not (eqb (nameLenOf ns (m .0)) 0)
-named ns Nothing = false
-
-abbrev pub bodiless : List ℕ → ℕ → Bool
-bodiless ns e = eqb (kindOf ns e) k.MethodDefinition && not (bodyIn ns (valueOf ns e))
-
-unfoldable pub isEntered : List ℕ → ℕ → Bool
-isEntered ns e = not (eqb (kindOf ns e) k.MethodDefinition && eqb (extraOf ns e) extra.Constructor) && (not (bodiless ns e) && named ns (keyOf ns e))
-
-unfoldable pub privateEntered : List ℕ → ℕ → List ℕ
-privateEntered ns b = keep (λ e. isPrivateBound ns e && isEntered ns e) (children ns b)
-
--- CONDITION: the Rust enters all private elements of the class
-abbrev pub PrivatesEntered : List ℕ → ℕ → Type 0
-PrivatesEntered ns b = (e : ℕ) → member e (children ns b) ≡ true → isPrivateBound ns e ≡ true → isEntered ns e ≡ true
-
--- The Rust holds an entry against one earlier entry: the last one that is a setter just if this one is, or else the last one.
-abbrev pub last : List ℕ → Found
-last [] = Nothing
-last (a ∷ []) = At (record { 0 = a })
-last (a ∷ b ∷ l) = last (b ∷ l)
-
-abbrev pub orFound : Found → Found → Found
-orFound (At m) g = At m
-orFound Nothing g = g
-
-abbrev pub unlike : List ℕ → ℕ → Found → Bool
-unlike ns e (At d) = not (matched ns (d .0) e)
-unlike ns e Nothing = false
-
--- e clashes with an earlier one of l, the entries of its name
-unfoldable pub clashIn : List ℕ → List ℕ → ℕ → Bool
-clashIn ns l e =
-    unlike ns e (orFound (last (keep (λ d. not (xor (isSetter ns d) (isSetter ns e))) (keep (λ d. ltb d e) l))) (last (keep (λ d. ltb d e) l)))
-
--- CHANGED RULE: a breach of its own is each entry that clashes with an earlier one
-unfoldable pub privateAgain : List ℕ → List ℕ → List ℕ → List ℕ
-privateAgain ns names l = keep (λ e. clashIn ns (entries ns names l e) e) l
-
--- CONDITION: no name has more than two entries
-abbrev pub OnceOrTwice : List ℕ → List ℕ → List ℕ → Type 0
-OnceOrTwice ns names l = (e : ℕ) → member e l ≡ true → length (entries ns names l e) ≤ 2
-
 -- a list of strings contains a string
 abbrev pub contains : List (List ℕ) → List ℕ → Bool
 contains l x = any (λ y. same y x) l
 
 -- the StringValues of elements
 abbrev pub strings : List ℕ → List ℕ → List ℕ → List (List ℕ)
-strings ns names l = foldr (λ e r. privateName ns names e ∷ r) [] l
+strings ns names l = foldr (λ e r. keyName ns names e ∷ r) [] l
 
 abbrev pub isClassBody : List ℕ → ℕ → Bool
 isClassBody ns n = eqb (kindOf ns n) k.ClassBody
@@ -147,27 +91,11 @@ allPrivateIdentifiersValid ns names = valid ns names (isUse ns) (privateBound ns
 abbrev pub invalidIdentifiers : List ℕ → List ℕ → List ℕ
 invalidIdentifiers ns names = invalid ns names (isUse ns) (privateBound ns) (treeOf ns) []
 
--- The Rust takes a PrivateIdentifier under any member expression for a use, and a class to bind what it enters.
-unfoldable pub isTableUse : List ℕ → ℕ → Bool
-isTableUse ns n = eqb (kindOf ns n) k.PrivateIdentifier && within (kindOf ns (parentOf ns n)) k.OtherMember k.PrivateIn
-
--- CHANGED RULE
-abbrev pub invalidInTable : List ℕ → List ℕ → List ℕ
-invalidInTable ns names = invalid ns names (isTableUse ns) (privateEntered ns) (treeOf ns) []
-
--- CONDITION: no member expression without a private name holds a PrivateIdentifier, and the Rust enters all private elements
-pub record PrivatesPlain (ns : List ℕ) : Type 0 where
-  pub members : (j : ℕ) → j < count ns → kindOf ns j ≡ k.PrivateIdentifier → kindOf ns (parentOf ns j) ≡ k.OtherMember → ⊥
-  pub entered : (b : ℕ) → b < count ns → PrivatesEntered ns b
-
--- the nearest ClassBody around a node
+-- the nearest ClassBody around a node, and whether it is a given one
 unfoldable pub bodyAround : List ℕ → ℕ → Found
 bodyAround ns n = foldr (λ a r. cond (isClassBody ns a) (At (record { 0 = a })) r) Nothing (ancestors ns n)
 
--- code 7: what is found in no ClassBody; the Rust finds each PrivateIdentifier there, whatever it stands under
-unfoldable pub isOutside : List ℕ → ℕ → Bool
-isOutside ns n = eqb (kindOf ns n) k.PrivateIdentifier && not (found (bodyAround ns n))
-
--- CONDITION: each PrivateIdentifier outside of ClassBodies is a use
-abbrev pub UsedOutside : List ℕ → Type 0
-UsedOutside ns = (j : ℕ) → j < count ns → isOutside ns j ≡ true → isUse ns j ≡ true
+abbrev pub sameNode : Found → Found → Bool
+sameNode (At a) (At b) = eqb (a .0) (b .0)
+sameNode (At a) Nothing = false
+sameNode Nothing g = false

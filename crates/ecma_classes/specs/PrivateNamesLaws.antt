@@ -46,9 +46,10 @@ use Rattle.ecma_dispatch.specs.Dispatch.{at7, at8}
 use Rattle.ecma_dispatch.specs.NodesOf.{nodesOf, raised}
 use Rattle.ecma_classes.specs.RaisingLaws.{raising-code, keep-upto, flat-upto, keep-from}
 use Rattle.ecma_classes.specs.ListLaws.{kept-in, in-kept, keep-none, in-upto, upto-in}
-use Rattle.ecma_classes.specs.ClassElements.{found, sameNode}
+use Rattle.ecma_classes.specs.ClassElements.{found, keyName}
+use Rattle.ecma_classes.specs.PrivateNames.{sameNode, privateBound, contains, strings, isClassBody, newNames, valid, allValid, invalid, isUse, invalidIdentifiers, bodyAround}
+use Rattle.ecma_classes.specs.Changed.{privateEntered, isTableUse, invalidInTable, PrivatesPlain, isOutside, UsedOutside}
 use Rattle.ecma_classes.specs.PrivateTwiceLaws.{name-is, privates-are, entered-all, both-ways}
-use Rattle.ecma_classes.specs.PrivateNames.{privateName, privateBound, privateEntered, contains, strings, isClassBody, newNames, valid, allValid, invalid, isUse, invalidIdentifiers, isTableUse, invalidInTable, PrivatesPlain, bodyAround, isOutside, UsedOutside}
 
 module _ (ns names : List ℕ) (uses : ℕ → Bool) (bound : ℕ → List ℕ) where
   abbrev says : ℕ → List (List ℕ) → List ℕ
@@ -115,26 +116,26 @@ module _ (ns names : List ℕ) (uses : ℕ → Bool) (bound : ℕ → List ℕ) 
       go true = refl
       go false = refl
 
-  in-strings : (l : List ℕ) (x : List ℕ) → contains (strings ns names l) x ≡ any (λ e. same (privateName ns names e) x) l
+  in-strings : (l : List ℕ) (x : List ℕ) → contains (strings ns names l) x ≡ any (λ e. same (keyName ns names e) x) l
   in-strings [] x = refl
   in-strings (e ∷ l) x = rw (in-strings l x)
 
   new-is : (n : ℕ) (l : List (List ℕ)) (x : List ℕ)
-      → contains (newNames ns names uses bound n l) x ≡ ((isClassBody ns n && any (λ e. same (privateName ns names e) x) (bound n)) || contains l x)
+      → contains (newNames ns names uses bound n l) x ≡ ((isClassBody ns n && any (λ e. same (keyName ns names e) x) (bound n)) || contains l x)
   new-is n l x = go (isClassBody ns n) refl
     where
-      go : (b : Bool) → isClassBody ns n ≡ b → contains (newNames ns names uses bound n l) x ≡ ((isClassBody ns n && any (λ e. same (privateName ns names e) x) (bound n)) || contains l x)
+      go : (b : Bool) → isClassBody ns n ≡ b → contains (newNames ns names uses bound n l) x ≡ ((isClassBody ns n && any (λ e. same (keyName ns names e) x) (bound n)) || contains l x)
       go true e = rw (e, ← in-strings (bound n) x) (any-append (λ y. same y x) (strings ns names (bound n)) l)
       go false e = rw e
 
   pub bound-is : (as' : List ℕ) (x : List ℕ)
-      → contains (foldr (λ a l. newNames ns names uses bound a l) [] as') x ≡ any (λ d. any (λ e. same (privateName ns names e) x) (bound d)) (keep (isClassBody ns) as')
+      → contains (foldr (λ a l. newNames ns names uses bound a l) [] as') x ≡ any (λ d. any (λ e. same (keyName ns names e) x) (bound d)) (keep (isClassBody ns) as')
   unfolding keep
   bound-is [] x = refl
   bound-is (a ∷ as') x = new-is a (foldr (λ a l. newNames ns names uses bound a l) [] as') x ∙ rw (bound-is as' x) (go (isClassBody ns a))
     where
-      go : (b : Bool) → ((b && any (λ e. same (privateName ns names e) x) (bound a)) || any (λ d. any (λ e. same (privateName ns names e) x) (bound d)) (keep (isClassBody ns) as'))
-          ≡ any (λ d. any (λ e. same (privateName ns names e) x) (bound d)) (cond b (a ∷ keep (isClassBody ns) as') (keep (isClassBody ns) as'))
+      go : (b : Bool) → ((b && any (λ e. same (keyName ns names e) x) (bound a)) || any (λ d. any (λ e. same (keyName ns names e) x) (bound d)) (keep (isClassBody ns) as'))
+          ≡ any (λ d. any (λ e. same (keyName ns names e) x) (bound d)) (cond b (a ∷ keep (isClassBody ns) as') (keep (isClassBody ns) as'))
       go true = refl
       go false = refl
 
@@ -240,11 +241,11 @@ same-found c Nothing e = never (sym e)
 
 -- 8: at a Class, one finding for each PrivateIdentifier that is not valid and whose nearest ClassBody is that class's
 module _ (ns names : List ℕ) (w : Tree ns) where
-  bound-by : (d : ℕ) (x : List ℕ) → hasPrivate ns names d x ≡ any (λ e. same (privateName ns names e) x) (privateEntered ns d)
+  bound-by : (d : ℕ) (x : List ℕ) → hasPrivate ns names d x ≡ any (λ e. same (keyName ns names e) x) (privateEntered ns d)
   unfolding hasPrivate
   bound-by d x =
-      any-alike (λ e. same (elementName ns names e) x) (λ e. same (privateName ns names e) x) (λ e. rw (name-is ns names e)) (privates ns d)
-      ∙ ap (λ (l : List ℕ). any (λ e. same (privateName ns names e) x) l) (privates-are ns d)
+      any-alike (λ e. same (elementName ns names e) x) (λ e. same (keyName ns names e) x) (λ e. rw (name-is ns names e)) (privates ns d)
+      ∙ ap (λ (l : List ℕ). any (λ e. same (keyName ns names e) x) l) (privates-are ns d)
 
   abbrev handedIn : ℕ → List (List ℕ)
   handedIn m = foldr (λ a l. newNames ns names (isTableUse ns) (privateEntered ns) a l) [] (ancestors ns m)
@@ -253,7 +254,7 @@ module _ (ns names : List ℕ) (w : Tree ns) where
   unfolding isDeclared outerClasses
   declared-is m c h e x =
       ap (any (λ d. hasPrivate ns names d x)) (sym (outer-at ns w m c h (around-is ns m ∙ e)))
-      ∙ any-alike (λ d. hasPrivate ns names d x) (λ d. any (λ e. same (privateName ns names e) x) (privateEntered ns d)) (λ d. bound-by d x) (keep (isClassBody ns) (ancestors ns m))
+      ∙ any-alike (λ d. hasPrivate ns names d x) (λ d. any (λ e. same (keyName ns names e) x) (privateEntered ns d)) (λ d. bound-by d x) (keep (isClassBody ns) (ancestors ns m))
       ∙ sym (bound-is ns names (isTableUse ns) (privateEntered ns) (ancestors ns m) x)
 
   abbrev error8 : ℕ → ℕ → List Finding

@@ -30,10 +30,11 @@ use Rattle.ecma_dispatch.specs.NodesOf.{nodesOf, raised}
 use Rattle.ecma_dispatch.specs.NodesOfLaws.{raisedFlat}
 use Rattle.ecma_classes.specs.RaisingLaws.{keep-same, keep-alike}
 use Rattle.ecma_classes.specs.ListLaws.{member-here, member-there, any-hit, any-find, kept-in, in-kept, keep-none, keep-all, Rising, keep-rising, upto-rising}
-use Rattle.ecma_classes.specs.ClassElements.{isStatic}
+use Rattle.ecma_classes.specs.ClassElements.{isStatic, nameFound, keyName}
+use Rattle.ecma_classes.specs.PrivateNames.{isPrivateBound, privateBound, entries, isGetter, isSetter, matched, allowed, privateTwice}
+use Rattle.ecma_classes.specs.Changed.{named, isEntered, privateEntered, PrivatesEntered, last, orFound, unlike, clashIn, privateAgain, OnceOrTwice}
 use Rattle.ecma_classes.specs.ClassElementsLaws.{body-in}
 use Rattle.ecma_classes.specs.ObjectsLaws.{times}
-use Rattle.ecma_classes.specs.PrivateNames.{isPrivateBound, nameFound, privateName, privateBound, entries, isGetter, isSetter, matched, allowed, privateTwice, named, isEntered, privateEntered, PrivatesEntered, last, orFound, unlike, clashIn, privateAgain, OnceOrTwice}
 
 -- what an entry is: a getter, a setter, or neither
 data Sort (ns : List ℕ) (e : ℕ) : Type 0 where
@@ -166,16 +167,16 @@ module _ (ns names : List ℕ) (l : List ℕ) (r : Rising l) where
   of-name : (e d : ℕ) → member d (entries ns names l e) ≡ true → (member d l ≡ true) × (entries ns names l d ≡ entries ns names l e)
   unfolding entries
   of-name e d m =
-      let w = kept-in (λ x. same (privateName ns names x) (privateName ns names e)) l d m in
-      (w .0, ap (λ (y : List ℕ). keep (λ x. same (privateName ns names x) y) l) (same-eq (privateName ns names d) (privateName ns names e) (w .1)))
+      let w = kept-in (λ x. same (keyName ns names x) (keyName ns names e)) l d m in
+      (w .0, ap (λ (y : List ℕ). keep (λ x. same (keyName ns names x) y) l) (same-eq (keyName ns names d) (keyName ns names e) (w .1)))
 
   self-named : (e : ℕ) → member e l ≡ true → member e (entries ns names l e) ≡ true
   unfolding entries
-  self-named e m = in-kept (λ x. same (privateName ns names x) (privateName ns names e)) l e m (same-self (privateName ns names e))
+  self-named e m = in-kept (λ x. same (keyName ns names x) (keyName ns names e)) l e m (same-self (keyName ns names e))
 
   rising-named : (e : ℕ) → Rising (entries ns names l e)
   unfolding entries
-  rising-named e = keep-rising (λ x. same (privateName ns names x) (privateName ns names e)) l r
+  rising-named e = keep-rising (λ x. same (keyName ns names x) (keyName ns names e)) l r
 
   -- there is a finding just where the standard's rule is broken ..
   pub again-some : some (privateAgain ns names l) ≡ privateTwice ns names l
@@ -249,8 +250,8 @@ last-is q (d ∷ l) p = go (q d) (λ (x : Place). last-is q l x)
     go true h = h (here d) ∙ add (keep q l)
     go false h = h p
 
-pub name-is : (ns names : List ℕ) (e : ℕ) → elementName ns names e ≡ privateName ns names e
-unfolding elementName privateName
+pub name-is : (ns names : List ℕ) (e : ℕ) → elementName ns names e ≡ keyName ns names e
+unfolding elementName keyName
 name-is ns names e = go (keyOf ns e)
   where
     go : (f : Found) → nameAt ns names f ≡ nameFound ns names f
@@ -270,10 +271,10 @@ module _ (ns names : List ℕ) (c e : ℕ) where
   on-side : (s : ℕ) → keep (isEarlier ns names e s) (privates ns c) ≡ keep (λ d. eqb (sideOf ns d) s) before
   unfolding entries
   on-side s =
-      keep-same (isEarlier ns names e s) (λ d. same (privateName ns names d) (privateName ns names e) && (ltb d e && eqb (sideOf ns d) s))
-      (λ d. rw (name-is ns names d, name-is ns names e) (reorder (ltb d e) (same (privateName ns names d) (privateName ns names e)) (eqb (sideOf ns d) s))) (privates ns c)
-      ∙ sym (keep-keep (λ d. ltb d e && eqb (sideOf ns d) s) (λ d. same (privateName ns names d) (privateName ns names e)) (privates ns c))
-      ∙ sym (keep-keep (λ d. eqb (sideOf ns d) s) (λ d. ltb d e) (keep (λ d. same (privateName ns names d) (privateName ns names e)) (privates ns c)))
+      keep-same (isEarlier ns names e s) (λ d. same (keyName ns names d) (keyName ns names e) && (ltb d e && eqb (sideOf ns d) s))
+      (λ d. rw (name-is ns names d, name-is ns names e) (reorder (ltb d e) (same (keyName ns names d) (keyName ns names e)) (eqb (sideOf ns d) s))) (privates ns c)
+      ∙ sym (keep-keep (λ d. ltb d e && eqb (sideOf ns d) s) (λ d. same (keyName ns names d) (keyName ns names e)) (privates ns c))
+      ∙ sym (keep-keep (λ d. eqb (sideOf ns d) s) (λ d. ltb d e) (keep (λ d. same (keyName ns names d) (keyName ns names e)) (privates ns c)))
 
   own : (d : ℕ) → eqb (sideOf ns d) (sideOf ns e) ≡ not (xor (isSetter ns d) (isSetter ns e))
   unfolding sideOf xor

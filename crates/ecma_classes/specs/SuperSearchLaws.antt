@@ -32,9 +32,12 @@ use Rattle.supers.specs.declared.Step.the-variants.{On}
 use Rattle.ecma_base.specs.Contains.{isNode}
 use Rattle.ecma_base.specs.ScopesLaws.{Made}
 use Rattle.ecma_classes.specs.ScopesFitLaws.{isFunctionScope, isArrowScope, isBlockScope, Same, ScopesFit}
-use Rattle.ecma_classes.specs.Supers.{isValue, begins}
+use Rattle.ecma_classes.specs.Supers.{begins}
 
--- x is the value of a, in the check's words
+-- x is the value of a, in the check's words too
+abbrev pub isValue : List ℕ → ℕ → ℕ → Bool
+isValue ns a x = isNode (valueOf ns a) x
+
 pub value-is : (ns : List ℕ) (a x : ℕ) → isValueOf ns a x ≡ isValue ns a x
 unfolding isValueOf
 value-is ns a x = go (valueOf ns a)

@@ -1,6 +1,6 @@
 -- CHANGED RULES BY THE SCOPES, codes 28 to 30. "Tables that no source text yields are judged by the definitions" (document 01): where a table's scopes are not the tree's, the Rust's search
 -- through the scopes (crates/supers, specs/Super.antt: reachOf) decides. The rules of this file name that search, and no other definition of this crate does. Where the scopes
--- follow the tree (scopesFollow), they are the rules by the tree of Supers.antt: bare-by-tree, stray-by-tree, property-by-tree.
+-- follow the tree (scopesFollow), they are the rules by the tree of Changed.antt: bare-by-tree, stray-by-tree, property-by-tree.
 use Prim.Native.Nat.{ℕ}
 use mathlib.Core.List.{List}
 use mathlib.Core.Bool.{Bool, true, false, _&&_}
@@ -10,7 +10,7 @@ use Rattle.tables.specs.Kinds as k
 use Rattle.supers.specs.Super.{reachOf}
 use Rattle.supers.specs.declared.Reach.{Reach}
 use Rattle.supers.specs.declared.Reach.the-variants.{Legal, Illegal, Underived, Fails}
-use Rattle.ecma_classes.specs.Supers.{isTableCall, isTableProperty}
+use Rattle.ecma_classes.specs.Changed.{isTableCall, isTableProperty}
 
 -- the search ends in a constructor of a class without heritage ..
 abbrev pub isUnderived : Reach → Bool

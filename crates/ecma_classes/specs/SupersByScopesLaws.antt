@@ -20,9 +20,9 @@ use Rattle.ecma_dispatch.specs.Dispatch.{at28, at29, at30}
 use Rattle.ecma_dispatch.specs.NodesOf.{nodesOf, raised}
 use Rattle.ecma_classes.specs.RaisingLaws.{raising-code}
 use Rattle.ecma_classes.specs.ScopesFitLaws.{ScopesFit}
-use Rattle.ecma_classes.specs.Supers.{isTableCall, isTableProperty, tableBare, tableStray, tableProperty}
-use Rattle.ecma_classes.specs.SupersLaws.{super-bare, super-call, super-property}
+use Rattle.ecma_classes.specs.Changed.{isTableCall, isTableProperty, tableBare, tableStray, tableProperty}
 use Rattle.ecma_classes.specs.SupersByScopes.{isUnderived, isIllegal, bareByScopes, strayByScopes, propertyByScopes}
+use Rattle.ecma_classes.specs.SupersLaws.{super-bare, super-call, super-property}
 
 -- the findings of what the search says
 module _ (ns : List ℕ) (n : ℕ) where

@@ -17,7 +17,6 @@ use Rattle.tables.specs.Kinds as k
 use Rattle.tables.specs.Extras as extra
 use Rattle.tables.specs.NodeFlag as flag
 use Rattle.tables.specs.declared.Found.the-variants.{At}
-use Rattle.ancestry.specs.AncestryLaws.{parent-in}
 use Rattle.standing.specs.StandingLaws.{Placed}
 use Rattle.trees.specs.Walk.{only}
 use Rattle.trees.specs.Trail.{unitOf}
@@ -30,11 +29,13 @@ use Rattle.checker.specs.Findings.{findingsAt}
 use Rattle.ecma_dispatch.specs.WithCode.{withCode}
 use Rattle.ecma_dispatch.specs.Dispatch.{at28, at29, at30}
 use Rattle.ecma_dispatch.specs.NodesOf.{nodesOf, raised}
+use Rattle.ecma_base.specs.Telling.{Telling, special}
 use Rattle.ecma_classes.specs.RaisingLaws.{raising-code}
 use Rattle.ecma_classes.specs.ClassElements.{namesConstructor}
+use Rattle.ecma_classes.specs.Supers.{begins, isMethod, isConstructorMethod, classOf, hasHeritage, isObjectMethod, isBlockOrField, isBare, barsCall, barsProperty, isSuperCall, isSuperProperty, standardStray, standardProperty}
+use Rattle.ecma_classes.specs.Changed.{eachBare, isTableConstructor, isTableCall, isTableProperty, tableBare, tableStray, tableProperty, SupersStand, MethodsNamed, ConstructorsOrdinary}
 use Rattle.ecma_classes.specs.ScopesFitLaws.{ScopesFit}
-use Rattle.ecma_classes.specs.Supers.{isValue, begins, isMethod, isConstructorMethod, classOf, hasHeritage, isObjectMethod, takesProperty, bareCall, strayCall, strayProperty, isSuperCall, isSuperProperty, eachBare, standardStray, standardProperty, isTableConstructor, isTableCall, isTableProperty, tableBare, tableStray, tableProperty, MethodsNamed, SupersStand}
-use Rattle.ecma_classes.specs.SuperSearchLaws.{value-is, inUnit, search-is, no-root, above-other, above-body}
+use Rattle.ecma_classes.specs.SuperSearchLaws.{isValue, value-is, inUnit, search-is, no-root, above-other, above-body}
 
 -- a unit is the program, a function, a static block or a field
 abbrev unitKind : List ℕ → ℕ → Bool
@@ -80,35 +81,32 @@ module _ (ns : List ℕ) (tree : Tree ns) where
 -- what a unit says, in the words of the rules
 abbrev expected : List ℕ → Bool → ℕ → Reach
 expected ns call u =
-    cond (isConstructorMethod ns (isTableConstructor ns) u) (cond call (cond (hasHeritage ns u) Legal (Underived (record { 0 = classOf ns u }))) Legal) (cond (takesProperty ns u) (ifCall call) Illegal)
+    cond (isConstructorMethod ns (isTableConstructor ns) u) (cond call (cond (hasHeritage ns u) Legal (Underived (record { 0 = classOf ns u }))) Legal) (cond (barsProperty ns u) Illegal (ifCall call))
 
 module _ (ns ss : List ℕ) (tree : Tree ns) (chained : Chained ss) (scoped : Scoped ns ss) (placed : Placed ns) (fit : ScopesFit ns ss) (n : ℕ) (call : Bool) where
   at-program : inUnit ns ss tree chained scoped placed fit n call 0 ≡ expected ns call 0
-  unfolding isConstructorMethod isMethod isObjectMethod takesProperty
+  unfolding isConstructorMethod isMethod isObjectMethod barsProperty
   at-program = rw (tree .root)
 
   module _ (u : ℕ) (z : 0 < u) (h : u < count ns) where
-    at-other : eqb (kindOf ns u) k.Function ≡ false → unitKind ns u ≡ true → inUnit ns ss tree chained scoped placed fit n call u ≡ expected ns call u
-    unfolding isConstructorMethod isMethod isObjectMethod takesProperty
-    at-other e w = rw (ne-eqb u 0 (λ q. omega arith), e, right w)
-      where
-        right : (eqb (kindOf ns u) k.Function || (eqb (kindOf ns u) k.StaticBlock || within (kindOf ns u) k.PropertyDefinition k.AccessorProperty)) ≡ true → (eqb (kindOf ns u) k.StaticBlock || within (kindOf ns u) k.PropertyDefinition k.AccessorProperty) ≡ true
-        right w = sym (rw e) ∙ w
+    at-other : eqb (kindOf ns u) k.Function ≡ false → inUnit ns ss tree chained scoped placed fit n call u ≡ expected ns call u
+    unfolding isConstructorMethod isMethod isObjectMethod barsProperty
+    at-other e = rw (ne-eqb u 0 (λ q. omega arith), e)
 
     abbrev p : ℕ
     p = parentOf ns u
 
     of-object : kindOf ns u ≡ k.Function → kindOf ns p ≡ k.ObjectProperty → functionUse ns n call (classAbove ns u) u ≡ expected ns call u
-    unfolding functionUse isConstructorMethod isMethod isObjectMethod takesProperty objectUse
+    unfolding functionUse isConstructorMethod isMethod isObjectMethod barsProperty objectUse
     of-object e q = rw (ne-eqb u 0 (λ q. omega arith), q, value-is ns p u, e) (go (isMethodLike ns p) (isValue ns p u))
       where
-        go : (m v : Bool) → cond m (cond v (ifCall call) Illegal) Illegal ≡ cond ((m && v) || false) (ifCall call) Illegal
+        go : (m v : Bool) → cond m (cond v (ifCall call) Illegal) Illegal ≡ cond (not (m && v)) Illegal (ifCall call)
         go true true = refl
         go true false = refl
         go false v = refl
 
     of-class : kindOf ns u ≡ k.Function → kindOf ns p ≡ k.MethodDefinition → functionUse ns n call (classAbove ns u) u ≡ expected ns call u
-    unfolding functionUse isConstructorMethod isMethod isObjectMethod takesProperty methodUse hasHeritage
+    unfolding functionUse isConstructorMethod isMethod isObjectMethod barsProperty methodUse hasHeritage
     of-class e q =
         let l = tree .falls u z h in
         let r : 0 < p = no-root ns ss tree chained scoped placed fit n call p (λ x. omega arith) in
@@ -119,14 +117,14 @@ module _ (ns ss : List ℕ) (tree : Tree ns) (chained : Chained ss) (scoped : Sc
       where
         go : (v x c h : Bool)
             → cond v (cond c (cond x (cond h Legal (Underived (record { 0 = classOf ns u }))) Illegal) Legal) Illegal
-            ≡ cond (v && x) (cond c (cond h Legal (Underived (record { 0 = classOf ns u }))) Legal) (cond ((v || false) || false) (ifCall c) Illegal)
+            ≡ cond (v && x) (cond c (cond h Legal (Underived (record { 0 = classOf ns u }))) Legal) (cond (not (v || false)) Illegal (ifCall c))
         go true true c h = refl
         go true false true h = refl
         go true false false h = refl
         go false x c h = refl
 
     of-none : kindOf ns u ≡ k.Function → eqb (kindOf ns p) k.ObjectProperty ≡ false → eqb (kindOf ns p) k.MethodDefinition ≡ false → functionUse ns n call (classAbove ns u) u ≡ expected ns call u
-    unfolding functionUse isConstructorMethod isMethod isObjectMethod takesProperty
+    unfolding functionUse isConstructorMethod isMethod isObjectMethod barsProperty
     of-none e q r = rw (ne-eqb u 0 (λ q. omega arith), q, r, e)
 
     at-function : kindOf ns u ≡ k.Function → inUnit ns ss tree chained scoped placed fit n call u ≡ expected ns call u
@@ -137,67 +135,74 @@ module _ (ns ss : List ℕ) (tree : Tree ns) (chained : Chained ss) (scoped : Sc
         go false q true r = of-class e (eqb-true (kindOf ns p) k.MethodDefinition r)
         go false q false r = of-none e q r
 
-    at-later : unitKind ns u ≡ true → inUnit ns ss tree chained scoped placed fit n call u ≡ expected ns call u
-    at-later w = go (eqb (kindOf ns u) k.Function) refl
+    at-later : inUnit ns ss tree chained scoped placed fit n call u ≡ expected ns call u
+    at-later = go (eqb (kindOf ns u) k.Function) refl
       where
         go : (b : Bool) → eqb (kindOf ns u) k.Function ≡ b → inUnit ns ss tree chained scoped placed fit n call u ≡ expected ns call u
         go true q = at-function (eqb-true (kindOf ns u) k.Function q)
-        go false q = at-other q w
+        go false q = at-other q
 
-  at-unit : (u : ℕ) → InUnit ns tree u → inUnit ns ss tree chained scoped placed fit n call u ≡ expected ns call u
-  at-unit u r =
-      ⊎-elim (λ (q : 0 ≡ u). subst (λ (x : ℕ). inUnit ns ss tree chained scoped placed fit n call x ≡ expected ns call x) q at-program)
-      (λ (q : 0 < u). ⊎-elim (λ (e : u ≡ 0). absurd (omega arith)) (λ e. at-later u q (r .below) e) (r .kind)) (eq-or-lt-of-le (omega arith))
+  at-unit : (u : ℕ) → u < count ns → inUnit ns ss tree chained scoped placed fit n call u ≡ expected ns call u
+  at-unit u h =
+      ⊎-elim (λ (q : 0 ≡ u). subst (λ (x : ℕ). inUnit ns ss tree chained scoped placed fit n call x ≡ expected ns call x) q at-program) (λ (q : 0 < u). at-later u q h) (eq-or-lt-of-le (omega arith))
 
--- a constructor takes SuperProperty
-constructor-takes : (ns : List ℕ) (u : ℕ) → isConstructorMethod ns (isTableConstructor ns) u ≡ true → takesProperty ns u ≡ true
-unfolding isConstructorMethod takesProperty
-constructor-takes ns u e = rw (and-left (isMethod ns u) (eqb (extraOf ns (parentOf ns u)) extra.Constructor) e)
+-- a method bars no SuperProperty
+method-function : (ns : List ℕ) (u : ℕ) → isMethod ns u ≡ true → kindOf ns u ≡ k.Function
+unfolding isMethod
+method-function ns u e = eqb-true (kindOf ns u) k.Function (and-left (eqb (kindOf ns u) k.Function) (eqb (kindOf ns (parentOf ns u)) k.MethodDefinition && isValue ns (parentOf ns u) u) e)
+
+method-takes : (ns : List ℕ) → Tree ns → (u : ℕ) → isMethod ns u ≡ true → barsProperty ns u ≡ false
+unfolding barsProperty
+method-takes ns tree u e = rw (ne-eqb u 0 (λ q. let r : kindOf ns 0 ≡ k.Function = subst (λ (x : ℕ). kindOf ns x ≡ k.Function) q (method-function ns u e) in let s = tree .root in omega arith), method-function ns u e, e)
 
 -- the findings of what is expected
-module _ (ns : List ℕ) (n u : ℕ) where
+module _ (ns : List ℕ) (tree : Tree ns) (n u : ℕ) where
   raised28 : raised 28 (listed (byReach ns n (expected ns (isCall ns n) u))) ≡ only (isCall ns n && (isConstructorMethod ns (isTableConstructor ns) u && not (hasHeritage ns u))) n
   unfolding nodesOf withCode
-  raised28 = go (isCall ns n) refl (isConstructorMethod ns (isTableConstructor ns) u) (hasHeritage ns u) (takesProperty ns u)
+  raised28 = go (isCall ns n) refl (isConstructorMethod ns (isTableConstructor ns) u) (hasHeritage ns u) (barsProperty ns u)
     where
       go : (c : Bool) → isCall ns n ≡ c → (m h t : Bool)
-          → raised 28 (listed (byReach ns n (cond m (cond c (cond h Legal (Underived (record { 0 = classOf ns u }))) Legal) (cond t (ifCall c) Illegal)))) ≡ only (c && (m && not h)) n
+          → raised 28 (listed (byReach ns n (cond m (cond c (cond h Legal (Underived (record { 0 = classOf ns u }))) Legal) (cond t Illegal (ifCall c))))) ≡ only (c && (m && not h)) n
       go true e true true t = refl
       go true e true false t = refl
       go true e false h true = rw e
       go true e false h false = rw e
       go false e true h t = refl
-      go false e false h true = refl
-      go false e false h false = rw e
+      go false e false h true = rw e
+      go false e false h false = refl
 
   raised29 : raised 29 (listed (byReach ns n (expected ns (isCall ns n) u))) ≡ only (isCall ns n && not (isConstructorMethod ns (isTableConstructor ns) u)) n
   unfolding nodesOf withCode
-  raised29 = go (isCall ns n) refl (isConstructorMethod ns (isTableConstructor ns) u) (hasHeritage ns u) (takesProperty ns u)
+  raised29 = go (isCall ns n) refl (isConstructorMethod ns (isTableConstructor ns) u) (hasHeritage ns u) (barsProperty ns u)
     where
       go : (c : Bool) → isCall ns n ≡ c → (m h t : Bool)
-          → raised 29 (listed (byReach ns n (cond m (cond c (cond h Legal (Underived (record { 0 = classOf ns u }))) Legal) (cond t (ifCall c) Illegal)))) ≡ only (c && not m) n
+          → raised 29 (listed (byReach ns n (cond m (cond c (cond h Legal (Underived (record { 0 = classOf ns u }))) Legal) (cond t Illegal (ifCall c))))) ≡ only (c && not m) n
       go true e true true t = refl
       go true e true false t = refl
       go true e false h true = rw e
       go true e false h false = rw e
       go false e true h t = refl
-      go false e false h true = refl
-      go false e false h false = rw e
+      go false e false h true = rw e
+      go false e false h false = refl
 
-  raised30 : raised 30 (listed (byReach ns n (expected ns (isCall ns n) u))) ≡ only (not (isCall ns n) && not (takesProperty ns u)) n
+  constructor-method : isConstructorMethod ns (isTableConstructor ns) u ≡ true → isMethod ns u ≡ true
+  unfolding isConstructorMethod
+  constructor-method e = and-left (isMethod ns u) (isTableConstructor ns (parentOf ns u)) e
+
+  raised30 : raised 30 (listed (byReach ns n (expected ns (isCall ns n) u))) ≡ only (not (isCall ns n) && barsProperty ns u) n
   unfolding nodesOf withCode
-  raised30 = go (isCall ns n) refl (isConstructorMethod ns (isTableConstructor ns) u) refl (hasHeritage ns u) (takesProperty ns u) refl
+  raised30 = go (isCall ns n) refl (isConstructorMethod ns (isTableConstructor ns) u) refl (hasHeritage ns u) (barsProperty ns u) refl
     where
-      go : (c : Bool) → isCall ns n ≡ c → (m : Bool) → isConstructorMethod ns (isTableConstructor ns) u ≡ m → (h t : Bool) → takesProperty ns u ≡ t
-          → raised 30 (listed (byReach ns n (cond m (cond c (cond h Legal (Underived (record { 0 = classOf ns u }))) Legal) (cond t (ifCall c) Illegal)))) ≡ only (not c && not t) n
+      go : (c : Bool) → isCall ns n ≡ c → (m : Bool) → isConstructorMethod ns (isTableConstructor ns) u ≡ m → (h t : Bool) → barsProperty ns u ≡ t
+          → raised 30 (listed (byReach ns n (cond m (cond c (cond h Legal (Underived (record { 0 = classOf ns u }))) Legal) (cond t Illegal (ifCall c))))) ≡ only (not c && t) n
       go true e true q true t r = refl
       go true e true q false t r = refl
       go true e false q h true r = rw e
       go true e false q h false r = rw e
-      go false e true q h true r = refl
-      go false e true q h false r = never (sym (constructor-takes ns u q) ∙ r)
-      go false e false q h true r = refl
-      go false e false q h false r = rw e
+      go false e true q h true r = never (sym r ∙ method-takes ns tree u (constructor-method q))
+      go false e true q h false r = refl
+      go false e false q h true r = rw e
+      go false e false q h false r = refl
 
 -- THE THEOREMS: one finding at each Super that breaks a rule, none at any other node
 module _ (ns ss : List ℕ) (tree : Tree ns) (chained : Chained ss) (scoped : Scoped ns ss) (placed : Placed ns) (fit : ScopesFit ns ss) (n : ℕ) (h : n < count ns) where
@@ -206,34 +211,34 @@ module _ (ns ss : List ℕ) (tree : Tree ns) (chained : Chained ss) (scoped : Sc
   checked e =
       ap (byReach ns n)
       (search-is ns ss tree chained scoped placed fit n (isCall ns n) h e
-      ∙ at-unit ns ss tree chained scoped placed fit n (isCall ns n) (unitOf ns (begins ns) n) (unit-is ns tree n h))
+      ∙ at-unit ns ss tree chained scoped placed fit n (isCall ns n) (unitOf ns (begins ns) n) (unit-is ns tree n h .below))
 
   module _ (t : ℕ) (source names : List ℕ) where
     pub super-bare : raised 28 (findingsAt t ns ss source names n) ≡ only (tableBare ns n) n
-    unfolding bareCall isTableCall nodesOf withCode
+    unfolding isBare isTableCall nodesOf withCode
     super-bare = raising-code 28 (findingsAt t ns ss source names n) ∙ rw (at28 t ns ss source names n) (go (eqb (kindOf ns n) k.Super) refl)
       where
         go : (b : Bool) → eqb (kindOf ns n) k.Super ≡ b
             → raised 28 (cond b (withCode 28 (listed (checkSuper ns ss n))) []) ≡ only ((b && isCall ns n) && (isConstructorMethod ns (isTableConstructor ns) (unitOf ns (begins ns) n) && not (hasHeritage ns (unitOf ns (begins ns) n)))) n
-        go true e = sym (raising-code 28 (listed (checkSuper ns ss n))) ∙ rw (checked (eqb-true (kindOf ns n) k.Super e)) (raised28 ns n (unitOf ns (begins ns) n))
+        go true e = sym (raising-code 28 (listed (checkSuper ns ss n))) ∙ rw (checked (eqb-true (kindOf ns n) k.Super e)) (raised28 ns tree n (unitOf ns (begins ns) n))
         go false e = refl
 
     pub super-call : raised 29 (findingsAt t ns ss source names n) ≡ only (tableStray ns n) n
-    unfolding strayCall isTableCall nodesOf withCode
+    unfolding isTableCall nodesOf withCode
     super-call = raising-code 29 (findingsAt t ns ss source names n) ∙ rw (at29 t ns ss source names n) (go (eqb (kindOf ns n) k.Super) refl)
       where
         go : (b : Bool) → eqb (kindOf ns n) k.Super ≡ b
             → raised 29 (cond b (withCode 29 (listed (checkSuper ns ss n))) []) ≡ only ((b && isCall ns n) && not (isConstructorMethod ns (isTableConstructor ns) (unitOf ns (begins ns) n))) n
-        go true e = sym (raising-code 29 (listed (checkSuper ns ss n))) ∙ rw (checked (eqb-true (kindOf ns n) k.Super e)) (raised29 ns n (unitOf ns (begins ns) n))
+        go true e = sym (raising-code 29 (listed (checkSuper ns ss n))) ∙ rw (checked (eqb-true (kindOf ns n) k.Super e)) (raised29 ns tree n (unitOf ns (begins ns) n))
         go false e = refl
 
     pub super-property : raised 30 (findingsAt t ns ss source names n) ≡ only (tableProperty ns n) n
-    unfolding strayProperty isTableProperty nodesOf withCode
+    unfolding isTableProperty nodesOf withCode
     super-property = raising-code 30 (findingsAt t ns ss source names n) ∙ rw (at30 t ns ss source names n) (go (eqb (kindOf ns n) k.Super) refl)
       where
         go : (b : Bool) → eqb (kindOf ns n) k.Super ≡ b
-            → raised 30 (cond b (withCode 30 (listed (checkSuper ns ss n))) []) ≡ only ((b && not (isCall ns n)) && not (takesProperty ns (unitOf ns (begins ns) n))) n
-        go true e = sym (raising-code 30 (listed (checkSuper ns ss n))) ∙ rw (checked (eqb-true (kindOf ns n) k.Super e)) (raised30 ns n (unitOf ns (begins ns) n))
+            → raised 30 (cond b (withCode 30 (listed (checkSuper ns ss n))) []) ≡ only ((b && not (isCall ns n)) && barsProperty ns (unitOf ns (begins ns) n)) n
+        go true e = sym (raising-code 30 (listed (checkSuper ns ss n))) ∙ rw (checked (eqb-true (kindOf ns n) k.Super e)) (raised30 ns tree n (unitOf ns (begins ns) n))
         go false e = refl
 
 pub method-kind : (ns : List ℕ) (u : ℕ) → isMethod ns u ≡ true → kindOf ns (parentOf ns u) ≡ k.MethodDefinition
@@ -242,7 +247,7 @@ method-kind ns u e =
     eqb-true (kindOf ns (parentOf ns u)) k.MethodDefinition
     (and-left (eqb (kindOf ns (parentOf ns u)) k.MethodDefinition) (isValue ns (parentOf ns u) u) (and-right (eqb (kindOf ns u) k.Function) (eqb (kindOf ns (parentOf ns u)) k.MethodDefinition && isValue ns (parentOf ns u) u) e))
 
--- where each Super stands in a SuperCall or a SuperProperty, the rules are the standard's; of 28, asked of each constructor
+-- where each Super stands in a SuperCall or a SuperProperty and the table calls constructors what is, the rules are the standard's; of 28, asked of each constructor
 module _ (ns names : List ℕ) (tree : Tree ns) (stand : SupersStand ns) (n : ℕ) (h : n < count ns) where
   call-same : isTableCall ns n ≡ isSuperCall ns n
   unfolding isTableCall isSuperCall
@@ -260,22 +265,96 @@ module _ (ns names : List ℕ) (tree : Tree ns) (stand : SupersStand ns) (n : �
       go true e = ⊎-elim (λ (q : kindOf ns (parentOf ns n) ≡ k.Call). rw q) (λ (q : kindOf ns (parentOf ns n) ≡ k.OtherMember). rw q) (stand n h (eqb-true (kindOf ns n) k.Super e))
       go false e = refl
 
-  constructor-same : MethodsNamed ns names → isConstructorMethod ns (isTableConstructor ns) (unitOf ns (begins ns) n) ≡ isConstructorMethod ns (namesConstructor ns names) (unitOf ns (begins ns) n)
-  unfolding isConstructorMethod
-  constructor-same w = go (isMethod ns (unitOf ns (begins ns) n)) refl
+  abbrev u : ℕ
+  u = unitOf ns (begins ns) n
+
+  below : u < count ns
+  below = unit-is ns tree n h .below
+
+  -- no two of the productions
+  not-program : u ≡ 0 → isMethod ns u ≡ false
+  unfolding isMethod
+  not-program e = rw (e, tree .root)
+
+  not-function : isBlockOrField ns u ≡ true → isMethod ns u ≡ false
+  unfolding isMethod
+  not-function e = rw (ne-eqb (kindOf ns u) k.Function (λ q. never (sym e ∙ rw q)))
+
+  not-object : isObjectMethod ns u ≡ true → isMethod ns u ≡ false
+  unfolding isMethod isObjectMethod
+  not-object e =
+      rw (eqb-true (kindOf ns (parentOf ns u)) k.ObjectProperty (and-left (eqb (kindOf ns (parentOf ns u)) k.ObjectProperty) _ (and-right (eqb (kindOf ns u) k.Function) _ e)))
+      (off (eqb (kindOf ns u) k.Function))
     where
-      go : (b : Bool) → isMethod ns (unitOf ns (begins ns) n) ≡ b → (b && isTableConstructor ns (parentOf ns (unitOf ns (begins ns) n))) ≡ (b && namesConstructor ns names (parentOf ns (unitOf ns (begins ns) n)))
-      go true e = w (parentOf ns (unitOf ns (begins ns) n)) (parent-in ns tree (unitOf ns (begins ns) n) (unit-is ns tree n h .below)) (method-kind ns (unitOf ns (begins ns) n) e)
-      go false e = refl
-
-  pub bare-same : MethodsNamed ns names → tableBare ns n ≡ eachBare ns names n
-  unfolding bareCall
-  bare-same w = rw (call-same, constructor-same w)
-
-  pub stray-same : MethodsNamed ns names → tableStray ns n ≡ standardStray ns names n
-  unfolding strayCall
-  stray-same w = rw (call-same, constructor-same w)
+      off : (b : Bool) → (b && false) ≡ false
+      off true = refl
+      off false = refl
 
   pub property-rule-same : tableProperty ns n ≡ standardProperty ns n
-  unfolding strayProperty
   property-rule-same = rw property-same
+
+  module _ (told : Telling) (w : MethodsNamed told ns names) where
+    -- a unit bars SuperCall unless it is a constructor
+    bars-call : barsCall told ns names u ≡ not (isConstructorMethod ns (isTableConstructor ns) u)
+    unfolding barsCall isConstructorMethod
+    bars-call =
+        ⊎-elim (λ (q : u ≡ 0). rw (not-program q, q))
+        (λ (q : unitKind ns u ≡ true). go (eqb u 0) refl (eqb (kindOf ns u) k.Function) (isBlockOrField ns u) refl q (isObjectMethod ns u) refl (isMethod ns u) refl) (unit-is ns tree n h .kind)
+      where
+        by : (t b s : Bool) → t ≡ (b && not s) → (not b || (s || false)) ≡ not t
+        by t true true e = rw e
+        by t true false e = rw e
+        by t false s e = rw e
+
+        go : (z : Bool) → eqb u 0 ≡ z → (f b : Bool) → isBlockOrField ns u ≡ b → (f || b) ≡ true → (o : Bool) → isObjectMethod ns u ≡ o → (m : Bool) → isMethod ns u ≡ m
+            → (z || (b || (o || ((m && not (namesConstructor ns names (parentOf ns u))) || (((m || o) && special told u) || (f && not (m || o))))))) ≡ not (m && isTableConstructor ns (parentOf ns u))
+        go true x f b q r o s true t = never (sym t ∙ not-program (eqb-true u 0 x))
+        go true x f b q r o s false t = refl
+        go false x f true q r o s true t = never (sym t ∙ not-function q)
+        go false x f true q r o s false t = refl
+        go false x true false q r true s true t = never (sym t ∙ not-object s)
+        go false x true false q r true s false t = refl
+        go false x true false q r false s true t = by (isTableConstructor ns (parentOf ns u)) (namesConstructor ns names (parentOf ns u)) (special told u) (w u below t)
+        go false x true false q r false s false t = refl
+        go false x false false q r o s m t = never (sym r)
+
+    pub stray-same : tableStray ns n ≡ standardStray told ns names n
+    stray-same = rw (call-same, bars-call)
+
+    constructor-same : ConstructorsOrdinary told ns names → isConstructorMethod ns (isTableConstructor ns) u ≡ isConstructorMethod ns (namesConstructor ns names) u
+    unfolding isConstructorMethod
+    constructor-same o = go (isMethod ns u) refl
+      where
+        by : isMethod ns u ≡ true → (b : Bool) → namesConstructor ns names (parentOf ns u) ≡ b → (b && not (special told u)) ≡ b
+        by e true q = rw (o u below e q)
+        by e false q = refl
+
+        go : (b : Bool) → isMethod ns u ≡ b → (b && isTableConstructor ns (parentOf ns u)) ≡ (b && namesConstructor ns names (parentOf ns u))
+        go true e = w u below e ∙ by e (namesConstructor ns names (parentOf ns u)) refl
+        go false e = refl
+
+    pub bare-same : ConstructorsOrdinary told ns names → tableBare ns n ≡ eachBare ns names n
+    unfolding isBare
+    bare-same o = rw (call-same, constructor-same o)
+
+    -- without that condition one of the three rules is broken where one of the standard's is: what is a constructor by its name alone breaks that of 29
+    named-too : isConstructorMethod ns (isTableConstructor ns) u ≡ true → isConstructorMethod ns (namesConstructor ns names) u ≡ true
+    unfolding isConstructorMethod
+    named-too e =
+        let m = and-left (isMethod ns u) (isTableConstructor ns (parentOf ns u)) e in
+        rw m (and-left (namesConstructor ns names (parentOf ns u)) (not (special told u)) (sym (w u below m) ∙ and-right (isMethod ns u) (isTableConstructor ns (parentOf ns u)) e))
+
+    pub super-same : (eachBare ns names n || (standardStray told ns names n || standardProperty ns n)) ≡ (tableBare ns n || (tableStray ns n || tableProperty ns n))
+    unfolding isBare
+    super-same = rw (call-same, bars-call, property-same) (go (isSuperCall ns n) (isConstructorMethod ns (isTableConstructor ns) u) refl)
+      where
+        first : (a x : Bool) → (a || (true || x)) ≡ true
+        first true x = refl
+        first false x = refl
+
+        go : (c b : Bool) → isConstructorMethod ns (isTableConstructor ns) u ≡ b
+            → ((c && (isConstructorMethod ns (namesConstructor ns names) u && not (hasHeritage ns u))) || ((c && not b) || standardProperty ns n))
+            ≡ ((c && (b && not (hasHeritage ns u))) || ((c && not b) || standardProperty ns n))
+        go true true e = rw (named-too e)
+        go true false e = first (isConstructorMethod ns (namesConstructor ns names) u && not (hasHeritage ns u)) (standardProperty ns n)
+        go false b e = refl

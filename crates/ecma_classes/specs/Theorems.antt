@@ -25,25 +25,27 @@ use Rattle.checker.specs.Findings.{findingsAt, findingsOf}
 use Rattle.input.specs.InputLaws.{WellFormed}
 use Rattle.ecma_dispatch.specs.WithCode.{withCode}
 use Rattle.ecma_dispatch.specs.Dispatch.{wholeOne, wholeOther}
-use Rattle.ecma_dispatch.specs.NodesOf.{nodesOf, raised}
+use Rattle.ecma_dispatch.specs.NodesOf.{raised}
 use Rattle.ecma_dispatch.specs.NodesOfLaws.{raisedAppend, raisedFlat}
 use Rattle.ecma_classes.specs.RaisingLaws.{raising-code, flat-upto, keep-upto, any-upto, any-three}
 use Rattle.ecma_classes.specs.ListLaws.{Rising, kept-in}
-use Rattle.ecma_classes.specs.ClassElements.{found, sameNode, namesConstructor, nameMissing, builtTwice, constructorTwice, isFirstConstructor, OneConstructor, ConstructorsNamed, isProto, protoAgain, protoTwice, KeysPlain}
+use Rattle.ecma_classes.specs.ClassElements.{found, nameMissing, constructorTwice, isFirstConstructor, isProto, protoTwice}
+use Rattle.ecma_classes.specs.PrivateNames.{sameNode, privateBound, entries, allowed, privateTwice, isClassBody, isUse, allPrivateIdentifiersValid, invalidIdentifiers, bodyAround}
+use Rattle.ecma_classes.specs.Supers.{isSuperCall, isSuperProperty, isBare, barsCall, barsProperty, bareError, callError, propertyError, superError, standardBare, standardStray, standardProperty}
+use Rattle.ecma_classes.specs.Changed.{builtTwice, OneConstructor, ConstructorsNamed, protoAgain, KeysPlain, privateEntered, privateAgain, PrivatesEntered, OnceOrTwice, invalidInTable, PrivatesPlain, isOutside, UsedOutside, eachBare, tableBare, tableStray, tableProperty, MethodsNamed, SupersStand, ConstructorsOrdinary}
+use Rattle.ecma_classes.specs.SupersByScopes.{bareByScopes, strayByScopes, propertyByScopes}
 use Rattle.ecma_classes.specs.ClassElementsLaws.{class-name, second-constructor, constructors-agree}
 use Rattle.ecma_classes.specs.ObjectsLaws.{times, proto-again, proto-agrees, proto-once}
-use Rattle.ecma_classes.specs.PrivateNames.{privateBound, privateEntered, entries, allowed, privateTwice, privateAgain, PrivatesEntered, OnceOrTwice, isClassBody, isUse, allPrivateIdentifiersValid, invalidIdentifiers, invalidInTable, PrivatesPlain, bodyAround, isOutside, UsedOutside}
-use Rattle.ecma_classes.specs.PrivateTwiceLaws.{flat-alike, private-again, again-some, again-once, entered-all, entered-rising}
+use Rattle.ecma_classes.specs.PrivateTwiceLaws.{some-kept, flat-alike, private-again, again-some, again-once, entered-all, entered-rising}
 use Rattle.ecma_classes.specs.PrivateNamesLaws.{invalidAt, invalid-list, valid-none, private-outside, outside-invalid, private-undeclared, invalid-same, class-above, body-of-class}
+use Rattle.ecma_base.specs.Telling.{Telling, ordinary}
 use Rattle.ecma_base.specs.Scopes.{scopesFollow}
 use Rattle.ecma_classes.specs.ScopesFitLaws.{ScopesFit, fit-of}
-use Rattle.ecma_classes.specs.Supers.{isSuperCall, isSuperProperty, bareCall, strayCall, strayProperty, bareCallIn, strayCallIn, strayPropertyIn, standardBare, standardStray, standardProperty, eachBare, tableBare, tableStray, tableProperty, MethodsNamed, SupersStand, superError}
-use Rattle.ecma_classes.specs.SupersLaws.{super-bare, super-call, super-property, bare-same, stray-same, property-rule-same}
-use Rattle.ecma_classes.specs.SupersByScopes.{bareByScopes, strayByScopes, propertyByScopes}
+use Rattle.ecma_classes.specs.SupersLaws.{super-bare, super-call, super-property, bare-same, stray-same, property-rule-same, super-same}
 use Rattle.ecma_classes.specs.SupersByScopesLaws.{bare-by-scopes, stray-by-scopes, property-by-scopes}
 use Rattle.ecma_classes.specs.FirstConstructorLaws.{first-same}
-use Rattle.ecma_classes.specs.ContainsLaws.{inUnit, bare-in, stray-in, property-in, error-is}
-use Rattle.ecma_classes.specs.WholeLaws.{below-of, all-raised, units-all}
+use Rattle.ecma_classes.specs.ContainsLaws.{inUnit, unit-rule}
+use Rattle.ecma_classes.specs.WholeLaws.{below-of, all-raised, any-unit}
 
 -- from each node to the whole tree
 module _ (t : ℕ) (ns ss source names : List ℕ) where
@@ -158,27 +160,33 @@ module _ (t : ℕ) (ns ss source names : List ℕ) (w : WellFormed t ns ss sourc
           (kept-in (invalidAt ns names (isUse ns) (privateBound ns)) nodes x (sym (ap (member x) (invalid-list ns names (isUse ns) (privateBound ns) (w .input .tree))) ∙ m) .0)
 
   -- a unit breaks an early error, by Contains (8.5.1), just where one of its Supers does
-  pub units28 : (u : ℕ) → u < count ns → bareCallIn ns (isFirstConstructor ns names) (isSuperCall ns) u ≡ some (inUnit ns (standardBare ns names) u)
-  units28 u h = bare-in ns (w .input .tree) u h (isFirstConstructor ns names) (isSuperCall ns)
+  pub units28 : (u : ℕ) → u < count ns → bareError ns names u ≡ some (inUnit ns (standardBare ns names) u)
+  units28 u h = unit-rule ns (isSuperCall ns) (w .input .tree) (isBare ns (isFirstConstructor ns names)) u h
 
-  pub units29 : (u : ℕ) → u < count ns → strayCallIn ns (namesConstructor ns names) (isSuperCall ns) u ≡ some (inUnit ns (standardStray ns names) u)
-  units29 u h = stray-in ns (w .input .tree) u h (namesConstructor ns names) (isSuperCall ns)
+  pub units29 : (told : Telling) (u : ℕ) → u < count ns → callError told ns names u ≡ some (inUnit ns (standardStray told ns names) u)
+  units29 told u h = unit-rule ns (isSuperCall ns) (w .input .tree) (barsCall told ns names) u h
 
-  pub units30 : (u : ℕ) → u < count ns → strayPropertyIn ns (isSuperProperty ns) u ≡ some (inUnit ns (standardProperty ns) u)
-  units30 u h = property-in ns (w .input .tree) u h (isSuperProperty ns)
+  pub units30 : (u : ℕ) → u < count ns → propertyError ns u ≡ some (inUnit ns (standardProperty ns) u)
+  units30 u h = unit-rule ns (isSuperProperty ns) (w .input .tree) (barsProperty ns) u h
 
   -- the program is no Super
-  no-bare : standardBare ns names 0 ≡ false
-  unfolding bareCall isSuperCall
-  no-bare = rw (w .input .tree .root)
+  no-call : isSuperCall ns 0 ≡ false
+  unfolding isSuperCall
+  no-call = rw (w .input .tree .root)
 
-  no-stray : standardStray ns names 0 ≡ false
-  unfolding strayCall isSuperCall
-  no-stray = rw (w .input .tree .root)
-
-  no-property : standardProperty ns 0 ≡ false
-  unfolding strayProperty isSuperProperty
+  no-property : isSuperProperty ns 0 ≡ false
+  unfolding isSuperProperty
   no-property = rw (w .input .tree .root)
+
+  -- some unit breaks one just where some Super does
+  any28 : any (bareError ns names) nodes ≡ any (standardBare ns names) nodes
+  any28 = any-unit ns (w .input .tree) (isSuperCall ns) (isBare ns (isFirstConstructor ns names)) no-call
+
+  any29 : (told : Telling) → any (callError told ns names) nodes ≡ any (standardStray told ns names) nodes
+  any29 told = any-unit ns (w .input .tree) (isSuperCall ns) (barsCall told ns names) no-call
+
+  any30 : any (propertyError ns) nodes ≡ any (standardProperty ns) nodes
+  any30 = any-unit ns (w .input .tree) (isSuperProperty ns) (barsProperty ns) no-property
 
   -- 28, 29, 30 of all well-formed tables: changed: by the Rust's search through the scopes, whatever they are
   pub code28-scopes : raised 28 findings ≡ keep (bareByScopes ns ss) nodes
@@ -204,42 +212,45 @@ module _ (t : ℕ) (ns ss source names : List ℕ) (w : WellFormed t ns ss sourc
     pub code30 : raised 30 findings ≡ keep (tableProperty ns) nodes
     code30 = whole t ns ss source names 30 refl (tableProperty ns) (λ j h. super-property ns ss (w .input .tree) (w .input .chained) (w .input .scoped) (w .shaped .placed) fit j h t source names)
 
-    module _ (stand : SupersStand ns) (named : MethodsNamed ns names) where
-      -- 28 of each constructor, and of the first where no class has two
-      pub code28-each : raised 28 findings ≡ keep (eachBare ns names) nodes
-      code28-each = code28 ∙ keep-upto (tableBare ns) (eachBare ns names) 0 (count ns) (λ j a b. bare-same ns names (w .input .tree) stand j b named)
-
-      pub code28-standard : OneConstructor ns names → raised 28 findings ≡ keep (standardBare ns names) nodes
-      code28-standard once = code28-each ∙ keep-upto (eachBare ns names) (standardBare ns names) 0 (count ns) (λ j a b. first-same ns names (w .input .tree) (w .listed) (w .shaped) once j b)
-
-      pub code29-standard : raised 29 findings ≡ keep (standardStray ns names) nodes
-      code29-standard = code29 ∙ keep-upto (tableStray ns) (standardStray ns names) 0 (count ns) (λ j a b. stray-same ns names (w .input .tree) stand j b named)
-
+    module _ (stand : SupersStand ns) where
       pub code30-standard : raised 30 findings ≡ keep (standardProperty ns) nodes
       code30-standard = code30 ∙ keep-upto (tableProperty ns) (standardProperty ns) 0 (count ns) (λ j a b. property-rule-same ns names (w .input .tree) stand j b)
 
       -- there is a finding just where some unit breaks the rule
-      pub program28 : OneConstructor ns names → some (raised 28 findings) ≡ any (bareCallIn ns (isFirstConstructor ns names) (isSuperCall ns)) nodes
-      program28 once =
-          ap (λ (l : List ℕ). some l) (code28-standard once)
-          ∙ sym (units-all ns (w .input .tree) (standardBare ns names) no-bare)
-          ∙ any-upto (λ u. some (inUnit ns (standardBare ns names) u)) (bareCallIn ns (isFirstConstructor ns names) (isSuperCall ns)) 0 (count ns) (λ u a b. sym (units28 u b))
+      pub program30 : some (raised 30 findings) ≡ any (propertyError ns) nodes
+      program30 = ap (λ (l : List ℕ). some l) code30-standard ∙ some-kept (standardProperty ns) nodes ∙ sym any30
 
-      pub program29 : some (raised 29 findings) ≡ any (strayCallIn ns (namesConstructor ns names) (isSuperCall ns)) nodes
-      program29 =
-          ap (λ (l : List ℕ). some l) code29-standard
-          ∙ sym (units-all ns (w .input .tree) (standardStray ns names) no-stray)
-          ∙ any-upto (λ u. some (inUnit ns (standardStray ns names) u)) (strayCallIn ns (namesConstructor ns names) (isSuperCall ns)) 0 (count ns) (λ u a b. sym (units29 u b))
+      -- 28 and 29 of every telling of which functions are async or generators; at `ordinary`, by which the Rust goes, the condition of 28 holds
+      pub all-ordinary : ConstructorsOrdinary ordinary ns names
+      all-ordinary u h m e = refl
 
-      pub program30 : some (raised 30 findings) ≡ any (strayPropertyIn ns (isSuperProperty ns)) nodes
-      program30 =
-          ap (λ (l : List ℕ). some l) code30-standard
-          ∙ sym (units-all ns (w .input .tree) (standardProperty ns) no-property)
-          ∙ any-upto (λ u. some (inUnit ns (standardProperty ns) u)) (strayPropertyIn ns (isSuperProperty ns)) 0 (count ns) (λ u a b. sym (units30 u b))
+      module _ (told : Telling) (named : MethodsNamed told ns names) where
+        -- 28 of each constructor, and of the first where no class has two
+        pub code28-each : ConstructorsOrdinary told ns names → raised 28 findings ≡ keep (eachBare ns names) nodes
+        code28-each o = code28 ∙ keep-upto (tableBare ns) (eachBare ns names) 0 (count ns) (λ j a b. bare-same ns names (w .input .tree) stand j b told named o)
 
-      -- and no finding of the three just where no production's early error on `super` applies
-      pub super-clean : OneConstructor ns names → any (superError ns names) nodes ≡ (some (raised 28 findings) || (some (raised 29 findings) || some (raised 30 findings)))
-      super-clean once =
-          rw (program28 once, program29, program30)
-          (any-upto (superError ns names) (λ u. bareCallIn ns (isFirstConstructor ns names) (isSuperCall ns) u || (strayCallIn ns (namesConstructor ns names) (isSuperCall ns) u || strayPropertyIn ns (isSuperProperty ns) u)) 0 (count ns) (λ u a b. error-is ns names (w .input .tree) u)
-          ∙ any-three (bareCallIn ns (isFirstConstructor ns names) (isSuperCall ns)) (strayCallIn ns (namesConstructor ns names) (isSuperCall ns)) (strayPropertyIn ns (isSuperProperty ns)) nodes)
+        pub code28-standard : ConstructorsOrdinary told ns names → OneConstructor ns names → raised 28 findings ≡ keep (standardBare ns names) nodes
+        code28-standard o once =
+            code28-each o ∙ keep-upto (eachBare ns names) (standardBare ns names) 0 (count ns) (λ j a b. first-same ns names (w .input .tree) (w .listed) (w .shaped) once j b)
+
+        pub code29-standard : raised 29 findings ≡ keep (standardStray told ns names) nodes
+        code29-standard = code29 ∙ keep-upto (tableStray ns) (standardStray told ns names) 0 (count ns) (λ j a b. stray-same ns names (w .input .tree) stand j b told named)
+
+        pub program28 : ConstructorsOrdinary told ns names → OneConstructor ns names → some (raised 28 findings) ≡ any (bareError ns names) nodes
+        program28 o once = ap (λ (l : List ℕ). some l) (code28-standard o once) ∙ some-kept (standardBare ns names) nodes ∙ sym any28
+
+        pub program29 : some (raised 29 findings) ≡ any (callError told ns names) nodes
+        program29 = ap (λ (l : List ℕ). some l) code29-standard ∙ some-kept (standardStray told ns names) nodes ∙ sym (any29 told)
+
+        -- and no finding of the three just where no production's early error on `super` applies
+        pub super-clean : OneConstructor ns names → any (superError told ns names) nodes ≡ (some (raised 28 findings) || (some (raised 29 findings) || some (raised 30 findings)))
+        super-clean once =
+            any-three (bareError ns names) (callError told ns names) (propertyError ns) nodes
+            ∙ rw (any28, any29 told, any30)
+            (sym (any-three (standardBare ns names) (standardStray told ns names) (standardProperty ns) nodes)
+            ∙ any-upto (λ j. standardBare ns names j || (standardStray told ns names j || standardProperty ns j)) (λ j. tableBare ns j || (tableStray ns j || tableProperty ns j)) 0 (count ns)
+            (λ j a b.
+            ap (λ (x : Bool). x || (standardStray told ns names j || standardProperty ns j)) (sym (first-same ns names (w .input .tree) (w .listed) (w .shaped) once j b))
+            ∙ super-same ns names (w .input .tree) stand j b told named)
+            ∙ any-three (tableBare ns) (tableStray ns) (tableProperty ns) nodes
+            ∙ sym (rw (code28, code29, code30, some-kept (tableBare ns) nodes, some-kept (tableStray ns) nodes, some-kept (tableProperty ns) nodes)))

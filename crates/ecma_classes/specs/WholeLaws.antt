@@ -31,14 +31,15 @@ use Rattle.diagnostics.specs.Contexts as context
 use Rattle.ecma_dispatch.specs.WithCode.{withCode}
 use Rattle.ecma_dispatch.specs.NodesOf.{nodesOf, raised}
 use Rattle.ecma_dispatch.specs.NodesOfLaws.{raisedFlat}
+use Rattle.ecma_classes.specs.RaisingLaws.{any-upto}
 use Rattle.ecma_classes.specs.ListLaws.{any-hit, any-find, kept-in, in-kept, member-here, in-upto}
-use Rattle.ecma_classes.specs.ClassElements.{found, sameNode}
+use Rattle.ecma_classes.specs.ClassElements.{found}
+use Rattle.ecma_classes.specs.PrivateNames.{sameNode, bodyAround}
+use Rattle.ecma_classes.specs.Supers.{begins, unitContains}
 use Rattle.ecma_classes.specs.ObjectsLaws.{times}
-use Rattle.ecma_classes.specs.PrivateNames.{bodyAround}
 use Rattle.ecma_classes.specs.PrivateTwiceLaws.{some-kept, both-ways}
 use Rattle.ecma_classes.specs.PrivateNamesLaws.{around-is, class-above, body-of-class}
-use Rattle.ecma_classes.specs.Supers.{begins}
-use Rattle.ecma_classes.specs.ContainsLaws.{inUnit}
+use Rattle.ecma_classes.specs.ContainsLaws.{inUnit, unit-rule}
 
 some-flat : {A : Type 0} (f : ℕ → List A) (l : List ℕ) → some (flatMap f l) ≡ any (λ x. some (f x)) l
 unfolding flatMap
@@ -178,8 +179,8 @@ module _ (ns : List ℕ) (tree : Tree ns) where
       go false r = r
 
   -- some unit has a node that breaks a rule just where some node breaks it, if the program doesn't
-  pub units-all : (rule : ℕ → Bool) → rule 0 ≡ false → any (λ u. some (inUnit ns rule u)) (upto 0 (count ns)) ≡ some (keep rule (upto 0 (count ns)))
-  units-all rule e = both-ways _ _ to from ∙ sym (some-kept rule (upto 0 (count ns)))
+  units-all : (rule : ℕ → Bool) → rule 0 ≡ false → any (λ u. some (inUnit ns rule u)) (upto 0 (count ns)) ≡ any rule (upto 0 (count ns))
+  units-all rule e = both-ways _ _ to from
     where
       positive : (j : ℕ) → rule j ≡ true → 0 < j
       positive j r = ⊎-elim (λ (q : 0 ≡ j). never (sym (subst (λ (x : ℕ). rule x ≡ true) (sym q) r) ∙ e)) (λ (q : 0 < j). q) (eq-or-lt-of-le (omega arith))
@@ -202,3 +203,10 @@ module _ (ns : List ℕ) (tree : Tree ns) where
           any-hit (λ u. some (inUnit ns rule u)) (upto 0 (count ns)) (unitOf ns (begins ns) (x .at)) (in-upto (count ns) (unitOf ns (begins ns) (x .at)) (omega arith))
           (someEach (λ j. cond (eqb (unitOf ns (begins ns) j) (unitOf ns (begins ns) (x .at))) (only (rule j) j) []) (unitOf ns (begins ns) (x .at) + 1) (count ns) .1
           (record { at = x .at; low = omega arith; high = h; does = rw (eq-eqb (unitOf ns (begins ns) (x .at)) (unitOf ns (begins ns) (x .at)) refl, x .does) }))
+
+  -- some unit breaks a rule, by Contains (8.5.1), just where some node does
+  pub any-unit : (sought rule : ℕ → Bool) → sought 0 ≡ false
+      → any (λ u. rule u && unitContains ns sought u) (upto 0 (count ns)) ≡ any (λ n. sought n && rule (unitOf ns (begins ns) n)) (upto 0 (count ns))
+  any-unit sought rule e =
+      any-upto (λ u. rule u && unitContains ns sought u) (λ u. some (inUnit ns (λ n. sought n && rule (unitOf ns (begins ns) n)) u)) 0 (count ns) (λ u a b. unit-rule ns sought tree rule u b)
+      ∙ units-all (λ n. sought n && rule (unitOf ns (begins ns) n)) (rw e)

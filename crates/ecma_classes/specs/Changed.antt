@@ -1,0 +1,180 @@
+-- THE RULES AS THE RUST HAS THEM, where they are not the standard's, and the conditions on which they are: in the order of the codes 1, 7, 8, 27, 28 to 30.
+-- Those of 28 to 30 where the scopes are not the tree's stand in SupersByScopes.
+use Prim.Native.Nat.{ℕ, _<_, _≤_}
+use mathlib.Core.Path.{_≡_}
+use mathlib.Core.List.{List, [], _∷_}
+use mathlib.Core.Bool.{Bool, true, false, cond, not, xor, _&&_}
+use mathlib.Core.Logic.{_⊎_}
+use lib.Dec.{eqb, ltb}
+use lib.ListN.{length}
+use Rattle.common.specs.Tests.{within}
+use Rattle.walk.specs.On.{member}
+use Rattle.tables.specs.Table.{kindOf, parentOf, flagsOf, extraOf, nameLenOf, count, hasFlag}
+use Rattle.tables.specs.Kinds as k
+use Rattle.tables.specs.Extras as extra
+use Rattle.tables.specs.NodeFlag as flag
+use Rattle.tables.specs.declared.Found.{Found}
+use Rattle.tables.specs.declared.Found.the-variants.{At, Nothing}
+use Rattle.names.specs.Name.{same}
+use Rattle.names.specs.Words as word
+use Rattle.children.specs.Children.{keep, children, keyOf, valueOf, functionBodyOf}
+use Rattle.trees.specs.Rose.{treeOf}
+use Rattle.ecma_base.specs.Telling.{Telling, special}
+use Rattle.ecma_classes.specs.ClassElements.{found, keyName, computed, classElements, namesConstructor, constructorTwice, isColon}
+use Rattle.ecma_classes.specs.PrivateNames.{isPrivateBound, entries, isSetter, matched, invalid, isUse, bodyAround}
+use Rattle.ecma_classes.specs.Supers.{isSuperCall, isMethod, isConstructorMethod, isBare, barsProperty, unit}
+
+-- 1 at an object: `__proto__`
+
+-- the name at the key counts, computed and private keys too
+unfoldable pub isKeyedProto : List ℕ → List ℕ → ℕ → Bool
+isKeyedProto ns names p = eqb (kindOf ns p) k.ObjectProperty && (isColon ns p && same (keyName ns names p) word.proto)
+
+-- all but the first of a list
+abbrev pub later : List ℕ → List ℕ
+later [] = []
+later (a ∷ l) = l
+
+-- CHANGED RULE: a breach of its own is each such property but the first
+unfoldable pub protoAgain : List ℕ → List ℕ → ℕ → List ℕ
+protoAgain ns names n = cond (eqb (kindOf ns n) k.Object) (later (keep (isKeyedProto ns names) (children ns n))) []
+
+-- CONDITION: no property of the object has a private key, and none whose key node is named `__proto__` is computed
+pub record KeysPlain (ns names : List ℕ) (n : ℕ) : Type 0 where
+  pub public : (p : ℕ) → member p (children ns n) ≡ true → hasFlag (flagsOf ns p) flag.PrivateKey ≡ false
+  pub written : (p : ℕ) → member p (children ns n) ≡ true → same (keyName ns names p) word.proto ≡ true → computed ns (keyOf ns p) ≡ false
+
+-- 1 at a class: private names
+
+-- what the table calls a constructor, of a MethodDefinition
+abbrev pub isTableConstructor : List ℕ → ℕ → Bool
+isTableConstructor ns e = eqb (extraOf ns e) extra.Constructor
+
+abbrev pub bodyIn : List ℕ → Found → Bool
+bodyIn ns (At f) = found (functionBodyOf ns (f .0))
+bodyIn ns Nothing = false
+
+abbrev pub bodiless : List ℕ → ℕ → Bool
+bodiless ns e = eqb (kindOf ns e) k.MethodDefinition && not (bodyIn ns (valueOf ns e))
+
+abbrev pub named : List ℕ → Found → Bool
+named ns (At m) = not (eqb (nameLenOf ns (m .0)) 0)
+named ns Nothing = false
+
+-- no constructor, no method without a body and nothing without a name is entered
+unfoldable pub isEntered : List ℕ → ℕ → Bool
+isEntered ns e = not (eqb (kindOf ns e) k.MethodDefinition && isTableConstructor ns e) && (not (bodiless ns e) && named ns (keyOf ns e))
+
+unfoldable pub privateEntered : List ℕ → ℕ → List ℕ
+privateEntered ns b = keep (λ e. isPrivateBound ns e && isEntered ns e) (children ns b)
+
+-- CONDITION: all private elements of the class are entered
+abbrev pub PrivatesEntered : List ℕ → ℕ → Type 0
+PrivatesEntered ns b = (e : ℕ) → member e (children ns b) ≡ true → isPrivateBound ns e ≡ true → isEntered ns e ≡ true
+
+-- An entry is held against one earlier entry: the last one that is a setter just if this one is, or else the last one.
+abbrev pub last : List ℕ → Found
+last [] = Nothing
+last (a ∷ []) = At (record { 0 = a })
+last (a ∷ b ∷ l) = last (b ∷ l)
+
+abbrev pub orFound : Found → Found → Found
+orFound (At m) g = At m
+orFound Nothing g = g
+
+abbrev pub unlike : List ℕ → ℕ → Found → Bool
+unlike ns e (At d) = not (matched ns (d .0) e)
+unlike ns e Nothing = false
+
+-- e clashes with an earlier one of l, the entries of its name
+unfoldable pub clashIn : List ℕ → List ℕ → ℕ → Bool
+clashIn ns l e =
+    unlike ns e (orFound (last (keep (λ d. not (xor (isSetter ns d) (isSetter ns e))) (keep (λ d. ltb d e) l))) (last (keep (λ d. ltb d e) l)))
+
+-- CHANGED RULE: a breach of its own is each entry that clashes with an earlier one
+unfoldable pub privateAgain : List ℕ → List ℕ → List ℕ → List ℕ
+privateAgain ns names l = keep (λ e. clashIn ns (entries ns names l e) e) l
+
+-- CONDITION: no name has more than two entries
+abbrev pub OnceOrTwice : List ℕ → List ℕ → List ℕ → Type 0
+OnceOrTwice ns names l = (e : ℕ) → member e l ≡ true → length (entries ns names l e) ≤ 2
+
+-- 7: private names outside of classes
+
+-- CHANGED RULE: each PrivateIdentifier in no ClassBody, whatever it stands under
+unfoldable pub isOutside : List ℕ → ℕ → Bool
+isOutside ns n = eqb (kindOf ns n) k.PrivateIdentifier && not (found (bodyAround ns n))
+
+-- CONDITION: each PrivateIdentifier outside of ClassBodies is a use
+abbrev pub UsedOutside : List ℕ → Type 0
+UsedOutside ns = (j : ℕ) → j < count ns → isOutside ns j ≡ true → isUse ns j ≡ true
+
+-- 8: private names that no class binds
+
+-- a PrivateIdentifier under any member expression is a use
+unfoldable pub isTableUse : List ℕ → ℕ → Bool
+isTableUse ns n = eqb (kindOf ns n) k.PrivateIdentifier && within (kindOf ns (parentOf ns n)) k.OtherMember k.PrivateIn
+
+-- CHANGED RULE: AllPrivateIdentifiersValid by these uses, and a class binds what is entered
+abbrev pub invalidInTable : List ℕ → List ℕ → List ℕ
+invalidInTable ns names = invalid ns names (isTableUse ns) (privateEntered ns) (treeOf ns) []
+
+-- CONDITION: no member expression without a private name holds a PrivateIdentifier, and all private elements are entered
+pub record PrivatesPlain (ns : List ℕ) : Type 0 where
+  pub members : (j : ℕ) → j < count ns → kindOf ns j ≡ k.PrivateIdentifier → kindOf ns (parentOf ns j) ≡ k.OtherMember → ⊥
+  pub entered : (b : ℕ) → b < count ns → PrivatesEntered ns b
+
+-- 27: a second constructor
+
+-- what the table calls a constructor, if it has a body: no getter, setter or field of that name, each of which is an error by another rule
+unfoldable pub isConstructor : List ℕ → ℕ → Bool
+isConstructor ns e = (eqb (kindOf ns e) k.MethodDefinition && isTableConstructor ns e) && bodyIn ns (valueOf ns e)
+
+-- CHANGED RULE: more than one such constructor
+unfoldable pub builtTwice : List ℕ → ℕ → Bool
+builtTwice ns n = eqb (kindOf ns n) k.Class && ltb 1 (length (keep (isConstructor ns) (classElements ns n)))
+
+-- CONDITION: an element of the class is called "constructor" just where it is one and has a body
+abbrev pub ConstructorsNamed : List ℕ → List ℕ → ℕ → Type 0
+ConstructorsNamed ns names n = (e : ℕ) → member e (classElements ns n) ≡ true → isConstructor ns e ≡ namesConstructor ns names e
+
+-- 28 to 30: `super`
+
+-- CHANGED RULE: 28 asks each constructor, not ConstructorMethod of ClassBody alone, which is the first: so of a class that has two (27) the second too
+abbrev pub eachBare : List ℕ → List ℕ → ℕ → Bool
+eachBare ns names n = isSuperCall ns n && isBare ns (namesConstructor ns names) (unit ns n)
+
+-- CONDITION: no class has two, as 15.7.1 wants
+abbrev pub OneConstructor : List ℕ → List ℕ → Type 0
+OneConstructor ns names = (n : ℕ) → n < count ns → constructorTwice ns names n ≡ false
+
+-- `new super()` is taken for a call, and every other Super for a SuperProperty
+unfoldable pub isTableCall : List ℕ → ℕ → Bool
+isTableCall ns n = eqb (kindOf ns n) k.Super && within (kindOf ns (parentOf ns n)) k.Call k.New
+
+unfoldable pub isTableProperty : List ℕ → ℕ → Bool
+isTableProperty ns n = eqb (kindOf ns n) k.Super && not (within (kindOf ns (parentOf ns n)) k.Call k.New)
+
+-- CHANGED RULES: by these, and by what the table calls a constructor, not by the name; what is async or a generator isn't asked. 28: a call in a constructor of a class without heritage ..
+abbrev pub tableBare : List ℕ → ℕ → Bool
+tableBare ns n = isTableCall ns n && isBare ns (isTableConstructor ns) (unit ns n)
+
+-- .. 29: a call in no constructor ..
+abbrev pub tableStray : List ℕ → ℕ → Bool
+tableStray ns n = isTableCall ns n && not (isConstructorMethod ns (isTableConstructor ns) (unit ns n))
+
+-- .. 30: any other Super where the standard bars a SuperProperty
+abbrev pub tableProperty : List ℕ → ℕ → Bool
+tableProperty ns n = isTableProperty ns n && barsProperty ns (unit ns n)
+
+-- CONDITION: a Super stands only in a SuperCall or a SuperProperty
+abbrev pub SupersStand : List ℕ → Type 0
+SupersStand ns = (n : ℕ) → n < count ns → kindOf ns n ≡ k.Super → (kindOf ns (parentOf ns n) ≡ k.Call) ⊎ (kindOf ns (parentOf ns n) ≡ k.OtherMember)
+
+-- CONDITION: the table calls a method of a class a constructor just where it is called "constructor" and is neither async nor a generator
+abbrev pub MethodsNamed : Telling → List ℕ → List ℕ → Type 0
+MethodsNamed told ns names = (u : ℕ) → u < count ns → isMethod ns u ≡ true → isTableConstructor ns (parentOf ns u) ≡ (namesConstructor ns names (parentOf ns u) && not (special told u))
+
+-- CONDITION: no method called "constructor" is async or a generator; else 28 may be broken too (15.7.1), and the Rust raises 29 alone
+abbrev pub ConstructorsOrdinary : Telling → List ℕ → List ℕ → Type 0
+ConstructorsOrdinary told ns names = (u : ℕ) → u < count ns → isMethod ns u ≡ true → namesConstructor ns names (parentOf ns u) ≡ true → special told u ≡ false
