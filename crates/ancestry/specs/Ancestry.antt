@@ -1,7 +1,7 @@
 -- Searches among the ancestors of a node, which come nearest first.
 use Prim.Native.Nat.{ℕ}
 use mathlib.Core.List.{List, foldr}
-use mathlib.Core.Bool.{Bool, cond}
+use mathlib.Core.Bool.{Bool, cond, true, false}
 use Rattle.common.specs.Upto.{any}
 use Rattle.common.specs.Tests.{within}
 use Rattle.tables.specs.Table.{kindOf, ancestors}
@@ -15,3 +15,8 @@ nearestOf ns low high n = foldr (λ a r. cond (within (kindOf ns a) low high) (A
 -- some ancestor of n has a kind from low to high
 unfoldable pub hasAncestor : List ℕ → ℕ → ℕ → ℕ → Bool
 hasAncestor ns low high n = any (λ a. within (kindOf ns a) low high) (ancestors ns n)
+
+-- something was found
+abbrev pub isAt : Found → Bool
+isAt (At m) = true
+isAt Nothing = false

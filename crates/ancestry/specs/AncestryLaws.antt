@@ -10,13 +10,13 @@ use borrow.Author.Tests.{eq-eqb, ne-eqb}
 use lib.Dec.{eqb}
 use Rattle.common.specs.Upto.{any}
 use Rattle.common.specs.Tests.{within}
-use Rattle.walk.specs.Above.{fold-up, fold-root}
-use Rattle.walk.specs.On.{on, on-self, on-le}
+use Rattle.walk.specs.AboveLaws.{fold-up, fold-root}
+use Rattle.walk.specs.On.{on}
+use Rattle.walk.specs.OnLaws.{on-self, on-le}
 use Rattle.tables.specs.Table.{kindOf, parentOf, count, ancestors, countScopes, scopeParentOf, outer}
 use Rattle.tables.specs.Facts.{Tree, Chained}
-use Rattle.tables.specs.declared.Found.{Found}
 use Rattle.tables.specs.declared.Found.the-variants.{At, Nothing}
-use Rattle.ancestry.specs.Ancestry.{nearestOf, hasAncestor}
+use Rattle.ancestry.specs.Ancestry.{nearestOf, hasAncestor, isAt}
 
 -- the parent of a node is a node
 pub parent-in : (ns : List ℕ) → Tree ns → (i : ℕ) → i < count ns → parentOf ns i < count ns
@@ -63,10 +63,6 @@ unfolding nearestOf
 nearest-root ns low high = ancestors-root _ _ ns
 
 -- there is a nearest one just where there is one
-abbrev pub isAt : Found → Bool
-isAt (At m) = true
-isAt Nothing = false
-
 pub nearest-some : (ns : List ℕ) (low high n : ℕ) → hasAncestor ns low high n ≡ isAt (nearestOf ns low high n)
 unfolding nearestOf hasAncestor
 nearest-some ns low high n = go (ancestors ns n)

@@ -4,7 +4,7 @@ ghost use Prim.Native.Nat.{_<_, _≤_};
 ghost use Rattle.walk.specs.On.{on};
 ghost use Rattle.tables.specs.Table.{count, kindOf, parentOf, countScopes, scopeParentOf};
 ghost use Rattle.tables.specs.Facts.{Tree, Chained};
-ghost use Rattle.children.specs.ChildrenLaws.{below};
+ghost use Rattle.children.specs.Children.{below};
 ghost use Rattle.ancestry.specs.Ancestry.{nearestOf, hasAncestor};
 use common::within;
 use tables::Found;

@@ -1,5 +1,5 @@
 -- The children of a node, and its parts: "the first child fit for a part is that part".
-use Prim.Native.Nat.{ℕ, _+_}
+use Prim.Native.Nat.{ℕ, _+_, _<_}
 use mathlib.Core.List.{List, [], _∷_, foldr}
 use mathlib.Core.Bool.{Bool, cond, _&&_}
 use lib.Dec.{eqb}
@@ -76,3 +76,8 @@ classBodyOf ns p = firstChild ns p k.ClassBody k.ClassBody 0 7
 -- .. what a parenthesis or a chain holds: any child
 abbrev pub innerOf : List ℕ → ℕ → Found
 innerOf ns p = firstChild ns p 0 55 0 7
+
+-- what was found is in the table
+abbrev pub below : List ℕ → Found → Type 0
+below ns (At m) = m .0 < count ns
+below ns Nothing = Unit {0}

@@ -9,11 +9,12 @@ use native.Mathlib.Omega.{arith}
 use borrow.Author.Tests.{eq-eqb, ne-eqb, eqb-true, eqb-false, leb-true}
 use lib.Dec.{eqb, leb}
 use lib.ListN.{length}
-use Rattle.common.specs.Upto.{upto, upto-nil, upto-cons, and-left, and-right, fold-turn, fold-end}
+use Rattle.common.specs.Upto.{upto}
+use Rattle.common.specs.UptoLaws.{upto-nil, upto-cons, and-left, and-right, fold-turn, fold-end}
 use Rattle.common.specs.Tests.{within}
 use Rattle.common.specs.Bools.{never}
 use Rattle.walk.specs.On.{member, on}
-use Rattle.walk.specs.Preorder.{child-in, no-child, lt-or-ge}
+use Rattle.walk.specs.PreorderLaws.{child-in, no-child, lt-or-ge}
 use Rattle.tables.specs.Table.{kindOf, roleOf, parentOf, count}
 use Rattle.tables.specs.Facts.{Tree}
 use Rattle.tables.specs.declared.Found.{Found}
@@ -182,11 +183,6 @@ module _ (ns : List ℕ) (p lo hi a b : ℕ) where
         roleLow = leb-true a (roleOf ns i) (and-left (leb a (roleOf ns i)) (leb (roleOf ns i) b) z);
         roleHigh = leb-true (roleOf ns i) b (and-right (leb a (roleOf ns i)) (leb (roleOf ns i) b) z);
       }
-
--- what was found is in the table
-abbrev pub below : List ℕ → Found → Type 0
-below ns (At m) = m .0 < count ns
-below ns Nothing = Unit {0}
 
 -- the number of what was found
 abbrev pub number : Found → ℕ

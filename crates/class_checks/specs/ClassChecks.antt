@@ -12,7 +12,7 @@ use Rattle.tables.specs.declared.Found.{Found}
 use Rattle.tables.specs.declared.Found.the-variants.{At, Nothing}
 use Rattle.names.specs.Name.{nameOf}
 use Rattle.children.specs.Children.{keep, children, firstChild, classBodyOf}
-use Rattle.ancestry.specs.AncestryLaws.{isAt}
+use Rattle.ancestry.specs.Ancestry.{isAt}
 use Rattle.diagnostics.specs.declared.Finding.{Finding}
 use Rattle.diagnostics.specs.declared.Raised.{Raised}
 use Rattle.diagnostics.specs.declared.Raised.the-variants.{Error, Clear}

@@ -7,10 +7,11 @@ use native.Mathlib.Omega.{arith}
 use borrow.Author.Tests.{ne-eqb, eqb-true}
 use lib.Dec.{eqb}
 use lib.ListN.{length, length-append}
-use Rattle.common.specs.Upto.{upto, and-left, and-right}
+use Rattle.common.specs.Upto.{upto}
+use Rattle.common.specs.UptoLaws.{and-left, and-right}
 use Rattle.common.specs.Tests.{within}
 use Rattle.walk.specs.On.{on}
-use Rattle.walk.specs.Preorder.{interval, leaves, no-child}
+use Rattle.walk.specs.PreorderLaws.{interval, leaves, no-child}
 use Rattle.tables.specs.Table.{count, kindOf, parentOf}
 use Rattle.tables.specs.Facts.{Tree}
 use Rattle.tables.specs.Kinds as k

@@ -4,7 +4,7 @@ ghost use Prim.Native.Nat.{_+_, _*_, _<_, _≤_};
 ghost use lib.ListN.{length};
 ghost use Rattle.tables.specs.Table.{count, spanStartOf};
 ghost use Rattle.tables.specs.Facts.{Tree, Named};
-ghost use Rattle.children.specs.ChildrenLaws.{below};
+ghost use Rattle.children.specs.Children.{below};
 ghost use Rattle.diagnostics.specs.Finding.{sink};
 ghost use Rattle.class_checks.specs.ClassChecks.{privateOutside, isReference, undeclaredAt, undeclaredIn, privateUndeclared, hasId, requireClassName, constructorSpan, duplicateConstructor, secondConstructor, checkClass};
 ghost use Rattle.class_checks.specs.ClassChecksLaws.{isReferenceOf, raisedAt, isConstructorOf, nextConstructor};

@@ -9,16 +9,17 @@ use native.Mathlib.Omega.{arith}
 use borrow.Author.Tests.{eq-eqb, ne-eqb, le-leb, lt-leb}
 use lib.Dec.{eqb}
 use Rattle.common.specs.Tests.{within}
-use Rattle.walk.specs.Above.{above-up, above-root}
-use Rattle.walk.specs.On.{on, on-self, on-step}
-use Rattle.walk.specs.Preorder.{lt-or-ge}
+use Rattle.walk.specs.AboveLaws.{above-up, above-root}
+use Rattle.walk.specs.On.{on}
+use Rattle.walk.specs.OnLaws.{on-self, on-step}
+use Rattle.walk.specs.PreorderLaws.{lt-or-ge}
 use Rattle.tables.specs.Table.{count, kindOf, parentOf, ancestors}
 use Rattle.tables.specs.Facts.{Tree}
 use Rattle.tables.specs.Kinds as k
 use Rattle.tables.specs.declared.Found.{Found}
 use Rattle.tables.specs.declared.Found.the-variants.{At, Nothing}
-use Rattle.children.specs.Children.{keep}
-use Rattle.children.specs.ChildrenLaws.{below, number}
+use Rattle.children.specs.Children.{keep, below}
+use Rattle.children.specs.ChildrenLaws.{number}
 use Rattle.ancestry.specs.Ancestry.{nearestOf}
 use Rattle.ancestry.specs.AncestryLaws.{nearest-stop, nearest-on, nearest-root}
 use Rattle.classes.specs.declared.Current.{Current}

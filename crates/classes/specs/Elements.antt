@@ -13,7 +13,7 @@ use Rattle.tables.specs.declared.Found.{Found}
 use Rattle.tables.specs.declared.Found.the-variants.{At, Nothing}
 use Rattle.names.specs.Name.{same, nameOf}
 use Rattle.children.specs.Children.{keep, children, keyOf, valueOf, functionBodyOf}
-use Rattle.ancestry.specs.AncestryLaws.{isAt}
+use Rattle.ancestry.specs.Ancestry.{isAt}
 use Rattle.classes.specs.declared.Span.{Span}
 use Rattle.classes.specs.Classes.{outerClasses}
 

@@ -7,8 +7,9 @@ use mathlib.Core.Logic.{⊎-elim}
 use native.Mathlib.Omega.{arith}
 use borrow.Author.Tests.{ne-eqb}
 use lib.Dec.{eqb}
-use Rattle.common.specs.Upto.{upto, any, fold-turn, fold-end}
-use Rattle.walk.specs.Preorder.{no-child, lt-or-ge}
+use Rattle.common.specs.Upto.{upto, any}
+use Rattle.common.specs.UptoLaws.{fold-turn, fold-end}
+use Rattle.walk.specs.PreorderLaws.{no-child, lt-or-ge}
 use Rattle.tables.specs.Table.{count, parentOf}
 use Rattle.tables.specs.Facts.{Tree}
 use Rattle.tables.specs.declared.Found.the-variants.{At, Nothing}

@@ -3,7 +3,7 @@ ghost use mathlib.Core.Path.{_≡_};
 ghost use Prim.Native.Nat.{_<_};
 ghost use Rattle.tables.specs.Table.{count, parentOf};
 ghost use Rattle.tables.specs.Facts.{Tree, Named};
-ghost use Rattle.children.specs.ChildrenLaws.{below};
+ghost use Rattle.children.specs.Children.{below};
 ghost use Rattle.classes.specs.Classes.{classAt, currentClass, parentClass, inTable, before};
 ghost use Rattle.classes.specs.Elements.{spanAt, elementName, elementSpan, isStatic, isPrivate, isMethodOf, isGetter, isSetter, isConstructor, isDefinition, hasName, hasBody, enters, hasPrivate, isDeclared, isPrivateDefinition, isPrivateElement, isPrivateNamed};
 use ancestry::nearest;

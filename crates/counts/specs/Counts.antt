@@ -1,6 +1,7 @@
 -- Which node has a wrong number of children: document 01, refusal 6, "parent with a wrong count". Each sentence stands above the definition that
 -- writes it down. That a child with a role is of the kind that the sentence names is the business of "misplaced child".
-use Prim.Native.Nat.{ℕ, _+_}
+use Prim.Native.Nat.{ℕ, _+_, _≤_, _<_}
+use mathlib.Core.Path.{_≡_}
 use mathlib.Core.List.{List}
 use mathlib.Core.Bool.{Bool, cond, not, _&&_, _||_}
 use lib.Dec.{eqb, ltb}
@@ -87,3 +88,21 @@ wrongHome ns i = wrongFunction ns i || (wrongClass ns i || wrongElement ns i)
 
 unfoldable pub wrongCountAt : List ℕ → ℕ → Bool
 wrongCountAt ns i = wrongStatement ns i || (wrongPart ns i || wrongHome ns i)
+
+-- what is known where no node has a wrong number of children
+pub record Counted (ns : List ℕ) : Type 0 where
+  pub body : (i : ℕ) → i < count ns → k.Labeled ≤ kindOf ns i → kindOf ns i ≤ k.With → withRole ns i r.Held ≡ 1
+  pub alternate : (i : ℕ) → i < count ns → kindOf ns i ≡ k.If → withRole ns i r.Alternate ≤ 1
+  pub label : (i : ℕ) → i < count ns → kindOf ns i ≡ k.Labeled → labels ns i ≡ 1
+  pub jump : (i : ℕ) → i < count ns → k.Break ≤ kindOf ns i → kindOf ns i ≤ k.Continue → labels ns i ≤ 1
+  pub oneDefault : (i : ℕ) → i < count ns → kindOf ns i ≡ k.Switch → defaults ns i ≤ 1
+  pub tryBlock : (i : ℕ) → i < count ns → kindOf ns i ≡ k.Try → withRole ns i r.Held ≡ 1
+  pub tryClause : (i : ℕ) → i < count ns → kindOf ns i ≡ k.Try → withRole ns i r.Alternate ≤ 1
+  pub tryFinally : (i : ℕ) → i < count ns → kindOf ns i ≡ k.Try → withRole ns i r.Finally ≤ 1
+  pub tryEither : (i : ℕ) → i < count ns → kindOf ns i ≡ k.Try → howMany ns i 0 55 r.Alternate r.Finally ≡ 0 → ⊥
+  pub clauseBlock : (i : ℕ) → i < count ns → kindOf ns i ≡ k.CatchClause → withRole ns i r.Held ≡ 1
+  pub functionBody : (i : ℕ) → i < count ns → k.Function ≤ kindOf ns i → kindOf ns i ≤ k.Arrow → withKind ns i k.FunctionBody ≤ 1
+  pub classBody : (i : ℕ) → i < count ns → kindOf ns i ≡ k.Class → withKind ns i k.ClassBody ≡ 1
+  pub key : (i : ℕ) → i < count ns → k.MethodDefinition ≤ kindOf ns i → kindOf ns i ≤ k.AccessorProperty → withRole ns i r.Key ≡ 1
+  pub value : (i : ℕ) → i < count ns → k.MethodDefinition ≤ kindOf ns i → kindOf ns i ≤ k.AccessorProperty → withRole ns i r.Value ≤ 1
+  pub method : (i : ℕ) → i < count ns → kindOf ns i ≡ k.MethodDefinition → withRole ns i r.Value ≡ 1

@@ -8,18 +8,20 @@ use native.Mathlib.Omega.{arith}
 use borrow.Author.Tests.{eq-eqb, ne-eqb, eqb-true, eqb-false, ltb-false, not-false}
 use lib.Dec.{eqb, ltb}
 use lib.ListN.{length}
-use Rattle.common.specs.Upto.{upto, upto-nil, upto-cons}
+use Rattle.common.specs.Upto.{upto}
+use Rattle.common.specs.UptoLaws.{upto-nil, upto-cons}
 use Rattle.common.specs.Bools.{or-first, or-second, or3, or4, in-range}
-use Rattle.walk.specs.Preorder.{no-child}
+use Rattle.walk.specs.PreorderLaws.{no-child}
 use Rattle.tables.specs.Table.{kindOf, parentOf, count}
 use Rattle.tables.specs.Facts.{Tree}
 use Rattle.tables.specs.Kinds as k
 use Rattle.tables.specs.Roles as r
 use Rattle.places.specs.declared.Place.the-variants.{Nowhere}
-use Rattle.places.specs.First.{first, first-none, le-or-lt}
+use Rattle.places.specs.First.{first}
+use Rattle.places.specs.FirstLaws.{first-none, le-or-lt}
 use Rattle.children.specs.Children.{keep, howMany}
 use Rattle.children.specs.ChildrenLaws.{child-other}
-use Rattle.counts.specs.Counts.{withRole, withKind, labels, isDefault, defaults, wrongBody, wrongAlternate, wrongDefault, wrongTry, wrongClause, wrongLabel, wrongFunction, wrongClass, wrongValue, wrongElement, wrongStatement, wrongPart, wrongHome, wrongCountAt}
+use Rattle.counts.specs.Counts.{withRole, withKind, labels, isDefault, defaults, wrongBody, wrongAlternate, wrongDefault, wrongTry, wrongClause, wrongLabel, wrongFunction, wrongClass, wrongValue, wrongElement, wrongStatement, wrongPart, wrongHome, wrongCountAt, Counted}
 
 -- how many of the numbers from i up to n pass a test, as a loop meets them
 unfoldable pub tallyBy : (ℕ → Bool) → ℕ → ℕ → ℕ
@@ -58,24 +60,6 @@ module _ (ns : List ℕ) (p : ℕ) where
   unfolding isDefault
   defaults-out t i h l u = by-none (isDefault ns p) (count ns) i
       (λ j x y. rw (child-other ns p 15 15 3 3 j (λ e. no-child (parentOf ns) (count ns) (t .order) p i j h u x y e)))
-
--- what is known where no node has a wrong number of children
-pub record Counted (ns : List ℕ) : Type 0 where
-  pub body : (i : ℕ) → i < count ns → k.Labeled ≤ kindOf ns i → kindOf ns i ≤ k.With → withRole ns i r.Held ≡ 1
-  pub alternate : (i : ℕ) → i < count ns → kindOf ns i ≡ k.If → withRole ns i r.Alternate ≤ 1
-  pub label : (i : ℕ) → i < count ns → kindOf ns i ≡ k.Labeled → labels ns i ≡ 1
-  pub jump : (i : ℕ) → i < count ns → k.Break ≤ kindOf ns i → kindOf ns i ≤ k.Continue → labels ns i ≤ 1
-  pub oneDefault : (i : ℕ) → i < count ns → kindOf ns i ≡ k.Switch → defaults ns i ≤ 1
-  pub tryBlock : (i : ℕ) → i < count ns → kindOf ns i ≡ k.Try → withRole ns i r.Held ≡ 1
-  pub tryClause : (i : ℕ) → i < count ns → kindOf ns i ≡ k.Try → withRole ns i r.Alternate ≤ 1
-  pub tryFinally : (i : ℕ) → i < count ns → kindOf ns i ≡ k.Try → withRole ns i r.Finally ≤ 1
-  pub tryEither : (i : ℕ) → i < count ns → kindOf ns i ≡ k.Try → howMany ns i 0 55 r.Alternate r.Finally ≡ 0 → ⊥
-  pub clauseBlock : (i : ℕ) → i < count ns → kindOf ns i ≡ k.CatchClause → withRole ns i r.Held ≡ 1
-  pub functionBody : (i : ℕ) → i < count ns → k.Function ≤ kindOf ns i → kindOf ns i ≤ k.Arrow → withKind ns i k.FunctionBody ≤ 1
-  pub classBody : (i : ℕ) → i < count ns → kindOf ns i ≡ k.Class → withKind ns i k.ClassBody ≡ 1
-  pub key : (i : ℕ) → i < count ns → k.MethodDefinition ≤ kindOf ns i → kindOf ns i ≤ k.AccessorProperty → withRole ns i r.Key ≡ 1
-  pub value : (i : ℕ) → i < count ns → k.MethodDefinition ≤ kindOf ns i → kindOf ns i ≤ k.AccessorProperty → withRole ns i r.Value ≤ 1
-  pub method : (i : ℕ) → i < count ns → kindOf ns i ≡ k.MethodDefinition → withRole ns i r.Value ≡ 1
 
 one-of : (n : ℕ) → not (eqb n 1) ≡ false → n ≡ 1
 one-of n e = eqb-true n 1 (not-false (eqb n 1) e)

@@ -9,7 +9,8 @@ use borrow.Author.Tests.{le-leb, lt-leb, leb-true, leb-false}
 use lib.Dec.{leb}
 use lib.ListN.{length, take, drop, length-append, length-take, length-drop, take-append-drop}
 use lib.Seq.{take-at, drop-at, drop-drop, length-take-le}
-use Rattle.common.specs.Wrote.{put, length-put}
+use Rattle.common.specs.Wrote.{put}
+use Rattle.common.specs.WroteLaws.{length-put}
 use Rattle.diagnostics.specs.declared.Finding.{Finding}
 use Rattle.diagnostics.specs.declared.Raised.{Raised}
 use Rattle.diagnostics.specs.declared.Raised.the-variants.{Error, Clear}

@@ -10,7 +10,8 @@ use lib.ListN.{length, getD, set, take, drop}
 use borrow.Author.Tests.{le-leb, lt-leb, eq-eqb, eqb-true}
 use Rattle.common.specs.Bools.{either, range-of}
 use Rattle.common.specs.Tests.{within}
-use Rattle.common.specs.Upto.{all, and-left, and-right}
+use Rattle.common.specs.Upto.{all}
+use Rattle.common.specs.UptoLaws.{and-left, and-right}
 use Rattle.common.specs.Wrote.{Wrote}
 use Rattle.digits.specs.Lists.{drop-step, drop-end, part-from}
 use Rattle.digits.specs.Writes.{wrote-one, wrote-done}

@@ -6,7 +6,8 @@ use native.Mathlib.Numerals.{add-one}
 use native.Mathlib.Omega.{arith}
 use lib.ListN.{length, getD, set, take, drop, length-append, length-drop}
 use lib.Seq.{set-split, length-take-le, take-at, drop-at, drop-drop}
-use Rattle.common.specs.Wrote.{Wrote, put, wrote-put, wrote-end}
+use Rattle.common.specs.Wrote.{Wrote, put}
+use Rattle.common.specs.WroteLaws.{wrote-put, wrote-end}
 use Rattle.digits.specs.Lists.{drop-step, drop-end}
 
 -- a number written behind those already written

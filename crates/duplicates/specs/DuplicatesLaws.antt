@@ -8,8 +8,9 @@ use native.Mathlib.Omega.{arith}
 use borrow.Author.Tests.{ltb-true, lt-ltb, le-ltb}
 use lib.Dec.{eqb, ltb}
 use lib.ListN.{getD, set}
-use Rattle.common.specs.Upto.{upto, upto-nil, upto-cons, and-left}
-use Rattle.walk.specs.Preorder.{lt-or-ge}
+use Rattle.common.specs.Upto.{upto}
+use Rattle.common.specs.UptoLaws.{upto-nil, upto-cons, and-left}
+use Rattle.walk.specs.PreorderLaws.{lt-or-ge}
 use Rattle.tables.specs.Table.{count, parentOf}
 use Rattle.tables.specs.Facts.{Tree}
 use Rattle.names.specs.Name.{same}

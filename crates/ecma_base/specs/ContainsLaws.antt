@@ -8,7 +8,8 @@ use native.Mathlib.Nat.{eq-or-lt-of-le}
 use native.Mathlib.Omega.{arith}
 use borrow.Author.Tests.{eq-eqb, ne-eqb, eqb-true}
 use lib.Dec.{eqb}
-use Rattle.common.specs.Upto.{upto, and-left, and-right}
+use Rattle.common.specs.Upto.{upto}
+use Rattle.common.specs.UptoLaws.{and-left, and-right}
 use Rattle.common.specs.Bools.{never}
 use Rattle.tables.specs.Table.{kindOf, parentOf, count}
 use Rattle.tables.specs.Facts.{Tree}

@@ -8,7 +8,8 @@ use native.Mathlib.Nat.{eq-or-lt-of-le}
 use native.Mathlib.Omega.{arith}
 use borrow.Author.Tests.{eq-eqb, eqb-true, ltb-true}
 use lib.Dec.{eqb, ltb}
-use Rattle.common.specs.Upto.{upto, all, all-upto, and-left, and-right}
+use Rattle.common.specs.Upto.{upto, all}
+use Rattle.common.specs.UptoLaws.{all-upto, and-left, and-right}
 use Rattle.common.specs.Tests.{within}
 use Rattle.common.specs.Bools.{never, either}
 use Rattle.tables.specs.Table.{kindOf, parentOf, extraOf, count, scopeOf, scopeParentOf, scopeNodeOf}

@@ -13,7 +13,7 @@ use Rattle.tables.specs.NodeFlag as flag
 use Rattle.tables.specs.declared.Found.{Found}
 use Rattle.tables.specs.declared.Found.the-variants.{At, Nothing}
 use Rattle.children.specs.Children.{keep, children, firstChild, valueOf, functionBodyOf, classBodyOf}
-use Rattle.ancestry.specs.AncestryLaws.{isAt}
+use Rattle.ancestry.specs.Ancestry.{isAt}
 use Rattle.trees.specs.Walk.{only}
 use Rattle.diagnostics.specs.declared.Raised.the-variants.{Clear}
 use Rattle.diagnostics.specs.Finding.{listed, errorSpan}

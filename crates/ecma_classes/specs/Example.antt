@@ -9,7 +9,8 @@ use mathlib.Core.Logic.{_⊎_, inl, inr, ⊎-elim}
 use native.Mathlib.Omega.{arith}
 use borrow.Author.Tests.{eq-eqb, eqb-true}
 use lib.Dec.{eqb}
-use Rattle.common.specs.Upto.{upto, range, all, all-upto}
+use Rattle.common.specs.Upto.{upto, range, all}
+use Rattle.common.specs.UptoLaws.{all-upto}
 use Rattle.common.specs.Bools.{never, either}
 use Rattle.tables.specs.Table.{kindOf, parentOf, count}
 use Rattle.tables.specs.Kinds as k
@@ -20,7 +21,7 @@ use Rattle.scopes.specs.Scopes.{brokenAt, chainOn, misscopedAt}
 use Rattle.standing.specs.Standing.{isStatement, mayBeStatement, isHolder, strayStatement, strayHeld, strayAlternate, strayInSwitch, strayCase, tryPart, strayInTry, strayClause, strayInClause, strayFunctionBody, strayClassBody, strayElement, strayValue, misplacedStatement, misplacedPart, misplacedElement, misplaced, misplacedChildAt}
 use Rattle.counts.specs.Counts.{isDefault, defaults, wrongBody, wrongAlternate, wrongDefault, wrongTry, wrongClause, wrongLabel, wrongFunction, wrongClass, wrongValue, wrongElement, wrongStatement, wrongPart, wrongHome, wrongCountAt}
 use Rattle.shape.specs.Shape.{misshapenAt, lower}
-use Rattle.input.specs.Input.{refusalOf}
+use Rattle.input.specs.Input.{refusalOf, WellFormed}
 use Rattle.wellformed.specs.WellFormed.{inputRefusal}
 use Rattle.places.specs.First.{first}
 use Rattle.children.specs.Children.{keep, children, howMany, isChild, firstNode}
@@ -29,7 +30,6 @@ use Rattle.walk.specs.On.{on}
 use Rattle.ancestry.specs.Ancestry.{nearestOf}
 use Rattle.supers.specs.Super.{isValueOf, partOf, placeOf, objectUse, methodUse, functionUse, stepAt, reachFrom, reachOf, failsAt}
 use Rattle.verdict.specs.declared.Verdict.the-variants.{Passed}
-use Rattle.input.specs.InputLaws.{WellFormed}
 use Rattle.wellformed.specs.WellFormedLaws.{input-well-formed}
 use Rattle.diagnostics.specs.declared.Finding.{Finding}
 use Rattle.checker.specs.Findings.{findingsOf}

@@ -9,7 +9,8 @@ use native.Mathlib.Omega.{arith}
 use borrow.Author.Tests.{eq-eqb, eqb-true, lt-ltb}
 use lib.Dec.{eqb, ltb}
 use lib.ListN.{length}
-use Rattle.common.specs.Upto.{upto, and-right}
+use Rattle.common.specs.Upto.{upto}
+use Rattle.common.specs.UptoLaws.{and-right}
 use Rattle.common.specs.Bools.{never}
 use Rattle.walk.specs.On.{member}
 use Rattle.tables.specs.Table.{kindOf, parentOf, count}
@@ -18,8 +19,8 @@ use Rattle.tables.specs.Kinds as k
 use Rattle.tables.specs.declared.Found.the-variants.{At}
 use Rattle.children.specs.Children.{keep, children}
 use Rattle.ancestry.specs.AncestryLaws.{parent-in}
-use Rattle.fields.specs.FieldsLaws.{Listed}
-use Rattle.shape.specs.ShapeLaws.{Shaped}
+use Rattle.fields.specs.Fields.{Listed}
+use Rattle.shape.specs.Shape.{Shaped}
 use Rattle.trees.specs.Trail.{unitOf}
 use Rattle.ecma_base.specs.Contains.{isNode}
 use Rattle.ecma_classes.specs.ListLaws.{in-kept, upto-in}

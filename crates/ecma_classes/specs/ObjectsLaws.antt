@@ -18,7 +18,7 @@ use Rattle.names.specs.Words as word
 use Rattle.children.specs.Children.{keep, children, isChild, keyOf}
 use Rattle.children.specs.ChildrenLaws.{keep-keep, number}
 use Rattle.classes.specs.ClassesLaws.{within-one}
-use Rattle.fields.specs.FieldsLaws.{Listed}
+use Rattle.fields.specs.Fields.{Listed}
 use Rattle.trees.specs.Walk.{each, some, only}
 use Rattle.expressions.specs.Expressions.{properties, isPlain, ifProto, protoKey, toList, protoKeys, repeatsAfter, repeats, checkObjectExpression}
 use Rattle.checker.specs.Findings.{findingsAt}

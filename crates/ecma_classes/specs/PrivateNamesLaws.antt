@@ -9,11 +9,12 @@ use native.Mathlib.Omega.{arith}
 use borrow.Author.Tests.{eq-eqb, eqb-true, lt-leb, le-leb}
 use lib.Dec.{eqb}
 use lib.ListN.{length}
-use Rattle.common.specs.Upto.{upto, any, and-left}
+use Rattle.common.specs.Upto.{upto, any}
+use Rattle.common.specs.UptoLaws.{and-left}
 use Rattle.common.specs.Tests.{within}
 use Rattle.common.specs.Bools.{never}
 use Rattle.walk.specs.On.{member}
-use Rattle.walk.specs.Preorder.{lt-or-ge}
+use Rattle.walk.specs.PreorderLaws.{lt-or-ge}
 use Rattle.tables.specs.Table.{kindOf, parentOf, roleOf, count, ancestors}
 use Rattle.tables.specs.Facts.{Tree}
 use Rattle.tables.specs.Kinds as k
@@ -24,8 +25,8 @@ use Rattle.children.specs.Children.{keep, isChild, classBodyOf}
 use Rattle.children.specs.ChildrenLaws.{keep-keep, found-child, tally, tally-all}
 use Rattle.ancestry.specs.Ancestry.{nearestOf}
 use Rattle.ancestry.specs.AncestryLaws.{ancestors-up, ancestors-root}
-use Rattle.fields.specs.FieldsLaws.{Listed}
-use Rattle.shape.specs.ShapeLaws.{Shaped}
+use Rattle.fields.specs.Fields.{Listed}
+use Rattle.shape.specs.Shape.{Shaped}
 use Rattle.trees.specs.Rose.{Rose, Roses, node, rnil, rcons, treeOf}
 use Rattle.trees.specs.Walk.{each, walk, walkAll, some, only}
 use Rattle.trees.specs.WalkLaws.{foldIs, someAppend, someOnly}

@@ -6,7 +6,8 @@ use mathlib.Core.Bool.{Bool, true, false, cond, _||_}
 use borrow.Author.Tests.{eq-eqb}
 use native.Mathlib.Omega.{arith}
 use native.Mathlib.Numerals.{add-one}
-use Rattle.common.specs.Upto.{range, upto, any, upto-cons}
+use Rattle.common.specs.Upto.{range, upto, any}
+use Rattle.common.specs.UptoLaws.{upto-cons}
 use lib.Dec.{eqb}
 use Rattle.walk.specs.On.{member}
 use Rattle.children.specs.Children.{keep}

@@ -10,7 +10,7 @@ use borrow.Author.Tests.{eq-eqb, ne-eqb, eqb-true, eqb-false}
 use lib.Dec.{eqb}
 use Rattle.common.specs.Tests.{within}
 use Rattle.common.specs.Bools.{never, in-range, range-of, either}
-use Rattle.walk.specs.Above.{above-root}
+use Rattle.walk.specs.AboveLaws.{above-root}
 use Rattle.tables.specs.Table.{kindOf, parentOf, extraOf, scopeOf, count, outer, scopeParentOf, scopeNodeOf}
 use Rattle.tables.specs.Facts.{Tree, Chained, Scoped}
 use Rattle.tables.specs.Kinds as k
@@ -19,7 +19,7 @@ use Rattle.tables.specs.declared.Found.the-variants.{At, Nothing}
 use Rattle.children.specs.Children.{valueOf}
 use Rattle.ancestry.specs.AncestryLaws.{nearest-stop, nearest-on, nearest-root}
 use Rattle.classes.specs.ClassesLaws.{within-one, over}
-use Rattle.standing.specs.StandingLaws.{Placed}
+use Rattle.standing.specs.Standing.{Placed}
 use Rattle.trees.specs.Trail.{unitOf}
 use Rattle.trees.specs.TrailLaws.{handedLaw, handedRoot}
 use Rattle.supers.specs.Super as super

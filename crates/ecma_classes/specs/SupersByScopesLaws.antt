@@ -7,7 +7,7 @@ use lib.Dec.{eqb}
 use Rattle.tables.specs.Table.{kindOf, count}
 use Rattle.tables.specs.Facts.{Tree, Chained, Scoped}
 use Rattle.tables.specs.Kinds as k
-use Rattle.standing.specs.StandingLaws.{Placed}
+use Rattle.standing.specs.Standing.{Placed}
 use Rattle.trees.specs.Walk.{some, only}
 use Rattle.trees.specs.WalkLaws.{someOnly}
 use Rattle.diagnostics.specs.Finding.{listed}

@@ -22,7 +22,7 @@ use Rattle.diagnostics.specs.Contexts as context
 use Rattle.classes.specs.Classes.{classesOf}
 use Rattle.duplicates.specs.Duplicates.{duplicatesIn, duplicateElements}
 use Rattle.checker.specs.Findings.{findingsAt, findingsOf}
-use Rattle.input.specs.InputLaws.{WellFormed}
+use Rattle.input.specs.Input.{WellFormed}
 use Rattle.ecma_dispatch.specs.WithCode.{withCode}
 use Rattle.ecma_dispatch.specs.Dispatch.{wholeOne, wholeOther}
 use Rattle.ecma_dispatch.specs.NodesOf.{raised}

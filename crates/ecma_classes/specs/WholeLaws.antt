@@ -8,7 +8,8 @@ use native.Mathlib.Nat.{eq-or-lt-of-le}
 use native.Mathlib.Omega.{arith}
 use borrow.Author.Tests.{eq-eqb, eqb-true}
 use lib.Dec.{eqb}
-use Rattle.common.specs.Upto.{range, upto, any, and-left, and-right}
+use Rattle.common.specs.Upto.{range, upto, any}
+use Rattle.common.specs.UptoLaws.{and-left, and-right}
 use Rattle.common.specs.Bools.{never}
 use Rattle.walk.specs.On.{member}
 use Rattle.tables.specs.Table.{kindOf, parentOf, count}
@@ -18,8 +19,8 @@ use Rattle.tables.specs.declared.Found.{Found}
 use Rattle.tables.specs.declared.Found.the-variants.{At, Nothing}
 use Rattle.children.specs.Children.{keep, classBodyOf}
 use Rattle.classes.specs.ClassesLaws.{within-one, over}
-use Rattle.fields.specs.FieldsLaws.{Listed}
-use Rattle.shape.specs.ShapeLaws.{Shaped}
+use Rattle.fields.specs.Fields.{Listed}
+use Rattle.shape.specs.Shape.{Shaped}
 use Rattle.trees.specs.Walk.{some, only}
 use Rattle.trees.specs.WalkLaws.{someAppend, someEach, someOnly}
 use Rattle.trees.specs.Trail.{unitOf}

@@ -5,7 +5,8 @@ use mathlib.Core.List.{List, [], _∷_, _++_, foldr, flatMap}
 use mathlib.Core.Bool.{Bool, true, false, cond, _&&_, _||_}
 use borrow.Author.Tests.{eq-eqb, eqb-true}
 use lib.Dec.{eqb}
-use Rattle.common.specs.Upto.{all, any, and-left, and-right}
+use Rattle.common.specs.Upto.{all, any}
+use Rattle.common.specs.UptoLaws.{and-left, and-right}
 use Rattle.common.specs.Bools.{never}
 use Rattle.walk.specs.On.{member}
 use Rattle.tables.specs.declared.Found.{Found}

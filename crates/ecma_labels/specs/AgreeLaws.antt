@@ -6,7 +6,7 @@ use mathlib.Core.Bool.{Bool, true, false, cond, true≢false}
 use mathlib.Core.List.{List, [], _∷_, foldr}
 use native.Mathlib.Nat.{eq-or-lt-of-le}
 use native.Mathlib.Omega.{arith}
-use Rattle.walk.specs.Above.{fold-up}
+use Rattle.walk.specs.AboveLaws.{fold-up}
 use Rattle.tables.specs.Table.{parentOf, count, ancestors}
 use Rattle.tables.specs.Facts.{Tree}
 use Rattle.trees.specs.Unit.{homeOf, inUnit}

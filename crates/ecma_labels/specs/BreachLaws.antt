@@ -12,7 +12,7 @@ use Rattle.common.specs.Upto.{upto}
 use Rattle.common.specs.Bools.{in-range, range-of}
 use Rattle.tables.specs.Table.{kindOf, parentOf, count, ancestors}
 use Rattle.tables.specs.Facts.{Tree}
-use Rattle.shape.specs.ShapeLaws.{Shaped}
+use Rattle.shape.specs.Shape.{Shaped}
 use Rattle.trees.specs.Rose.{Rose, Roses, node, rnil, rcons, partsOf, treeOf}
 use Rattle.trees.specs.Walk.{each, some, Says, only}
 use Rattle.trees.specs.Unit.{lists, homeOf, inUnit, broken}

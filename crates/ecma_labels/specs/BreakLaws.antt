@@ -10,7 +10,7 @@ use native.Mathlib.Nat.{eq-or-lt-of-le}
 use native.Mathlib.Omega.{arith}
 use Rattle.common.specs.Tests.{within}
 use Rattle.common.specs.Bools.{in-range, range-of}
-use Rattle.walk.specs.Above.{fold-root}
+use Rattle.walk.specs.AboveLaws.{fold-root}
 use Rattle.tables.specs.Table.{kindOf, parentOf, count, ancestors}
 use Rattle.tables.specs.Facts.{Tree}
 use Rattle.tables.specs.declared.Found.{Found}

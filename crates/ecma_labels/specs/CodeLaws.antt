@@ -17,7 +17,7 @@ use Rattle.tables.specs.declared.Found.{Found}
 use Rattle.tables.specs.declared.Found.the-variants.{At, Nothing}
 use Rattle.names.specs.Name.{nameOf}
 use Rattle.children.specs.Children.{keep, labelOf}
-use Rattle.shape.specs.ShapeLaws.{Shaped}
+use Rattle.shape.specs.Shape.{Shaped}
 use Rattle.diagnostics.specs.declared.Raised.{Raised}
 use Rattle.diagnostics.specs.declared.Raised.the-variants.{Error, Clear}
 use Rattle.diagnostics.specs.Finding.{listed, errorAt, errorBetween}

@@ -16,7 +16,7 @@ use Rattle.tables.specs.declared.Found.the-variants.{At, Nothing}
 use Rattle.names.specs.Name.{same, nameOf}
 use Rattle.names.specs.NameLaws.{same-eq, same-self}
 use Rattle.children.specs.Children.{labelOf, heldOf}
-use Rattle.shape.specs.ShapeLaws.{Shaped}
+use Rattle.shape.specs.Shape.{Shaped}
 use Rattle.diagnostics.specs.declared.Raised.{Raised}
 use Rattle.diagnostics.specs.declared.Raised.the-variants.{Error, Clear}
 use Rattle.diagnostics.specs.Finding.{listed, errorAt, errorBetween}

@@ -9,9 +9,10 @@ use borrow.Author.Tests.{eqb-true, eqb-false, eq-eqb, ne-eqb}
 use native.Mathlib.Nat.{eq-or-lt-of-le}
 use native.Mathlib.Omega.{arith}
 use Rattle.common.specs.Tests.{within}
-use Rattle.common.specs.Upto.{upto, and-left}
+use Rattle.common.specs.Upto.{upto}
+use Rattle.common.specs.UptoLaws.{and-left}
 use Rattle.common.specs.Bools.{in-range, range-of}
-use Rattle.walk.specs.Above.{fold-up}
+use Rattle.walk.specs.AboveLaws.{fold-up}
 use Rattle.tables.specs.Table.{kindOf, parentOf, count, ancestors}
 use Rattle.tables.specs.Facts.{Tree}
 use Rattle.tables.specs.declared.Found.{Found}
@@ -19,7 +20,7 @@ use Rattle.tables.specs.declared.Found.the-variants.{At, Nothing}
 use Rattle.names.specs.Name.{same, nameOf}
 use Rattle.names.specs.NameLaws.{same-eq}
 use Rattle.children.specs.Children.{labelOf}
-use Rattle.shape.specs.ShapeLaws.{Shaped}
+use Rattle.shape.specs.Shape.{Shaped}
 use Rattle.jumps.specs.Jumps.{walkUp, labelledContinueAt}
 use Rattle.checker.specs.Findings.{findingsAt}
 use Rattle.ecma_dispatch.specs.WithCode.{withCode}

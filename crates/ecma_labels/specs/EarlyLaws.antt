@@ -11,7 +11,7 @@ use native.Mathlib.Omega.{arith}
 use Rattle.common.specs.Upto.{upto}
 use Rattle.tables.specs.Table.{kindOf, count}
 use Rattle.tables.specs.Facts.{Tree}
-use Rattle.shape.specs.ShapeLaws.{Shaped}
+use Rattle.shape.specs.Shape.{Shaped}
 use Rattle.diagnostics.specs.declared.Finding.{Finding}
 use Rattle.checker.specs.Findings.{findingsAt}
 use Rattle.ecma_dispatch.specs.WithCode.{withCode}

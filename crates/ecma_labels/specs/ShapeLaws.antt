@@ -9,7 +9,8 @@ use borrow.Author.Tests.{eqb-true, eqb-false, eq-eqb, ne-eqb, leb-true, leb-fals
 use native.Mathlib.Nat.{eq-or-lt-of-le}
 use native.Mathlib.Omega.{arith}
 use Rattle.common.specs.Tests.{within}
-use Rattle.common.specs.Upto.{upto, and-left, and-right}
+use Rattle.common.specs.Upto.{upto}
+use Rattle.common.specs.UptoLaws.{and-left, and-right}
 use Rattle.common.specs.Bools.{either, in-range, range-of}
 use Rattle.tables.specs.Table.{kindOf, parentOf, roleOf, count}
 use Rattle.tables.specs.Facts.{Tree}
@@ -17,10 +18,9 @@ use Rattle.tables.specs.declared.Found.{Found}
 use Rattle.tables.specs.declared.Found.the-variants.{At, Nothing}
 use Rattle.children.specs.Children.{isChild, fits, firstNode, nextChild, howMany, labelOf, heldOf}
 use Rattle.children.specs.ChildrenLaws.{tally, tally-all, tally-turn, tally-end, node-on, node-stop, child-other}
-use Rattle.standing.specs.Standing.{isStatement, isHolder}
-use Rattle.standing.specs.StandingLaws.{Placed}
-use Rattle.counts.specs.CountsLaws.{Counted}
-use Rattle.shape.specs.ShapeLaws.{Shaped}
+use Rattle.standing.specs.Standing.{isStatement, isHolder, Placed}
+use Rattle.counts.specs.Counts.{Counted}
+use Rattle.shape.specs.Shape.{Shaped}
 use Rattle.trees.specs.Rose.{Rose, Roses, node, rnil, rcons, idx, foldParts, partsOf}
 use Rattle.trees.specs.RoseLaws.{foldPartsIs, partsPlaced, PlacedAll}
 use Rattle.trees.specs.Walk.{only}

@@ -11,7 +11,7 @@ use native.Mathlib.Omega.{arith}
 use Rattle.common.specs.Upto.{range, upto}
 use Rattle.tables.specs.Table.{kindOf, count}
 use Rattle.children.specs.Children.{keep}
-use Rattle.input.specs.InputLaws.{WellFormed}
+use Rattle.input.specs.Input.{WellFormed}
 use Rattle.diagnostics.specs.declared.Finding.{Finding}
 use Rattle.checker.specs.Findings.{findingsAt, findingsOf}
 use Rattle.ecma_dispatch.specs.WithCode.{withCode}

@@ -6,7 +6,7 @@ use mathlib.Core.Bool.{Bool, true, false, cond, _&&_, _||_}
 use native.Mathlib.Omega.{arith}
 use borrow.Author.Tests.{eq-eqb, ne-eqb, eqb-true}
 use lib.Dec.{eqb}
-use Rattle.common.specs.Upto.{and-left}
+use Rattle.common.specs.UptoLaws.{and-left}
 use Rattle.common.specs.Bools.{in-range}
 use Rattle.tables.specs.Table.{kindOf, roleOf, parentOf, count, flagsOf, extraOf, hasFlag}
 use Rattle.tables.specs.Facts.{Tree}
@@ -21,7 +21,7 @@ use Rattle.diagnostics.specs.Codes as code
 use Rattle.diagnostics.specs.Contexts as context
 use Rattle.diagnostics.specs.declared.Raised.{Raised}
 use Rattle.diagnostics.specs.declared.Raised.the-variants.{Clear}
-use Rattle.fields.specs.FieldsLaws.{Listed}
+use Rattle.fields.specs.Fields.{Listed}
 use Rattle.expressions.specs.Expressions.{innerExpression, errorPart, fieldOf, chainFinding, deleteOf, deleteFinding, checkUnaryExpression}
 use Rattle.expressions.specs.ExpressionLaws.{inner-bare, inner-empty, inner-on}
 use Rattle.trees.specs.Rose.{Rose, Roses, node, rnil, rcons, idx, partsOf, treeAt, foldParts}

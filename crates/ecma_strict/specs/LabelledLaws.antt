@@ -19,13 +19,12 @@ use Rattle.tables.specs.declared.Found.{Found}
 use Rattle.tables.specs.declared.Found.the-variants.{At, Nothing}
 use Rattle.children.specs.Children.{keep, howMany, isChild, firstNode, heldOf}
 use Rattle.children.specs.ChildrenLaws.{child-other, tally, tally-all}
-use Rattle.fields.specs.FieldsLaws.{Listed}
+use Rattle.fields.specs.Fields.{Listed}
 use Rattle.standing.specs.Standing.{isStatement}
-use Rattle.shape.specs.ShapeLaws.{Shaped}
+use Rattle.shape.specs.Shape.{Shaped}
 use Rattle.trees.specs.Rose.{Rose, Roses, node, rnil, rcons, idx, partsOf, foldParts}
 use Rattle.trees.specs.RoseLaws.{Under, Placed, PlacedAll, Whole, WholeAll, partsPlaced, partsWhole, foldPartsIs}
-use Rattle.ecma_base.specs.Contains.{contains, containsAny}
-use Rattle.ecma_base.specs.Contains.{containsIn}
+use Rattle.ecma_base.specs.Contains.{contains, containsAny, containsIn}
 use Rattle.ecma_strict.specs.Functions.{isFunction, endsInStatement, isLabelledFunction, labelledItem, labelledAmong, labelsFunction, labelEdge}
 
 one : (a : ℕ) → within a 3 3 ≡ eqb a 3

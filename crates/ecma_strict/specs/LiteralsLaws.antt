@@ -6,7 +6,8 @@ use mathlib.Core.Bool.{Bool, true, false, cond, not, _&&_, _||_}
 use native.Mathlib.Omega.{arith}
 use borrow.Author.Tests.{eq-eqb, ne-eqb, eqb-true, eqb-false, leb-true, leb-false, lt-leb}
 use lib.Dec.{eqb, leb}
-use Rattle.common.specs.Upto.{all, any, and-left}
+use Rattle.common.specs.Upto.{all, any}
+use Rattle.common.specs.UptoLaws.{and-left}
 use Rattle.common.specs.Tests.{within}
 use Rattle.common.specs.Bools.{never, or-first, or-second}
 use Rattle.tables.specs.Table.{kindOf, parentOf, spanStartOf, spanEndOf, extraOf}

@@ -8,7 +8,7 @@ use native.Mathlib.Nat.{eq-or-lt-of-le}
 use native.Mathlib.Omega.{arith}
 use borrow.Author.Tests.{eq-eqb, ne-eqb, eqb-true, not-true}
 use lib.Dec.{eqb}
-use Rattle.common.specs.Upto.{and-left}
+use Rattle.common.specs.UptoLaws.{and-left}
 use Rattle.common.specs.Tests.{within}
 use Rattle.common.specs.Bools.{never, or-first, or-second, either, in-range, range-of}
 use Rattle.tables.specs.Table.{kindOf, parentOf, count, extraOf}

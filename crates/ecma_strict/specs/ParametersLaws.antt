@@ -8,7 +8,8 @@ use native.Mathlib.Nat.{eq-or-lt-of-le}
 use native.Mathlib.Omega.{arith}
 use borrow.Author.Tests.{ne-eqb, eqb-true}
 use lib.Dec.{eqb}
-use Rattle.common.specs.Upto.{any, and-left}
+use Rattle.common.specs.Upto.{any}
+use Rattle.common.specs.UptoLaws.{and-left}
 use Rattle.common.specs.Tests.{within}
 use Rattle.common.specs.Bools.{never, or-first, in-range, range-of}
 use Rattle.tables.specs.Table.{kindOf, parentOf, flagsOf, hasFlag, count, scopeOf, scopeFlagsOf, scopeNodeOf}
@@ -20,7 +21,7 @@ use Rattle.children.specs.Children.{valueOf}
 use Rattle.names.specs.Name.{nameIs}
 use Rattle.names.specs.Words as word
 use Rattle.ancestry.specs.AncestryLaws.{parent-in}
-use Rattle.standing.specs.StandingLaws.{Placed}
+use Rattle.standing.specs.Standing.{Placed}
 use Rattle.trees.specs.Trail.{unitOf}
 use Rattle.trees.specs.TrailLaws.{handedLaw, handedRoot}
 use Rattle.ecma_base.specs.Telling.{Telling}

@@ -8,14 +8,15 @@ use native.Mathlib.Nat.{eq-or-lt-of-le}
 use native.Mathlib.Omega.{arith}
 use borrow.Author.Tests.{eq-eqb, ne-eqb, eqb-true, eqb-false, ltb-true}
 use lib.Dec.{eqb, ltb}
-use Rattle.common.specs.Upto.{upto, all, all-upto, and-left, and-right}
+use Rattle.common.specs.Upto.{upto, all}
+use Rattle.common.specs.UptoLaws.{all-upto, and-left, and-right}
 use Rattle.common.specs.Tests.{within}
 use Rattle.common.specs.Bools.{never, or-first, or-second, either, in-range, range-of}
 use Rattle.tables.specs.Table.{kindOf, parentOf, count, scopeOf, scopeParentOf, scopeNodeOf}
 use Rattle.tables.specs.Facts.{Tree}
 use Rattle.tables.specs.Kinds as k
 use Rattle.ancestry.specs.AncestryLaws.{parent-in, ancestors-up, ancestors-root}
-use Rattle.standing.specs.StandingLaws.{Placed}
+use Rattle.standing.specs.Standing.{Placed}
 use Rattle.ecma_base.specs.Scopes.{makesScope, mayMakeScope, scopesFollow}
 use Rattle.ecma_base.specs.ScopesLaws.{notProgram, Made, root, blockFlag, functionFlag, topFlag, made, sameOrMade, sameOnly, madeKind, rootKind}
 use Rattle.ecma_strict.specs.Statements.{holdsUsing, heldUsing}

@@ -33,7 +33,7 @@ use Rattle.identifiers.specs.IdentifierLaws.{let-found, let-function, let-on, l
 use Rattle.expressions.specs.Expressions.{isParameter, inFormalParameters, inParameter, inBlock}
 use Rattle.expressions.specs.ExpressionLaws.{parameter-found, parameter-stop, parameter-on, parameter-root}
 use Rattle.statements.specs.Statements.{checkForOfStatement, checkAwaitUsing}
-use Rattle.standing.specs.StandingLaws.{Placed}
+use Rattle.standing.specs.Standing.{Placed}
 use Rattle.trees.specs.Walk.{only}
 use Rattle.trees.specs.Trail.{unitOf}
 use Rattle.ecma_strict.specs.Nodes.{ofCheck}

@@ -9,7 +9,7 @@ use lib.Dec.{eqb}
 use Rattle.tables.specs.Table.{kindOf, count}
 use Rattle.tables.specs.Kinds as k
 use Rattle.checker.specs.Findings.{findingsAt}
-use Rattle.input.specs.InputLaws.{WellFormed}
+use Rattle.input.specs.Input.{WellFormed}
 use Rattle.trees.specs.Walk.{some, only}
 use Rattle.ecma_dispatch.specs.NodesOf.{raised}
 use Rattle.ecma_base.specs.Telling.{Telling}

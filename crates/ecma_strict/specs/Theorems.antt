@@ -21,7 +21,7 @@ use Rattle.identifiers.specs.Identifiers.{checkIdentifier, checkBindingIdentifi
 use Rattle.literals.specs.Literals.{checkNumberLiteral, checkStringLiteral}
 use Rattle.expressions.specs.Expressions.{checkUnaryExpression, inParameter, inBlock}
 use Rattle.checker.specs.Findings.{findingsAt, findingsOf}
-use Rattle.input.specs.InputLaws.{WellFormed}
+use Rattle.input.specs.Input.{WellFormed}
 use Rattle.verdict.specs.declared.Verdict.the-variants.{Passed}
 use Rattle.wellformed.specs.WellFormed.{inputRefusal}
 use Rattle.wellformed.specs.WellFormedLaws.{input-well-formed}

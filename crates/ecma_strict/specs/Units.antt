@@ -6,7 +6,8 @@ use mathlib.Core.Bool.{Bool, true, false, cond, not, _&&_, _||_}
 use native.Mathlib.Omega.{arith}
 use borrow.Author.Tests.{eq-eqb, eqb-true, not-true}
 use lib.Dec.{eqb}
-use Rattle.common.specs.Upto.{upto, any, and-left, and-right}
+use Rattle.common.specs.Upto.{upto, any}
+use Rattle.common.specs.UptoLaws.{and-left, and-right}
 use Rattle.common.specs.Tests.{within}
 use Rattle.common.specs.Bools.{never, or-first, or-second, in-range, range-of}
 use Rattle.tables.specs.Table.{kindOf, parentOf, count, extraOf}
@@ -19,7 +20,7 @@ use Rattle.names.specs.Name.{nameIs}
 use Rattle.names.specs.Words as word
 use Rattle.scoping.specs.Scoping.{inStaticBlock}
 use Rattle.checker.specs.Findings.{findingsAt}
-use Rattle.input.specs.InputLaws.{WellFormed}
+use Rattle.input.specs.Input.{WellFormed}
 use Rattle.trees.specs.Rose.{partsOf, marksAll}
 use Rattle.trees.specs.Walk.{each, some, only}
 use Rattle.trees.specs.WalkLaws.{someAppend, someOnly, eachSame}

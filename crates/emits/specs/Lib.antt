@@ -3,3 +3,4 @@ pub mod Arrays
 pub mod Choice
 pub mod Numbers
 pub mod Emit
+pub mod EmitLaws

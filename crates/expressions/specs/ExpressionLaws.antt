@@ -11,8 +11,8 @@ use Rattle.tables.specs.Facts.{Tree}
 use Rattle.tables.specs.Kinds as k
 use Rattle.tables.specs.declared.Found.{Found}
 use Rattle.tables.specs.declared.Found.the-variants.{At, Nothing}
-use Rattle.children.specs.Children.{keep, isChild, innerOf, nextChild}
-use Rattle.children.specs.ChildrenLaws.{below, found-child}
+use Rattle.children.specs.Children.{keep, isChild, innerOf, nextChild, below}
+use Rattle.children.specs.ChildrenLaws.{found-child}
 use Rattle.ancestry.specs.AncestryLaws.{ancestors-up, ancestors-root}
 use Rattle.diagnostics.specs.Finding.{listed, errorBetween}
 use Rattle.diagnostics.specs.Codes as code

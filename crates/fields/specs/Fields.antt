@@ -1,10 +1,11 @@
 -- What sizes and what numbers are wrong: document 01, refusals 1, 2 and 4.
-use Prim.Native.Nat.{ℕ, _+_, _/_, _%_}
+use Prim.Native.Nat.{ℕ, _+_, _/_, _%_, _*_, _≤_, _<_}
+use mathlib.Core.Path.{_≡_}
 use mathlib.Core.List.{List}
-use mathlib.Core.Bool.{Bool, cond, not, _&&_, _||_}
+use mathlib.Core.Bool.{Bool, cond, not, _&&_, _||_, true}
 use lib.Dec.{eqb, ltb, leb}
 use lib.ListN.{length}
-use Rattle.tables.specs.Table.{kindOf, roleOf, flagsOf, extraOf, spanStartOf, spanEndOf, nameStartOf, nameLenOf}
+use Rattle.tables.specs.Table.{kindOf, roleOf, flagsOf, extraOf, spanStartOf, spanEndOf, nameStartOf, nameLenOf, count, countScopes, Some}
 use Rattle.tables.specs.Kinds as k
 use Rattle.tables.specs.Roles as role
 use Rattle.tables.specs.Extras as extra
@@ -49,3 +50,21 @@ strayAt ns source names i =
     ltb (spanEndOf ns i) (spanStartOf ns i)
     || (ltb (length source) (spanEndOf ns i)
     || ltb (length names) (nameStartOf ns i + nameLenOf ns i))
+
+-- what is known where no size is wrong
+pub record Sizes (sourceType : ℕ) (ns ss source names : List ℕ) : Type 0 where
+  pub nodes : Some (count ns)
+  pub scopes : Some (countScopes ss)
+  pub whole : length ns ≡ count ns * 10
+  pub wholeScopes : length ss ≡ countScopes ss * 3
+  pub bytes : length source ≤ 1048576
+  pub nameBytes : length names ≤ 1048576
+  pub type : sourceType ≤ 1
+
+-- what is known where every number is listed
+pub record Listed (ns : List ℕ) : Type 0 where
+  pub kind : (i : ℕ) → i < count ns → kindOf ns i ≤ 55
+  pub role : (i : ℕ) → i < count ns → roleOf ns i ≤ 7
+  pub flags : (i : ℕ) → i < count ns → flagsOf ns i ≤ 8190
+  pub even : (i : ℕ) → i < count ns → flagsOf ns i % 2 ≡ 0
+  pub extra : (i : ℕ) → i < count ns → listedExtra (kindOf ns i) (extraOf ns i) ≡ true

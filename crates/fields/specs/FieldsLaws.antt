@@ -1,5 +1,5 @@
 -- What is known where refusals 1, 2 and 4 do not apply.
-use Prim.Native.Nat.{ℕ, _+_, _-_, _*_, _/_, _%_, _≤_, _<_}
+use Prim.Native.Nat.{ℕ, _+_, _-_, _/_, _%_, _≤_, _<_}
 use mathlib.Core.Path.{_≡_, refl}
 use mathlib.Core.List.{List}
 use mathlib.Core.Bool.{Bool, true, false, not, _||_}
@@ -8,12 +8,13 @@ use borrow.Author.Tests.{lt-ltb, le-ltb, eqb-true, eqb-false, ltb-true, ltb-fals
 use lib.Dec.{eqb, ltb, leb}
 use lib.ListN.{length}
 use Rattle.common.specs.Bools.{or3, or4, or5}
-use Rattle.common.specs.Upto.{and-left, and-right}
-use Rattle.tables.specs.Table.{kindOf, roleOf, flagsOf, extraOf, spanStartOf, spanEndOf, nameStartOf, nameLenOf, count, countScopes, Some}
+use Rattle.common.specs.UptoLaws.{and-left, and-right}
+use Rattle.tables.specs.Table.{kindOf, roleOf, flagsOf, extraOf, spanStartOf, spanEndOf, nameStartOf, nameLenOf, count}
 use Rattle.tables.specs.Facts.{Named, Sourced}
 use Rattle.places.specs.declared.Place.the-variants.{Nowhere}
-use Rattle.places.specs.First.{first, first-none}
-use Rattle.fields.specs.Fields.{wrongTable, wrongSizes, listedFlags, listedExtra, unlistedAt, strayAt}
+use Rattle.places.specs.First.{first}
+use Rattle.places.specs.FirstLaws.{first-none}
+use Rattle.fields.specs.Fields.{wrongTable, wrongSizes, listedFlags, listedExtra, unlistedAt, strayAt, Sizes, Listed}
 
 -- bytes that start, or end, after the last one
 pub outside-first : (len s l : ℕ) → len < s → ltb len (s + l) ≡ true
@@ -25,16 +26,6 @@ outside-rest len s l h = go (ltb len (s + l)) refl
     go : (x : Bool) → ltb len (s + l) ≡ x → ltb (len - s) l ≡ x
     go true e = lt-ltb (len - s) l (omega (arith, ltb-true len (s + l) e))
     go false e = le-ltb (len - s) l (omega (arith, ltb-false len (s + l) e))
-
--- what is known where no size is wrong
-pub record Sizes (sourceType : ℕ) (ns ss source names : List ℕ) : Type 0 where
-  pub nodes : Some (count ns)
-  pub scopes : Some (countScopes ss)
-  pub whole : length ns ≡ count ns * 10
-  pub wholeScopes : length ss ≡ countScopes ss * 3
-  pub bytes : length source ≤ 1048576
-  pub nameBytes : length names ≤ 1048576
-  pub type : sourceType ≤ 1
 
 right-table : (len width : ℕ) → wrongTable len width ≡ false → (len ≡ 0 → ⊥) × (len % width ≡ 0) × (len / width ≤ 65535)
 unfolding wrongTable
@@ -59,14 +50,6 @@ sizes-of sourceType ns ss source names e =
       nameBytes = ltb-false 1048576 (length names) (w .3);
       type = ltb-false 1 sourceType (w .4);
     }
-
--- what is known where every number is listed
-pub record Listed (ns : List ℕ) : Type 0 where
-  pub kind : (i : ℕ) → i < count ns → kindOf ns i ≤ 55
-  pub role : (i : ℕ) → i < count ns → roleOf ns i ≤ 7
-  pub flags : (i : ℕ) → i < count ns → flagsOf ns i ≤ 8190
-  pub even : (i : ℕ) → i < count ns → flagsOf ns i % 2 ≡ 0
-  pub extra : (i : ℕ) → i < count ns → listedExtra (kindOf ns i) (extraOf ns i) ≡ true
 
 pub listed-of : (ns : List ℕ) → first (unlistedAt ns) 0 (count ns) ≡ Nowhere → Listed ns
 unfolding unlistedAt listedFlags

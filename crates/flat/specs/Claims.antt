@@ -13,9 +13,9 @@ use Rattle.completion.specs.Taken.{execsTakes}
 use Rattle.completion.specs.Scope.{scopedEnd}
 use Rattle.completion.specs.Parts.{partsOnce}
 use Rattle.flat.specs.Code.{unit, sizes, RoomAll}
-use Rattle.flat.specs.Machine.{run, started, codeRoute}
+use Rattle.flat.specs.Machine.{run, started, codeRoute, result}
 use Rattle.flat.specs.Meet.{meet}
-use Rattle.flat.specs.Correct.{result, unitCorrect}
+use Rattle.flat.specs.Correct.{unitCorrect}
 use Rattle.flat.specs.Room.{noTryRoom, roomEnough}
 use Rattle.flat.specs.Own.{sUnit, total, shapesAll}
 use Rattle.flat.specs.Sum.{lengthSum, totalSmall}

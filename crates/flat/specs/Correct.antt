@@ -13,7 +13,7 @@ use Rattle.completion.specs.Tree.{near, named, Stmt, Stmts, Cases, Leaf, simple
 use Rattle.completion.specs.Sem.{Entry, plain, asked, Out, Comp, normal, breaks, continues, returns, throws, spent, out, more, ask, goOn, andThen, catching, finally, finallyIf, unbreak, turn, turns, rounds, loops, pick, isYes, isNormal, isSpent, loopContinues, noBreak, noLabel, exec, execs, execFrom, entry, count, defaultAt, compOf}
 use Rattle.completion.specs.Route.{endOf}
 use Rattle.flat.specs.Code.{Stat, at, ended, goto, caseTo, next, inTry, inLoop, first, link, through, size, sizes, sizeCases, place, code, codes, codeCases, top, ends, unit, Room, RoomAll, RoomCases}
-use Rattle.flat.specs.Machine.{Res, res, pre, Instr, LIST, LEAVE, ASK, SELECT, OPEN, END, CASE, Frame, open′, pend, Pos, pos, isZero, unwind, isCase, chase, endAs, decode, fetch}
+use Rattle.flat.specs.Machine.{Res, res, pre, Instr, LIST, LEAVE, ASK, SELECT, OPEN, END, CASE, Frame, open′, pend, Pos, pos, isZero, unwind, isCase, chase, endAs, decode, fetch, result}
 use Rattle.flat.specs.Forward.{askNow, behind, forward, step, run}
 use Rattle.flat.specs.Steps.{runStep, runPos, resume}
 use Rattle.completion.specs.Rest.{Shrinks, execRest}
@@ -701,10 +701,6 @@ module _ (lim : ℕ) (C : List ℕ) where
         (hasMove C (suc (suc (suc (suc o)))) (o + 4)
         (codes ss (o + 4) δ (next ρ (through cs (o + 4 + sizes ss) δ ρ)) ++ codeCases cs (o + 4 + sizes ss) δ ρ) (omega arith) (h .1 .1 .1 .1)))
         K (goodMove δ K ρ (o + (4 + sizes ss + sizeCases cs)) (o + 4 + sizes ss + sizeCases cs) (omega arith) g) z f i qs
-
--- What a unit comes to.
-abbrev pub result : Out → Res
-result o = res (o .nodes) (endOf (o .comp)) (o .rest)
 
 topGood : (lim : ℕ) (C : List ℕ) (m e : ℕ) → m ≡ e → Good lim C 0 [] (top m) e
 unfolding unwind

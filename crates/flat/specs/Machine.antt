@@ -6,8 +6,8 @@ use mathlib.Core.Bool.{Bool, true, false, _&&_}
 use mathlib.Core.List.{List, [], _∷_, _++_}
 use lib.ListN.{length, getD}
 use lib.Dec.{eqb, ltb}
-use Rattle.completion.specs.Sem.{Entry, plain, asked, pick, isYes}
-use Rattle.completion.specs.Route.{Route, routeOf}
+use Rattle.completion.specs.Sem.{Entry, plain, asked, pick, isYes, Out}
+use Rattle.completion.specs.Route.{Route, routeOf, endOf}
 
 -- What a run lists, its end, and the answers that are left.
 pub record Res : Type 0 where
@@ -129,3 +129,7 @@ started C qs = base C (length C) 0 qs
 -- The route that the base machine gives for a list of numbers as code: "A run reads the code and the answers, never the tables."
 abbrev pub codeRoute : List ℕ → List ℕ → Route
 codeRoute C qs = routeOf (started C qs .nodes) (started C qs .end)
+
+-- What a unit comes to by the completion rules, as the result of a run.
+abbrev pub result : Out → Res
+result o = res (o .nodes) (endOf (o .comp)) (o .rest)

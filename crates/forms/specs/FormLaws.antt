@@ -8,14 +8,15 @@ use lib.Dec.{leb, eqb}
 use lib.ListN.{length, getD, take, drop}
 use lib.Seq.{take-all}
 use borrow.Author.Tests.{le-leb, lt-leb, leb-true, eq-eqb, ne-eqb, eqb-true}
-use Rattle.common.specs.Upto.{all, and-left, and-right}
+use Rattle.common.specs.Upto.{all}
+use Rattle.common.specs.UptoLaws.{and-left, and-right}
 use Rattle.digits.specs.Number.{isNumber}
 use Rattle.digits.specs.Hex.{isHex}
 use Rattle.digits.specs.NumberLaws.{and-no}
 use Rattle.digits.specs.HexLaws.{length-bytes}
-use Rattle.line_fields.specs.Split.{fieldsOf}
-use Rattle.line_fields.specs.SplitLaws.{before, onward, fieldsIn, fields-first, fields-turn, joined-tail}
-use Rattle.line_fields.specs.FieldLaws.{fieldOf, firsts, tail-some}
+use Rattle.line_fields.specs.Split.{fieldsOf, before, onward, fieldsIn, fieldOf, firsts}
+use Rattle.line_fields.specs.SplitLaws.{fields-first, fields-turn, joined-tail}
+use Rattle.line_fields.specs.FieldLaws.{tail-some}
 use Rattle.forms.specs.Forms.{isLetter, lettered, rest, isNumbers, fits, isN, nameOf, isX}
 
 -- what stands behind the letter

@@ -6,8 +6,9 @@ use mathlib.Core.Bool.{Bool, true, false, cond}
 use mathlib.Core.Logic.{⊎-elim}
 use native.Mathlib.Omega.{arith}
 use lib.ListN.{length, length-append}
-use Rattle.common.specs.Upto.{upto, upto-nil, upto-cons}
-use Rattle.walk.specs.Preorder.{lt-or-ge}
+use Rattle.common.specs.Upto.{upto}
+use Rattle.common.specs.UptoLaws.{upto-nil, upto-cons}
+use Rattle.walk.specs.PreorderLaws.{lt-or-ge}
 use Rattle.tables.specs.declared.Found.the-variants.{At, Nothing}
 use Rattle.children.specs.Children.{keep, firstNode}
 use Rattle.children.specs.ChildrenLaws.{node-on, node-stop, node-end, number}

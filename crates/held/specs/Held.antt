@@ -18,7 +18,7 @@ use Rattle.children.specs.ChildrenLaws.{found-child, number}
 use Rattle.completion.specs.Tree.{NoTryAll}
 use Rattle.completion.specs.Route.{Once, nodesOfAll}
 use Rattle.unit.specs.Unit.{holderOf, unitBy, unitOf}
-use Rattle.input.specs.InputLaws.{WellFormed}
+use Rattle.input.specs.Input.{WellFormed}
 use Rattle.words.specs.Held.{Good, Held}
 use Rattle.held.specs.Kinds.{Holds, block-shape}
 use Rattle.held.specs.Parts.{shaped-parts}

@@ -9,16 +9,16 @@ use native.Mathlib.Omega.{arith}
 use borrow.Author.Tests.{eq-eqb, ne-eqb, eqb-true, eqb-false}
 use lib.Dec.{eqb}
 use lib.ListN.{length}
-use Rattle.common.specs.Upto.{upto, upto-nil, upto-cons}
+use Rattle.common.specs.Upto.{upto}
+use Rattle.common.specs.UptoLaws.{upto-nil, upto-cons}
 use Rattle.common.specs.Tests.{within}
 use Rattle.common.specs.Bools.{never, either, in-range, range-of}
 use Rattle.tables.specs.Table.{kindOf, parentOf, roleOf, count}
 use Rattle.children.specs.Children.{keep, isChild}
 use Rattle.children.specs.ChildrenLaws.{keep-keep, tally, tally-all}
-use Rattle.standing.specs.StandingLaws.{Placed}
-use Rattle.counts.specs.CountsLaws.{Counted}
-use Rattle.counts.specs.Counts.{withRole}
-use Rattle.fields.specs.FieldsLaws.{Listed}
+use Rattle.standing.specs.Standing.{Placed}
+use Rattle.counts.specs.Counts.{withRole, Counted}
+use Rattle.fields.specs.Fields.{Listed}
 use Rattle.unit.specs.Unit.{shapeAt, isPart, partBy, parts}
 use Rattle.unit.specs.declared.Shape.{Shape}
 use Rattle.unit.specs.declared.Shape.the-variants.{Simple, Break, Continue, Return, Throw, If, With, Block, Label, Loop, Switch, Case}

@@ -7,7 +7,7 @@ use native.Mathlib.Omega.{arith}
 use borrow.Author.Tests.{eq-eqb, ne-eqb}
 use lib.Dec.{eqb}
 use Rattle.common.specs.Tests.{within}
-use Rattle.walk.specs.On.{on-self, on-le}
+use Rattle.walk.specs.OnLaws.{on-self, on-le}
 use Rattle.tables.specs.Table.{kindOf, parentOf, count, scopeOf, scopeParentOf, scopeNodeOf}
 use Rattle.tables.specs.Facts.{Tree, Scoped}
 use Rattle.tables.specs.Kinds as k

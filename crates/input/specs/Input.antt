@@ -3,14 +3,15 @@ use Prim.Native.Nat.{ℕ}
 use mathlib.Core.List.{List}
 use mathlib.Core.Bool.{cond}
 use Rattle.tables.specs.Table.{count, countScopes}
+use Rattle.tables.specs.Facts.{Input, Sourced}
 use Rattle.places.specs.First.{first}
 use Rattle.verdict.specs.declared.Verdict.{Verdict}
 use Rattle.verdict.specs.declared.Verdict.the-variants.{Refused, Passed}
 use Rattle.verdict.specs.Verdict.{orNext}
-use Rattle.fields.specs.Fields.{wrongSizes, unlistedAt, strayAt}
+use Rattle.fields.specs.Fields.{wrongSizes, unlistedAt, strayAt, Sizes, Listed}
 use Rattle.tree.specs.Tree.{misplacedAt}
 use Rattle.scopes.specs.Scopes.{brokenAt, misscopedAt}
-use Rattle.shape.specs.Shape.{misshapenAt}
+use Rattle.shape.specs.Shape.{misshapenAt, Shaped}
 
 -- "The lowest number wins, then the lowest place; 5 looks at all scope records before any node." The place of 1 is 0.
 unfoldable pub refusalOf : ℕ → List ℕ → List ℕ → List ℕ → List ℕ → Verdict
@@ -22,3 +23,11 @@ refusalOf sourceType ns ss source names =
     (orNext 5 (first (brokenAt ss) 0 (countScopes ss))
     (orNext 5 (first (misscopedAt ns ss) 0 (count ns))
     (orNext 6 (first (misshapenAt ns) 0 (count ns)) Passed))))))
+
+-- tables and their tree are well-formed: what is known where none of 1 to 6 turns them down
+pub record WellFormed (sourceType : ℕ) (ns ss source names : List ℕ) : Type 0 where
+  pub sizes : Sizes sourceType ns ss source names
+  pub listed : Listed ns
+  pub input : Input ns ss names
+  pub sourced : Sourced ns source
+  pub shaped : Shaped ns

@@ -4,26 +4,19 @@ use mathlib.Core.Path.{_≡_}
 use mathlib.Core.List.{List}
 use native.Mathlib.Omega.{arith}
 use Rattle.tables.specs.Table.{count, countScopes}
-use Rattle.tables.specs.Facts.{Tree, Input, Sourced}
+use Rattle.tables.specs.Facts.{Tree}
 use Rattle.places.specs.First.{first}
 use Rattle.verdict.specs.declared.Verdict.the-variants.{Passed}
 use Rattle.verdict.specs.VerdictLaws.{passed, passed-test}
 use Rattle.fields.specs.Fields.{wrongSizes, unlistedAt, strayAt}
-use Rattle.fields.specs.FieldsLaws.{Sizes, sizes-of, Listed, listed-of, sourced-of, named-of}
-use Rattle.tree.specs.Tree.{misplacedAt, tree-of}
+use Rattle.fields.specs.FieldsLaws.{sizes-of, listed-of, sourced-of, named-of}
+use Rattle.tree.specs.Tree.{misplacedAt}
+use Rattle.tree.specs.TreeLaws.{tree-of}
 use Rattle.scopes.specs.Scopes.{brokenAt, misscopedAt}
 use Rattle.scopes.specs.ScopesLaws.{chained-of, scoped-of}
 use Rattle.shape.specs.Shape.{misshapenAt}
-use Rattle.shape.specs.ShapeLaws.{Shaped, shaped-of}
-use Rattle.input.specs.Input.{refusalOf}
-
--- tables and their tree are well-formed
-pub record WellFormed (sourceType : ℕ) (ns ss source names : List ℕ) : Type 0 where
-  pub sizes : Sizes sourceType ns ss source names
-  pub listed : Listed ns
-  pub input : Input ns ss names
-  pub sourced : Sourced ns source
-  pub shaped : Shaped ns
+use Rattle.shape.specs.ShapeLaws.{shaped-of}
+use Rattle.input.specs.Input.{refusalOf, WellFormed}
 
 module _ (sourceType : ℕ) (ns ss source names : List ℕ) where
   -- none of 1 to 6 turns them down

@@ -3,7 +3,7 @@ ghost use mathlib.Core.Path.{_≡_};
 ghost use Prim.Native.Nat.{_<_};
 ghost use Rattle.tables.specs.Table.{count};
 ghost use Rattle.tables.specs.Facts.{Tree, Named};
-ghost use Rattle.children.specs.ChildrenLaws.{below};
+ghost use Rattle.children.specs.Children.{below};
 ghost use Rattle.jumps.specs.Jumps.{isBoundary, isUnit, isIteration, isBreakable, walkUp, sameLabel, labeledItem, plainBreakAt, noLabel, labelledBreakAt, plainContinueAt, continueTo, labelledContinueAt, labeledAt, checkBreakStatement, checkContinueStatement, checkLabeledStatement};
 use common::or;
 use common::within;

@@ -7,18 +7,13 @@ use native.Mathlib.Numerals.{add-one}
 use native.Mathlib.Omega.{arith}
 use lib.ListN.{length, set, take, drop, length-drop, length-map}
 use lib.Seq.{length-take-le}
-use Rattle.common.specs.Upto.{all, and-left, and-right}
+use Rattle.common.specs.Upto.{all}
+use Rattle.common.specs.UptoLaws.{and-left, and-right}
 use Rattle.common.specs.Wrote.{Wrote}
 use Rattle.digits.specs.Writes.{wrote-one}
 use Rattle.digits.specs.Number.{isNumber, valueOf}
-use Rattle.line_fields.specs.SplitLaws.{before, onward, onward-short, fieldsIn, fields-turn, fields-end}
-
--- the first field of a tail, and the tail behind it
-abbrev pub fieldOf : List ℕ → List ℕ
-fieldOf l = before 44 (drop 1 l)
-
-abbrev pub nextOf : List ℕ → List ℕ
-nextOf l = onward 44 (drop 1 l)
+use Rattle.line_fields.specs.Split.{fieldOf, nextOf, firsts, fieldsIn}
+use Rattle.line_fields.specs.SplitLaws.{onward-short, fields-turn, fields-end}
 
 pub next-short : (l : List ℕ) → length (nextOf l) ≤ length l - 1
 next-short l = omega (arith, onward-short 44 (drop 1 l), length-drop 1 l)
@@ -27,10 +22,6 @@ take-turn : {A : Type 0} (n : ℕ) (x : A) (xs : List A) → 0 < n → take n (x
 take-turn n x xs h =
     let e : n ≡ suc (n - 1) = omega arith in
     ap (λ (k : ℕ). take k (x ∷ xs)) e
-
--- the first n fields of a tail
-unfoldable pub firsts : ℕ → List ℕ → List (List ℕ)
-firsts n l = take n (fieldsIn l)
 
 module _ (n : ℕ) (l : List ℕ) where
   pub firsts-turn : 0 < n → 0 < length l → firsts n l ≡ fieldOf l ∷ firsts (n - 1) (nextOf l)

@@ -1,4 +1,4 @@
--- Lines and fields as code finds them: what stands before the first byte d, and what from it on.
+-- Laws of lines and fields as code finds them: what stands before the first byte d, and what from it on.
 use Prim.Native.Nat.{ℕ, _+_, _≤_, _<_}
 use mathlib.Core.Path.{_≡_, refl, ap, sym, _∙_}
 use mathlib.Core.Bool.{Bool, true, false, cond}
@@ -8,19 +8,7 @@ use lib.Dec.{eqb}
 use lib.ListN.{length, getD, take, drop}
 use borrow.Author.Tests.{eq-eqb, ne-eqb, eqb-true}
 use Rattle.digits.specs.Lists.{drop-step, drop-end}
-use Rattle.line_fields.specs.Split.{ahead, linesOf, fieldsOf, joined}
-
-unfoldable pub before : ℕ → List ℕ → List ℕ
-before d [] = []
-before d (c ∷ l) = cond (eqb c d) [] (c ∷ before d l)
-
-unfoldable pub onward : ℕ → List ℕ → List ℕ
-onward d [] = []
-onward d (c ∷ l) = cond (eqb c d) (c ∷ l) (onward d l)
-
--- how far it is to the first d
-abbrev pub toFirst : ℕ → List ℕ → ℕ
-toFirst d l = length (before d l)
+use Rattle.line_fields.specs.Split.{ahead, linesOf, fieldsOf, joined, before, onward, toFirst, fieldsIn}
 
 module _ (d : ℕ) where
   by-first : (P : List ℕ → List ℕ → List ℕ → Type 0) → P [] [] []
@@ -57,11 +45,6 @@ module _ (s : List ℕ) (d i : ℕ) where
   pub first-end : length s ≤ i → i + toFirst d (drop i s) ≡ i
   unfolding before
   first-end h = rw (drop-end s i h) (omega arith)
-
--- the fields of what follows a letter or a field: nothing, or a comma and more
-unfoldable pub fieldsIn : List ℕ → List (List ℕ)
-fieldsIn [] = []
-fieldsIn (c ∷ l) = fieldsOf l
 
 pub fields-first : (l : List ℕ) → fieldsOf l ≡ before 44 l ∷ fieldsIn (onward 44 l)
 unfolding before onward fieldsIn fieldsOf

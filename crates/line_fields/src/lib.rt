@@ -4,10 +4,8 @@ ghost use Prim.Native.Nat.{_≤_, _-_};
 ghost use mathlib.Core.List.{[]};
 ghost use Rattle.common.specs.Upto.{all};
 ghost use Rattle.digits.specs.Number.{isNumber};
-ghost use Rattle.line_fields.specs.Split.{linesOf};
+ghost use Rattle.line_fields.specs.Split.{linesOf, before, onward, toFirst, fieldsIn, fieldOf, nextOf, firsts};
 ghost use lib.ListN.{length, drop, getD};
-ghost use Rattle.line_fields.specs.SplitLaws.{before, onward, toFirst, fieldsIn};
-ghost use Rattle.line_fields.specs.FieldLaws.{fieldOf, nextOf, firsts};
 
 // How many bytes stand before the first d; all, if there is none.
 fn to_first(s: &[u8], d: u8) -> usize

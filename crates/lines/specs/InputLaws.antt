@@ -8,11 +8,11 @@ use lib.Dec.{eqb}
 use lib.ListN.{length, getD, drop, drop-of-length-le, length-map}
 use borrow.Author.Tests.{eq-eqb, ne-eqb, eqb-true}
 use Rattle.common.specs.Bools.{never}
-use Rattle.common.specs.Upto.{and-left, and-right}
+use Rattle.common.specs.UptoLaws.{and-left, and-right}
 use Rattle.common.specs.Wrote.{put}
 use Rattle.digits.specs.Hex.{isHex, bytesOf}
 use Rattle.digits.specs.Number.{valueOf}
-use Rattle.line_fields.specs.FieldLaws.{fieldOf, firsts}
+use Rattle.line_fields.specs.Split.{fieldOf, firsts}
 use Rattle.lines.specs.declared.Head.{Head}
 use Rattle.lines.specs.declared.Head.the-variants.{Counts, NoHead}
 use Rattle.lines.specs.declared.Input.{Input}

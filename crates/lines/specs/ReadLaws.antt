@@ -9,7 +9,8 @@ use lib.ListN.{length, getD, set, take, drop, length-append, length-map}
 use lib.Seq.{length-take-le, sets-eq}
 use borrow.Author.Tests.{le-leb, lt-leb, leb-true}
 use Rattle.common.specs.Bools.{never}
-use Rattle.common.specs.Wrote.{Wrote, put, wrote-put, length-put}
+use Rattle.common.specs.Wrote.{Wrote, put}
+use Rattle.common.specs.WroteLaws.{wrote-put, length-put}
 use Rattle.digits.specs.Number.{valueOf}
 use Rattle.digits.specs.Writes.{wrote-done, put-put}
 use Rattle.line_fields.specs.Split.{fieldsOf}

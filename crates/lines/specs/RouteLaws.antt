@@ -8,11 +8,13 @@ use native.Mathlib.Omega.{arith}
 use lib.Dec.{eqb}
 use lib.ListN.{length, getD, drop}
 use lib.Seq.{take-all, getD-drop, drop-drop}
-use Rattle.common.specs.Upto.{all, and-left, and-right}
+use Rattle.common.specs.Upto.{all}
+use Rattle.common.specs.UptoLaws.{and-left, and-right}
 use Rattle.common.specs.Wrote.{put}
 use Rattle.digits.specs.Number.{isNumber, valueOf}
-use Rattle.line_fields.specs.SplitLaws.{fieldsIn, fields-turn}
-use Rattle.line_fields.specs.FieldLaws.{fieldOf, firsts, tail-some, number-first}
+use Rattle.line_fields.specs.Split.{fieldsIn, fieldOf, firsts}
+use Rattle.line_fields.specs.SplitLaws.{fields-turn}
+use Rattle.line_fields.specs.FieldLaws.{tail-some, number-first}
 use Rattle.lines.specs.declared.Two.{Two}
 use Rattle.lines.specs.declared.Two.the-variants.{Both, NoUnit, NoAnswers}
 use Rattle.lines.specs.declared.Input.{Input}

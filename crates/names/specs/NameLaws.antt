@@ -9,7 +9,7 @@ use lib.ListN.{length, getD, take, drop, length-drop}
 use lib.Seq.{drop-cons, length-take-le}
 use native.Mathlib.Numerals.{add-one}
 use native.Mathlib.Omega.{arith}
-use Rattle.common.specs.Upto.{and-left, and-right}
+use Rattle.common.specs.UptoLaws.{and-left, and-right}
 use Rattle.tables.specs.Table.{nameStartOf, nameLenOf, count}
 use Rattle.tables.specs.Facts.{Named}
 use Rattle.names.specs.Name.{same, nameOf}

@@ -5,7 +5,7 @@ ghost use Prim.Native.Nat.{_+_, _<_};
 ghost use lib.Dec.{eqb};
 ghost use Rattle.tables.specs.Table.{count, parentOf};
 ghost use Rattle.tables.specs.Facts.{Tree};
-ghost use Rattle.children.specs.ChildrenLaws.{below};
+ghost use Rattle.children.specs.Children.{below};
 ghost use Rattle.unit.specs.Unit.{shapeAt, partBy, isPart, parts, defaultAt, holderOf};
 ghost use Rattle.words.specs.Words.{head0, second0, default0, live};
 ghost use Rattle.words.specs.Held.{Good};

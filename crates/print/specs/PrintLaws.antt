@@ -10,7 +10,8 @@ use lib.ListN.{length, getD, set, take, drop, length-append}
 use lib.Seq.{set-split, take-set-le, length-take-le, drop-at}
 use borrow.Author.Tests.{lt-ltb, le-ltb, ltb-true, ltb-false}
 use native.Mathlib.Numerals.{add-one}
-use Rattle.common.specs.Wrote.{Wrote, put, wrote-put, length-put}
+use Rattle.common.specs.Wrote.{Wrote, put}
+use Rattle.common.specs.WroteLaws.{wrote-put, length-put}
 use Rattle.digits.specs.Lists.{drop-step, drop-end}
 use Rattle.digits.specs.Writes.{put-put, put-end, wrote-done}
 use Rattle.line_fields.specs.Split.{joined}

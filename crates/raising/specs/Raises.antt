@@ -1,34 +1,12 @@
--- What a function that raises findings does to the slice: from `at` on it takes the list, and w is the place behind it.
-use Prim.Native.Nat.{ℕ, _+_, _*_, _≤_}
-use mathlib.Core.Path.{_≡_, refl, ap, sym, _∙_}
-use mathlib.Core.List.{List, [], _∷_, _++_}
-use native.Mathlib.Omega.{arith}
-use lib.ListN.{length, length-append}
+-- What a function that raises findings does to the slice.
+use Prim.Native.Nat.{ℕ, _+_, _*_}
+use mathlib.Core.Path.{_≡_}
+use mathlib.Core.List.{List}
+use lib.ListN.{length}
 use Rattle.diagnostics.specs.declared.Finding.{Finding}
-use Rattle.diagnostics.specs.declared.Raised.{Raised}
-use Rattle.diagnostics.specs.declared.Raised.the-variants.{Error, Clear}
-use Rattle.diagnostics.specs.Finding.{listed, sink}
-use Rattle.diagnostics.specs.FindingLaws.{sink-append, sink-nil}
+use Rattle.diagnostics.specs.Finding.{sink}
 
+-- from `at` on the slice s takes the list l, which gives s'; w is the place behind it
 pub record Raises (s s' : List ℕ) (at w : ℕ) (l : List Finding) : Type 0 where
   pub place : w ≡ at + 7 * length l
   pub slice : s' ≡ sink s at l
-
--- nothing is raised
-pub raises-none : (s : List ℕ) (at : ℕ) → Raises s s at at []
-raises-none s at = record { place = omega arith; slice = sym (sink-nil s at) }
-
--- one after the other
-pub raises-then : (s s' s'' : List ℕ) (at w v : ℕ) (l m : List Finding) → Raises s s' at w l → Raises s' s'' w v m → Raises s s'' at v (l ++ m)
-raises-then s s' s'' at w v l m a b =
-    let p = a .place in
-    let q = b .place in
-    record {
-      place = omega (arith, length-append l m);
-      slice = b .slice ∙ rw (a .slice, p) (sym (sink-append s at l m));
-    }
-
--- a check raises one finding at the most
-pub listed-small : (r : Raised) → length (listed r) ≤ 1
-listed-small (Error f) = omega arith
-listed-small Clear = omega arith

@@ -4,7 +4,7 @@ use mathlib.Core.Bool.{cond}
 use mathlib.Core.List.{List}
 use lib.ListN.{length, drop}
 use Rattle.digits.specs.Number.{isNumber, valueOf}
-use Rattle.line_fields.specs.FieldLaws.{fieldOf, nextOf}
+use Rattle.line_fields.specs.Split.{fieldOf, nextOf}
 use Rattle.reader.specs.declared.Step.{Step}
 use Rattle.reader.specs.declared.Step.the-variants.{Number, Stop}
 

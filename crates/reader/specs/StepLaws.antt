@@ -9,8 +9,8 @@ use borrow.Author.Tests.{leb-true, leb-false}
 use lib.ListN.{length, drop, length-drop, drop-of-length-le}
 use lib.Seq.{drop-drop, drop-length}
 use Rattle.digits.specs.Number.{isNumber, valueOf}
-use Rattle.line_fields.specs.SplitLaws.{toFirst, drop-onward}
-use Rattle.line_fields.specs.FieldLaws.{fieldOf, nextOf}
+use Rattle.line_fields.specs.Split.{toFirst, fieldOf, nextOf}
+use Rattle.line_fields.specs.SplitLaws.{drop-onward}
 use Rattle.reader.specs.declared.Step.the-variants.{Number, Stop}
 use Rattle.reader.specs.Step.{pastAt, stepAt}
 

@@ -9,8 +9,7 @@ ghost use lib.ListN.{length, drop};
 ghost use Rattle.common.specs.Upto.{all};
 ghost use Rattle.common.specs.Wrote.{put};
 ghost use Rattle.digits.specs.Number.{isNumber, valueOf};
-ghost use Rattle.line_fields.specs.SplitLaws.{fieldsIn};
-ghost use Rattle.line_fields.specs.FieldLaws.{firsts};
+ghost use Rattle.line_fields.specs.Split.{fieldsIn, firsts};
 ghost use Rattle.reader.specs.Step.{stepAt};
 
 pub struct Reader<'a> {

@@ -8,11 +8,11 @@ use borrow.Author.Tests.{leb-true, le-leb, lt-leb}
 use lib.Dec.{leb}
 use lib.ListN.{length, take, drop, length-append}
 use lib.Seq.{take-at}
-use Rattle.common.specs.Upto.{and-right}
+use Rattle.common.specs.UptoLaws.{and-right}
 use Rattle.tables.specs.Table.{kindOf, count}
 use Rattle.verdict.specs.declared.Verdict.{Verdict}
 use Rattle.verdict.specs.declared.Verdict.the-variants.{Refused, Passed}
-use Rattle.input.specs.InputLaws.{WellFormed}
+use Rattle.input.specs.Input.{WellFormed}
 use Rattle.wellformed.specs.WellFormed.{inputRefusal}
 use Rattle.wellformed.specs.WellFormedLaws.{input-well-formed}
 use Rattle.completion.specs.Route.{route}

@@ -4,7 +4,7 @@ ghost use Prim.Native.Nat.{_*_, _≤_};
 ghost use lib.ListN.{length, take};
 ghost use Rattle.tables.specs.Table.{count};
 ghost use Rattle.tables.specs.Facts.{Tree};
-ghost use Rattle.input.specs.InputLaws.{WellFormed};
+ghost use Rattle.input.specs.Input.{WellFormed};
 ghost use Rattle.completion.specs.Route.{route as routeOf};
 ghost use Rattle.flat.specs.Code.{unit as codeOf};
 ghost use Rattle.stores.specs.Over.{over};

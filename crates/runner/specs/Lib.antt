@@ -1,3 +1,4 @@
 pub mod Ran
 pub mod Turn
+pub mod TurnLaws
 pub mod Kept

@@ -16,7 +16,8 @@ use Rattle.tables.specs.declared.Found.{Found}
 use Rattle.tables.specs.declared.Found.the-variants.{At, Nothing}
 use Rattle.children.specs.Children.{labelOf}
 use Rattle.children.specs.ChildrenLaws.{found-child}
-use Rattle.ancestry.specs.AncestryLaws.{ancestors-up, isAt}
+use Rattle.ancestry.specs.Ancestry.{isAt}
+use Rattle.ancestry.specs.AncestryLaws.{ancestors-up}
 use Rattle.jumps.specs.Jumps.{isUnit, isIteration, isBreakable, whenFound, sameLabel, labeledItem}
 use Rattle.completion.specs.Tree.{near, named}
 use Rattle.completion.specs.Sem.{Comp, normal, breaks, continues, returns, throws, pick, elem}

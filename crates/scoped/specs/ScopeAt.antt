@@ -8,10 +8,10 @@ use native.Mathlib.Nat.{eq-or-lt-of-le}
 use native.Mathlib.Omega.{arith}
 use borrow.Author.Tests.{le-leb, lt-leb}
 use lib.Dec.{leb}
-use Rattle.common.specs.Upto.{and-left, and-right}
+use Rattle.common.specs.UptoLaws.{and-left, and-right}
 use Rattle.common.specs.Bools.{never}
-use Rattle.walk.specs.Above.{fold-up}
-use Rattle.walk.specs.Preorder.{lt-or-ge}
+use Rattle.walk.specs.AboveLaws.{fold-up}
+use Rattle.walk.specs.PreorderLaws.{lt-or-ge}
 use Rattle.tables.specs.Table.{parentOf, count, ancestors}
 use Rattle.tables.specs.Facts.{Tree}
 use Rattle.completion.specs.Sem.{Comp, noBreak}

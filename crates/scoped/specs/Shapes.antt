@@ -14,9 +14,9 @@ use Rattle.tables.specs.Roles as role
 use Rattle.tables.specs.declared.Found.{Found}
 use Rattle.tables.specs.declared.Found.the-variants.{At, Nothing}
 use Rattle.names.specs.Name.{sameName}
-use Rattle.children.specs.Children.{labelOf}
-use Rattle.children.specs.ChildrenLaws.{below, found-child}
-use Rattle.ancestry.specs.AncestryLaws.{isAt}
+use Rattle.children.specs.Children.{labelOf, below}
+use Rattle.children.specs.ChildrenLaws.{found-child}
+use Rattle.ancestry.specs.Ancestry.{isAt}
 use Rattle.jumps.specs.Jumps.{isIteration, whenFound, sameLabel}
 use Rattle.unit.specs.Unit.{shapeBy, nameId, idAt}
 use Rattle.unit.specs.declared.Shape.{Shape}

@@ -10,15 +10,17 @@ use borrow.Author.Tests.{eq-eqb, ne-eqb, le-leb, lt-leb, eqb-true, ltb-false, le
 use lib.Dec.{eqb, ltb, leb}
 use lib.ListN.{length, getD, set}
 use lib.Seq.{getD-set-same, getD-set-other}
-use Rattle.common.specs.Upto.{and-left, and-right}
+use Rattle.common.specs.UptoLaws.{and-left, and-right}
 use Rattle.common.specs.Bools.{never, or-first, or-second, or3}
-use Rattle.walk.specs.Above.{above-up, above-root}
-use Rattle.walk.specs.On.{on, on-cases, on-le, on-trans, on-linear}
-use Rattle.walk.specs.Preorder.{lt-or-ge}
+use Rattle.walk.specs.AboveLaws.{above-up, above-root}
+use Rattle.walk.specs.On.{on}
+use Rattle.walk.specs.OnLaws.{on-cases, on-le, on-trans, on-linear}
+use Rattle.walk.specs.PreorderLaws.{lt-or-ge}
 use Rattle.tables.specs.Table.{kindOf, parentOf, scopeOf, extraOf, count, countScopes, scopeParentOf, scopeFlagsOf, scopeNodeOf, Some}
 use Rattle.tables.specs.Facts.{Tree, Chained, Scoped}
 use Rattle.places.specs.declared.Place.the-variants.{Nowhere}
-use Rattle.places.specs.First.{first, first-none}
+use Rattle.places.specs.First.{first}
+use Rattle.places.specs.FirstLaws.{first-none}
 use Rattle.scopes.specs.Scopes.{brokenAt, chainOn, misscopedAt}
 
 -- r is on the way up from a node just where both a and b are

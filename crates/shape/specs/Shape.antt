@@ -5,8 +5,8 @@ use mathlib.Core.Bool.{Bool, cond, _||_}
 use lib.Dec.{leb}
 use Rattle.places.specs.declared.Place.{Place}
 use Rattle.places.specs.declared.Place.the-variants.{Here, Nowhere}
-use Rattle.standing.specs.Standing.{misplacedChildAt}
-use Rattle.counts.specs.Counts.{wrongCountAt}
+use Rattle.standing.specs.Standing.{misplacedChildAt, Placed}
+use Rattle.counts.specs.Counts.{wrongCountAt, Counted}
 
 unfoldable pub misshapenAt : List ℕ → ℕ → Bool
 misshapenAt ns i = misplacedChildAt ns i || wrongCountAt ns i
@@ -16,3 +16,8 @@ unfoldable pub lower : Place → Place → Place
 lower (Here a) (Here b) = cond (leb a b) (Here a) (Here b)
 lower (Here a) Nowhere = Here a
 lower Nowhere r = r
+
+-- what is known where no node has a wrong shape
+pub record Shaped (ns : List ℕ) : Type 0 where
+  pub placed : Placed ns
+  pub counted : Counted ns

@@ -11,12 +11,13 @@ use Rattle.tables.specs.Table.{count}
 use Rattle.tables.specs.Facts.{Tree}
 use Rattle.places.specs.declared.Place.{Place}
 use Rattle.places.specs.declared.Place.the-variants.{Here, Nowhere}
-use Rattle.places.specs.First.{first, first-on, first-stop, first-end, first-here, le-or-lt}
+use Rattle.places.specs.First.{first}
+use Rattle.places.specs.FirstLaws.{first-on, first-stop, first-end, first-here, le-or-lt}
 use Rattle.standing.specs.Standing.{misplacedChildAt}
-use Rattle.standing.specs.StandingLaws.{Placed, placed-of}
+use Rattle.standing.specs.StandingLaws.{placed-of}
 use Rattle.counts.specs.Counts.{wrongCountAt}
-use Rattle.counts.specs.CountsLaws.{Counted, counted-of}
-use Rattle.shape.specs.Shape.{misshapenAt, lower}
+use Rattle.counts.specs.CountsLaws.{counted-of}
+use Rattle.shape.specs.Shape.{misshapenAt, lower, Shaped}
 
 -- a place from i on is not below i
 lower-first : (i : ℕ) (r : Place) → ((j : ℕ) → r ≡ Here j → i ≤ j) → lower (Here i) r ≡ Here i
@@ -54,11 +55,6 @@ module _ (p q : ℕ → Bool) (n : ℕ) where
 pub misshapen-first : (ns : List ℕ) → first (misshapenAt ns) 0 (count ns) ≡ lower (first (misplacedChildAt ns) 0 (count ns)) (first (wrongCountAt ns) 0 (count ns))
 unfolding misshapenAt
 misshapen-first ns = first-either (misplacedChildAt ns) (wrongCountAt ns) (count ns) 0
-
--- what is known where no node has a wrong shape
-pub record Shaped (ns : List ℕ) : Type 0 where
-  pub placed : Placed ns
-  pub counted : Counted ns
 
 no-place : (a b : Place) → lower a b ≡ Nowhere → (a ≡ Nowhere) × (b ≡ Nowhere)
 unfolding lower

@@ -1,11 +1,13 @@
 -- Which child is misplaced: document 01, refusal 6, "misplaced child". Each sentence stands above the definition that writes it down.
 -- A child is judged by its kind, its role and the kind of its parent, called `above`.
-use Prim.Native.Nat.{ℕ}
+use Prim.Native.Nat.{ℕ, _≤_, _<_}
+use mathlib.Core.Path.{_≡_}
 use mathlib.Core.List.{List}
-use mathlib.Core.Bool.{Bool, cond, not, _&&_, _||_}
+use mathlib.Core.Bool.{Bool, cond, not, _&&_, _||_, true}
+use mathlib.Core.Logic.{_⊎_}
 use lib.Dec.{eqb, ltb}
 use Rattle.common.specs.Tests.{within}
-use Rattle.tables.specs.Table.{kindOf, roleOf, parentOf}
+use Rattle.tables.specs.Table.{kindOf, roleOf, parentOf, count}
 use Rattle.tables.specs.Kinds as k
 use Rattle.tables.specs.Roles as r
 
@@ -98,3 +100,24 @@ misplaced kind role above = misplacedStatement kind role above || (misplacedPart
 -- a node under a parent that may not hold it, or of a kind or role that this parent doesn't take; node 0 is no child
 unfoldable pub misplacedChildAt : List ℕ → ℕ → Bool
 misplacedChildAt ns i = ltb 0 i && misplaced (kindOf ns i) (roleOf ns i) (kindOf ns (parentOf ns i))
+
+-- the kind of a node's parent
+abbrev pub parentKind : List ℕ → ℕ → ℕ
+parentKind ns i = kindOf ns (parentOf ns i)
+
+-- what is known where no child is misplaced
+pub record Placed (ns : List ℕ) : Type 0 where
+  pub stands : (i : ℕ) → i < count ns → isStatement (kindOf ns i) ≡ true → (r.Held ≤ roleOf ns i) × (roleOf ns i ≤ r.Finally) × (isHolder (parentKind ns i) ≡ true)
+  pub held : (i : ℕ) → 0 < i → i < count ns → r.Held ≤ roleOf ns i → roleOf ns i ≤ r.Finally → isHolder (parentKind ns i) ≡ true
+      → (isStatement (kindOf ns i) ≡ true) ⊎ ((mayBeStatement (kindOf ns i) ≡ true) ⊎ ((kindOf ns i ≡ k.CatchClause) × (parentKind ns i ≡ k.Try)))
+  pub alternate : (i : ℕ) → 0 < i → i < count ns → r.Alternate ≤ roleOf ns i → roleOf ns i ≤ r.Finally → (parentKind ns i ≡ k.Try) ⊎ ((parentKind ns i ≡ k.If) × (roleOf ns i ≡ r.Alternate))
+  pub inSwitch : (i : ℕ) → i < count ns → parentKind ns i ≡ k.Switch → roleOf ns i ≡ r.Held → kindOf ns i ≡ k.SwitchCase
+  pub switchCase : (i : ℕ) → i < count ns → kindOf ns i ≡ k.SwitchCase → (parentKind ns i ≡ k.Switch) × (roleOf ns i ≡ r.Held)
+  pub inTry : (i : ℕ) → i < count ns → parentKind ns i ≡ k.Try → r.Held ≤ roleOf ns i → roleOf ns i ≤ r.Finally → kindOf ns i ≡ tryPart (roleOf ns i)
+  pub clause : (i : ℕ) → i < count ns → kindOf ns i ≡ k.CatchClause → (parentKind ns i ≡ k.Try) × (roleOf ns i ≡ r.Alternate)
+  pub inClause : (i : ℕ) → i < count ns → parentKind ns i ≡ k.CatchClause → roleOf ns i ≡ r.Held → kindOf ns i ≡ k.Block
+  pub functionBody : (i : ℕ) → i < count ns → kindOf ns i ≡ k.FunctionBody → (k.Function ≤ parentKind ns i) × (parentKind ns i ≤ k.Arrow)
+  pub classBody : (i : ℕ) → i < count ns → kindOf ns i ≡ k.ClassBody → parentKind ns i ≡ k.Class
+  pub element : (i : ℕ) → i < count ns → k.MethodDefinition ≤ kindOf ns i → kindOf ns i ≤ k.AccessorProperty → parentKind ns i ≡ k.ClassBody
+  pub staticBlock : (i : ℕ) → i < count ns → kindOf ns i ≡ k.StaticBlock → parentKind ns i ≡ k.ClassBody
+  pub methodValue : (i : ℕ) → i < count ns → parentKind ns i ≡ k.MethodDefinition → roleOf ns i ≡ r.Value → kindOf ns i ≡ k.Function

@@ -9,15 +9,16 @@ use native.Mathlib.Omega.{arith}
 use borrow.Author.Tests.{eq-eqb, lt-ltb, eqb-true}
 use lib.Dec.{eqb}
 use Rattle.common.specs.Tests.{within}
-use Rattle.common.specs.Upto.{and-left, and-right}
+use Rattle.common.specs.UptoLaws.{and-left, and-right}
 use Rattle.common.specs.Bools.{never, or3, or4, or5, either, but, in-range, range-of}
-use Rattle.tables.specs.Table.{kindOf, roleOf, parentOf, count}
+use Rattle.tables.specs.Table.{kindOf, roleOf, count}
 use Rattle.tables.specs.Facts.{Tree}
 use Rattle.tables.specs.Kinds as k
 use Rattle.tables.specs.Roles as r
 use Rattle.places.specs.declared.Place.the-variants.{Nowhere}
-use Rattle.places.specs.First.{first, first-none}
-use Rattle.standing.specs.Standing.{isStatement, mayBeStatement, isHolder, isHeld, strayStatement, strayHeld, strayAlternate, strayInSwitch, strayCase, tryPart, strayInTry, strayClause, strayInClause, strayFunctionBody, strayClassBody, strayElement, strayValue, misplacedStatement, misplacedPart, misplacedElement, misplaced, misplacedChildAt}
+use Rattle.places.specs.First.{first}
+use Rattle.places.specs.FirstLaws.{first-none}
+use Rattle.standing.specs.Standing.{isStatement, mayBeStatement, isHolder, isHeld, strayStatement, strayHeld, strayAlternate, strayInSwitch, strayCase, tryPart, strayInTry, strayClause, strayInClause, strayFunctionBody, strayClassBody, strayElement, strayValue, misplacedStatement, misplacedPart, misplacedElement, misplaced, misplacedChildAt, parentKind, Placed}
 
 both : (a b c d : ℕ) → (eqb a b && eqb c d) ≡ true → (a ≡ b) × (c ≡ d)
 both a b c d e = (eqb-true a b (and-left (eqb a b) (eqb c d) e), eqb-true c d (and-right (eqb a b) (eqb c d) e))
@@ -99,27 +100,6 @@ module _ (kind role above : ℕ) (e : misplaced kind role above ≡ false) where
   method-holds : above ≡ k.MethodDefinition → role ≡ r.Value → kind ≡ k.Function
   unfolding strayValue
   method-holds p q = eqb-true kind 1 (but (eqb above 28 && eqb role 1) (eqb kind 1) (elements .3) (pair above 28 role 1 p q))
-
--- the kind of a node's parent
-abbrev pub parentKind : List ℕ → ℕ → ℕ
-parentKind ns i = kindOf ns (parentOf ns i)
-
--- what is known where no child is misplaced
-pub record Placed (ns : List ℕ) : Type 0 where
-  pub stands : (i : ℕ) → i < count ns → isStatement (kindOf ns i) ≡ true → (r.Held ≤ roleOf ns i) × (roleOf ns i ≤ r.Finally) × (isHolder (parentKind ns i) ≡ true)
-  pub held : (i : ℕ) → 0 < i → i < count ns → r.Held ≤ roleOf ns i → roleOf ns i ≤ r.Finally → isHolder (parentKind ns i) ≡ true
-      → (isStatement (kindOf ns i) ≡ true) ⊎ ((mayBeStatement (kindOf ns i) ≡ true) ⊎ ((kindOf ns i ≡ k.CatchClause) × (parentKind ns i ≡ k.Try)))
-  pub alternate : (i : ℕ) → 0 < i → i < count ns → r.Alternate ≤ roleOf ns i → roleOf ns i ≤ r.Finally → (parentKind ns i ≡ k.Try) ⊎ ((parentKind ns i ≡ k.If) × (roleOf ns i ≡ r.Alternate))
-  pub inSwitch : (i : ℕ) → i < count ns → parentKind ns i ≡ k.Switch → roleOf ns i ≡ r.Held → kindOf ns i ≡ k.SwitchCase
-  pub switchCase : (i : ℕ) → i < count ns → kindOf ns i ≡ k.SwitchCase → (parentKind ns i ≡ k.Switch) × (roleOf ns i ≡ r.Held)
-  pub inTry : (i : ℕ) → i < count ns → parentKind ns i ≡ k.Try → r.Held ≤ roleOf ns i → roleOf ns i ≤ r.Finally → kindOf ns i ≡ tryPart (roleOf ns i)
-  pub clause : (i : ℕ) → i < count ns → kindOf ns i ≡ k.CatchClause → (parentKind ns i ≡ k.Try) × (roleOf ns i ≡ r.Alternate)
-  pub inClause : (i : ℕ) → i < count ns → parentKind ns i ≡ k.CatchClause → roleOf ns i ≡ r.Held → kindOf ns i ≡ k.Block
-  pub functionBody : (i : ℕ) → i < count ns → kindOf ns i ≡ k.FunctionBody → (k.Function ≤ parentKind ns i) × (parentKind ns i ≤ k.Arrow)
-  pub classBody : (i : ℕ) → i < count ns → kindOf ns i ≡ k.ClassBody → parentKind ns i ≡ k.Class
-  pub element : (i : ℕ) → i < count ns → k.MethodDefinition ≤ kindOf ns i → kindOf ns i ≤ k.AccessorProperty → parentKind ns i ≡ k.ClassBody
-  pub staticBlock : (i : ℕ) → i < count ns → kindOf ns i ≡ k.StaticBlock → parentKind ns i ≡ k.ClassBody
-  pub methodValue : (i : ℕ) → i < count ns → parentKind ns i ≡ k.MethodDefinition → roleOf ns i ≡ r.Value → kindOf ns i ≡ k.Function
 
 -- node 0 is a Program, under no other kind
 module _ (ns : List ℕ) (t : Tree ns) where

@@ -1,7 +1,10 @@
 -- A step of the search, taken apart.
+use Prim.Native.Nat.{ℕ, _<_}
+use mathlib.Core.List.{List}
 use mathlib.Core.Bool.{Bool, true, false}
+use Rattle.tables.specs.Table.{count}
 use Rattle.supers.specs.declared.Reach.{Reach}
-use Rattle.supers.specs.declared.Reach.the-variants.{Illegal}
+use Rattle.supers.specs.declared.Reach.the-variants.{Illegal, Legal, Underived, Fails}
 use Rattle.supers.specs.declared.Step.{Step}
 use Rattle.supers.specs.declared.Step.the-variants.{Stop, Leave, On}
 
@@ -16,3 +19,10 @@ abbrev pub stopReach : Step → Reach
 stopReach (Stop r) = r
 stopReach Leave = Illegal
 stopReach On = Illegal
+
+-- the class that the search names is in the table
+abbrev pub underivedIn : List ℕ → Reach → Type 0
+underivedIn ns (Underived c) = c .0 < count ns
+underivedIn ns Legal = Unit {0}
+underivedIn ns Illegal = Unit {0}
+underivedIn ns Fails = Unit {0}

@@ -7,8 +7,9 @@ use lib.Dec.{eqb}
 use mathlib.Core.Logic.{⊎-elim}
 use native.Mathlib.Omega.{arith}
 use Rattle.common.specs.Bools.{never}
-use Rattle.walk.specs.On.{on, on-le, on-step, on-trans, on-self}
-use Rattle.walk.specs.Preorder.{lt-or-ge}
+use Rattle.walk.specs.On.{on}
+use Rattle.walk.specs.OnLaws.{on-le, on-step, on-trans, on-self}
+use Rattle.walk.specs.PreorderLaws.{lt-or-ge}
 use Rattle.tables.specs.Table.{kindOf, parentOf, scopeOf, count, ancestors, outer, countScopes, scopeParentOf, scopeNodeOf, hasFlag, flagsOf, extraOf, scopeFlagsOf}
 use Rattle.tables.specs.Facts.{Tree, Chained, Scoped}
 use Rattle.tables.specs.Kinds as k
@@ -17,8 +18,8 @@ use Rattle.tables.specs.NodeFlag as flag
 use Rattle.tables.specs.ScopeFlag as scope
 use Rattle.tables.specs.declared.Found.{Found}
 use Rattle.tables.specs.declared.Found.the-variants.{At, Nothing}
-use Rattle.children.specs.Children.{firstNode}
-use Rattle.children.specs.ChildrenLaws.{below, node-on, node-stop, node-end, number}
+use Rattle.children.specs.Children.{firstNode, below}
+use Rattle.children.specs.ChildrenLaws.{node-on, node-stop, node-end, number}
 use Rattle.ancestry.specs.Ancestry.{nearestOf}
 use Rattle.common.specs.Tests.{within}
 use Rattle.ancestry.specs.AncestryLaws.{parent-in, nearest-stop, nearest-on, nearest-root}
@@ -30,7 +31,7 @@ use Rattle.supers.specs.declared.Reach.{Reach}
 use Rattle.supers.specs.declared.Reach.the-variants.{Legal, Illegal, Underived, Fails}
 use Rattle.supers.specs.declared.Step.{Step}
 use Rattle.supers.specs.declared.Step.the-variants.{Stop, Leave, On}
-use Rattle.super_search.specs.Search.{isStop, stopReach}
+use Rattle.super_search.specs.Search.{isStop, stopReach, underivedIn}
 
 -- a step that ends the search
 stopped : (x : Step) (r : Reach) → isStop x ≡ true → orRest x r ≡ stopReach x
@@ -68,13 +69,6 @@ around ss c a s p la ls h e o =
     subst (λ (x : ℕ). on (scopeParentOf ss) x a ≡ true) (sym e)
     (on-trans (scopeParentOf ss) (countScopes ss) (c .falls) (scopeParentOf ss s) s a la
     (on-step (scopeParentOf ss) (countScopes ss) (c .falls) (scopeParentOf ss s) s h ls (on-self (scopeParentOf ss) (scopeParentOf ss s))) o)
-
--- the class that the search names is in the table
-abbrev pub underivedIn : List ℕ → Reach → Type 0
-underivedIn ns (Underived c) = c .0 < count ns
-underivedIn ns Legal = Unit {0}
-underivedIn ns Illegal = Unit {0}
-underivedIn ns Fails = Unit {0}
 
 abbrev stepIn : List ℕ → Step → Type 0
 stepIn ns (Stop r) = underivedIn ns r

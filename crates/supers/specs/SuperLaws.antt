@@ -7,7 +7,7 @@ use native.Mathlib.Omega.{arith}
 use borrow.Author.Tests.{eq-eqb, ne-eqb, le-leb, lt-leb, leb-true, leb-false}
 use lib.Dec.{eqb, leb}
 use Rattle.common.specs.Tests.{within}
-use Rattle.walk.specs.Above.{above-up, above-root}
+use Rattle.walk.specs.AboveLaws.{above-up, above-root}
 use Rattle.tables.specs.Table.{kindOf, parentOf, count, ancestors, outer, countScopes, scopeParentOf, scopeNodeOf}
 use Rattle.tables.specs.Facts.{Tree, Chained}
 use Rattle.tables.specs.Kinds as k

@@ -3,7 +3,7 @@ ghost use mathlib.Core.Path.{_≡_};
 ghost use Prim.Native.Nat.{_<_};
 ghost use Rattle.tables.specs.Table.{count, countScopes, scopeNodeOf};
 ghost use Rattle.tables.specs.Facts.{Tree};
-ghost use Rattle.children.specs.ChildrenLaws.{below};
+ghost use Rattle.children.specs.Children.{below};
 ghost use Rattle.supers.specs.Super.{isCall, ifCall, placeOf, partOf, isValueOf, isMethodLike, heritageUse, firstClass, dummyUse, derivedUse, objectUse, methodUse, functionUse, isClassScope, atClass, stepAt, classAfter, leaveClass};
 use tables::Found;
 use tables::NodeId;

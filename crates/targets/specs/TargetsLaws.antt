@@ -9,10 +9,12 @@ use native.Mathlib.Omega.{arith}
 use borrow.Author.Tests.{eq-eqb, ne-eqb, eqb-true, eqb-false, le-leb, lt-leb, ltb-true}
 use lib.Dec.{eqb, ltb}
 use lib.ListN.{length, getD}
-use Rattle.common.specs.Upto.{upto, any, fold-turn, fold-end, and-left, and-right}
+use Rattle.common.specs.Upto.{upto, any}
+use Rattle.common.specs.UptoLaws.{fold-turn, fold-end, and-left, and-right}
 use Rattle.common.specs.Bools.{never, range-of}
 use Rattle.common.specs.Tests.{within}
-use Rattle.common.specs.Wrote.{put, length-put}
+use Rattle.common.specs.Wrote.{put}
+use Rattle.common.specs.WroteLaws.{length-put}
 use Rattle.tables.specs.Table.{kindOf, parentOf, count}
 use Rattle.tables.specs.Kinds as k
 use Rattle.tables.specs.Facts.{Tree}
@@ -20,7 +22,8 @@ use Rattle.tables.specs.declared.Found.{Found}
 use Rattle.tables.specs.declared.Found.the-variants.{At, Nothing}
 use Rattle.children.specs.Children.{labelOf}
 use Rattle.ancestry.specs.AncestryLaws.{ancestors-up, ancestors-root}
-use Rattle.places.specs.First.{first, first-on, first-end, le-or-lt}
+use Rattle.places.specs.First.{first}
+use Rattle.places.specs.FirstLaws.{first-on, first-end, le-or-lt}
 use Rattle.places.specs.declared.Place.{Place}
 use Rattle.places.specs.declared.Place.the-variants.{Here, Nowhere}
 use Rattle.verdict.specs.declared.Verdict.{Verdict}

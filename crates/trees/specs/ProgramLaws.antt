@@ -7,7 +7,8 @@ use mathlib.Core.List.{List, [], _∷_, _++_, foldr}
 use lib.Dec.{eqb}
 use borrow.Author.Tests.{eqb-true, eqb-false, eq-eqb, ne-eqb}
 use native.Mathlib.Omega.{arith}
-use Rattle.common.specs.Upto.{upto, and-left, and-right}
+use Rattle.common.specs.Upto.{upto}
+use Rattle.common.specs.UptoLaws.{and-left, and-right}
 use Rattle.tables.specs.Table.{parentOf, count}
 use Rattle.tables.specs.Facts.{Tree}
 use Rattle.trees.specs.Rose.{Rose, Roses, node, rnil, rcons, idx, marks, marksAll, partsOf, treeOf}

@@ -8,8 +8,10 @@ use lib.Dec.{eqb}
 use borrow.Author.Tests.{eqb-true, eqb-false}
 use native.Mathlib.Numerals.{add-one}
 use native.Mathlib.Omega.{arith}
-use Rattle.common.specs.Upto.{range, upto, upto-cons}
-use Rattle.walk.specs.On.{on, on-cases, on-le}
+use Rattle.common.specs.Upto.{range, upto}
+use Rattle.common.specs.UptoLaws.{upto-cons}
+use Rattle.walk.specs.On.{on}
+use Rattle.walk.specs.OnLaws.{on-cases, on-le}
 use Rattle.tables.specs.Table.{parentOf, count}
 use Rattle.tables.specs.Facts.{Tree}
 use Rattle.trees.specs.Rose.{Rose, Roses, node, rnil, rcons, idx, kids, others, forest, partsOf, restOf, treeAt, treeOf, marks, marksAll, foldParts}

@@ -9,7 +9,7 @@ use borrow.Author.Tests.{eqb-true, eqb-false, eq-eqb, ne-eqb}
 use native.Mathlib.Nat.{eq-or-lt-of-le}
 use native.Mathlib.Omega.{arith}
 use Rattle.common.specs.Upto.{range, upto}
-use Rattle.walk.specs.Above.{fold-up, fold-root}
+use Rattle.walk.specs.AboveLaws.{fold-up, fold-root}
 use Rattle.tables.specs.Table.{parentOf, count, ancestors}
 use Rattle.tables.specs.Facts.{Tree}
 use Rattle.trees.specs.Rose.{Rose, Roses, node, rnil, rcons, idx, marks, marksAll, treeOf}

@@ -4,7 +4,8 @@ use mathlib.Core.Path.{_≡_, ap, _∙_}
 use mathlib.Core.List.{List, [], _∷_}
 use mathlib.Core.Bool.{true, false, _&&_}
 use lib.Dec.{eqb}
-use Rattle.common.specs.Upto.{upto, upto-cons, upto-nil}
+use Rattle.common.specs.Upto.{upto}
+use Rattle.common.specs.UptoLaws.{upto-cons, upto-nil}
 use Rattle.tables.specs.Table.{parentOf, count}
 use Rattle.children.specs.Children.{keep}
 use Rattle.unit.specs.Unit.{isPart, parts}

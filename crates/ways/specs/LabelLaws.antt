@@ -8,14 +8,15 @@ use native.Mathlib.Nat.{eq-or-lt-of-le}
 use native.Mathlib.Omega.{arith}
 use borrow.Author.Tests.{eq-eqb, ne-eqb}
 use lib.Dec.{eqb}
-use Rattle.common.specs.Upto.{upto, fold-turn}
+use Rattle.common.specs.Upto.{upto}
+use Rattle.common.specs.UptoLaws.{fold-turn}
 use Rattle.common.specs.Bools.{never}
 use Rattle.tables.specs.Table.{count}
 use Rattle.tables.specs.declared.Found.{Found}
 use Rattle.tables.specs.declared.Found.the-variants.{At, Nothing}
 use Rattle.names.specs.Name.{same, nameOf, sameName}
 use Rattle.names.specs.NameLaws.{same-self, same-eq}
-use Rattle.children.specs.ChildrenLaws.{below}
+use Rattle.children.specs.Children.{below}
 use Rattle.unit.specs.Unit.{nameId, idBy}
 
 module _ (ns names : List ℕ) where

@@ -10,7 +10,7 @@ use lib.Seq.{getD-set-same, getD-set-other}
 use native.Mathlib.Nat.{eq-or-lt-of-le}
 use native.Mathlib.Decide.{decLt}
 use native.Mathlib.Omega.{arith}
-use Rattle.common.specs.Upto.{and-right}
+use Rattle.common.specs.UptoLaws.{and-right}
 use Rattle.common.specs.Bools.{never}
 use Rattle.walk.specs.Above.{Falls}
 use Rattle.tables.specs.Table.{parentOf, count}

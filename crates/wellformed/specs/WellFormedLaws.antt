@@ -9,8 +9,8 @@ use Rattle.places.specs.declared.Place.{Place}
 use Rattle.verdict.specs.declared.Verdict.{Verdict}
 use Rattle.verdict.specs.declared.Verdict.the-variants.{Refused, Passed}
 use Rattle.verdict.specs.Verdict.{orNext}
-use Rattle.input.specs.Input.{refusalOf}
-use Rattle.input.specs.InputLaws.{WellFormed, well-formed}
+use Rattle.input.specs.Input.{refusalOf, WellFormed}
+use Rattle.input.specs.InputLaws.{well-formed}
 use Rattle.supers.specs.Super.{failsAt}
 use Rattle.wellformed.specs.WellFormed.{inputRefusal, refusalOr}
 

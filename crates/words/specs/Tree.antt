@@ -12,8 +12,8 @@ use native.Mathlib.Numerals.{add-one}
 use native.Mathlib.Omega.{arith}
 use borrow.Author.Tests.{lt-ltb, le-ltb, le-leb, lt-leb, eq-eqb, ne-eqb}
 use Rattle.walk.specs.Above.{Falls}
-use Rattle.walk.specs.On.{on-cases, on-le}
-use Rattle.walk.specs.Preorder.{child-in}
+use Rattle.walk.specs.OnLaws.{on-cases, on-le}
+use Rattle.walk.specs.PreorderLaws.{child-in}
 use Rattle.tables.specs.Table.{kindOf, parentOf, roleOf, count}
 use Rattle.tables.specs.Facts.{Tree}
 use Rattle.unit.specs.Unit.{shapeAt, isPart, parts}

@@ -6,8 +6,10 @@ use mathlib.Core.Bool.{true, false, _&&_}
 use native.Mathlib.Numerals.{add-one}
 use native.Mathlib.Omega.{arith}
 use borrow.Author.Tests.{lt-ltb, le-ltb, le-leb, lt-leb, eq-eqb, ne-eqb}
-use Rattle.common.specs.Upto.{upto, fold-turn, fold-end}
-use Rattle.walk.specs.Above.{Falls, fold-up}
+use Rattle.common.specs.Upto.{upto}
+use Rattle.common.specs.UptoLaws.{fold-turn, fold-end}
+use Rattle.walk.specs.Above.{Falls}
+use Rattle.walk.specs.AboveLaws.{fold-up}
 use Rattle.tables.specs.Table.{parentOf, count}
 use Rattle.unit.specs.Unit.{shapeAt, isPart, parts}
 use Rattle.words.specs.Words.{after, ownBy, live, on, own, off, downBy, rootAtt, attAt, wordsAt, rows}

@@ -1,4 +1,5 @@
-use Rattle.ancestry.specs.AncestryLaws.{nearest-some, isAt}
+use Rattle.ancestry.specs.Ancestry.{isAt}
+use Rattle.ancestry.specs.AncestryLaws.{nearest-some}
 use mathlib.Core.Path.{ap, sym, _∙_}
 use borrow.Author.Needs.{needs}
 use Rattle.ancestry.proofs.has_ancestor.Statement.{statement}

@@ -3,7 +3,8 @@ use mathlib.Core.Path.{_≡_, ap, sym, _∙_}
 use mathlib.Core.Bool.{Bool, true, false}
 use native.Mathlib.Omega.{arith}
 use Rattle.tables.specs.Table.{count, parentOf}
-use Rattle.walk.specs.On.{on, on-miss}
+use Rattle.walk.specs.On.{on}
+use Rattle.walk.specs.OnLaws.{on-miss}
 use Rattle.ancestry.specs.AncestryLaws.{on-at}
 use borrow.Author.Needs.{needs}
 use Rattle.ancestry.proofs.is_on_path.Statement.{statement}

@@ -1,5 +1,5 @@
 use Rattle.checker.specs.Findings.{literalFindings}
-use Rattle.raising.specs.Raises.{raises-none}
+use Rattle.raising.specs.RaisesLaws.{raises-none}
 use borrow.Author.Tests.{eq-eqb, ne-eqb}
 use native.Mathlib.Omega.{arith}
 use borrow.Author.Needs.{needs}

@@ -1,5 +1,5 @@
 use Rattle.checker.specs.Findings.{findingsAt, jumpFindings, literalFindings, expressionFindings}
-use Rattle.raising.specs.Raises.{raises-then}
+use Rattle.raising.specs.RaisesLaws.{raises-then}
 use Rattle.tables.specs.Kinds as k
 use Rattle.tables.specs.Table.{kindOf}
 use Rattle.common.specs.Tests.{within}

@@ -1,5 +1,5 @@
 use Rattle.checker.specs.Findings.{findingsAt, findingsOf}
-use Rattle.raising.specs.Raises.{raises-then}
+use Rattle.raising.specs.RaisesLaws.{raises-then}
 use Rattle.gather.specs.Gather.{flat-turn, flat-end, piece-place, piece-sink}
 use Rattle.duplicates.specs.Duplicates.{duplicateElements}
 use Rattle.diagnostics.specs.FindingLaws.{sink-nil}

@@ -1,5 +1,5 @@
 use mathlib.Core.Path.{sym, ap, _∙_}
-use Rattle.ancestry.specs.AncestryLaws.{isAt}
+use Rattle.ancestry.specs.Ancestry.{isAt}
 use borrow.Author.Needs.{needs}
 use Rattle.class_checks.proofs.has_id.Statement.{statement}
 use Rattle.class_checks.proofs.has_id.Tie as tie

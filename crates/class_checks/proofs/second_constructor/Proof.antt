@@ -3,7 +3,7 @@ use mathlib.Core.Path.{sym, ap, subst, _∙_}
 use native.Mathlib.Omega.{arith}
 use Rattle.tables.specs.declared.Found.{Found}
 use Rattle.tables.specs.Table.{count}
-use Rattle.children.specs.ChildrenLaws.{below}
+use Rattle.children.specs.Children.{below}
 use Rattle.gather.specs.Gather.{found-from}
 use Rattle.class_checks.specs.ClassChecksLaws.{isConstructorOf, none-found, one-found, two-found}
 use Rattle.class_checks.specs.ClassChecks.{secondBy}

@@ -1,6 +1,6 @@
 use mathlib.Core.Path.{sym, ap, subst, _∙_}
 use Rattle.tables.specs.declared.Found.{Found}
-use Rattle.children.specs.ChildrenLaws.{below}
+use Rattle.children.specs.Children.{below}
 use Rattle.classes.specs.Elements.{elementName, nameAt}
 use borrow.Author.Needs.{needs}
 use Rattle.classes.proofs.element_name.Statement.{statement}

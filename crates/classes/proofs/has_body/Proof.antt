@@ -1,7 +1,7 @@
 use mathlib.Core.Path.{sym, ap, subst, _∙_}
 use Rattle.tables.specs.declared.Found.{Found}
-use Rattle.children.specs.ChildrenLaws.{below}
-use Rattle.ancestry.specs.AncestryLaws.{isAt}
+use Rattle.children.specs.Children.{below}
+use Rattle.ancestry.specs.Ancestry.{isAt}
 use Rattle.classes.specs.Elements.{hasBody, hasBodyAt}
 use borrow.Author.Needs.{needs}
 use Rattle.classes.proofs.has_body.Statement.{statement}

@@ -1,6 +1,6 @@
 use mathlib.Core.Path.{sym, ap, subst}
 use Rattle.tables.specs.declared.Found.{Found}
-use Rattle.children.specs.ChildrenLaws.{below}
+use Rattle.children.specs.Children.{below}
 use Rattle.classes.specs.Elements.{spanAt}
 use borrow.Author.Needs.{needs}
 use Rattle.classes.proofs.span_at.Statement.{statement}

@@ -1,5 +1,6 @@
 use Rattle.counts.specs.Counts.{wrongCountAt}
-use Rattle.places.specs.First.{first, first-on, first-stop, first-end}
+use Rattle.places.specs.First.{first}
+use Rattle.places.specs.FirstLaws.{first-on, first-stop, first-end}
 use Rattle.tables.specs.Table.{count}
 use native.Mathlib.Omega.{arith}
 use mathlib.Core.Path.{_≡_, sym, _∙_}

@@ -1,6 +1,6 @@
 use lib.ListN.{length-set}
 use native.Mathlib.Omega.{arith}
-use Rattle.common.specs.Wrote.{put-seven}
+use Rattle.common.specs.WroteLaws.{put-seven}
 use borrow.Author.Needs.{needs}
 use Rattle.diagnostics.proofs.put.Statement.{statement}
 use Rattle.diagnostics.proofs.put.Tie as tie

@@ -10,7 +10,8 @@ use Rattle.tables.specs.Table.{count}
 use Rattle.diagnostics.specs.declared.Finding.{Finding}
 use Rattle.diagnostics.specs.FindingLaws.{sink-nil, sink-length}
 use Rattle.diagnostics.specs.Finding.{listed, sink}
-use Rattle.children.specs.ChildrenLaws.{below, found-child}
+use Rattle.children.specs.Children.{below}
+use Rattle.children.specs.ChildrenLaws.{found-child}
 use Rattle.gather.specs.Gather.{piece-place, piece-sink, listed-one}
 use Rattle.expressions.specs.Expressions.{checkObjectExpression}
 use Rattle.expressions.specs.ExpressionLaws.{repeatsFrom, keysFrom, keys-start, repeated, later, later-below, object-turn, object-end}

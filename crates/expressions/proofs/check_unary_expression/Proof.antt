@@ -1,6 +1,6 @@
 use Rattle.expressions.specs.Expressions.{checkUnaryExpression}
 use Rattle.tables.specs.declared.Found.{Found}
-use Rattle.children.specs.ChildrenLaws.{below}
+use Rattle.children.specs.Children.{below}
 use mathlib.Core.Path.{subst}
 use borrow.Author.Tests.{not-true, not-false}
 use borrow.Author.Needs.{needs}

@@ -1,5 +1,5 @@
 use Rattle.tables.specs.declared.Found.{Found}
-use Rattle.children.specs.ChildrenLaws.{below}
+use Rattle.children.specs.Children.{below}
 use mathlib.Core.Path.{subst}
 use borrow.Author.Tests.{eq-eqb, ne-eqb}
 use borrow.Author.Needs.{needs}

@@ -3,7 +3,8 @@ use Prim.Native.Nat.{_<_, _-_, _+_}
 use mathlib.Core.Path.{_≡_, sym, subst, _∙_}
 use Rattle.tables.specs.declared.Found.{Found}
 use Rattle.tables.specs.Table.{count}
-use Rattle.children.specs.ChildrenLaws.{below, found-child}
+use Rattle.children.specs.Children.{below}
+use Rattle.children.specs.ChildrenLaws.{found-child}
 use Rattle.expressions.specs.Expressions.{innerExpression}
 use Rattle.expressions.specs.ExpressionLaws.{inner-bare, inner-empty, inner-on}
 use borrow.Author.Needs.{needs}

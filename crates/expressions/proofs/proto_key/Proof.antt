@@ -1,6 +1,6 @@
 use Rattle.expressions.specs.Expressions.{protoKey}
 use Rattle.tables.specs.declared.Found.{Found}
-use Rattle.children.specs.ChildrenLaws.{below}
+use Rattle.children.specs.Children.{below}
 use mathlib.Core.Path.{subst}
 use borrow.Author.Tests.{eq-eqb, ne-eqb}
 use borrow.Author.Needs.{needs}

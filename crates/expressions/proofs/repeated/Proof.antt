@@ -2,7 +2,7 @@ use Rattle.tables.specs.Table.{count}
 use Prim.Native.Nat.{_<_}
 use native.Mathlib.Omega.{arith}
 use Rattle.tables.specs.declared.Found.{Found}
-use Rattle.children.specs.ChildrenLaws.{below}
+use Rattle.children.specs.Children.{below}
 use mathlib.Core.Path.{subst}
 use borrow.Author.Needs.{needs}
 use Rattle.expressions.proofs.repeated.Statement.{statement}

@@ -1,6 +1,6 @@
 -- `forms::is_node` meets its contract.
 use Rattle.forms.specs.FormLaws.{tailOf, node-letter, node-few, node-is}
-use Rattle.line_fields.specs.SplitLaws.{fieldsIn}
+use Rattle.line_fields.specs.Split.{fieldsIn}
 use lib.ListN.{length}
 use borrow.Author.Tests.{not-true, not-false}
 use native.Mathlib.Omega.{arith}

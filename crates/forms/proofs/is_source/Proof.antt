@@ -2,7 +2,7 @@
 use mathlib.Core.Bool.{true, false}
 use Rattle.forms.specs.FormLaws.{tailOf, source-letter, source-count, source-is}
 use Rattle.digits.specs.Hex.{isHex}
-use Rattle.line_fields.specs.FieldLaws.{fieldOf}
+use Rattle.line_fields.specs.Split.{fieldOf}
 use borrow.Author.Tests.{not-true, not-false}
 use mathlib.Core.Path.{_≡_, _∙_, sym}
 use borrow.Author.Needs.{needs}

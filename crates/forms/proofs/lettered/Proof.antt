@@ -1,6 +1,6 @@
 -- `forms::lettered` meets its contract.
 use Rattle.forms.specs.FormLaws.{lettered-long, lettered-not, lettered-is}
-use Rattle.line_fields.specs.SplitLaws.{before}
+use Rattle.line_fields.specs.Split.{before}
 use mathlib.Core.Path.{sym}
 use borrow.Author.Needs.{needs}
 use Rattle.forms.proofs.lettered.Statement.{statement}

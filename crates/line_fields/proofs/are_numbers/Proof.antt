@@ -1,6 +1,7 @@
 -- `line_fields::are_numbers` meets its contract. The loop keeps: what is left of the work, with what is done, is the whole.
 use borrow.Author.Tests.{not-true, not-false}
-use Rattle.line_fields.specs.FieldLaws.{firsts, numbers-on, numbers-bad, numbers-end, numbers-none}
+use Rattle.line_fields.specs.Split.{firsts}
+use Rattle.line_fields.specs.FieldLaws.{numbers-on, numbers-bad, numbers-end, numbers-none}
 use Rattle.digits.specs.Number.{isNumber}
 use Rattle.common.specs.Upto.{all}
 use native.Mathlib.Omega.{arith}

@@ -1,6 +1,6 @@
 -- `line_fields::count` meets its contract. The loop keeps: what is left of the work, with what is done, is the whole.
-use Rattle.line_fields.specs.FieldLaws.{nextOf, count-turn, count-end}
-use Rattle.line_fields.specs.SplitLaws.{fieldsIn}
+use Rattle.line_fields.specs.Split.{nextOf, fieldsIn}
+use Rattle.line_fields.specs.FieldLaws.{count-turn, count-end}
 use lib.ListN.{length}
 use native.Mathlib.Omega.{arith}
 use mathlib.Core.Path.{_≡_}

@@ -1,6 +1,6 @@
 -- `line_fields::next` meets its contract.
-use Rattle.line_fields.specs.FieldLaws.{next-short, nextOf}
-use Rattle.line_fields.specs.SplitLaws.{onward}
+use Rattle.line_fields.specs.Split.{nextOf, onward}
+use Rattle.line_fields.specs.FieldLaws.{next-short}
 use mathlib.Core.Path.{_≡_}
 use borrow.Author.Needs.{needs}
 use Rattle.line_fields.proofs.next.Statement.{statement}

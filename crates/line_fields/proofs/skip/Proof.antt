@@ -1,6 +1,6 @@
 -- `line_fields::skip` meets its contract. The loop keeps: what is left of the work, with what is done, is the whole.
 use Rattle.line_fields.specs.FieldLaws.{past-turn, past-none}
-use Rattle.line_fields.specs.SplitLaws.{fieldsIn}
+use Rattle.line_fields.specs.Split.{fieldsIn}
 use lib.ListN.{drop}
 use native.Mathlib.Omega.{arith}
 use mathlib.Core.Path.{_≡_}

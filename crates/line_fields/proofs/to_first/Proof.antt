@@ -1,5 +1,6 @@
 -- `line_fields::to_first` meets its contract. The loop keeps: what is left of the work, with what is done, is the whole.
-use Rattle.line_fields.specs.SplitLaws.{toFirst, first-on, first-hit, first-end}
+use Rattle.line_fields.specs.Split.{toFirst}
+use Rattle.line_fields.specs.SplitLaws.{first-on, first-hit, first-end}
 use lib.ListN.{length, drop}
 use native.Mathlib.Omega.{arith}
 use mathlib.Core.Path.{_≡_}

@@ -1,7 +1,7 @@
 -- `lines::write_answers` meets its contract.
 use Rattle.lines.specs.RouteLaws.{answers-told, answers-put}
 use Rattle.forms.specs.FormLaws.{tailOf, rest-tail}
-use Rattle.line_fields.specs.SplitLaws.{fieldsIn}
+use Rattle.line_fields.specs.Split.{fieldsIn}
 use lib.ListN.{length}
 use native.Mathlib.Omega.{arith}
 use mathlib.Core.Path.{_≡_, _∙_, ap, sym}

@@ -6,7 +6,7 @@ use mathlib.Core.List.{List, [], _∷_, _++_, map}
 use Prim.Native.Nat.{ℕ, _+_}
 use Rattle.lines.specs.ReadLaws.{node-put, eight}
 use Rattle.forms.specs.FormLaws.{node-told}
-use Rattle.line_fields.specs.SplitLaws.{onward}
+use Rattle.line_fields.specs.Split.{onward}
 use Rattle.digits.specs.Number.{valueOf}
 use native.Mathlib.Omega.{arith}
 use mathlib.Core.Path.{_≡_, ap, _∙_}

@@ -3,7 +3,7 @@ use Rattle.lines.specs.InputLaws.{source-told}
 use Rattle.forms.specs.FormLaws.{tailOf}
 use Rattle.forms.specs.Forms.{sourceOf}
 use Rattle.lines.specs.Format.{front}
-use Rattle.line_fields.specs.FieldLaws.{fieldOf}
+use Rattle.line_fields.specs.Split.{fieldOf}
 use Rattle.digits.specs.Hex.{bytesOf}
 use lib.ListN.{length}
 use mathlib.Core.List.{List}

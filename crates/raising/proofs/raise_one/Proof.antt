@@ -1,4 +1,4 @@
-use Rattle.raising.specs.Raises.{listed-small}
+use Rattle.raising.specs.RaisesLaws.{listed-small}
 use native.Mathlib.Omega.{arith}
 use borrow.Author.Needs.{needs}
 use Rattle.raising.proofs.raise_one.Statement.{statement}

@@ -1,4 +1,4 @@
-use Rattle.raising.specs.Raises.{listed-small, raises-then}
+use Rattle.raising.specs.RaisesLaws.{listed-small, raises-then}
 use Rattle.diagnostics.specs.Finding.{listed}
 use mathlib.Core.List.{_++_}
 use native.Mathlib.Omega.{arith}

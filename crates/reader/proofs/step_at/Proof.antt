@@ -1,7 +1,7 @@
 -- `reader::step_at` meets its contract.
 use Rattle.reader.specs.StepLaws.{past-is, step-number, step-stop}
 use Rattle.reader.specs.Step.{pastAt}
-use Rattle.line_fields.specs.FieldLaws.{fieldOf, nextOf}
+use Rattle.line_fields.specs.Split.{fieldOf, nextOf}
 use Rattle.digits.specs.Number.{isNumber, valueOf}
 use Rattle.digits.specs.NumberLaws.{told-value, told-none}
 use lib.ListN.{length, drop, length-drop}

@@ -2,8 +2,8 @@
 use Rattle.reader.specs.declared.Step.the-variants.{Number}
 use Rattle.reader.specs.StepLaws.{step-number, step-never, past-drop}
 use Rattle.reader.specs.Step.{pastAt}
-use Rattle.line_fields.specs.FieldLaws.{fieldOf, nextOf, firsts, firsts-none, values-turn, length-values, count-turn, tail-some, number-first, numbers-rest}
-use Rattle.line_fields.specs.SplitLaws.{fieldsIn}
+use Rattle.line_fields.specs.Split.{fieldOf, nextOf, firsts, fieldsIn}
+use Rattle.line_fields.specs.FieldLaws.{firsts-none, values-turn, length-values, count-turn, tail-some, number-first, numbers-rest}
 use Rattle.digits.specs.Writes.{put-start, put-end}
 use Rattle.digits.specs.Number.{isNumber, valueOf}
 use Rattle.common.specs.Wrote.{Wrote}

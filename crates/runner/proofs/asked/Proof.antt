@@ -1,4 +1,4 @@
-use Rattle.runner.specs.Turn.{wAskNo, wAskYes, wAskNone}
+use Rattle.runner.specs.TurnLaws.{wAskNo, wAskYes, wAskNone}
 use mathlib.Core.Path.{_∙_}
 use borrow.Author.Needs.{needs}
 use Rattle.runner.proofs.asked.Statement.{statement}

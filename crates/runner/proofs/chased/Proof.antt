@@ -1,4 +1,4 @@
-use Rattle.runner.specs.Turn.{chaseEnd, chaseHere, chaseOn}
+use Rattle.runner.specs.TurnLaws.{chaseEnd, chaseHere, chaseOn}
 use Rattle.flat.specs.Machine.{chase}
 use native.Mathlib.Omega.{arith}
 use mathlib.Core.Path.{_≡_, sym, _∙_}

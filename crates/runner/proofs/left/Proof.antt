@@ -1,4 +1,4 @@
-use Rattle.runner.specs.Turn.{jZero, jFull, jOn}
+use Rattle.runner.specs.TurnLaws.{jZero, jFull, jOn}
 use borrow.Author.Needs.{needs}
 use Rattle.runner.proofs.left.Statement.{statement}
 use Rattle.runner.proofs.left.Tie as tie

@@ -1,4 +1,4 @@
-use Rattle.runner.specs.Turn.{wFull, wList}
+use Rattle.runner.specs.TurnLaws.{wFull, wList}
 use mathlib.Core.Path.{sym, refl}
 use borrow.Author.Needs.{needs}
 use Rattle.runner.proofs.listed.Statement.{statement}

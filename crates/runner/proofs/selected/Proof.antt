@@ -1,4 +1,4 @@
-use Rattle.runner.specs.Turn.{wSel, wSelNone}
+use Rattle.runner.specs.TurnLaws.{wSel, wSelNone}
 use mathlib.Core.Path.{_∙_}
 use borrow.Author.Needs.{needs}
 use Rattle.runner.proofs.selected.Statement.{statement}

@@ -1,4 +1,4 @@
-use Rattle.runner.specs.Turn.{wPast, wEnd, wLeave, wCase, wNone}
+use Rattle.runner.specs.TurnLaws.{wPast, wEnd, wLeave, wCase, wNone}
 use borrow.Author.Needs.{needs}
 use Rattle.runner.proofs.turn.Statement.{statement}
 use Rattle.runner.proofs.turn.Tie as tie

@@ -1,11 +1,12 @@
-use Rattle.super_search.specs.Search.{isStop}
+use Rattle.super_search.specs.Search.{isStop, underivedIn}
 use Prim.Native.Nat.{ℕ}
-use Rattle.super_search.specs.SearchLaws.{search-stop, search-on, search-end, node-in, around, reach-in, underivedIn}
+use Rattle.super_search.specs.SearchLaws.{search-stop, search-on, search-end, node-in, around, reach-in}
 use Rattle.supers.specs.declared.Reach.{Reach}
 use Rattle.supers.specs.Super.{reachFrom, reachOf}
-use Rattle.children.specs.ChildrenLaws.{below}
+use Rattle.children.specs.Children.{below}
 use Rattle.tables.specs.Table.{count, countScopes, scopeParentOf, scopeNodeOf, scopeOf, outer}
-use Rattle.walk.specs.On.{on, on-self}
+use Rattle.walk.specs.On.{on}
+use Rattle.walk.specs.OnLaws.{on-self}
 use native.Mathlib.Omega.{arith}
 use mathlib.Core.Bool.{true, false}
 use mathlib.Core.List.{_∷_}

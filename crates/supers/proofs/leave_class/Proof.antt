@@ -1,4 +1,4 @@
-use Rattle.children.specs.ChildrenLaws.{below}
+use Rattle.children.specs.Children.{below}
 use Rattle.supers.specs.Super.{leaveClass}
 use Rattle.tables.specs.declared.Found.{Found}
 use native.Mathlib.Omega.{arith}

@@ -1,4 +1,4 @@
-use Rattle.emits.specs.Emit.{emit-simple, emit-break, emit-continue, emit-return, emit-throw, emit-if, emit-with, emit-block, emit-label, emit-loop, emit-switch, emit-case, emit-dead}
+use Rattle.emits.specs.EmitLaws.{emit-simple, emit-break, emit-continue, emit-return, emit-throw, emit-if, emit-with, emit-block, emit-label, emit-loop, emit-switch, emit-case, emit-dead}
 use Rattle.emits.specs.Laid.{listWords, blockWords, loopWords, ifWords, switchWords, caseWords}
 use Rattle.common.specs.Wrote.{put}
 use borrow.Author.Tests.{not-true, not-false}

@@ -1,6 +1,6 @@
-use Rattle.emits.specs.Emit.{wrote-row, wrote-first, wrote-last}
-use Rattle.words.specs.Made.{code-room}
-use Rattle.words.specs.Words.{rows, codeOf}
+use Rattle.emits.specs.EmitLaws.{wrote-row, wrote-first, wrote-last}
+use Rattle.words.specs.Made.{code-room, off-bound}
+use Rattle.words.specs.Words.{rows, codeOf, off, live}
 use Rattle.flat.specs.Code.{ends}
 use Rattle.common.specs.Wrote.{Wrote, put}
 use mathlib.Core.List.{_++_}
@@ -9,8 +9,6 @@ use Rattle.writer.specs.Leaf.{leafAim}
 use Rattle.completion.specs.Sem.{normal}
 use Rattle.aims.specs.Aim.{aim}
 use Rattle.unit.specs.Unit.{shapeAt}
-use Rattle.words.specs.Made.{off-bound}
-use Rattle.words.specs.Words.{off, live}
 use Rattle.tables.specs.Table.{count}
 use lib.ListN.{getD, length}
 use native.Mathlib.Omega.{arith}
