@@ -21,14 +21,16 @@ says() {
     [ "$got" = "$want" ] || { echo "$got"; return 1; }
 }
 
-# each text of a disagreement is told in docs/DIFFERENCES.md
+# each text of the input is told in docs/DIFFERENCES.md
 told() {
     local text ok=0
-    while read -r text; do
+    while IFS= read -r text; do
         grep -qF -- "$text" docs/DIFFERENCES.md || { echo "not told: $text"; ok=1; }
-    done < <(sed -nE 's/^[^#].* \| [sm] \| (.*)$/\1/p' tools/disagreements.txt)
+    done
     return $ok
 }
+disagreements() { sed -nE 's/^[^#].* \| [sm] \| (.*)$/\1/p' tools/disagreements.txt; }
+differences() { sed -n '/^# The texts of docs.DIFFERENCES/,$p' tools/examples.txt | sed -nE 's/^[0-9.-]+ [sm] (.*)$/\1/p'; }
 
 lines() { tools/treemaker --route 0 "$1" rules/while-switch.js | target/bin/ruleroute; }
 appended() { { tools/treemaker rules/while-switch.js && echo U,0 && echo A,1,0; } | target/bin/ruleroute; }
@@ -61,7 +63,8 @@ if [ -d ../shared/test262 ]; then check "test262" tools/test262; else unrun "tes
 check "the conditions of the theorems, on trees of texts" tools/conditions 4000 3 rules
 check "V8's verdicts" tools/v8-verdicts 1000 3
 check "a text for each disagreement" tools/v8-verdicts --texts
-check "each of them told" told
+check "each of them told" told < <(disagreements)
+check "each difference's text told" told < <(differences)
 # the figures too: every end and every kind of unit is among the runs
 check "V8's routes" says '1000 units (618 programs, 195 functions, 93 arrows, 94 static blocks), 4000 runs: 2699 fell through, 30 returned, 148 threw, 1123 spent their answers; 17482 entries, 9202 answers taken, longest list 46; 0 disagree' \
     tools/v8-routes 1000 3 --quiet

@@ -1,7 +1,7 @@
 -- The children of a node, and its parts: "the first child fit for a part is that part".
 use Prim.Native.Nat.{ℕ, _+_, _<_}
 use mathlib.Core.List.{List, [], _∷_, foldr}
-use mathlib.Core.Bool.{Bool, cond, _&&_}
+use mathlib.Core.Bool.{Bool, true, false, cond, _&&_}
 use lib.Dec.{eqb}
 use lib.ListN.{length}
 use Rattle.common.specs.Upto.{upto}
@@ -81,3 +81,12 @@ innerOf ns p = firstChild ns p 0 55 0 7
 abbrev pub below : List ℕ → Found → Type 0
 below ns (At m) = m .0 < count ns
 below ns Nothing = Unit {0}
+
+-- whether a part is there, and whether it is node j
+abbrev pub found : Found → Bool
+found (At m) = true
+found Nothing = false
+
+abbrev pub isNode : Found → ℕ → Bool
+isNode (At m) j = eqb (m .0) j
+isNode Nothing j = false

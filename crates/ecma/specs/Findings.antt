@@ -5,15 +5,12 @@
 -- Spans, contexts and the order between codes are those of `findingsOf` (crates/checker), which the calls equal to the last number.
 use Prim.Native.Nat.{ℕ}
 use mathlib.Core.Path.{_≡_}
-use mathlib.Core.List.{List, [], _++_, flatMap}
-use mathlib.Core.Bool.{true, cond, not, _&&_}
-use lib.Dec.{eqb}
+use mathlib.Core.List.{List, _++_, flatMap}
+use mathlib.Core.Bool.{true, not, _&&_}
 use Rattle.common.specs.Upto.{upto}
-use Rattle.tables.specs.Table.{kindOf, count}
+use Rattle.tables.specs.Table.{count}
 use Rattle.tables.specs.Kinds as k
-use Rattle.children.specs.Children.{keep, classBodyOf}
-use Rattle.diagnostics.specs.declared.Finding.{Finding}
-use Rattle.diagnostics.specs.Finding.{listed, errorAt}
+use Rattle.children.specs.Children.{keep}
 use Rattle.diagnostics.specs.Codes as code
 use Rattle.diagnostics.specs.Contexts as context
 use Rattle.verdict.specs.declared.Verdict.the-variants.{Passed}
@@ -27,18 +24,12 @@ use Rattle.ecma_labels.specs.Changed.{plainContinueNotNestedAt, noLabelAt, noLo
 use Rattle.ecma_labels.specs.Theorems as labels
 use Rattle.ecma_strict.specs.Theorems.{EarlyErrors, earlyErrors}
 use Rattle.ecma_classes.specs.ClassElements.{nameMissing}
-use Rattle.ecma_classes.specs.PrivateNames.{sameNode, isClassBody, bodyAround}
+use Rattle.ecma_classes.specs.PrivateNames.{isClassBody}
 use Rattle.ecma_classes.specs.Changed.{builtTwice, protoAgain, privateEntered, privateAgain, isOutside, invalidInTable, tableBare, tableStray, tableProperty}
 use Rattle.ecma_classes.specs.SupersByScopes.{bareByScopes, strayByScopes, propertyByScopes}
-use Rattle.ecma_classes.specs.ObjectsLaws.{times}
+use Rattle.ecma_classes.specs.Raised.{times, reported}
 use Rattle.ecma_base.specs.Scopes.{scopesFollow}
 use Rattle.ecma_classes.specs.Theorems as classes
-
--- a finding 8 for each of these nodes, at the Class whose body is nearest
-abbrev pub reported : List ℕ → List ℕ → List Finding
-reported ns l =
-    flatMap (λ n. cond (eqb (kindOf ns n) k.Class) (flatMap (λ m. listed (errorAt ns code.privateFieldUndeclared n m context.none)) (keep (λ m. sameNode (bodyAround ns m) (classBodyOf ns n)) l)) [])
-    (upto 0 (count ns))
 
 pub record Broken (t : ℕ) (ns ss source names : List ℕ) : Type 0 where
   -- 2 to 6, 9 to 17, 24, 25, 31 to 33; each says whether its rule is changed

@@ -1,14 +1,13 @@
 -- ECMA-262, 8.5.1 Contains, and operations like it: they begin at some parts of a node, go down, and end at others.
 use Prim.Native.Nat.{ℕ}
 use mathlib.Core.List.{List}
-use mathlib.Core.Bool.{Bool, false, not, _&&_, _||_}
+use mathlib.Core.Bool.{Bool, false, cond, not, _&&_, _||_}
 use lib.Dec.{eqb}
 use Rattle.common.specs.Tests.{within}
 use Rattle.tables.specs.Table.{kindOf}
 use Rattle.tables.specs.Kinds as k
-use Rattle.tables.specs.declared.Found.{Found}
-use Rattle.tables.specs.declared.Found.the-variants.{At, Nothing}
-use Rattle.children.specs.Children.{valueOf}
+use Rattle.children.specs.Children.{valueOf, isNode}
+use Rattle.trees.specs.Trail.{handedDown}
 use Rattle.trees.specs.Rose.{Rose, Roses, node, rnil, rcons, idx, partsOf}
 
 -- "For each child node child of this Parse Node: if child is an instance of symbol, return true; if child is an instance of a nonterminal, let contained be the result
@@ -31,9 +30,9 @@ abbrev pub containsIn : List ℕ → (ℕ → Bool) → (ℕ → ℕ → Bool) �
 containsIn ns sought edge u = containsFrom ns sought (λ i j. not (edge i j)) edge u
 
 -- FieldDefinition : ClassElementName Initializer: j is the Initializer of i
-abbrev pub isNode : Found → ℕ → Bool
-isNode (At m) j = eqb (m .0) j
-isNode Nothing j = false
-
 abbrev pub initializer : List ℕ → ℕ → ℕ → Bool
 initializer ns i j = within (kindOf ns i) k.PropertyDefinition k.AccessorProperty && isNode (valueOf ns i) j
+
+-- Where the operation of u comes to: it begins at a part of u on the way to j, and goes into all that follow.
+abbrev pub comes : List ℕ → (ℕ → ℕ → Bool) → (ℕ → ℕ → Bool) → ℕ → ℕ → Bool
+comes ns begin into u j = handedDown ns (λ i k r. cond (eqb i u) (begin i k) (r && into i k)) false j

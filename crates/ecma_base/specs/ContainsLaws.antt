@@ -19,9 +19,9 @@ use Rattle.trees.specs.RoseLaws.{Under, Placed, PlacedAll, partsPlaced}
 use Rattle.trees.specs.Walk.{each, some, only}
 use Rattle.trees.specs.WalkLaws.{eachAppend, someAppend, someOnly}
 use Rattle.trees.specs.Unit.{says, saysAll}
-use Rattle.trees.specs.Trail.{handedDown, unitOf}
+use Rattle.trees.specs.Trail.{unitOf}
 use Rattle.trees.specs.TrailLaws.{unitBridge, handedLaw, handedRoot}
-use Rattle.ecma_base.specs.Contains.{contains, containsAny, containsFrom, containsIn}
+use Rattle.ecma_base.specs.Contains.{contains, containsAny, containsFrom, containsIn, comes}
 
 -- only node 0 is a Program
 pub rootOnly : (ns : List ℕ) → Tree ns → (i : ℕ) → i < count ns → kindOf ns i ≡ 0 → i ≡ 0
@@ -84,10 +84,6 @@ containsIs ns t sought edge root u h =
 nothing : (a : Bool) → false ≡ (a && false)
 nothing true = refl
 nothing false = refl
-
--- AN OPERATION THAT BEGINS AT SOME PARTS OF u, node by node: it comes to j where it begins at a part of u on the way to j, and goes into all that follow
-abbrev pub comes : List ℕ → (ℕ → ℕ → Bool) → (ℕ → ℕ → Bool) → ℕ → ℕ → Bool
-comes ns begin into u j = handedDown ns (λ i k r. cond (eqb i u) (begin i k) (r && into i k)) false j
 
 module _ (ns : List ℕ) (t : Tree ns) (sought : ℕ → Bool) (into begin : ℕ → ℕ → Bool) (u : ℕ) (g : ℕ → List ℕ)
     (says' : (j : ℕ) → j < count ns → comes ns begin into u j ≡ true → sought j ≡ true → some (g j) ≡ true)

@@ -17,10 +17,10 @@ use Rattle.tables.specs.declared.Found.{Found}
 use Rattle.tables.specs.declared.Found.the-variants.{At, Nothing}
 use Rattle.names.specs.Name.{same}
 use Rattle.names.specs.Words as word
-use Rattle.children.specs.Children.{keep, children, keyOf, valueOf, functionBodyOf}
+use Rattle.children.specs.Children.{keep, children, keyOf, valueOf, functionBodyOf, found}
 use Rattle.trees.specs.Rose.{treeOf}
 use Rattle.ecma_base.specs.Telling.{Telling, special}
-use Rattle.ecma_classes.specs.ClassElements.{found, keyName, computed, classElements, namesConstructor, constructorTwice, isColon}
+use Rattle.ecma_classes.specs.ClassElements.{keyName, computed, classElements, namesConstructor, constructorTwice, isColon}
 use Rattle.ecma_classes.specs.PrivateNames.{isPrivateBound, entries, isSetter, matched, invalid, isUse, bodyAround}
 use Rattle.ecma_classes.specs.Supers.{isSuperCall, isMethod, isConstructorMethod, isBare, barsProperty, unit}
 

@@ -13,12 +13,7 @@ use Rattle.tables.specs.declared.Found.{Found}
 use Rattle.tables.specs.declared.Found.the-variants.{At, Nothing}
 use Rattle.names.specs.Name.{same, nameOf}
 use Rattle.names.specs.Words as word
-use Rattle.children.specs.Children.{keep, children, firstChild, keyOf, innerOf, classBodyOf}
-use Rattle.ecma_base.specs.Contains.{isNode}
-
-abbrev pub found : Found → Bool
-found (At m) = true
-found Nothing = false
+use Rattle.children.specs.Children.{keep, children, firstChild, keyOf, innerOf, classBodyOf, isNode, found}
 
 -- the name at the key of an element or a property; no name is []
 abbrev pub nameFound : List ℕ → List ℕ → Found → List ℕ

@@ -12,7 +12,7 @@ use Rattle.tables.specs.Kinds as k
 use Rattle.tables.specs.NodeFlag as flag
 use Rattle.tables.specs.declared.Found.{Found}
 use Rattle.tables.specs.declared.Found.the-variants.{At, Nothing}
-use Rattle.children.specs.Children.{keep, children, firstChild, valueOf, functionBodyOf, classBodyOf}
+use Rattle.children.specs.Children.{keep, children, firstChild, valueOf, functionBodyOf, classBodyOf, found}
 use Rattle.ancestry.specs.Ancestry.{isAt}
 use Rattle.trees.specs.Walk.{only}
 use Rattle.diagnostics.specs.declared.Raised.the-variants.{Clear}
@@ -27,7 +27,7 @@ use Rattle.ecma_dispatch.specs.WithCode.{withCode}
 use Rattle.ecma_dispatch.specs.Dispatch.{at26, at27}
 use Rattle.ecma_dispatch.specs.NodesOf.{nodesOf, raised}
 use Rattle.ecma_classes.specs.RaisingLaws.{raising-code, keep-same, keep-alike}
-use Rattle.ecma_classes.specs.ClassElements.{found, elementsIn, classElements, namesConstructor, constructorTwice, nameMissing}
+use Rattle.ecma_classes.specs.ClassElements.{elementsIn, classElements, namesConstructor, constructorTwice, nameMissing}
 use Rattle.ecma_classes.specs.Changed.{bodyIn, isConstructor, builtTwice, ConstructorsNamed}
 
 found-at : (f : Found) → isAt f ≡ found f

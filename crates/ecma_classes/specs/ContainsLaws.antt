@@ -12,11 +12,8 @@ use Rattle.trees.specs.Walk.{each, some, only}
 use Rattle.trees.specs.WalkLaws.{eachSame}
 use Rattle.trees.specs.Trail.{unitOf}
 use Rattle.ecma_base.specs.ContainsLaws.{containsIs}
+use Rattle.ecma_classes.specs.Raised.{inUnit}
 use Rattle.ecma_classes.specs.Supers.{begins, unitContains}
-
--- the nodes of a unit that break a rule
-abbrev pub inUnit : List ℕ → (ℕ → Bool) → ℕ → List ℕ
-inUnit ns rule u = each (λ j. cond (eqb (unitOf ns (begins ns) j) u) (only (rule j) j) []) (upto (u + 1) (count ns))
 
 module _ (ns : List ℕ) (sought : ℕ → Bool) where
   contains-is : Tree ns → (u : ℕ) → u < count ns → unitContains ns sought u ≡ some (inUnit ns sought u)

@@ -17,12 +17,11 @@ use Rattle.tables.specs.Table.{kindOf, parentOf, count}
 use Rattle.tables.specs.Facts.{Tree}
 use Rattle.tables.specs.Kinds as k
 use Rattle.tables.specs.declared.Found.the-variants.{At}
-use Rattle.children.specs.Children.{keep, children}
+use Rattle.children.specs.Children.{keep, children, isNode}
 use Rattle.ancestry.specs.AncestryLaws.{parent-in}
 use Rattle.fields.specs.Fields.{Listed}
 use Rattle.shape.specs.Shape.{Shaped}
 use Rattle.trees.specs.Trail.{unitOf}
-use Rattle.ecma_base.specs.Contains.{isNode}
 use Rattle.ecma_classes.specs.ListLaws.{in-kept, upto-in}
 use Rattle.ecma_classes.specs.ClassElements.{elementsIn, classElements, namesConstructor, constructorTwice, isConstructorKind, constructorMethod, isFirstConstructor}
 use Rattle.ecma_classes.specs.Supers.{begins, isMethod, isConstructorMethod, isBare, standardBare}

@@ -2,6 +2,7 @@ pub mod ClassElements
 pub mod PrivateNames
 pub mod Supers
 pub mod Changed
+pub mod Raised
 pub mod SupersByScopes
 pub mod ListLaws
 pub mod RaisingLaws

@@ -27,11 +27,8 @@ use Rattle.ecma_dispatch.specs.Dispatch.{at1}
 use Rattle.ecma_dispatch.specs.NodesOf.{nodesOf, raised}
 use Rattle.ecma_classes.specs.RaisingLaws.{raising-code, keep-upto, keep-alike}
 use Rattle.ecma_classes.specs.ClassElements.{nameFound, keyName, computed, propName, isProto, protoTwice}
+use Rattle.ecma_classes.specs.Raised.{times}
 use Rattle.ecma_classes.specs.Changed.{isKeyedProto, later, protoAgain, KeysPlain}
-
--- n for each member of a list
-abbrev pub times : ℕ → List ℕ → List ℕ
-times n l = each (λ x. n ∷ []) l
 
 -- what g makes of each member
 abbrev made : (ℕ → ℕ) → List ℕ → List ℕ

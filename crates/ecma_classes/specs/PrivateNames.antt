@@ -11,7 +11,7 @@ use Rattle.tables.specs.Extras as extra
 use Rattle.tables.specs.NodeFlag as flag
 use Rattle.tables.specs.declared.Found.{Found}
 use Rattle.tables.specs.declared.Found.the-variants.{At, Nothing}
-use Rattle.names.specs.Name.{same, nameOf}
+use Rattle.names.specs.Name.{same, nameOf, has}
 use Rattle.children.specs.Children.{keep, children}
 use Rattle.trees.specs.Rose.{Rose, Roses, node, rnil, rcons, treeOf}
 use Rattle.trees.specs.Walk.{walk, only}
@@ -51,10 +51,6 @@ allowed ns (a ∷ b ∷ c ∷ l) = false
 unfoldable pub privateTwice : List ℕ → List ℕ → List ℕ → Bool
 privateTwice ns names l = any (λ e. not (allowed ns (entries ns names l e))) l
 
--- a list of strings contains a string
-abbrev pub contains : List (List ℕ) → List ℕ → Bool
-contains l x = any (λ y. same y x) l
-
 -- the StringValues of elements
 abbrev pub strings : List ℕ → List ℕ → List ℕ → List (List ℕ)
 strings ns names l = foldr (λ e r. keyName ns names e ∷ r) [] l
@@ -70,7 +66,7 @@ module _ (ns names : List ℕ) (uses : ℕ → Bool) (bound : ℕ → List ℕ) 
 
   unfoldable mutual
     pub valid : Rose → List (List ℕ) → Bool
-    valid (node n ks) l = cond (uses n) (contains l (nameOf ns names n)) true && allValid ks (newNames n l)
+    valid (node n ks) l = cond (uses n) (has l (nameOf ns names n)) true && allValid ks (newNames n l)
 
     pub allValid : Roses → List (List ℕ) → Bool
     allValid rnil l = true
@@ -78,7 +74,7 @@ module _ (ns names : List ℕ) (uses : ℕ → Bool) (bound : ℕ → List ℕ) 
 
   -- the same, with the list of the PrivateIdentifiers at which it is false
   unfoldable pub invalid : Rose → List (List ℕ) → List ℕ
-  invalid t l = walk (λ n l. only (uses n && not (contains l (nameOf ns names n))) n) (λ i j l. newNames i l) t l
+  invalid t l = walk (λ n l. only (uses n && not (has l (nameOf ns names n))) n) (λ i j l. newNames i l) t l
 
 -- "MemberExpression . PrivateIdentifier", "OptionalChain . PrivateIdentifier" and the like; "PrivateIdentifier in ShiftExpression"
 unfoldable pub isUse : List ℕ → ℕ → Bool

@@ -20,8 +20,8 @@ use Rattle.tables.specs.Facts.{Tree}
 use Rattle.tables.specs.Kinds as k
 use Rattle.tables.specs.declared.Found.{Found}
 use Rattle.tables.specs.declared.Found.the-variants.{At, Nothing}
-use Rattle.names.specs.Name.{same, nameOf}
-use Rattle.children.specs.Children.{keep, isChild, classBodyOf}
+use Rattle.names.specs.Name.{same, nameOf, has}
+use Rattle.children.specs.Children.{keep, isChild, classBodyOf, found}
 use Rattle.children.specs.ChildrenLaws.{keep-keep, found-child, tally, tally-all}
 use Rattle.ancestry.specs.Ancestry.{nearestOf}
 use Rattle.ancestry.specs.AncestryLaws.{ancestors-up, ancestors-root}
@@ -47,14 +47,14 @@ use Rattle.ecma_dispatch.specs.Dispatch.{at7, at8}
 use Rattle.ecma_dispatch.specs.NodesOf.{nodesOf, raised}
 use Rattle.ecma_classes.specs.RaisingLaws.{raising-code, keep-upto, flat-upto, keep-from}
 use Rattle.ecma_classes.specs.ListLaws.{kept-in, in-kept, keep-none, in-upto, upto-in}
-use Rattle.ecma_classes.specs.ClassElements.{found, keyName}
-use Rattle.ecma_classes.specs.PrivateNames.{sameNode, privateBound, contains, strings, isClassBody, newNames, valid, allValid, invalid, isUse, invalidIdentifiers, bodyAround}
+use Rattle.ecma_classes.specs.ClassElements.{keyName}
+use Rattle.ecma_classes.specs.PrivateNames.{sameNode, privateBound, strings, isClassBody, newNames, valid, allValid, invalid, isUse, invalidIdentifiers, bodyAround}
 use Rattle.ecma_classes.specs.Changed.{privateEntered, isTableUse, invalidInTable, PrivatesPlain, isOutside, UsedOutside}
 use Rattle.ecma_classes.specs.PrivateTwiceLaws.{name-is, privates-are, entered-all, both-ways}
 
 module _ (ns names : List ℕ) (uses : ℕ → Bool) (bound : ℕ → List ℕ) where
   abbrev says : ℕ → List (List ℕ) → List ℕ
-  says n l = only (uses n && not (contains l (nameOf ns names n))) n
+  says n l = only (uses n && not (has l (nameOf ns names n))) n
 
   abbrev hands : ℕ → ℕ → List (List ℕ) → List (List ℕ)
   hands i j l = newNames ns names uses bound i l
@@ -74,8 +74,8 @@ module _ (ns names : List ℕ) (uses : ℕ → Bool) (bound : ℕ → List ℕ) 
 
     valid-is : (t : Rose) (l : List (List ℕ)) → valid ns names uses bound t l ≡ not (some (walk says hands t l))
     valid-is (node n ks) l =
-        rw (all-is ks (newNames ns names uses bound n l), someAppend (says n l) (walkAll says hands ks (λ j. newNames ns names uses bound n l)), someOnly (uses n && not (contains l (nameOf ns names n))) n)
-        (rw (here (uses n) (contains l (nameOf ns names n))) (sym (neither (uses n && not (contains l (nameOf ns names n))) (some (walkAll says hands ks (λ j. newNames ns names uses bound n l))))))
+        rw (all-is ks (newNames ns names uses bound n l), someAppend (says n l) (walkAll says hands ks (λ j. newNames ns names uses bound n l)), someOnly (uses n && not (has l (nameOf ns names n))) n)
+        (rw (here (uses n) (has l (nameOf ns names n))) (sym (neither (uses n && not (has l (nameOf ns names n))) (some (walkAll says hands ks (λ j. newNames ns names uses bound n l))))))
 
     all-is : (ts : Roses) (l : List (List ℕ)) → allValid ns names uses bound ts l ≡ not (some (walkAll says hands ts (λ j. l)))
     all-is rnil l = refl
@@ -93,7 +93,7 @@ module _ (ns names : List ℕ) (uses : ℕ → Bool) (bound : ℕ → List ℕ) 
 
   -- it is false at this node
   abbrev pub invalidAt : ℕ → Bool
-  invalidAt j = uses j && not (contains (boundAt j) (nameOf ns names j))
+  invalidAt j = uses j && not (has (boundAt j) (nameOf ns names j))
 
   each-only : (q : ℕ → Bool) (l : List ℕ) → each (λ j. only (q j) j) l ≡ keep q l
   unfolding keep
@@ -117,20 +117,20 @@ module _ (ns names : List ℕ) (uses : ℕ → Bool) (bound : ℕ → List ℕ) 
       go true = refl
       go false = refl
 
-  in-strings : (l : List ℕ) (x : List ℕ) → contains (strings ns names l) x ≡ any (λ e. same (keyName ns names e) x) l
+  in-strings : (l : List ℕ) (x : List ℕ) → has (strings ns names l) x ≡ any (λ e. same (keyName ns names e) x) l
   in-strings [] x = refl
   in-strings (e ∷ l) x = rw (in-strings l x)
 
   new-is : (n : ℕ) (l : List (List ℕ)) (x : List ℕ)
-      → contains (newNames ns names uses bound n l) x ≡ ((isClassBody ns n && any (λ e. same (keyName ns names e) x) (bound n)) || contains l x)
+      → has (newNames ns names uses bound n l) x ≡ ((isClassBody ns n && any (λ e. same (keyName ns names e) x) (bound n)) || has l x)
   new-is n l x = go (isClassBody ns n) refl
     where
-      go : (b : Bool) → isClassBody ns n ≡ b → contains (newNames ns names uses bound n l) x ≡ ((isClassBody ns n && any (λ e. same (keyName ns names e) x) (bound n)) || contains l x)
+      go : (b : Bool) → isClassBody ns n ≡ b → has (newNames ns names uses bound n l) x ≡ ((isClassBody ns n && any (λ e. same (keyName ns names e) x) (bound n)) || has l x)
       go true e = rw (e, ← in-strings (bound n) x) (any-append (λ y. same y x) (strings ns names (bound n)) l)
       go false e = rw e
 
   pub bound-is : (as' : List ℕ) (x : List ℕ)
-      → contains (foldr (λ a l. newNames ns names uses bound a l) [] as') x ≡ any (λ d. any (λ e. same (keyName ns names e) x) (bound d)) (keep (isClassBody ns) as')
+      → has (foldr (λ a l. newNames ns names uses bound a l) [] as') x ≡ any (λ d. any (λ e. same (keyName ns names e) x) (bound d)) (keep (isClassBody ns) as')
   unfolding keep
   bound-is [] x = refl
   bound-is (a ∷ as') x = new-is a (foldr (λ a l. newNames ns names uses bound a l) [] as') x ∙ rw (bound-is as' x) (go (isClassBody ns a))
@@ -190,7 +190,7 @@ module _ (ns names : List ℕ) (w : Tree ns) where
     abbrev handed : List (List ℕ)
     handed = foldr (λ a l. newNames ns names (isUse ns) (privateBound ns) a l) [] (ancestors ns j)
 
-    bare : found (bodyAround ns j) ≡ false → contains handed (nameOf ns names j) ≡ false
+    bare : found (bodyAround ns j) ≡ false → has handed (nameOf ns names j) ≡ false
     unfolding bodyAround
     bare e = bound-is ns names (isUse ns) (privateBound ns) (ancestors ns j) (nameOf ns names j) ∙ rw (none-around (ancestors ns j) e)
 
@@ -224,8 +224,8 @@ module _ (ns names : List ℕ) (w : Tree ns) where
       by e true q = opens j q e
       by e false q = shuts q (isOutside ns j) refl
 
-      go : (b : Bool) → found (bodyAround ns j) ≡ b → isOutside ns j ≡ ((isUse ns j && not (contains (handed j) (nameOf ns names j))) && not b)
-      go true e = inside j e ∙ off (isUse ns j && not (contains (handed j) (nameOf ns names j)))
+      go : (b : Bool) → found (bodyAround ns j) ≡ b → isOutside ns j ≡ ((isUse ns j && not (has (handed j) (nameOf ns names j))) && not b)
+      go true e = inside j e ∙ off (isUse ns j && not (has (handed j) (nameOf ns names j)))
       go false e = rw (bare j e) (by e (isUse ns j) refl)
 
 any-alike : (p q : ℕ → Bool) → ((x : ℕ) → p x ≡ q x) → (l : List ℕ) → any p l ≡ any q l
@@ -251,7 +251,7 @@ module _ (ns names : List ℕ) (w : Tree ns) where
   abbrev handedIn : ℕ → List (List ℕ)
   handedIn m = foldr (λ a l. newNames ns names (isTableUse ns) (privateEntered ns) a l) [] (ancestors ns m)
 
-  declared-is : (m c : ℕ) → m < count ns → bodyAround ns m ≡ At (record { 0 = c }) → (x : List ℕ) → isDeclared ns names c x ≡ contains (handedIn m) x
+  declared-is : (m c : ℕ) → m < count ns → bodyAround ns m ≡ At (record { 0 = c }) → (x : List ℕ) → isDeclared ns names c x ≡ has (handedIn m) x
   unfolding isDeclared outerClasses
   declared-is m c h e x =
       ap (any (λ d. hasPrivate ns names d x)) (sym (outer-at ns w m c h (around-is ns m ∙ e)))
@@ -283,13 +283,13 @@ module _ (ns names : List ℕ) (w : Tree ns) where
       off false = refl
 
       by : (b : Bool) → sameNode (bodyAround ns m) (At (record { 0 = c })) ≡ b
-          → cond b (listed (cond (isDeclared ns names c (nameOf ns names m)) Clear (errorAt ns code.privateFieldUndeclared n m context.none))) [] ≡ cond (not (contains (handedIn m) (nameOf ns names m)) && b) (error8 n m) []
-      by true e = rw (declared-is m c h (same-found c (bodyAround ns m) e) (nameOf ns names m)) (raise (contains (handedIn m) (nameOf ns names m)))
-      by false e = off (not (contains (handedIn m) (nameOf ns names m)))
+          → cond b (listed (cond (isDeclared ns names c (nameOf ns names m)) Clear (errorAt ns code.privateFieldUndeclared n m context.none))) [] ≡ cond (not (has (handedIn m) (nameOf ns names m)) && b) (error8 n m) []
+      by true e = rw (declared-is m c h (same-found c (bodyAround ns m) e) (nameOf ns names m)) (raise (has (handedIn m) (nameOf ns names m)))
+      by false e = off (not (has (handedIn m) (nameOf ns names m)))
 
       go : (a : Bool) → isTableUse ns m ≡ a
           → cond (a && isClass c (currentClass ns m)) (listed (cond (isDeclared ns names c (nameOf ns names m)) Clear (errorAt ns code.privateFieldUndeclared n m context.none))) []
-          ≡ cond ((a && not (contains (handedIn m) (nameOf ns names m))) && sameNode (bodyAround ns m) (At (record { 0 = c }))) (error8 n m) []
+          ≡ cond ((a && not (has (handedIn m) (nameOf ns names m))) && sameNode (bodyAround ns m) (At (record { 0 = c }))) (error8 n m) []
       go true q = rw (current-is ns m (use-kind m q), class-same c (bodyAround ns m)) (by (sameNode (bodyAround ns m) (At (record { 0 = c }))) refl)
       go false q = refl
 

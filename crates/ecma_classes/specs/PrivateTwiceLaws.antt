@@ -34,7 +34,7 @@ use Rattle.ecma_classes.specs.ClassElements.{isStatic, nameFound, keyNam
 use Rattle.ecma_classes.specs.PrivateNames.{isPrivateBound, privateBound, entries, isGetter, isSetter, matched, allowed, privateTwice}
 use Rattle.ecma_classes.specs.Changed.{named, isEntered, privateEntered, PrivatesEntered, last, orFound, unlike, clashIn, privateAgain, OnceOrTwice}
 use Rattle.ecma_classes.specs.ClassElementsLaws.{body-in}
-use Rattle.ecma_classes.specs.ObjectsLaws.{times}
+use Rattle.ecma_classes.specs.Raised.{times}
 
 -- what an entry is: a getter, a setter, or neither
 data Sort (ns : List ℕ) (e : ℕ) : Type 0 where

@@ -16,20 +16,18 @@ use Rattle.tables.specs.Facts.{Tree, Chained, Scoped}
 use Rattle.tables.specs.Kinds as k
 use Rattle.tables.specs.declared.Found.{Found}
 use Rattle.tables.specs.declared.Found.the-variants.{At, Nothing}
-use Rattle.children.specs.Children.{valueOf}
+use Rattle.children.specs.Children.{valueOf, isNode}
 use Rattle.ancestry.specs.AncestryLaws.{nearest-stop, nearest-on, nearest-root}
 use Rattle.classes.specs.ClassesLaws.{within-one, over}
 use Rattle.standing.specs.Standing.{Placed}
 use Rattle.trees.specs.Trail.{unitOf}
 use Rattle.trees.specs.TrailLaws.{handedLaw, handedRoot}
-use Rattle.supers.specs.Super as super
 use Rattle.supers.specs.Super.{ifCall, isValueOf, partOf, placeOf, functionUse, isClassScope, atClass, stepAt, classAbove, reachFrom}
 use Rattle.supers.specs.SuperLaws.{place-stop, place-on, reach-stop, reach-leave, reach-on, outer-next}
 use Rattle.supers.specs.declared.ElementPart.the-variants.{Value, Key}
 use Rattle.supers.specs.declared.Reach.{Reach}
 use Rattle.supers.specs.declared.Reach.the-variants.{Illegal}
 use Rattle.supers.specs.declared.Step.the-variants.{On}
-use Rattle.ecma_base.specs.Contains.{isNode}
 use Rattle.ecma_base.specs.ScopesLaws.{Made}
 use Rattle.ecma_classes.specs.ScopesFitLaws.{isFunctionScope, isArrowScope, isBlockScope, Same, ScopesFit}
 use Rattle.ecma_classes.specs.Supers.{begins}
@@ -40,11 +38,7 @@ isValue ns a x = isNode (valueOf ns a) x
 
 pub value-is : (ns : List ℕ) (a x : ℕ) → isValueOf ns a x ≡ isValue ns a x
 unfolding isValueOf
-value-is ns a x = go (valueOf ns a)
-  where
-    go : (f : Found) → super.isNode f x ≡ isNode f x
-    go (At v) = refl
-    go Nothing = refl
+value-is ns a x = refl
 
 -- where a unit begins, and where not
 module _ (ns : List ℕ) (i j : ℕ) where

@@ -8,10 +8,10 @@ use Rattle.tables.specs.Table.{kindOf, parentOf, flagsOf, extraOf, hasFlag}
 use Rattle.tables.specs.Kinds as k
 use Rattle.tables.specs.Extras as extra
 use Rattle.tables.specs.NodeFlag as flag
-use Rattle.children.specs.Children.{valueOf}
+use Rattle.children.specs.Children.{valueOf, isNode}
 use Rattle.trees.specs.Trail.{unitOf}
 use Rattle.ecma_base.specs.Telling.{Telling, special}
-use Rattle.ecma_base.specs.Contains.{isNode, initializer, containsIn}
+use Rattle.ecma_base.specs.Contains.{initializer, containsIn}
 use Rattle.ecma_classes.specs.ClassElements.{namesConstructor, isFirstConstructor}
 
 -- "SuperCall : super Arguments", "SuperProperty : super [ Expression ]" and "super . IdentifierName"

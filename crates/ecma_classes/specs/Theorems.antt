@@ -11,7 +11,7 @@ use Rattle.walk.specs.On.{member}
 use Rattle.tables.specs.Table.{kindOf, parentOf, count}
 use Rattle.tables.specs.Kinds as k
 use Rattle.tables.specs.declared.Found.the-variants.{At}
-use Rattle.children.specs.Children.{keep, children, classBodyOf}
+use Rattle.children.specs.Children.{keep, children, classBodyOf, found}
 use Rattle.children.specs.ChildrenLaws.{found-child}
 use Rattle.trees.specs.Rose.{treeOf}
 use Rattle.trees.specs.Walk.{some, only}
@@ -29,13 +29,14 @@ use Rattle.ecma_dispatch.specs.NodesOf.{raised}
 use Rattle.ecma_dispatch.specs.NodesOfLaws.{raisedAppend, raisedFlat}
 use Rattle.ecma_classes.specs.RaisingLaws.{raising-code, flat-upto, keep-upto, any-upto, any-three}
 use Rattle.ecma_classes.specs.ListLaws.{Rising, kept-in}
-use Rattle.ecma_classes.specs.ClassElements.{found, nameMissing, constructorTwice, isFirstConstructor, isProto, protoTwice}
+use Rattle.ecma_classes.specs.ClassElements.{nameMissing, constructorTwice, isFirstConstructor, isProto, protoTwice}
 use Rattle.ecma_classes.specs.PrivateNames.{sameNode, privateBound, entries, allowed, privateTwice, isClassBody, isUse, allPrivateIdentifiersValid, invalidIdentifiers, bodyAround}
 use Rattle.ecma_classes.specs.Supers.{isSuperCall, isSuperProperty, isBare, barsCall, barsProperty, bareError, callError, propertyError, superError, standardBare, standardStray, standardProperty}
 use Rattle.ecma_classes.specs.Changed.{builtTwice, OneConstructor, ConstructorsNamed, protoAgain, KeysPlain, privateEntered, privateAgain, PrivatesEntered, OnceOrTwice, invalidInTable, PrivatesPlain, isOutside, UsedOutside, eachBare, tableBare, tableStray, tableProperty, MethodsNamed, SupersStand, ConstructorsOrdinary}
 use Rattle.ecma_classes.specs.SupersByScopes.{bareByScopes, strayByScopes, propertyByScopes}
 use Rattle.ecma_classes.specs.ClassElementsLaws.{class-name, second-constructor, constructors-agree}
-use Rattle.ecma_classes.specs.ObjectsLaws.{times, proto-again, proto-agrees, proto-once}
+use Rattle.ecma_classes.specs.Raised.{times, reported, inUnit}
+use Rattle.ecma_classes.specs.ObjectsLaws.{proto-again, proto-agrees, proto-once}
 use Rattle.ecma_classes.specs.PrivateTwiceLaws.{some-kept, flat-alike, private-again, again-some, again-once, entered-all, entered-rising}
 use Rattle.ecma_classes.specs.PrivateNamesLaws.{invalidAt, invalid-list, valid-none, private-outside, outside-invalid, private-undeclared, invalid-same, class-above, body-of-class}
 use Rattle.ecma_base.specs.Telling.{Telling, ordinary}
@@ -44,7 +45,7 @@ use Rattle.ecma_classes.specs.ScopesFitLaws.{ScopesFit, fit-of}
 use Rattle.ecma_classes.specs.SupersLaws.{super-bare, super-call, super-property, bare-same, stray-same, property-rule-same, super-same}
 use Rattle.ecma_classes.specs.SupersByScopesLaws.{bare-by-scopes, stray-by-scopes, property-by-scopes}
 use Rattle.ecma_classes.specs.FirstConstructorLaws.{first-same}
-use Rattle.ecma_classes.specs.ContainsLaws.{inUnit, unit-rule}
+use Rattle.ecma_classes.specs.ContainsLaws.{unit-rule}
 use Rattle.ecma_classes.specs.WholeLaws.{below-of, all-raised, any-unit}
 
 -- from each node to the whole tree
@@ -124,18 +125,15 @@ module _ (t : ℕ) (ns ss source names : List ℕ) (w : WellFormed t ns ss sourc
       code7 ∙ keep-upto (isOutside ns) (λ j. member j (invalidIdentifiers ns names) && not (found (bodyAround ns j))) 0 (count ns) (λ j a b. outside-invalid ns names (w .input .tree) u j b)
 
   -- 8: at a Class, one for each PrivateIdentifier at which AllPrivateIdentifiersValid is false and whose nearest ClassBody is the class's; changed: by what the Rust enters
-  abbrev reported : List ℕ → List Finding
-  reported l = flatMap (λ n. cond (eqb (kindOf ns n) k.Class) (flatMap (λ m. listed (errorAt ns code.privateFieldUndeclared n m context.none)) (keep (λ m. sameNode (bodyAround ns m) (classBodyOf ns n)) l)) []) nodes
-
-  pub code8 : withCode 8 findings ≡ reported (invalidInTable ns names)
+  pub code8 : withCode 8 findings ≡ reported ns (invalidInTable ns names)
   code8 =
       wholeOther t ns ss source names 8 refl
       ∙ flat-upto (λ n. withCode 8 (findingsAt t ns ss source names n))
       (λ n. cond (eqb (kindOf ns n) k.Class) (flatMap (λ m. listed (errorAt ns code.privateFieldUndeclared n m context.none)) (keep (λ m. sameNode (bodyAround ns m) (classBodyOf ns n)) (invalidInTable ns names))) []) 0 (count ns)
       (λ n a b. private-undeclared ns names (w .input .tree) t ss source n)
 
-  pub code8-standard : PrivatesPlain ns → withCode 8 findings ≡ reported (invalidIdentifiers ns names)
-  code8-standard p = code8 ∙ ap reported (invalid-same ns names (w .input .tree) p)
+  pub code8-standard : PrivatesPlain ns → withCode 8 findings ≡ reported ns (invalidIdentifiers ns names)
+  code8-standard p = code8 ∙ ap (reported ns) (invalid-same ns names (w .input .tree) p)
 
   -- each at one Class: a ClassBody is that of one Class, its parent
   pub code8-once : (b : ℕ) → b < count ns → kindOf ns b ≡ k.ClassBody → (kindOf ns (parentOf ns b) ≡ k.Class) × (classBodyOf ns (parentOf ns b) ≡ At (record { 0 = b }))

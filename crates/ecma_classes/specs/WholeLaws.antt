@@ -17,7 +17,7 @@ use Rattle.tables.specs.Facts.{Tree}
 use Rattle.tables.specs.Kinds as k
 use Rattle.tables.specs.declared.Found.{Found}
 use Rattle.tables.specs.declared.Found.the-variants.{At, Nothing}
-use Rattle.children.specs.Children.{keep, classBodyOf}
+use Rattle.children.specs.Children.{keep, classBodyOf, found}
 use Rattle.classes.specs.ClassesLaws.{within-one, over}
 use Rattle.fields.specs.Fields.{Listed}
 use Rattle.shape.specs.Shape.{Shaped}
@@ -34,13 +34,12 @@ use Rattle.ecma_dispatch.specs.NodesOf.{nodesOf, raised}
 use Rattle.ecma_dispatch.specs.NodesOfLaws.{raisedFlat}
 use Rattle.ecma_classes.specs.RaisingLaws.{any-upto}
 use Rattle.ecma_classes.specs.ListLaws.{any-hit, any-find, kept-in, in-kept, member-here, in-upto}
-use Rattle.ecma_classes.specs.ClassElements.{found}
 use Rattle.ecma_classes.specs.PrivateNames.{sameNode, bodyAround}
 use Rattle.ecma_classes.specs.Supers.{begins, unitContains}
-use Rattle.ecma_classes.specs.ObjectsLaws.{times}
+use Rattle.ecma_classes.specs.Raised.{times, inUnit}
 use Rattle.ecma_classes.specs.PrivateTwiceLaws.{some-kept, both-ways}
 use Rattle.ecma_classes.specs.PrivateNamesLaws.{around-is, class-above, body-of-class}
-use Rattle.ecma_classes.specs.ContainsLaws.{inUnit, unit-rule}
+use Rattle.ecma_classes.specs.ContainsLaws.{unit-rule}
 
 some-flat : {A : Type 0} (f : ℕ → List A) (l : List ℕ) → some (flatMap f l) ≡ any (λ x. some (f x)) l
 unfolding flatMap

@@ -1,23 +1,23 @@
 -- The operations of the standard, of a unit and of the program, and the nodes at which the rules are broken.
-use Prim.Native.Nat.{ℕ, zero, suc, _+_, _-_, _≤_, _<_}
-use mathlib.Core.Path.{_≡_, refl, sym, _∙_, ap, subst}
+use Prim.Native.Nat.{ℕ, _+_, _-_, _≤_, _<_}
+use mathlib.Core.Path.{_≡_, refl, sym, _∙_, ap}
 use mathlib.Core.Logic.{_↔_}
 use mathlib.Core.Bool.{Bool, true, false, cond, not, _&&_, _||_, true≢false}
-use mathlib.Core.List.{List, [], _∷_, _++_, foldr}
-use lib.Dec.{eqb, leb}
+use mathlib.Core.List.{List, [], _∷_, _++_}
+use lib.Dec.{eqb}
 use borrow.Author.Tests.{eqb-true}
 use native.Mathlib.Omega.{arith}
-use Rattle.common.specs.Tests.{within}
 use Rattle.common.specs.Upto.{upto}
 use Rattle.common.specs.Bools.{in-range, range-of}
-use Rattle.tables.specs.Table.{kindOf, parentOf, count, ancestors}
+use Rattle.tables.specs.Table.{kindOf, count}
 use Rattle.tables.specs.Facts.{Tree}
 use Rattle.shape.specs.Shape.{Shaped}
-use Rattle.trees.specs.Rose.{Rose, Roses, node, rnil, rcons, partsOf, treeOf}
+use Rattle.trees.specs.Rose.{Roses, node, partsOf, treeOf}
 use Rattle.trees.specs.Walk.{each, some, Says, only}
-use Rattle.trees.specs.Unit.{lists, homeOf, inUnit, broken}
+use Rattle.trees.specs.Unit.{lists, broken}
 use Rattle.trees.specs.Rule.{Rule, ruleList, ruleUnit, ruleProgram, ruleSome}
 use Rattle.ecma_labels.specs.Labels.{isIteration, holds, isUnit, labelIn, unlabelled, contains, lacks, adding, containsDuplicateLabels, anyDuplicateLabels, containsUndefinedBreakTarget, anyUndefinedBreakTarget, containsUndefinedContinueTarget, anyUndefinedContinueTarget, containsContinueNotNested, anyContinueNotNested, containsBreakNotNested, anyBreakNotNested}
+use Rattle.ecma_labels.specs.Findings.{inUnitOf}
 use Rattle.ecma_labels.specs.Breaches.{labelAt, labelsDown, labelSetAt, setsDown, setsAt, loopDown, inLoop, breakableDown, inBreakable, duplicateLabelAt, undefinedBreakAt, undefinedContinueAt, continueNotNestedAt, breakNotNestedAt}
 use Rattle.ecma_labels.specs.Changed.{hiding, containsUndefinedNearest, anyUndefinedNearest, nearestDown, nearestAt, undefinedNearestAt}
 use Rattle.ecma_labels.specs.ShapeLaws.{throughStatements}
@@ -69,10 +69,6 @@ breakableHolds k e = go (isIteration k) refl (eqb k 14) refl e
     go true p b q z = loopHolds k p
     go false p true q z = rw (eqb-true k 14 q)
     go false p false q z = absurd (true≢false (sym z))
-
--- the node j, where a test holds, in the unit u
-abbrev pub inUnitOf : List ℕ → (ℕ → Bool) → ℕ → ℕ → List ℕ
-inUnitOf ns test u j = cond (eqb (homeOf ns (isUnit ns) j) u) (only (test j) j) []
 
 module _ (ns names : List ℕ) (t : Tree ns) (w : Shaped ns) where
   -- 8.3.1

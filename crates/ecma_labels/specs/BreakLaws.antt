@@ -15,7 +15,7 @@ use Rattle.tables.specs.Table.{kindOf, parentOf, count, ancestors}
 use Rattle.tables.specs.Facts.{Tree}
 use Rattle.tables.specs.declared.Found.{Found}
 use Rattle.tables.specs.declared.Found.the-variants.{At, Nothing}
-use Rattle.names.specs.Name.{same, nameOf}
+use Rattle.names.specs.Name.{same, nameOf, has}
 use Rattle.children.specs.Children.{labelOf}
 use Rattle.diagnostics.specs.declared.Raised.{Raised}
 use Rattle.diagnostics.specs.declared.Raised.the-variants.{Error, Clear}
@@ -26,7 +26,7 @@ use Rattle.ecma_dispatch.specs.NodesOf.{nodesOf}
 use Rattle.trees.specs.Rose.{partsOf}
 use Rattle.trees.specs.Walk.{only}
 use Rattle.trees.specs.Unit.{homeOf, inUnit}
-use Rattle.ecma_labels.specs.Labels.{isIteration, isUnit, labelIn, unlabelled, has, contains, lacks, adding}
+use Rattle.ecma_labels.specs.Labels.{isIteration, isUnit, labelIn, unlabelled, contains, lacks, adding}
 use Rattle.ecma_labels.specs.Breaches.{labelAt, labelsDown, labelSetAt, breakableDown, inBreakable}
 use Rattle.ecma_labels.specs.Changed.{inProgram}
 use Rattle.ecma_labels.specs.ShapeLaws.{labelInIs, notUnit}

@@ -15,7 +15,7 @@ use Rattle.tables.specs.Table.{kindOf, parentOf, count}
 use Rattle.tables.specs.Facts.{Tree}
 use Rattle.tables.specs.declared.Found.{Found}
 use Rattle.tables.specs.declared.Found.the-variants.{At, Nothing}
-use Rattle.names.specs.Name.{nameOf}
+use Rattle.names.specs.Name.{nameOf, has}
 use Rattle.children.specs.Children.{keep, labelOf}
 use Rattle.shape.specs.Shape.{Shaped}
 use Rattle.diagnostics.specs.declared.Raised.{Raised}
@@ -30,7 +30,7 @@ use Rattle.ecma_dispatch.specs.NodesOfLaws.{nodesNil, nodesCond, nodesWhole}
 use Rattle.ecma_dispatch.specs.Dispatch.{at18, at19, at20, at21, at22, at23}
 use Rattle.trees.specs.Walk.{only}
 use Rattle.trees.specs.Unit.{homeOf}
-use Rattle.ecma_labels.specs.Labels.{isIteration, isUnit, labelIn, unlabelled, has, contains, lacks}
+use Rattle.ecma_labels.specs.Labels.{isIteration, isUnit, labelIn, unlabelled, contains, lacks}
 use Rattle.ecma_labels.specs.Breaches.{labelAt, labelSetAt, inLoop, inBreakable, duplicateLabelAt, undefinedBreakAt, breakNotNestedAt}
 use Rattle.ecma_labels.specs.Changed.{nearestAt, undefinedNearestAt, plainContinueNotNestedAt, noLabelAt, noLoopAt, inProgram}
 use Rattle.ecma_labels.specs.ShapeLaws.{labelInIs}

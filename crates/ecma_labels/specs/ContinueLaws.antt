@@ -13,7 +13,7 @@ use Rattle.tables.specs.Table.{kindOf, parentOf, count, ancestors}
 use Rattle.tables.specs.Facts.{Tree}
 use Rattle.tables.specs.declared.Found.{Found}
 use Rattle.tables.specs.declared.Found.the-variants.{At, Nothing}
-use Rattle.names.specs.Name.{same, nameOf}
+use Rattle.names.specs.Name.{same, nameOf, has}
 use Rattle.names.specs.NameLaws.{same-eq, same-self}
 use Rattle.children.specs.Children.{labelOf, heldOf}
 use Rattle.shape.specs.Shape.{Shaped}
@@ -27,7 +27,7 @@ use Rattle.ecma_dispatch.specs.NodesOf.{nodesOf}
 use Rattle.trees.specs.Rose.{partsOf}
 use Rattle.trees.specs.Walk.{only}
 use Rattle.trees.specs.Unit.{homeOf, inUnit}
-use Rattle.ecma_labels.specs.Labels.{isIteration, isUnit, labelIn, unlabelled, has, contains, lacks, adding}
+use Rattle.ecma_labels.specs.Labels.{isIteration, isUnit, labelIn, unlabelled, contains, lacks, adding}
 use Rattle.ecma_labels.specs.Breaches.{labelAt, labelsDown, labelSetAt, loopDown, inLoop}
 use Rattle.ecma_labels.specs.Changed.{without, hiding, nearestDown, nearestAt, inProgram}
 use Rattle.ecma_labels.specs.ShapeLaws.{labelInIs, notUnit, stands, heldIs}

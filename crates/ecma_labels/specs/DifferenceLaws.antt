@@ -2,39 +2,37 @@
 use Prim.Native.Nat.{ℕ, zero, suc, _+_, _≤_, _<_}
 use mathlib.Core.Path.{_≡_, refl, sym, _∙_, ap, subst}
 use mathlib.Core.Bool.{Bool, true, false, cond, not, _&&_, _||_, true≢false}
-use mathlib.Core.List.{List, [], _∷_, _++_, foldr}
-use mathlib.Core.Logic.{_⊎_, inl, inr, ⊎-elim, _↔_}
-use lib.Dec.{eqb, leb}
-use borrow.Author.Tests.{eqb-true, eqb-false, eq-eqb, ne-eqb}
+use mathlib.Core.List.{List, [], _∷_, _++_}
+use mathlib.Core.Logic.{_⊎_, ⊎-elim, _↔_}
+use lib.Dec.{eqb}
+use borrow.Author.Tests.{eqb-true, eq-eqb}
 use native.Mathlib.Nat.{eq-or-lt-of-le}
 use native.Mathlib.Omega.{arith}
 use Rattle.common.specs.Tests.{within}
-use Rattle.common.specs.Upto.{upto}
 use Rattle.common.specs.UptoLaws.{and-left}
-use Rattle.common.specs.Bools.{in-range, range-of}
+use Rattle.common.specs.Bools.{in-range}
 use Rattle.walk.specs.AboveLaws.{fold-up}
-use Rattle.tables.specs.Table.{kindOf, parentOf, count, ancestors}
+use Rattle.tables.specs.Table.{kindOf, parentOf, count}
 use Rattle.tables.specs.Facts.{Tree}
 use Rattle.tables.specs.declared.Found.{Found}
 use Rattle.tables.specs.declared.Found.the-variants.{At, Nothing}
-use Rattle.names.specs.Name.{same, nameOf}
+use Rattle.names.specs.Name.{same, nameOf, has}
 use Rattle.names.specs.NameLaws.{same-eq}
 use Rattle.children.specs.Children.{labelOf}
 use Rattle.shape.specs.Shape.{Shaped}
-use Rattle.jumps.specs.Jumps.{walkUp, labelledContinueAt}
 use Rattle.checker.specs.Findings.{findingsAt}
-use Rattle.ecma_dispatch.specs.WithCode.{withCode}
-use Rattle.ecma_dispatch.specs.NodesOf.{nodesOf, raised}
+use Rattle.ecma_dispatch.specs.NodesOf.{raised}
 use Rattle.trees.specs.Rose.{partsOf}
-use Rattle.trees.specs.Walk.{each, some, Says, only}
+use Rattle.trees.specs.Walk.{each, some, only}
 use Rattle.trees.specs.WalkLaws.{foldsAgree, someEach}
 use Rattle.trees.specs.Unit.{homeOf, inUnit}
 use Rattle.trees.specs.UnitLaws.{homeBefore}
-use Rattle.ecma_labels.specs.Labels.{isIteration, isUnit, labelIn, unlabelled, has, contains, lacks, adding, anyDuplicateLabels, anyUndefinedContinueTarget}
+use Rattle.ecma_labels.specs.Labels.{isIteration, isUnit, unlabelled, contains, lacks, adding, anyDuplicateLabels}
 use Rattle.ecma_labels.specs.Breaches.{labelAt, labelsDown, labelSetAt, setsDown, setsAt, loopDown, inLoop, duplicateLabelAt, undefinedBreakAt, undefinedContinueAt, continueNotNestedAt}
 use Rattle.ecma_labels.specs.Changed.{without, hiding, nearestDown, nearestAt, undefinedNearestAt, plainContinueNotNestedAt, noLabelAt, noLoopAt, inProgram}
 use Rattle.ecma_labels.specs.ShapeLaws.{labelInIs}
-use Rattle.ecma_labels.specs.BreachLaws.{inUnitOf, duplicateSome}
+use Rattle.ecma_labels.specs.Findings.{inUnitOf}
+use Rattle.ecma_labels.specs.BreachLaws.{duplicateSome}
 use Rattle.ecma_labels.specs.ContinueLaws.{isClear, wentIs, noClear, withoutSelf, withoutOther, hasAppend}
 use Rattle.ecma_labels.specs.CodeLaws.{later, neither, clearAt, code19, code20, code22}
 

@@ -1,13 +1,14 @@
 -- The findings of a node that are about labels, break and continue.
 use Prim.Native.Nat.{ℕ}
 use mathlib.Core.List.{List, [], _∷_, _++_, flatMap}
-use mathlib.Core.Bool.{cond}
+use mathlib.Core.Bool.{Bool, cond}
 use lib.Dec.{eqb}
 use Rattle.tables.specs.Table.{kindOf}
 use Rattle.tables.specs.Kinds as k
 use Rattle.diagnostics.specs.declared.Finding.{Finding}
 use Rattle.checker.specs.Findings.{findingsAt}
 use Rattle.ecma_dispatch.specs.WithCode.{withCode}
+use Rattle.trees.specs.Walk.{only}
 use Rattle.trees.specs.Unit.{homeOf}
 use Rattle.ecma_labels.specs.Labels.{isUnit}
 
@@ -31,3 +32,7 @@ module _ (sourceType : ℕ) (ns ss source names : List ℕ) where
 -- findings at the nodes of the unit u
 abbrev pub ofUnit : List ℕ → (ℕ → List Finding) → ℕ → ℕ → List Finding
 ofUnit ns findings u j = cond (eqb (homeOf ns (isUnit ns) j) u) (findings j) []
+
+-- the node j, where a test holds, in the unit u
+abbrev pub inUnitOf : List ℕ → (ℕ → Bool) → ℕ → ℕ → List ℕ
+inUnitOf ns test u j = cond (eqb (homeOf ns (isUnit ns) j) u) (only (test j) j) []

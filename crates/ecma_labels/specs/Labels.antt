@@ -5,6 +5,7 @@ use Prim.Native.Nat.{ℕ}
 use mathlib.Core.Bool.{Bool, true, false, cond, not, _&&_, _||_}
 use mathlib.Core.List.{List, [], _∷_, _++_}
 use lib.Dec.{eqb}
+use Rattle.children.specs.Children.{found}
 use Rattle.common.specs.Tests.{within}
 use Rattle.common.specs.Upto.{any}
 use Rattle.tables.specs.Table.{kindOf, roleOf}
@@ -12,7 +13,7 @@ use Rattle.tables.specs.Kinds as k
 use Rattle.tables.specs.Roles as role
 use Rattle.tables.specs.declared.Found.{Found}
 use Rattle.tables.specs.declared.Found.the-variants.{At, Nothing}
-use Rattle.names.specs.Name.{same, nameOf}
+use Rattle.names.specs.Name.{same, nameOf, has}
 use Rattle.trees.specs.Rose.{Rose, Roses, node, rnil, rcons, foldParts, treeOf}
 use Rattle.trees.specs.Unit.{broken}
 
@@ -29,12 +30,7 @@ unfoldable pub labelIn : List ℕ → Roses → Found
 labelIn ns ks = foldParts (λ i r. cond (eqb (kindOf ns i) k.LabelIdentifier && eqb (roleOf ns i) role.Label) (At (record { 0 = i })) r) Nothing ks
 
 abbrev pub unlabelled : Found → Bool
-unlabelled (At m) = false
-unlabelled Nothing = true
-
--- a List of Strings contains a String
-abbrev pub has : List (List ℕ) → List ℕ → Bool
-has labels label = any (λ x. same x label) labels
+unlabelled label = not (found label)
 
 -- "labelSet contains label", where label is the StringValue of LabelIdentifier
 abbrev pub contains : List ℕ → List ℕ → List (List ℕ) → Found → Bool

@@ -1,8 +1,8 @@
 -- THE THEOREMS, of well-formed tables. Node by node: a finding of a code, or of some codes, is raised at the node exactly where the rule is broken there, and one only.
 -- Then by unit, as the standard states its rules, and of the program.
 use Prim.Native.Nat.{ℕ, zero, suc, _+_, _-_, _≤_, _<_}
-use mathlib.Core.Path.{_≡_, refl, sym, _∙_, ap, subst}
-use mathlib.Core.Bool.{Bool, true, false, cond, not, _&&_, _||_, true≢false}
+use mathlib.Core.Path.{_≡_, refl, sym, _∙_, ap}
+use mathlib.Core.Bool.{Bool, true, false, cond, not, _&&_, _||_}
 use mathlib.Core.List.{List, [], _∷_, _++_, flatMap, append-nil}
 use mathlib.Core.Logic.{_↔_}
 use lib.Dec.{eqb}
@@ -16,7 +16,7 @@ use Rattle.diagnostics.specs.declared.Finding.{Finding}
 use Rattle.checker.specs.Findings.{findingsAt, findingsOf}
 use Rattle.ecma_dispatch.specs.WithCode.{withCode}
 use Rattle.ecma_dispatch.specs.NodesOf.{nodesOf, raised}
-use Rattle.ecma_dispatch.specs.NodesOfLaws.{nodesNil, nodesAppend}
+use Rattle.ecma_dispatch.specs.NodesOfLaws.{nodesAppend}
 use Rattle.trees.specs.Rose.{partsOf}
 use Rattle.trees.specs.Walk.{each, some, Says, only}
 use Rattle.trees.specs.WalkLaws.{someAppend, someEach, someOnly}
@@ -24,8 +24,8 @@ use Rattle.trees.specs.Unit.{homeOf}
 use Rattle.ecma_labels.specs.Labels.{isUnit, labelRule, labelErrors, unlabelled, anyDuplicateLabels, anyUndefinedBreakTarget, anyUndefinedContinueTarget, anyContinueNotNested, anyBreakNotNested}
 use Rattle.ecma_labels.specs.Breaches.{labelAt, duplicateLabelAt, undefinedBreakAt, undefinedContinueAt, continueNotNestedAt, breakNotNestedAt}
 use Rattle.ecma_labels.specs.Changed.{anyUndefinedNearest, undefinedNearestAt, plainContinueNotNestedAt, noLabelAt, noLoopAt, inProgram}
-use Rattle.ecma_labels.specs.Findings.{ofUnit, withCodes, labelFindings, breakFindings, continueFindings}
-use Rattle.ecma_labels.specs.BreachLaws.{inUnitOf, undefinedContinueSome, undefinedNearestSome, duplicateUnit, undefinedBreakUnit, undefinedContinueUnit, undefinedNearestUnit, continueNestedUnit, breakNestedUnit}
+use Rattle.ecma_labels.specs.Findings.{ofUnit, withCodes, labelFindings, breakFindings, continueFindings, inUnitOf}
+use Rattle.ecma_labels.specs.BreachLaws.{undefinedContinueSome, undefinedNearestSome, duplicateUnit, undefinedBreakUnit, undefinedContinueUnit, undefinedNearestUnit, continueNestedUnit, breakNestedUnit}
 use Rattle.ecma_labels.specs.CodeLaws.{code18, code19, code20, code21, code22, code23, all18, all19, all20, all21, all22, all23}
 use Rattle.ecma_labels.specs.DifferenceLaws.{targets, notNested, plainSame, offDuplicates}
 use Rattle.ecma_labels.specs.EarlyLaws.{brokenAt, sameUnit, unitIs, someFindings, errorsIff}

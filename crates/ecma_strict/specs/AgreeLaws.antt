@@ -13,13 +13,13 @@ use Rattle.common.specs.Bools.{never, in-range, range-of}
 use Rattle.tables.specs.Table.{kindOf, parentOf, count, scopeOf, scopeParentOf}
 use Rattle.tables.specs.Facts.{Tree, Chained, Scoped}
 use Rattle.tables.specs.Kinds as k
-use Rattle.children.specs.Children.{valueOf}
+use Rattle.children.specs.Children.{valueOf, isNode}
 use Rattle.scoping.specs.Scoping.{inStaticBlock}
 use Rattle.scoping.specs.ScopingLaws.{static-here, static-function, static-up, static-root}
 use Rattle.trees.specs.Trail.{unitOf}
 use Rattle.ecma_base.specs.Strict.{strictCode}
 use Rattle.ecma_strict.specs.Identifiers.{assignsEval}
-use Rattle.ecma_base.specs.Contains.{isNode, initializer}
+use Rattle.ecma_base.specs.Contains.{initializer}
 use Rattle.ecma_strict.specs.Contains.{awaitEdge, staticBlock, argumentsEdge, argumentsHome, argumentsReference, parameter, parameterEdge, boundEdge, awaitInBlock, argumentsInClass, awaitInParameter, letBound}
 use Rattle.ecma_base.specs.Scopes.{blockScope, functionScope}
 use Rattle.ecma_base.specs.ContainsLaws.{upward, unitRoot}

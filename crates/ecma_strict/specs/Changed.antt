@@ -14,7 +14,7 @@ use Rattle.tables.specs.Extras as extra
 use Rattle.tables.specs.ScopeFlag as scope
 use Rattle.tables.specs.declared.Found.{Found}
 use Rattle.tables.specs.declared.Found.the-variants.{At, Nothing}
-use Rattle.children.specs.Children.{valueOf, heldOf, alternateOf}
+use Rattle.children.specs.Children.{valueOf, heldOf, alternateOf, isNode}
 use Rattle.trees.specs.Trail.{unitOf}
 use Rattle.names.specs.Name.{nameIs}
 use Rattle.names.specs.Words as word
@@ -27,7 +27,6 @@ use Rattle.ecma_strict.specs.Statements.{declaratorsOf, plainName, singl
 use Rattle.ecma_strict.specs.ReservedWords.{reservedWords}
 use Rattle.ecma_strict.specs.Parameters.{goalModule, yieldParameter, awaitParameter}
 use Rattle.ecma_strict.specs.Identifiers.{identifier, strictReserved, assignsEval, useStrictDirective, simpleParameters}
-use Rattle.ecma_base.specs.Contains.{isNode}
 use Rattle.ecma_strict.specs.Contains.{awaitEdge, argumentsEdge, parameterEdge, boundEdge, argumentsReference, parameter, awaitOrYield, lexicalDeclaration, letName}
 use Rattle.ecma_strict.specs.Functions.{endsInStatement, annexHolder, labelsFunction, labelEdge}
 

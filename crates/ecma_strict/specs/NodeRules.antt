@@ -14,12 +14,12 @@ use Rattle.common.specs.Bools.{never, or-first, or-second, either, in-range, ra
 use Rattle.tables.specs.Table.{kindOf, parentOf, count, extraOf}
 use Rattle.tables.specs.Facts.{Tree}
 use Rattle.tables.specs.Extras as extra
-use Rattle.children.specs.Children.{valueOf}
+use Rattle.children.specs.Children.{valueOf, isNode}
 use Rattle.trees.specs.Trail.{unitOf}
 use Rattle.trees.specs.TrailLaws.{handedLaw}
-use Rattle.ecma_base.specs.Contains.{isNode, initializer}
+use Rattle.ecma_base.specs.Contains.{initializer, comes}
 use Rattle.ecma_strict.specs.Contains.{containsInto, staticBlock, blockBegin, awaitEdge, argumentsBegin, argumentsInto, argumentsEdge, argumentsHome, parameter, parameterBegin, parameterEdge, lexicalDeclaration, boundBegin, boundInto, boundEdge}
-use Rattle.ecma_base.specs.ContainsLaws.{upward, unitUp, unitRoot, comes, comesHome}
+use Rattle.ecma_base.specs.ContainsLaws.{upward, unitUp, unitRoot, comesHome}
 use Rattle.ecma_strict.specs.SearchLaws.{positive}
 
 -- an operation that begins at a node of which `home` holds comes to n

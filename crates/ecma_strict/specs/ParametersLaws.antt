@@ -17,7 +17,7 @@ use Rattle.tables.specs.Facts.{Tree}
 use Rattle.tables.specs.Kinds as k
 use Rattle.tables.specs.NodeFlag as flag
 use Rattle.tables.specs.ScopeFlag as scope
-use Rattle.children.specs.Children.{valueOf}
+use Rattle.children.specs.Children.{valueOf, isNode}
 use Rattle.names.specs.Name.{nameIs}
 use Rattle.names.specs.Words as word
 use Rattle.ancestry.specs.AncestryLaws.{parent-in}
@@ -26,7 +26,7 @@ use Rattle.trees.specs.Trail.{unitOf}
 use Rattle.trees.specs.TrailLaws.{handedLaw, handedRoot}
 use Rattle.ecma_base.specs.Telling.{Telling}
 use Rattle.ecma_base.specs.Strict.{strictCode}
-use Rattle.ecma_base.specs.Contains.{isNode, initializer}
+use Rattle.ecma_base.specs.Contains.{initializer}
 use Rattle.ecma_base.specs.ContainsLaws.{upward, unitRoot}
 use Rattle.ecma_base.specs.Scopes.{makesScope, scopesFollow, blockScope}
 use Rattle.ecma_base.specs.ScopesLaws.{notProgram, Made, blockFlag, made, sameOrMade, sameOnly, madeKind, classBody, rootKind, root}

@@ -19,7 +19,7 @@ use Rattle.tables.specs.declared.Found.{Found}
 use Rattle.tables.specs.declared.Found.the-variants.{At, Nothing}
 use Rattle.names.specs.Name.{nameIs}
 use Rattle.names.specs.Words as word
-use Rattle.children.specs.Children.{valueOf}
+use Rattle.children.specs.Children.{valueOf, isNode}
 use Rattle.ancestry.specs.Ancestry.{hasAncestor}
 use Rattle.ancestry.specs.AncestryLaws.{parent-in, ancestors-up}
 use Rattle.diagnostics.specs.Finding.{errorAt}
@@ -40,7 +40,6 @@ use Rattle.ecma_strict.specs.Nodes.{ofCheck}
 use Rattle.ecma_base.specs.Strict.{strictCode}
 use Rattle.ecma_strict.specs.StatementsLaws.{ifOnly}
 use Rattle.ecma_strict.specs.Identifiers.{evalOrArguments, bindsEval, assignsEval}
-use Rattle.ecma_base.specs.Contains.{isNode}
 use Rattle.ecma_strict.specs.Contains.{awaitExpression, forAwait, awaitUsing, parameter, awaitOrYield, lexicalDeclaration}
 use Rattle.ecma_base.specs.ContainsLaws.{rootOnly, upward, unitUp, unitRoot}
 use Rattle.ecma_strict.specs.Changed.{scopedInBlock, letEdge, letBoundSaid, fieldEdge, fieldHome, argumentsSaid, throughClassEdge, awaitInParameterSaid}
@@ -157,10 +156,6 @@ module _ (ns : List ℕ) (t : Tree ns) (n : ℕ) where
         (binding5 (strictCode ns ss n) (evalOrArguments ns names n) (nameIs ns names n word.letWord) (lexicalDeclaration ns (unitOf ns (letEdge ns) n)) (its.strictContext sourceType ns n))
 
 -- CODES 4 AND 6, AT A REFERENCE
-sameNode : (f : Found) (j : ℕ) → its.isNode f j ≡ isNode f j
-sameNode (At m) j = refl
-sameNode Nothing j = refl
-
 module _ (ns : List ℕ) (t : Tree ns) (n : ℕ) where
   abbrev argumentsRaised : ℕ → Raised
   argumentsRaised u = cond (fieldHome ns u) (errorAt ns code.unexpectedArguments n n context.none) Clear
@@ -171,7 +166,7 @@ module _ (ns : List ℕ) (t : Tree ns) (n : ℕ) where
 
   foundIs : (i : ℕ) → (its.isFieldValue ns (parentOf ns i) i || eqb (kindOf ns (parentOf ns i)) k.StaticBlock) ≡ found i
   unfolding its.isFieldValue
-  foundIs i = rw (sameNode (valueOf ns (parentOf ns i)) i)
+  foundIs i = refl
 
   homeOf : (p : ℕ) (x y z : Bool) → eqb (kindOf ns p) 29 ≡ x → eqb (kindOf ns p) 3 ≡ z → ((x && y) || z) ≡ true → fieldHome ns p ≡ true
   homeOf p true y true a c e = rw c

@@ -12,7 +12,7 @@ use Rattle.common.specs.Tests.{within}
 use Rattle.common.specs.Bools.{never, or-first, or-second, in-range, range-of}
 use Rattle.tables.specs.Table.{kindOf, parentOf, count, extraOf}
 use Rattle.tables.specs.declared.Found.the-variants.{At}
-use Rattle.children.specs.Children.{keep, children, valueOf, heldOf, functionBodyOf}
+use Rattle.children.specs.Children.{keep, children, valueOf, heldOf, functionBodyOf, isNode}
 use Rattle.children.specs.ChildrenLaws.{found-child}
 use Rattle.tables.specs.Kinds as k
 use Rattle.tables.specs.Extras as extra
@@ -29,12 +29,12 @@ use Rattle.ecma_dispatch.specs.NodesOf.{raised}
 use Rattle.ecma_base.specs.Strict.{strictCode}
 use Rattle.ecma_base.specs.Telling.{ordinary}
 use Rattle.ecma_strict.specs.Identifiers.{strictReserved, bindsEval, assignsEval, useStrictDirective, simpleParameters, containsUseStrict, useStrictThere}
-use Rattle.ecma_base.specs.Contains.{containsFrom, isNode, initializer, containsIn}
+use Rattle.ecma_base.specs.Contains.{containsFrom, initializer, containsIn, comes}
 use Rattle.ecma_strict.specs.Contains.{containsInto, staticBlock, blockBegin, awaitExpression, forAwait, awaitUsing, argumentsReference, argumentsBegin, argumentsInto, parameter, parameterBegin, awaitOrYield, lexicalDeclaration, boundBegin, boundInto, letName}
 use Rattle.ecma_base.specs.Scopes.{scopesFollow}
 use Rattle.ecma_base.specs.ScopesLaws.{notProgram}
 use Rattle.ecma_strict.specs.ScopesLaws.{scopesTold, directiveTold}
-use Rattle.ecma_base.specs.ContainsLaws.{containsIs, comes, comesIs, comesHome}
+use Rattle.ecma_base.specs.ContainsLaws.{containsIs, comesIs, comesHome}
 use Rattle.ecma_strict.specs.SearchLaws.{positive}
 use Rattle.ecma_strict.specs.AgreeLaws.{blockEdge, scopesAre}
 use Rattle.ecma_strict.specs.Functions.{isFunction, endsInStatement, endsInLabelled, labelledAmong, labelsFunction, labelEdge, functionMisplaced, strictFunction, strictFunctionElse, sloppyFunction, sloppyFunctionElse}

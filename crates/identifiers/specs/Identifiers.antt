@@ -14,7 +14,7 @@ use Rattle.tables.specs.declared.Found.{Found}
 use Rattle.tables.specs.declared.Found.the-variants.{At, Nothing}
 use Rattle.names.specs.Name.{nameIs}
 use Rattle.names.specs.Words as word
-use Rattle.children.specs.Children.{valueOf}
+use Rattle.children.specs.Children.{valueOf, isNode}
 use Rattle.ancestry.specs.Ancestry.{hasAncestor}
 use Rattle.scoping.specs.Scoping.{isStrict}
 use Rattle.diagnostics.specs.Finding.{errorAt}
@@ -84,11 +84,6 @@ checkBindingIdentifier t ns ss names n =
     cond (isStrict ns ss n)
     (cond (isEvalOrArguments ns names n) (errorAt ns code.unexpectedIdentifierAssign n n (strictContext t ns n)) Clear)
     (cond (nameIs ns names n word.letWord) (letFrom ns n n) Clear)
-
--- what is found is node p
-abbrev pub isNode : Found → ℕ → Bool
-isNode (At m) p = eqb (m .0) p
-isNode Nothing p = false
 
 -- a is a field, and p its initialiser
 unfoldable pub isFieldValue : List ℕ → ℕ → ℕ → Bool

@@ -4,6 +4,7 @@ use mathlib.Core.List.{List, [], _∷_}
 use mathlib.Core.Bool.{Bool, true, false, _&&_}
 use lib.Dec.{eqb}
 use lib.ListN.{take, drop}
+use Rattle.common.specs.Upto.{any}
 use Rattle.tables.specs.Table.{nameStartOf, nameLenOf}
 
 -- two strings are the same
@@ -24,3 +25,7 @@ sameName ns names a b = same (nameOf ns names a) (nameOf ns names b)
 -- a node has this word as its name
 abbrev pub nameIs : List ℕ → List ℕ → ℕ → List ℕ → Bool
 nameIs ns names n word = same (nameOf ns names n) word
+
+-- a list of strings has a string
+abbrev pub has : List (List ℕ) → List ℕ → Bool
+has strings x = any (λ y. same y x) strings

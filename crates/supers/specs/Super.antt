@@ -12,7 +12,7 @@ use Rattle.tables.specs.NodeFlag as flag
 use Rattle.tables.specs.ScopeFlag as scope
 use Rattle.tables.specs.declared.Found.{Found}
 use Rattle.tables.specs.declared.Found.the-variants.{At, Nothing}
-use Rattle.children.specs.Children.{valueOf, firstNode}
+use Rattle.children.specs.Children.{valueOf, firstNode, isNode}
 use Rattle.ancestry.specs.Ancestry.{nearestOf}
 use Rattle.diagnostics.specs.Finding.{errorAt, errorBetween}
 use Rattle.diagnostics.specs.Codes as code
@@ -34,10 +34,6 @@ abbrev pub ifCall : Bool → Reach
 ifCall call = cond call Illegal Legal
 
 -- x is the value of a
-abbrev pub isNode : Found → ℕ → Bool
-isNode (At v) x = eqb (v .0) x
-isNode Nothing x = false
-
 unfoldable pub isValueOf : List ℕ → ℕ → ℕ → Bool
 isValueOf ns a x = isNode (valueOf ns a) x
 

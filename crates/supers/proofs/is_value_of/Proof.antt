@@ -1,5 +1,6 @@
+use Rattle.children.specs.Children.{isNode}
 use Rattle.tables.specs.declared.Found.{Found}
-use Rattle.supers.specs.Super.{isValueOf, isNode}
+use Rattle.supers.specs.Super.{isValueOf}
 use mathlib.Core.Path.{_≡_, ap, sym, _∙_}
 use borrow.Author.Needs.{needs}
 use Rattle.supers.proofs.is_value_of.Statement.{statement}

@@ -1,0 +1,30 @@
+-- Where findings are told: lists of nodes and of findings that the theorems speak of.
+use Prim.Native.Nat.{ℕ, _+_}
+use mathlib.Core.List.{List, [], _∷_, flatMap}
+use mathlib.Core.Bool.{Bool, cond}
+use lib.Dec.{eqb}
+use Rattle.common.specs.Upto.{upto}
+use Rattle.tables.specs.Table.{kindOf, count}
+use Rattle.tables.specs.Kinds as k
+use Rattle.children.specs.Children.{keep, classBodyOf}
+use Rattle.diagnostics.specs.declared.Finding.{Finding}
+use Rattle.diagnostics.specs.Finding.{listed, errorAt}
+use Rattle.diagnostics.specs.Codes as code
+use Rattle.diagnostics.specs.Contexts as context
+use Rattle.trees.specs.Walk.{each, only}
+use Rattle.ecma_classes.specs.PrivateNames.{sameNode, bodyAround}
+use Rattle.ecma_classes.specs.Supers.{unit}
+
+-- n for each member of a list
+abbrev pub times : ℕ → List ℕ → List ℕ
+times n l = each (λ x. n ∷ []) l
+
+-- 8: a finding for each of these nodes, at the Class whose body is nearest
+abbrev pub reported : List ℕ → List ℕ → List Finding
+reported ns l =
+    flatMap (λ n. cond (eqb (kindOf ns n) k.Class) (flatMap (λ m. listed (errorAt ns code.privateFieldUndeclared n m context.none)) (keep (λ m. sameNode (bodyAround ns m) (classBodyOf ns n)) l)) [])
+    (upto 0 (count ns))
+
+-- 28 to 30: the nodes of the unit u that break a rule
+abbrev pub inUnit : List ℕ → (ℕ → Bool) → ℕ → List ℕ
+inUnit ns rule u = each (λ j. cond (eqb (unit ns j) u) (only (rule j) j) []) (upto (u + 1) (count ns))
