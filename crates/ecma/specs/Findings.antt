@@ -1,7 +1,6 @@
--- THE FINDINGS AGAINST ECMA-262, all codes together: of tables that none of refusals 1 to 6 turns down, the nodes that raise each code, in order, are those at which the rule is
--- broken, one finding for each breach. 2, 4, 15, 17, 18, 23, 26 and 31 are the standard's own rules (2 and 15 but for what the tables don't tell); the others are the changed rules that docs/DIFFERENCES.md names with what
--- differs, and the laws that say where they are the standard's stand in each crate's Theorems.antt and Standard.antt. 28 to 30 are stated of all such tables by the
--- Rust's search through the scopes, and by the standard's units in the tree where the scopes follow the tree.
+-- THE FINDINGS BY THE RULES THAT THE RUST KEEPS, all codes together: of tables that none of refusals 1 to 6 turns down, the nodes that raise each code, in order, are those at which the rule is
+-- broken, one finding for each breach. 4, 15, 17, 18, 23, 26 and 31 are the standard's own rules; the others are the changed rules that docs/DIFFERENCES.md names with what differs. Standard.antt states the
+-- same by the standard's rules. 28 to 30 are stated of all such tables by the Rust's search through the scopes, and by the units in the tree where the scopes follow the tree.
 -- Spans, contexts and the order between codes are those of `findingsOf` (crates/checker), which the calls equal to the last number.
 use Prim.Native.Nat.{ℕ}
 use mathlib.Core.Path.{_≡_}
