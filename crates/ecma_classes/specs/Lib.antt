@@ -19,3 +19,4 @@ pub mod ContainsLaws
 pub mod WholeLaws
 pub mod Theorems
 pub mod Example
+pub mod Keys
