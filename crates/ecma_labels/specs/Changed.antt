@@ -1,5 +1,6 @@
 -- The rules as the Rust has them, where they differ from the standard's.
 use Prim.Native.Nat.{ℕ}
+use mathlib.Core.Path.{_≡_}
 use mathlib.Core.Bool.{Bool, true, false, cond, not, _&&_, _||_}
 use mathlib.Core.List.{List, [], _∷_, _++_, foldr}
 use lib.Dec.{eqb}
@@ -11,7 +12,7 @@ use Rattle.tables.specs.declared.Found.the-variants.{At, Nothing}
 use Rattle.names.specs.Name.{same, nameOf}
 use Rattle.trees.specs.Rose.{Rose, Roses, node, rnil, rcons, partsOf}
 use Rattle.trees.specs.Unit.{inUnit, homeOf}
-use Rattle.ecma_labels.specs.Labels.{isIteration, holds, labelIn, unlabelled, contains, lacks, adding, isUnit}
+use Rattle.ecma_labels.specs.Labels.{isIteration, holds, labelIn, unlabelled, contains, lacks, adding, isUnit, anyDuplicateLabels}
 use Rattle.ecma_labels.specs.Breaches.{labelAt, labelSetAt, inLoop}
 
 -- a List of Strings without one
@@ -66,3 +67,11 @@ module _ (ns names : List ℕ) where
   -- a statement around the continue j has its label, but the nearest one labels no IterationStatement: 22
   unfoldable pub noLoopAt : ℕ → Bool
   noLoopAt j = undefinedNearestAt j && contains ns names (labelSetAt ns names j) (labelAt ns names j)
+
+  -- CONDITION on which 8.3.3 is the standard's: in the unit u no label stands within itself (8.3.1)
+  abbrev pub LabelsOnce : ℕ → Type 0
+  LabelsOnce u = anyDuplicateLabels ns names (partsOf ns u) [] ≡ false
+
+  -- CONDITION on which 14.8.1 is the standard's: a continue has no label
+  abbrev pub ContinuePlain : ℕ → Type 0
+  ContinuePlain j = kindOf ns j ≡ k.Continue → unlabelled (labelAt ns names j) ≡ true

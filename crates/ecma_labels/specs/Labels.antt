@@ -42,7 +42,7 @@ abbrev pub lacks : List ℕ → List ℕ → List (List ℕ) → Found → Bool
 lacks ns names labelSet (At m) = not (has labelSet (nameOf ns names (m .0)))
 lacks ns names labelSet Nothing = false
 
--- "the list-concatenation of labelSet and « label »" (the order of a label set is of no use)
+-- "the list-concatenation of labelSet and « label »" (the order of a label set does not matter)
 abbrev pub adding : List ℕ → List ℕ → List (List ℕ) → Found → List (List ℕ)
 adding ns names labelSet (At m) = nameOf ns names (m .0) ∷ labelSet
 adding ns names labelSet Nothing = labelSet

@@ -1,15 +1,18 @@
 -- THE THEOREMS, of well-formed tables. Node by node: a finding of a code, or of some codes, is raised at the node exactly where the rule is broken there, and one only.
 -- Then by unit, as the standard states its rules, and of the program.
 use Prim.Native.Nat.{ℕ, zero, suc, _+_, _-_, _≤_, _<_}
-use mathlib.Core.Path.{_≡_, refl, sym, _∙_, ap}
+use mathlib.Core.Path.{_≡_, refl, sym, subst, _∙_, ap}
 use mathlib.Core.Bool.{Bool, true, false, cond, not, _&&_, _||_}
 use mathlib.Core.List.{List, [], _∷_, _++_, flatMap, append-nil}
-use mathlib.Core.Logic.{_↔_}
+use mathlib.Core.Logic.{_↔_, ⊎-elim}
+use native.Mathlib.Nat.{eq-or-lt-of-le}
 use lib.Dec.{eqb}
 use borrow.Author.Tests.{eqb-true}
 use native.Mathlib.Omega.{arith}
 use Rattle.common.specs.Upto.{range, upto}
 use Rattle.tables.specs.Table.{kindOf, count}
+use Rattle.tables.specs.Kinds as k
+use Rattle.ancestry.specs.AncestryLaws.{ancestors-root}
 use Rattle.children.specs.Children.{keep}
 use Rattle.input.specs.Input.{WellFormed}
 use Rattle.diagnostics.specs.declared.Finding.{Finding}
@@ -21,9 +24,10 @@ use Rattle.trees.specs.Rose.{partsOf}
 use Rattle.trees.specs.Walk.{each, some, Says, only}
 use Rattle.trees.specs.WalkLaws.{someAppend, someEach, someOnly}
 use Rattle.trees.specs.Unit.{homeOf}
+use Rattle.trees.specs.UnitLaws.{homeBefore, homeEdge}
 use Rattle.ecma_labels.specs.Labels.{isUnit, labelRule, labelErrors, unlabelled, anyDuplicateLabels, anyUndefinedBreakTarget, anyUndefinedContinueTarget, anyContinueNotNested, anyBreakNotNested}
 use Rattle.ecma_labels.specs.Breaches.{labelAt, duplicateLabelAt, undefinedBreakAt, undefinedContinueAt, continueNotNestedAt, breakNotNestedAt}
-use Rattle.ecma_labels.specs.Changed.{anyUndefinedNearest, undefinedNearestAt, plainContinueNotNestedAt, noLabelAt, noLoopAt, inProgram}
+use Rattle.ecma_labels.specs.Changed.{anyUndefinedNearest, undefinedNearestAt, plainContinueNotNestedAt, noLabelAt, noLoopAt, inProgram, LabelsOnce, ContinuePlain}
 use Rattle.ecma_labels.specs.Findings.{ofUnit, withCodes, labelFindings, breakFindings, continueFindings, inUnitOf}
 use Rattle.ecma_labels.specs.BreachLaws.{undefinedContinueSome, undefinedNearestSome, duplicateUnit, undefinedBreakUnit, undefinedContinueUnit, undefinedNearestUnit, continueNestedUnit, breakNestedUnit}
 use Rattle.ecma_labels.specs.CodeLaws.{code18, code19, code20, code21, code22, code23, all18, all19, all20, all21, all22, all23}
@@ -77,7 +81,8 @@ module _ (sourceType : ℕ) (ns ss source names : List ℕ) (w : WellFormed sour
   pub continuesNotNested : (j : ℕ) → j < count ns → raised 21 (findingsAt sourceType ns ss source names j) ≡ only (plainContinueNotNestedAt ns names j) j
   continuesNotNested = code21 ns names (w .input .tree) sourceType ss source
 
-  parts : (j : ℕ) → j < count ns
+  -- 8.3.2 and 8.3.3, changed: 19, 20 and 22 together, at every node
+  pub parts : (j : ℕ) → j < count ns
       → nodesOf (withCodes sourceType ns ss source names (19 ∷ 20 ∷ 22 ∷ []) j) ≡ only (undefinedBreakAt ns names j || undefinedNearestAt ns names j) j
   unfolding flatMap
   parts j h =
@@ -145,6 +150,33 @@ module _ (sourceType : ℕ) (ns ss source names : List ℕ) (w : WellFormed sour
   pub agreeNearest : (u : ℕ) → u < count ns → isUnit ns u ≡ true → anyDuplicateLabels ns names (partsOf ns u) [] ≡ false
       → (j : ℕ) → j < count ns → homeOf ns (isUnit ns) j ≡ u → undefinedContinueAt ns names j ≡ undefinedNearestAt ns names j
   agreeNearest = offDuplicates ns names (w .input .tree) (w .shaped)
+
+  -- THE STANDARD'S OWN RULES at every node, on the conditions: 14.8.1 ..
+  pub continuesPlain : (j : ℕ) → j < count ns → ContinuePlain ns names j → raised 21 (findingsAt sourceType ns ss source names j) ≡ only (continueNotNestedAt ns names j) j
+  unfolding continueNotNestedAt plainContinueNotNestedAt
+  continuesPlain j h q = continuesNotNested j h ∙ ap (λ b. only b j) (go (eqb (kindOf ns j) k.Continue) refl)
+    where
+      go : (b : Bool) → eqb (kindOf ns j) k.Continue ≡ b → plainContinueNotNestedAt ns names j ≡ continueNotNestedAt ns names j
+      go true e = sym (agreePlain j (q (eqb-true (kindOf ns j) k.Continue e)))
+      go false e = rw e
+
+  -- .. and 8.3.2 with 8.3.3: one finding, 19, 20 or 22, where one of them is broken
+  pub undefinedTargets : (j : ℕ) → j < count ns → (kindOf ns j ≡ k.Continue → LabelsOnce ns names (homeOf ns (isUnit ns) j))
+      → nodesOf (withCodes sourceType ns ss source names (19 ∷ 20 ∷ 22 ∷ []) j) ≡ only (undefinedBreakAt ns names j || undefinedContinueAt ns names j) j
+  unfolding undefinedContinueAt undefinedNearestAt
+  undefinedTargets j h q = parts j h ∙ ap (λ b. only (undefinedBreakAt ns names j || b) j) (go (eqb (kindOf ns j) k.Continue) refl)
+    where
+      unit : isUnit ns 0 ≡ true
+      unit = rw (w .input .tree .root)
+
+      below : homeOf ns (isUnit ns) j < count ns
+      below =
+          ⊎-elim (λ (e : 0 ≡ j). subst (λ (x : ℕ). homeOf ns (isUnit ns) x < count ns) e (let r : homeOf ns (isUnit ns) 0 ≡ 0 = ancestors-root (λ a r. cond (isUnit ns a) a r) 0 ns in let c = w .input .tree .some in omega arith))
+          (λ (z : 0 < j). let b = homeBefore ns (isUnit ns) (w .input .tree) j z h in omega arith) (eq-or-lt-of-le (omega arith))
+
+      go : (b : Bool) → eqb (kindOf ns j) k.Continue ≡ b → undefinedNearestAt ns names j ≡ undefinedContinueAt ns names j
+      go true e = sym (agreeNearest (homeOf ns (isUnit ns) j) below (homeEdge ns (isUnit ns) unit j) (q (eqb-true (kindOf ns j) k.Continue e)) j h refl)
+      go false e = rw e
 
   -- BY UNIT: the operation is true of the unit u just where some node of the unit has a finding
   module _ (u : ℕ) (c : u < count ns) (x : isUnit ns u ≡ true) where
