@@ -1,2 +1,3 @@
 pub mod Findings
+pub mod Operations
 pub mod Standard
