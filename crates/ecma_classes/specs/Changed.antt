@@ -20,7 +20,7 @@ use Rattle.names.specs.Words as word
 use Rattle.children.specs.Children.{keep, children, keyOf, valueOf, functionBodyOf, found}
 use Rattle.trees.specs.Rose.{treeOf}
 use Rattle.ecma_base.specs.Telling.{Telling, special}
-use Rattle.ecma_classes.specs.ClassElements.{keyName, computed, classElements, namesConstructor, constructorTwice, isColon}
+use Rattle.ecma_classes.specs.ClassElements.{keyName, computed, classElements, namesConstructor, constructorTwice, isColon, isProto}
 use Rattle.ecma_classes.specs.PrivateNames.{isPrivateBound, entries, isSetter, matched, invalid, isUse, bodyAround}
 use Rattle.ecma_classes.specs.Supers.{isSuperCall, isMethod, isConstructorMethod, isBare, barsProperty, unit}
 
@@ -43,6 +43,10 @@ protoAgain ns names n = cond (eqb (kindOf ns n) k.Object) (later (keep (isKeyedP
 pub record KeysPlain (ns names : List ℕ) (n : ℕ) : Type 0 where
   pub public : (p : ℕ) → member p (children ns n) ≡ true → hasFlag (flagsOf ns p) flag.PrivateKey ≡ false
   pub written : (p : ℕ) → member p (children ns n) ≡ true → same (keyName ns names p) word.proto ≡ true → computed ns (keyOf ns p) ≡ false
+
+-- CONDITION: at most two properties of the object are such
+abbrev pub ProtosTwiceAtMost : List ℕ → List ℕ → ℕ → Type 0
+ProtosTwiceAtMost ns names n = length (keep (isProto ns names) (children ns n)) ≤ 2
 
 -- 1 at a class: private names
 

@@ -15,6 +15,7 @@ use Rattle.children.specs.Children.{keep, children, classBodyOf, found}
 use Rattle.children.specs.ChildrenLaws.{found-child}
 use Rattle.trees.specs.Rose.{treeOf}
 use Rattle.trees.specs.Walk.{some, only}
+use Rattle.trees.specs.WalkLaws.{someAppend}
 use Rattle.diagnostics.specs.declared.Finding.{Finding}
 use Rattle.diagnostics.specs.Finding.{listed, errorAt}
 use Rattle.diagnostics.specs.Codes as code
@@ -27,16 +28,16 @@ use Rattle.ecma_dispatch.specs.WithCode.{withCode}
 use Rattle.ecma_dispatch.specs.Dispatch.{wholeOne, wholeOther}
 use Rattle.ecma_dispatch.specs.NodesOf.{raised}
 use Rattle.ecma_dispatch.specs.NodesOfLaws.{raisedAppend, raisedFlat}
-use Rattle.ecma_classes.specs.RaisingLaws.{raising-code, flat-upto, keep-upto, any-upto, any-three}
+use Rattle.ecma_classes.specs.RaisingLaws.{raising-code, flat-upto, flat-members, keep-upto, any-upto, any-kept, any-three}
 use Rattle.ecma_classes.specs.ListLaws.{Rising, kept-in}
 use Rattle.ecma_classes.specs.ClassElements.{nameMissing, constructorTwice, isFirstConstructor, isProto, protoTwice}
 use Rattle.ecma_classes.specs.PrivateNames.{sameNode, privateBound, entries, allowed, privateTwice, isClassBody, isUse, allPrivateIdentifiersValid, invalidIdentifiers, bodyAround}
 use Rattle.ecma_classes.specs.Supers.{isSuperCall, isSuperProperty, isBare, barsCall, barsProperty, bareError, callError, propertyError, superError, standardBare, standardStray, standardProperty}
-use Rattle.ecma_classes.specs.Changed.{builtTwice, OneConstructor, ConstructorsNamed, protoAgain, KeysPlain, privateEntered, privateAgain, PrivatesEntered, OnceOrTwice, invalidInTable, PrivatesPlain, isOutside, UsedOutside, eachBare, tableBare, tableStray, tableProperty, MethodsNamed, SupersStand, ConstructorsOrdinary}
+use Rattle.ecma_classes.specs.Changed.{builtTwice, OneConstructor, ConstructorsNamed, protoAgain, KeysPlain, ProtosTwiceAtMost, privateEntered, privateAgain, PrivatesEntered, OnceOrTwice, invalidInTable, PrivatesPlain, isOutside, UsedOutside, eachBare, tableBare, tableStray, tableProperty, MethodsNamed, SupersStand, ConstructorsOrdinary}
 use Rattle.ecma_classes.specs.SupersByScopes.{bareByScopes, strayByScopes, propertyByScopes}
 use Rattle.ecma_classes.specs.ClassElementsLaws.{class-name, second-constructor, constructors-agree}
 use Rattle.ecma_classes.specs.Raised.{times, reported, inUnit}
-use Rattle.ecma_classes.specs.ObjectsLaws.{proto-again, proto-agrees, proto-once}
+use Rattle.ecma_classes.specs.ObjectsLaws.{proto-again, proto-agrees, proto-once, proto-at, proto-once-at}
 use Rattle.ecma_classes.specs.PrivateTwiceLaws.{some-kept, flat-alike, private-again, again-some, again-once, entered-all, entered-rising}
 use Rattle.ecma_classes.specs.PrivateNamesLaws.{invalidAt, invalid-list, valid-none, private-outside, outside-invalid, private-undeclared, invalid-same, class-above, body-of-class}
 use Rattle.ecma_base.specs.Telling.{Telling, ordinary}
@@ -46,7 +47,7 @@ use Rattle.ecma_classes.specs.SupersLaws.{super-bare, super-call, super-
 use Rattle.ecma_classes.specs.SupersByScopesLaws.{bare-by-scopes, stray-by-scopes, property-by-scopes}
 use Rattle.ecma_classes.specs.FirstConstructorLaws.{first-same}
 use Rattle.ecma_classes.specs.ContainsLaws.{unit-rule}
-use Rattle.ecma_classes.specs.WholeLaws.{below-of, all-raised, any-unit}
+use Rattle.ecma_classes.specs.WholeLaws.{some-flat, some-times, below-of, all-raised, any-unit}
 
 -- from each node to the whole tree
 module _ (t : ℕ) (ns ss source names : List ℕ) where
@@ -74,6 +75,10 @@ module _ (t : ℕ) (ns ss source names : List ℕ) (w : WellFormed t ns ss sourc
 
   abbrev findings : List Finding
   findings = findingsOf t ns ss source names
+
+  -- the nodes that raise the findings with code c at a node
+  abbrev at : ℕ → ℕ → List ℕ
+  at c n = raised c (findingsAt t ns ss source names n)
 
   -- 26: class declarations that lack their name (15.7)
   pub code26 : raised 26 findings ≡ keep (nameMissing ns) nodes
@@ -115,6 +120,45 @@ module _ (t : ℕ) (ns ss source names : List ℕ) (w : WellFormed t ns ss sourc
 
   pub code1-object-once : (n : ℕ) → KeysPlain ns names n → length (keep (isProto ns names) (children ns n)) ≤ 2 → times n (protoAgain ns names n) ≡ only (protoTwice ns names n) n
   code1-object-once n p l = proto-once ns names n p l
+
+  -- so of the findings at a node ..
+  pub protos-at : (n : ℕ) → n < count ns → (kindOf ns n ≡ k.Object → KeysPlain ns names n) → some (at 1 n) ≡ protoTwice ns names n
+  protos-at n h p = ap (λ (l : List ℕ). some l) (proto-again ns names (w .listed) t ss source n) ∙ some-times n (protoAgain ns names n) ∙ proto-at ns names n p
+
+  pub protos-once-at : (n : ℕ) → n < count ns → (kindOf ns n ≡ k.Object → KeysPlain ns names n × ProtosTwiceAtMost ns names n) → at 1 n ≡ only (protoTwice ns names n) n
+  protos-once-at n h p = proto-again ns names (w .listed) t ss source n ∙ proto-once-at ns names n p
+
+  -- .. and of all findings: those of the classes, and those at nodes
+  pub privates-once : ((b : ℕ) → b < count ns → isClassBody ns b ≡ true → PrivatesEntered ns b × OnceOrTwice ns names (privateBound ns b))
+      → raised 1 findings
+      ≡ flatMap (λ b. times 0 (keep (λ e. some (keep (λ d. ltb d e) (entries ns names (privateBound ns b) e)) && not (allowed ns (entries ns names (privateBound ns b) e))) (privateBound ns b))) (keep (isClassBody ns) nodes)
+      ++ flatMap (at 1) nodes
+  privates-once p =
+      code1
+      ∙ rw (
+        flat-members (λ b. times 0 (privateAgain ns names (privateEntered ns b)))
+            (λ b. times 0 (keep (λ e. some (keep (λ d. ltb d e) (entries ns names (privateBound ns b) e)) && not (allowed ns (entries ns names (privateBound ns b) e))) (privateBound ns b))) (keep (isClassBody ns) nodes)
+            (λ b m. let q = kept-in (isClassBody ns) nodes b m in let r = p b (below-of (count ns) b (q .0)) (q .1) in ap (times 0) (code1-class-once b (r .0) (r .1))),
+        flat-alike (λ n. times n (protoAgain ns names n)) (at 1) (λ n. sym (proto-again ns names (w .listed) t ss source n)) nodes,
+      )
+
+  -- there is one just where a class or an object breaks the standard's rule
+  pub redeclared : ((b : ℕ) → b < count ns → isClassBody ns b ≡ true → PrivatesEntered ns b) → ((n : ℕ) → n < count ns → kindOf ns n ≡ k.Object → KeysPlain ns names n)
+      → some (raised 1 findings) ≡ (any (λ b. isClassBody ns b && privateTwice ns names (privateBound ns b)) nodes || any (protoTwice ns names) nodes)
+  redeclared p q =
+      ap (λ (l : List ℕ). some l) code1
+      ∙ someAppend (flatMap (λ b. times 0 (privateAgain ns names (privateEntered ns b))) (keep (isClassBody ns) nodes)) (flatMap (λ n. times n (protoAgain ns names n)) nodes)
+      ∙ rw (
+        some-flat (λ b. times 0 (privateAgain ns names (privateEntered ns b))) (keep (isClassBody ns) nodes) ∙ any-kept (isClassBody ns) (λ b. some (times 0 (privateAgain ns names (privateEntered ns b)))) nodes
+            ∙ any-upto (λ b. isClassBody ns b && some (times 0 (privateAgain ns names (privateEntered ns b)))) (λ b. isClassBody ns b && privateTwice ns names (privateBound ns b)) 0 (count ns)
+            (λ b a h. class-part b h (isClassBody ns b) refl),
+        some-flat (λ n. times n (protoAgain ns names n)) nodes
+            ∙ any-upto (λ n. some (times n (protoAgain ns names n))) (protoTwice ns names) 0 (count ns) (λ n a h. some-times n (protoAgain ns names n) ∙ proto-at ns names n (q n h)),
+      )
+    where
+      class-part : (b : ℕ) → b < count ns → (x : Bool) → isClassBody ns b ≡ x → (x && some (times 0 (privateAgain ns names (privateEntered ns b)))) ≡ (x && privateTwice ns names (privateBound ns b))
+      class-part b h true e = some-times 0 (privateAgain ns names (privateEntered ns b)) ∙ code1-class b (p b h e)
+      class-part b h false e = refl
 
   -- 7: PrivateIdentifiers in no ClassBody; the standard's: those of them at which AllPrivateIdentifiersValid (15.7.7) is false
   pub code7 : raised 7 findings ≡ keep (isOutside ns) nodes
