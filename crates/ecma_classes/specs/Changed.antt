@@ -21,8 +21,9 @@ use Rattle.children.specs.Children.{keep, children, keyOf, valueOf, functionBod
 use Rattle.trees.specs.Rose.{treeOf}
 use Rattle.ecma_base.specs.Telling.{Telling, special}
 use Rattle.ecma_classes.specs.ClassElements.{keyName, computed, classElements, namesConstructor, constructorTwice, isColon, isProto}
-use Rattle.ecma_classes.specs.PrivateNames.{isPrivateBound, entries, isSetter, matched, invalid, isUse, bodyAround}
+use Rattle.ecma_classes.specs.PrivateNames.{isPrivateBound, entries, isSetter, matched, invalid, isUse}
 use Rattle.ecma_classes.specs.Supers.{isSuperCall, isMethod, isConstructorMethod, isBare, barsProperty, classOf, unit}
+use Rattle.ecma_classes.specs.Raised.{bodyAround}
 
 -- 1 at an object: `__proto__`
 

@@ -48,7 +48,8 @@ use Rattle.ecma_dispatch.specs.NodesOf.{nodesOf, raised}
 use Rattle.ecma_classes.specs.RaisingLaws.{raising-code, keep-upto, flat-upto, keep-from}
 use Rattle.ecma_classes.specs.ListLaws.{kept-in, in-kept, keep-none, in-upto, upto-in}
 use Rattle.ecma_classes.specs.ClassElements.{keyName}
-use Rattle.ecma_classes.specs.PrivateNames.{sameNode, privateBound, strings, isClassBody, newNames, valid, allValid, invalid, isUse, invalidIdentifiers, bodyAround}
+use Rattle.ecma_classes.specs.PrivateNames.{privateBound, strings, isClassBody, newNames, valid, allValid, invalid, isUse, invalidIdentifiers}
+use Rattle.ecma_classes.specs.Raised.{sameNode, bodyAround}
 use Rattle.ecma_classes.specs.Changed.{privateEntered, isTableUse, invalidInTable, PrivatesPlain, isOutside, OutsideUsed}
 use Rattle.ecma_classes.specs.PrivateTwiceLaws.{name-is, privates-are, entered-all, both-ways}
 

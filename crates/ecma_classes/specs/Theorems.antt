@@ -31,12 +31,12 @@ use Rattle.ecma_dispatch.specs.NodesOfLaws.{raisedAppend, raisedFlat}
 use Rattle.ecma_classes.specs.RaisingLaws.{raising-code, flat-upto, flat-members, keep-upto, any-upto, any-kept, any-three}
 use Rattle.ecma_classes.specs.ListLaws.{Rising, kept-in}
 use Rattle.ecma_classes.specs.ClassElements.{nameMissing, constructorTwice, isFirstConstructor, isProto, protoTwice}
-use Rattle.ecma_classes.specs.PrivateNames.{sameNode, privateBound, entries, allowed, privateTwice, isClassBody, isUse, allPrivateIdentifiersValid, invalidIdentifiers, bodyAround}
+use Rattle.ecma_classes.specs.PrivateNames.{privateBound, entries, allowed, privateTwice, isClassBody, isUse, allPrivateIdentifiersValid, invalidIdentifiers}
 use Rattle.ecma_classes.specs.Supers.{isSuperCall, isSuperProperty, isBare, barsCall, barsProperty, bareError, callError, propertyError, superError, standardBare, standardStray, standardProperty, unit}
 use Rattle.ecma_classes.specs.Changed.{builtTwice, OneConstructor, ConstructorsNamed, protoAgain, KeysPlain, ProtosTwiceAtMost, privateEntered, privateAgain, PrivatesEntered, OnceOrTwice, invalidInTable, PrivatesPlain, isOutside, OutsideUsed, UsedOutside, eachBare, OneInClass, tableBare, tableStray, tableProperty, MethodNamed, MethodsNamed, SuperStands, SupersStand, ConstructorOrdinary, ConstructorsOrdinary}
 use Rattle.ecma_classes.specs.SupersByScopes.{bareByScopes, strayByScopes, propertyByScopes}
 use Rattle.ecma_classes.specs.ClassElementsLaws.{class-name, second-constructor, constructors-agree}
-use Rattle.ecma_classes.specs.Raised.{times, reported, inUnit}
+use Rattle.ecma_classes.specs.Raised.{times, sameNode, bodyAround, reported, inUnit}
 use Rattle.ecma_classes.specs.ObjectsLaws.{proto-again, proto-agrees, proto-once, proto-at, proto-once-at}
 use Rattle.ecma_classes.specs.PrivateTwiceLaws.{some-kept, flat-alike, private-again, again-some, again-once, entered-all, entered-rising}
 use Rattle.ecma_classes.specs.PrivateNamesLaws.{invalidAt, invalid-list, valid-none, private-outside, outside-invalid, private-undeclared, invalid-same, class-above, body-of-class}
