@@ -153,7 +153,7 @@ module _ (ns names : List ℕ) where
         go false = refl
 
     -- .. and exactly one, if there are no more than two such properties
-    pub proto-once : length (keep (isProto ns names) (children ns n)) ≤ 2 → times n (protoAgain ns names n) ≡ only (protoTwice ns names n) n
+    pub proto-once : ProtosTwiceAtMost ns names n → times n (protoAgain ns names n) ≡ only (protoTwice ns names n) n
     unfolding protoAgain protoTwice
     proto-once h = rw (kept-same) (go (eqb (kindOf ns n) k.Object) (keep (isProto ns names) (children ns n)) h)
       where

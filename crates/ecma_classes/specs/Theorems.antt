@@ -1,17 +1,16 @@
 -- THE THEOREMS: in well-formed tables the findings with these codes are the breaches of ECMA-262's rules, one finding for each; where the Rust keeps a changed rule, they are
 -- breaches of that, and a law says on which condition it is the standard's. `raised c fs` is the nodes that raise the findings of fs with code c.
-use Prim.Native.Nat.{ℕ, _+_, _≤_, _<_}
+use Prim.Native.Nat.{ℕ, _+_, _<_}
 use mathlib.Core.Path.{_≡_, refl, ap, sym, subst, _∙_}
 use mathlib.Core.List.{List, [], _∷_, _++_, flatMap}
 use mathlib.Core.Bool.{Bool, true, false, cond, not, _&&_, _||_}
 use lib.Dec.{eqb, ltb}
-use lib.ListN.{length}
 use Rattle.common.specs.Upto.{upto, any}
 use Rattle.walk.specs.On.{member}
 use Rattle.tables.specs.Table.{kindOf, parentOf, count}
 use Rattle.tables.specs.Kinds as k
 use Rattle.tables.specs.declared.Found.the-variants.{At}
-use Rattle.children.specs.Children.{keep, children, classBodyOf, found}
+use Rattle.children.specs.Children.{keep, classBodyOf, found}
 use Rattle.children.specs.ChildrenLaws.{found-child}
 use Rattle.trees.specs.Rose.{treeOf}
 use Rattle.trees.specs.Walk.{some, only}
@@ -30,7 +29,7 @@ use Rattle.ecma_dispatch.specs.NodesOf.{raised}
 use Rattle.ecma_dispatch.specs.NodesOfLaws.{raisedAppend, raisedFlat}
 use Rattle.ecma_classes.specs.RaisingLaws.{raising-code, flat-upto, flat-members, keep-upto, any-upto, any-kept, any-three}
 use Rattle.ecma_classes.specs.ListLaws.{Rising, kept-in}
-use Rattle.ecma_classes.specs.ClassElements.{nameMissing, constructorTwice, isFirstConstructor, isProto, protoTwice}
+use Rattle.ecma_classes.specs.ClassElements.{nameMissing, constructorTwice, isFirstConstructor, protoTwice}
 use Rattle.ecma_classes.specs.PrivateNames.{privateBound, entries, allowed, privateTwice, isClassBody, isUse, allPrivateIdentifiersValid, invalidIdentifiers}
 use Rattle.ecma_classes.specs.Supers.{isSuperCall, isSuperProperty, isBare, barsCall, barsProperty, bareError, callError, propertyError, superError, standardBare, standardStray, standardProperty, unit}
 use Rattle.ecma_classes.specs.Changed.{builtTwice, OneConstructor, ConstructorsNamed, protoAgain, KeysPlain, ProtosTwiceAtMost, privateEntered, privateAgain, PrivatesEntered, OnceOrTwice, invalidInTable, PrivatesPlain, isOutside, OutsideUsed, UsedOutside, eachBare, OneInClass, tableBare, tableStray, tableProperty, MethodNamed, MethodsNamed, SuperStands, SupersStand, ConstructorOrdinary, ConstructorsOrdinary}
@@ -124,7 +123,7 @@ module _ (t : ℕ) (ns ss source names : List ℕ) (w : WellFormed t ns ss sourc
   pub code1-object : (n : ℕ) → KeysPlain ns names n → some (protoAgain ns names n) ≡ protoTwice ns names n
   code1-object n p = proto-agrees ns names n p
 
-  pub code1-object-once : (n : ℕ) → KeysPlain ns names n → length (keep (isProto ns names) (children ns n)) ≤ 2 → times n (protoAgain ns names n) ≡ only (protoTwice ns names n) n
+  pub code1-object-once : (n : ℕ) → KeysPlain ns names n → ProtosTwiceAtMost ns names n → times n (protoAgain ns names n) ≡ only (protoTwice ns names n) n
   code1-object-once n p l = proto-once ns names n p l
 
   -- so of the findings at a node ..
