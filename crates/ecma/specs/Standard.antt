@@ -38,10 +38,10 @@ use Rattle.ecma_strict.specs.Changed.{NameTold, BlockTold, LetTold, ArgumentsTo
 use Rattle.ecma_strict.specs.Theorems as strict
 use Rattle.ecma_strict.specs.Standard as rules
 use Rattle.ecma_classes.specs.ClassElements.{nameMissing, constructorTwice, isProto, protoTwice}
-use Rattle.ecma_classes.specs.PrivateNames.{privateBound, entries, allowed, privateTwice, invalidIdentifiers, bodyAround}
+use Rattle.ecma_classes.specs.PrivateNames.{privateBound, entries, allowed, privateTwice, invalidIdentifiers}
 use Rattle.ecma_classes.specs.Supers.{standardBare, standardStray, standardProperty, superError}
 use Rattle.ecma_classes.specs.Changed.{KeysPlain, protoAgain, PrivatesEntered, privateEntered, privateAgain, OnceOrTwice, UsedOutside, PrivatesPlain, ConstructorsNamed, OneConstructor, SupersStand, MethodsNamed, ConstructorsOrdinary}
-use Rattle.ecma_classes.specs.Raised.{times, reported}
+use Rattle.ecma_classes.specs.Raised.{times, bodyAround, reported}
 use Rattle.ecma_classes.specs.Theorems as classes
 
 module _ (told : Telling) (t : ℕ) (ns ss source names : List ℕ) where

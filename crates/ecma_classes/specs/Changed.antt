@@ -20,9 +20,10 @@ use Rattle.names.specs.Words as word
 use Rattle.children.specs.Children.{keep, children, keyOf, valueOf, functionBodyOf, found}
 use Rattle.trees.specs.Rose.{treeOf}
 use Rattle.ecma_base.specs.Telling.{Telling, special}
-use Rattle.ecma_classes.specs.ClassElements.{keyName, computed, classElements, namesConstructor, constructorTwice, isColon}
-use Rattle.ecma_classes.specs.PrivateNames.{isPrivateBound, entries, isSetter, matched, invalid, isUse, bodyAround}
-use Rattle.ecma_classes.specs.Supers.{isSuperCall, isMethod, isConstructorMethod, isBare, barsProperty, unit}
+use Rattle.ecma_classes.specs.ClassElements.{keyName, computed, classElements, namesConstructor, constructorTwice, isColon, isProto}
+use Rattle.ecma_classes.specs.PrivateNames.{isPrivateBound, entries, isSetter, matched, invalid, isUse}
+use Rattle.ecma_classes.specs.Supers.{isSuperCall, isMethod, isConstructorMethod, isBare, barsProperty, classOf, unit}
+use Rattle.ecma_classes.specs.Raised.{bodyAround}
 
 -- 1 at an object: `__proto__`
 
@@ -43,6 +44,10 @@ protoAgain ns names n = cond (eqb (kindOf ns n) k.Object) (later (keep (isKeyedP
 pub record KeysPlain (ns names : List ℕ) (n : ℕ) : Type 0 where
   pub public : (p : ℕ) → member p (children ns n) ≡ true → hasFlag (flagsOf ns p) flag.PrivateKey ≡ false
   pub written : (p : ℕ) → member p (children ns n) ≡ true → same (keyName ns names p) word.proto ≡ true → computed ns (keyOf ns p) ≡ false
+
+-- CONDITION: at most two properties of the object are such
+abbrev pub ProtosTwiceAtMost : List ℕ → List ℕ → ℕ → Type 0
+ProtosTwiceAtMost ns names n = length (keep (isProto ns names) (children ns n)) ≤ 2
 
 -- 1 at a class: private names
 
@@ -105,9 +110,12 @@ OnceOrTwice ns names l = (e : ℕ) → member e l ≡ true → length (entries n
 unfoldable pub isOutside : List ℕ → ℕ → Bool
 isOutside ns n = eqb (kindOf ns n) k.PrivateIdentifier && not (found (bodyAround ns n))
 
--- CONDITION: each PrivateIdentifier outside of ClassBodies is a use
+-- CONDITION: a PrivateIdentifier outside of ClassBodies is a use; each is
+abbrev pub OutsideUsed : List ℕ → ℕ → Type 0
+OutsideUsed ns j = isOutside ns j ≡ true → isUse ns j ≡ true
+
 abbrev pub UsedOutside : List ℕ → Type 0
-UsedOutside ns = (j : ℕ) → j < count ns → isOutside ns j ≡ true → isUse ns j ≡ true
+UsedOutside ns = (j : ℕ) → j < count ns → OutsideUsed ns j
 
 -- 8: private names that no class binds
 
@@ -144,7 +152,10 @@ ConstructorsNamed ns names n = (e : ℕ) → member e (classElements ns n) ≡ t
 abbrev pub eachBare : List ℕ → List ℕ → ℕ → Bool
 eachBare ns names n = isSuperCall ns n && isBare ns (namesConstructor ns names) (unit ns n)
 
--- CONDITION: no class has two, as 15.7.1 wants
+-- CONDITION: the class of a method has not two, as 15.7.1 wants; no class has
+abbrev pub OneInClass : List ℕ → List ℕ → ℕ → Type 0
+OneInClass ns names u = isMethod ns u ≡ true → constructorTwice ns names (classOf ns u) ≡ false
+
 abbrev pub OneConstructor : List ℕ → List ℕ → Type 0
 OneConstructor ns names = (n : ℕ) → n < count ns → constructorTwice ns names n ≡ false
 
@@ -167,14 +178,23 @@ tableStray ns n = isTableCall ns n && not (isConstructorMethod ns (isTableConstr
 abbrev pub tableProperty : List ℕ → ℕ → Bool
 tableProperty ns n = isTableProperty ns n && barsProperty ns (unit ns n)
 
--- CONDITION: a Super stands only in a SuperCall or a SuperProperty
+-- CONDITION: a Super stands in a SuperCall or a SuperProperty; each does
+abbrev pub SuperStands : List ℕ → ℕ → Type 0
+SuperStands ns n = kindOf ns n ≡ k.Super → (kindOf ns (parentOf ns n) ≡ k.Call) ⊎ (kindOf ns (parentOf ns n) ≡ k.OtherMember)
+
 abbrev pub SupersStand : List ℕ → Type 0
-SupersStand ns = (n : ℕ) → n < count ns → kindOf ns n ≡ k.Super → (kindOf ns (parentOf ns n) ≡ k.Call) ⊎ (kindOf ns (parentOf ns n) ≡ k.OtherMember)
+SupersStand ns = (n : ℕ) → n < count ns → SuperStands ns n
 
--- CONDITION: the table calls a method of a class a constructor just where it is called "constructor" and is neither async nor a generator
+-- CONDITION: the table calls a method of a class a constructor just where it is called "constructor" and is neither async nor a generator; so of each
+abbrev pub MethodNamed : Telling → List ℕ → List ℕ → ℕ → Type 0
+MethodNamed told ns names u = isMethod ns u ≡ true → isTableConstructor ns (parentOf ns u) ≡ (namesConstructor ns names (parentOf ns u) && not (special told u))
+
 abbrev pub MethodsNamed : Telling → List ℕ → List ℕ → Type 0
-MethodsNamed told ns names = (u : ℕ) → u < count ns → isMethod ns u ≡ true → isTableConstructor ns (parentOf ns u) ≡ (namesConstructor ns names (parentOf ns u) && not (special told u))
+MethodsNamed told ns names = (u : ℕ) → u < count ns → MethodNamed told ns names u
 
--- CONDITION: no method called "constructor" is async or a generator; else 28 may be broken too (15.7.1), and the Rust raises 29 alone
+-- CONDITION: a method called "constructor" is neither async nor a generator; else 28 may be broken too (15.7.1), and the Rust raises 29 alone; so of each
+abbrev pub ConstructorOrdinary : Telling → List ℕ → List ℕ → ℕ → Type 0
+ConstructorOrdinary told ns names u = isMethod ns u ≡ true → namesConstructor ns names (parentOf ns u) ≡ true → special told u ≡ false
+
 abbrev pub ConstructorsOrdinary : Telling → List ℕ → List ℕ → Type 0
-ConstructorsOrdinary told ns names = (u : ℕ) → u < count ns → isMethod ns u ≡ true → namesConstructor ns names (parentOf ns u) ≡ true → special told u ≡ false
+ConstructorsOrdinary told ns names = (u : ℕ) → u < count ns → ConstructorOrdinary told ns names u

@@ -39,7 +39,8 @@ use Rattle.trees.specs.Walk.{walk}
 use Rattle.trees.specs.Trail.{trail, climb}
 use Rattle.ecma_dispatch.specs.NodesOf.{raised}
 use Rattle.ecma_classes.specs.ClassElements.{keyName, propName, namesConstructor, isConstructorKind, constructorMethod, isFirstConstructor, classElements, nameMissing}
-use Rattle.ecma_classes.specs.PrivateNames.{isPrivateBound, entries, matched, invalid, bodyAround}
+use Rattle.ecma_classes.specs.PrivateNames.{isPrivateBound, entries, matched, invalid}
+use Rattle.ecma_classes.specs.Raised.{bodyAround}
 use Rattle.ecma_classes.specs.Supers.{isSuperCall, begins, isMethod, isObjectMethod, isConstructorMethod, hasHeritage, isBare, isSuperProperty, barsCall, barsProperty, superError, standardStray}
 use Rattle.ecma_classes.specs.Changed.{isConstructor, builtTwice, isKeyedProto, protoAgain, isEntered, privateEntered, clashIn, privateAgain, isTableUse, isOutside, isTableCall, isTableProperty, isTableConstructor, SupersStand, MethodsNamed}
 use Rattle.ecma_base.specs.Contains.{contains, containsAny}

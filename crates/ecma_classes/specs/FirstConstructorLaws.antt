@@ -25,7 +25,7 @@ use Rattle.trees.specs.Trail.{unitOf}
 use Rattle.ecma_classes.specs.ListLaws.{in-kept, upto-in}
 use Rattle.ecma_classes.specs.ClassElements.{elementsIn, classElements, namesConstructor, constructorTwice, isConstructorKind, constructorMethod, isFirstConstructor}
 use Rattle.ecma_classes.specs.Supers.{begins, isMethod, isConstructorMethod, isBare, standardBare}
-use Rattle.ecma_classes.specs.Changed.{OneConstructor, eachBare}
+use Rattle.ecma_classes.specs.Changed.{OneInClass, OneConstructor, eachBare}
 use Rattle.ecma_classes.specs.PrivateNamesLaws.{class-above, body-of-class}
 use Rattle.ecma_classes.specs.SupersLaws.{unit-is, method-kind}
 
@@ -74,7 +74,7 @@ module _ (ns names : List ℕ) where
           never (sym (lt-ltb 1 (length (x ∷ keep (namesConstructor ns names) l)) (omega arith)) ∙ o)
       go false q z false r o y = rw (no-kind x r) (y z o)
 
-module _ (ns names : List ℕ) (tree : Tree ns) (listed : Listed ns) (shaped : Shaped ns) (once : OneConstructor ns names) where
+module _ (ns names : List ℕ) (tree : Tree ns) (listed : Listed ns) (shaped : Shaped ns) where
   module _ (p : ℕ) (h : p < count ns) (e : kindOf ns p ≡ k.MethodDefinition) where
     abbrev body : ℕ
     body = parentOf ns p
@@ -104,12 +104,12 @@ module _ (ns names : List ℕ) (tree : Tree ns) (listed : Listed ns) (shaped : S
     unfolding isConstructorKind
     of-kind q = rw (eq-eqb (kindOf ns p) k.MethodDefinition e) q
 
-    pub first-only : isFirstConstructor ns names p ≡ namesConstructor ns names p
+    pub first-only : constructorTwice ns names (parentOf ns body) ≡ false → isFirstConstructor ns names p ≡ namesConstructor ns names p
     unfolding isFirstConstructor
-    first-only = go (namesConstructor ns names p) refl (isNode (constructorMethod ns names (children ns body)) p) refl
+    first-only once = go (namesConstructor ns names p) refl (isNode (constructorMethod ns names (children ns body)) p) refl
       where
         go : (b : Bool) → namesConstructor ns names p ≡ b → (a : Bool) → isNode (constructorMethod ns names (children ns body)) p ≡ a → a ≡ b
-        go true q a r = sym r ∙ only-first ns names (children ns body) p in-body (of-kind q) (sym twice-is ∙ once (parentOf ns body) (parent-in ns tree body in-table))
+        go true q a r = sym r ∙ only-first ns names (children ns body) p in-body (of-kind q) (sym twice-is ∙ once)
         go false q true r = never (sym (kind-names ns names p (first-kind ns names (children ns body) p r)) ∙ q)
         go false q false r = refl
 
@@ -117,15 +117,20 @@ module _ (ns names : List ℕ) (tree : Tree ns) (listed : Listed ns) (shaped : S
     abbrev u : ℕ
     u = unitOf ns (begins ns) n
 
-    constructor-first : isConstructorMethod ns (namesConstructor ns names) u ≡ isConstructorMethod ns (isFirstConstructor ns names) u
+    -- no class has two, so that of this unit has not
+    pub one-here : OneConstructor ns names → OneInClass ns names u
+    one-here once m =
+        once (parentOf ns (parentOf ns (parentOf ns u))) (parent-in ns tree (parentOf ns (parentOf ns u)) (parent-in ns tree (parentOf ns u) (parent-in ns tree u (unit-is ns tree n h .below))))
+
+    constructor-first : OneInClass ns names u → isConstructorMethod ns (namesConstructor ns names) u ≡ isConstructorMethod ns (isFirstConstructor ns names) u
     unfolding isConstructorMethod
-    constructor-first = go (isMethod ns u) refl
+    constructor-first once = go (isMethod ns u) refl
       where
         go : (b : Bool) → isMethod ns u ≡ b → (b && namesConstructor ns names (parentOf ns u)) ≡ (b && isFirstConstructor ns names (parentOf ns u))
-        go true q = sym (first-only (parentOf ns u) (parent-in ns tree u (unit-is ns tree n h .below)) (method-kind ns u q))
+        go true q = sym (first-only (parentOf ns u) (parent-in ns tree u (unit-is ns tree n h .below)) (method-kind ns u q) (once q))
         go false q = refl
 
     -- THE LAW
-    pub first-same : eachBare ns names n ≡ standardBare ns names n
+    pub first-same : OneInClass ns names u → eachBare ns names n ≡ standardBare ns names n
     unfolding isBare
-    first-same = rw constructor-first
+    first-same once = rw (constructor-first once)

@@ -1,8 +1,8 @@
 pub mod ClassElements
 pub mod PrivateNames
 pub mod Supers
-pub mod Changed
 pub mod Raised
+pub mod Changed
 pub mod SupersByScopes
 pub mod ListLaws
 pub mod RaisingLaws

@@ -4,7 +4,7 @@ use mathlib.Core.Path.{_≡_, refl, ap, sym, _∙_}
 use mathlib.Core.List.{List, [], _∷_, _++_, flatMap, foldr}
 use mathlib.Core.Bool.{Bool, true, false, cond, _&&_}
 use native.Mathlib.Omega.{arith}
-use borrow.Author.Tests.{lt-ltb, le-leb}
+use borrow.Author.Tests.{lt-ltb, le-leb, eqb-true}
 use lib.Dec.{eqb, ltb}
 use lib.ListN.{length}
 use Rattle.common.specs.Upto.{upto}
@@ -28,7 +28,7 @@ use Rattle.ecma_dispatch.specs.NodesOf.{nodesOf, raised}
 use Rattle.ecma_classes.specs.RaisingLaws.{raising-code, keep-upto, keep-alike}
 use Rattle.ecma_classes.specs.ClassElements.{nameFound, keyName, computed, propName, isProto, protoTwice}
 use Rattle.ecma_classes.specs.Raised.{times}
-use Rattle.ecma_classes.specs.Changed.{isKeyedProto, later, protoAgain, KeysPlain}
+use Rattle.ecma_classes.specs.Changed.{isKeyedProto, later, protoAgain, KeysPlain, ProtosTwiceAtMost}
 
 -- what g makes of each member
 abbrev made : (ℕ → ℕ) → List ℕ → List ℕ
@@ -153,7 +153,7 @@ module _ (ns names : List ℕ) where
         go false = refl
 
     -- .. and exactly one, if there are no more than two such properties
-    pub proto-once : length (keep (isProto ns names) (children ns n)) ≤ 2 → times n (protoAgain ns names n) ≡ only (protoTwice ns names n) n
+    pub proto-once : ProtosTwiceAtMost ns names n → times n (protoAgain ns names n) ≡ only (protoTwice ns names n) n
     unfolding protoAgain protoTwice
     proto-once h = rw (kept-same) (go (eqb (kindOf ns n) k.Object) (keep (isProto ns names) (children ns n)) h)
       where
@@ -163,3 +163,22 @@ module _ (ns names : List ℕ) where
         go true (x ∷ y ∷ []) h = refl
         go true (x ∷ y ∷ z ∷ l) h = absurd (omega arith)
         go false l h = refl
+
+  -- of another node there is nothing to ask
+  no-twice : (n : ℕ) → eqb (kindOf ns n) k.Object ≡ false → protoTwice ns names n ≡ false
+  unfolding protoTwice
+  no-twice n e = rw e
+
+  pub proto-at : (n : ℕ) → (kindOf ns n ≡ k.Object → KeysPlain ns names n) → some (protoAgain ns names n) ≡ protoTwice ns names n
+  proto-at n p = go (eqb (kindOf ns n) k.Object) refl
+    where
+      go : (b : Bool) → eqb (kindOf ns n) k.Object ≡ b → some (protoAgain ns names n) ≡ protoTwice ns names n
+      go true e = proto-agrees n (p (eqb-true (kindOf ns n) k.Object e))
+      go false e = rw (no-object n e, no-twice n e)
+
+  pub proto-once-at : (n : ℕ) → (kindOf ns n ≡ k.Object → KeysPlain ns names n × ProtosTwiceAtMost ns names n) → times n (protoAgain ns names n) ≡ only (protoTwice ns names n) n
+  proto-once-at n p = go (eqb (kindOf ns n) k.Object) refl
+    where
+      go : (b : Bool) → eqb (kindOf ns n) k.Object ≡ b → times n (protoAgain ns names n) ≡ only (protoTwice ns names n) n
+      go true e = let q = p (eqb-true (kindOf ns n) k.Object e) in proto-once n (q .0) (q .1)
+      go false e = rw (no-object n e, no-twice n e)

@@ -5,12 +5,10 @@ use mathlib.Core.Bool.{Bool, true, false, cond, not, xor, _&&_, _||_}
 use lib.Dec.{eqb}
 use Rattle.common.specs.Upto.{any}
 use Rattle.common.specs.Tests.{within}
-use Rattle.tables.specs.Table.{kindOf, parentOf, flagsOf, extraOf, ancestors, hasFlag}
+use Rattle.tables.specs.Table.{kindOf, parentOf, flagsOf, extraOf, hasFlag}
 use Rattle.tables.specs.Kinds as k
 use Rattle.tables.specs.Extras as extra
 use Rattle.tables.specs.NodeFlag as flag
-use Rattle.tables.specs.declared.Found.{Found}
-use Rattle.tables.specs.declared.Found.the-variants.{At, Nothing}
 use Rattle.names.specs.Name.{same, nameOf, has}
 use Rattle.children.specs.Children.{keep, children}
 use Rattle.trees.specs.Rose.{Rose, Roses, node, rnil, rcons, treeOf}
@@ -58,7 +56,7 @@ strings ns names l = foldr (λ e r. keyName ns names e ∷ r) [] l
 abbrev pub isClassBody : List ℕ → ℕ → Bool
 isClassBody ns n = eqb (kindOf ns n) k.ClassBody
 
--- 15.7.7, for any reading of what uses a private name and what a ClassBody binds
+-- 15.7.7, by what `uses` a private name and what is `bound` by a ClassBody: parameters, so that changed rules are stated by the same operation
 module _ (ns names : List ℕ) (uses : ℕ → Bool) (bound : ℕ → List ℕ) where
   -- "ClassBody : ClassElementList": "Let newNames be the list-concatenation of names and the PrivateBoundIdentifiers of ClassBody."
   abbrev pub newNames : ℕ → List (List ℕ) → List (List ℕ)
@@ -86,12 +84,3 @@ allPrivateIdentifiersValid ns names = valid ns names (isUse ns) (privateBound ns
 
 abbrev pub invalidIdentifiers : List ℕ → List ℕ → List ℕ
 invalidIdentifiers ns names = invalid ns names (isUse ns) (privateBound ns) (treeOf ns) []
-
--- the nearest ClassBody around a node, and whether it is a given one
-unfoldable pub bodyAround : List ℕ → ℕ → Found
-bodyAround ns n = foldr (λ a r. cond (isClassBody ns a) (At (record { 0 = a })) r) Nothing (ancestors ns n)
-
-abbrev pub sameNode : Found → Found → Bool
-sameNode (At a) (At b) = eqb (a .0) (b .0)
-sameNode (At a) Nothing = false
-sameNode Nothing g = false

@@ -48,8 +48,9 @@ use Rattle.ecma_dispatch.specs.NodesOf.{nodesOf, raised}
 use Rattle.ecma_classes.specs.RaisingLaws.{raising-code, keep-upto, flat-upto, keep-from}
 use Rattle.ecma_classes.specs.ListLaws.{kept-in, in-kept, keep-none, in-upto, upto-in}
 use Rattle.ecma_classes.specs.ClassElements.{keyName}
-use Rattle.ecma_classes.specs.PrivateNames.{sameNode, privateBound, strings, isClassBody, newNames, valid, allValid, invalid, isUse, invalidIdentifiers, bodyAround}
-use Rattle.ecma_classes.specs.Changed.{privateEntered, isTableUse, invalidInTable, PrivatesPlain, isOutside, UsedOutside}
+use Rattle.ecma_classes.specs.PrivateNames.{privateBound, strings, isClassBody, newNames, valid, allValid, invalid, isUse, invalidIdentifiers}
+use Rattle.ecma_classes.specs.Raised.{sameNode, bodyAround}
+use Rattle.ecma_classes.specs.Changed.{privateEntered, isTableUse, invalidInTable, PrivatesPlain, isOutside, OutsideUsed}
 use Rattle.ecma_classes.specs.PrivateTwiceLaws.{name-is, privates-are, entered-all, both-ways}
 
 module _ (ns names : List ℕ) (uses : ℕ → Bool) (bound : ℕ → List ℕ) where
@@ -206,14 +207,14 @@ module _ (ns names : List ℕ) (w : Tree ns) where
         by true = refl
         by false = refl
 
-  -- where each PrivateIdentifier there is a use, these are the ones that the standard's operation finds outside of ClassBodies
-  pub outside-invalid : UsedOutside ns → (j : ℕ) → j < count ns → isOutside ns j ≡ (member j (invalidIdentifiers ns names) && not (found (bodyAround ns j)))
-  outside-invalid u j h =
+  -- where a PrivateIdentifier there is a use, it is one that the standard's operation finds outside of ClassBodies
+  pub outside-invalid : (j : ℕ) → j < count ns → OutsideUsed ns j → isOutside ns j ≡ (member j (invalidIdentifiers ns names) && not (found (bodyAround ns j)))
+  outside-invalid j h u =
       rw (invalid-list ns names (isUse ns) (privateBound ns) w, listed-at (invalidAt ns names (isUse ns) (privateBound ns)) (count ns) j h)
       (go (found (bodyAround ns j)) refl)
     where
       shuts : isUse ns j ≡ false → (x : Bool) → isOutside ns j ≡ x → isOutside ns j ≡ false
-      shuts q true z = never (sym (u j h z) ∙ q)
+      shuts q true z = never (sym (u z) ∙ q)
       shuts q false z = z
 
       off : (x : Bool) → false ≡ (x && false)

@@ -1,23 +1,34 @@
 -- Where findings are told: lists of nodes and of findings that the theorems speak of.
 use Prim.Native.Nat.{ℕ, _+_}
-use mathlib.Core.List.{List, [], _∷_, flatMap}
-use mathlib.Core.Bool.{Bool, cond}
+use mathlib.Core.List.{List, [], _∷_, foldr, flatMap}
+use mathlib.Core.Bool.{Bool, false, cond}
 use lib.Dec.{eqb}
 use Rattle.common.specs.Upto.{upto}
-use Rattle.tables.specs.Table.{kindOf, count}
+use Rattle.tables.specs.Table.{kindOf, count, ancestors}
 use Rattle.tables.specs.Kinds as k
+use Rattle.tables.specs.declared.Found.{Found}
+use Rattle.tables.specs.declared.Found.the-variants.{At, Nothing}
 use Rattle.children.specs.Children.{keep, classBodyOf}
 use Rattle.diagnostics.specs.declared.Finding.{Finding}
 use Rattle.diagnostics.specs.Finding.{listed, errorAt}
 use Rattle.diagnostics.specs.Codes as code
 use Rattle.diagnostics.specs.Contexts as context
 use Rattle.trees.specs.Walk.{each, only}
-use Rattle.ecma_classes.specs.PrivateNames.{sameNode, bodyAround}
+use Rattle.ecma_classes.specs.PrivateNames.{isClassBody}
 use Rattle.ecma_classes.specs.Supers.{unit}
 
 -- n for each member of a list
 abbrev pub times : ℕ → List ℕ → List ℕ
 times n l = each (λ x. n ∷ []) l
+
+-- 7 and 8: the nearest ClassBody around a node, and whether it is a given one
+unfoldable pub bodyAround : List ℕ → ℕ → Found
+bodyAround ns n = foldr (λ a r. cond (isClassBody ns a) (At (record { 0 = a })) r) Nothing (ancestors ns n)
+
+abbrev pub sameNode : Found → Found → Bool
+sameNode (At a) (At b) = eqb (a .0) (b .0)
+sameNode (At a) Nothing = false
+sameNode Nothing g = false
 
 -- 8: a finding for each of these nodes, at the Class whose body is nearest
 abbrev pub reported : List ℕ → List ℕ → List Finding

@@ -2,7 +2,7 @@
 use Prim.Native.Nat.{ℕ, zero, suc, _+_, _-_, _≤_, _<_}
 use mathlib.Core.Path.{_≡_, refl, sym, _∙_}
 use mathlib.Core.List.{List, [], _∷_, _++_, flatMap}
-use mathlib.Core.Bool.{Bool, true, false, cond, _||_}
+use mathlib.Core.Bool.{Bool, true, false, cond, _&&_, _||_}
 use borrow.Author.Tests.{eq-eqb}
 use native.Mathlib.Omega.{arith}
 use native.Mathlib.Numerals.{add-one}
@@ -53,6 +53,16 @@ flat-upto {A} f g i n h = go i (n - i) (λ x a b. h x a (omega arith))
     go i zero h = refl
     go i (suc k) h = rw (h i (omega arith) (omega arith), go (suc i) k (λ x a b. h x (omega arith) (omega arith)))
 
+-- .. of the members of a list
+pub flat-members : {A : Type 0} (f g : ℕ → List A) (l : List ℕ) → ((x : ℕ) → member x l ≡ true → f x ≡ g x) → flatMap f l ≡ flatMap g l
+unfolding flatMap
+flat-members f g [] h = refl
+flat-members f g (x ∷ l) h = rw (h x (rw (eq-eqb x x refl)), flat-members f g l (λ y m. h y (go y (eqb y x) m)))
+  where
+    go : (y : ℕ) (b : Bool) → member y l ≡ true → (b || member y l) ≡ true
+    go y true m = refl
+    go y false m = m
+
 -- numbers below i that do not pass may be left out
 pub keep-from : (q : ℕ → Bool) (n i : ℕ) → i ≤ n → ((x : ℕ) → x < i → q x ≡ false) → keep q (upto 0 n) ≡ keep q (upto i n)
 unfolding keep
@@ -66,6 +76,16 @@ any-upto p q i n h = go i (n - i) (λ x a b. h x a (omega arith))
     go : (i k : ℕ) → ((x : ℕ) → i ≤ x → x < i + k → p x ≡ q x) → any p (range i k) ≡ any q (range i k)
     go i zero h = refl
     go i (suc k) h = rw (h i (omega arith) (omega arith), go (suc i) k (λ x a b. h x (omega arith) (omega arith)))
+
+-- a test of the kept ones
+pub any-kept : (q p : ℕ → Bool) (l : List ℕ) → any p (keep q l) ≡ any (λ x. q x && p x) l
+unfolding keep
+any-kept q p [] = refl
+any-kept q p (x ∷ l) = rw (← any-kept q p l) (go (q x))
+  where
+    go : (b : Bool) → any p (cond b (x ∷ keep q l) (keep q l)) ≡ ((b && p x) || any p (keep q l))
+    go true = refl
+    go false = refl
 
 pub any-three : (p q r : ℕ → Bool) (l : List ℕ) → any (λ x. p x || (q x || r x)) l ≡ (any p l || (any q l || any r l))
 any-three p q r [] = refl

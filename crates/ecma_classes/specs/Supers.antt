@@ -58,7 +58,7 @@ classOf ns u = parentOf ns (parentOf ns (parentOf ns u))
 unfoldable pub hasHeritage : List ℕ → ℕ → Bool
 hasHeritage ns u = hasFlag (flagsOf ns (classOf ns u)) flag.Heritage
 
--- a method of a class that is a constructor, by what `constructs` says of MethodDefinitions
+-- a method of a class that is a constructor, by what `constructs` says of MethodDefinitions: a parameter, so that changed rules are stated by the same definitions
 unfoldable pub isConstructorMethod : List ℕ → (ℕ → Bool) → ℕ → Bool
 isConstructorMethod ns constructs u = isMethod ns u && constructs (parentOf ns u)
 
@@ -91,15 +91,15 @@ barsProperty ns u =
     -- 15.2.1, 15.5.1, 15.6.1, 15.8.1, functions: "FormalParameters Contains SuperProperty", "FunctionBody Contains SuperProperty"
     || isPlainFunction ns u
 
--- u breaks one of them. ClassTail: "Let constructor be ConstructorMethod of ClassBody" (code 28) ..
+-- u breaks one of them. ClassTail: "Let constructor be ConstructorMethod of ClassBody" ..
 abbrev pub bareError : List ℕ → List ℕ → ℕ → Bool
 bareError ns names u = isBare ns (isFirstConstructor ns names) u && unitContains ns (isSuperCall ns) u
 
--- .. the others on SuperCall (29) ..
+-- .. the others on SuperCall ..
 abbrev pub callError : Telling → List ℕ → List ℕ → ℕ → Bool
 callError told ns names u = barsCall told ns names u && unitContains ns (isSuperCall ns) u
 
--- .. those on SuperProperty (30) ..
+-- .. those on SuperProperty ..
 abbrev pub propertyError : List ℕ → ℕ → Bool
 propertyError ns u = barsProperty ns u && unitContains ns (isSuperProperty ns) u
 
@@ -107,7 +107,7 @@ propertyError ns u = barsProperty ns u && unitContains ns (isSuperProperty ns) u
 abbrev pub superError : Telling → List ℕ → List ℕ → ℕ → Bool
 superError told ns names u = bareError ns names u || (callError told ns names u || propertyError ns u)
 
--- THE RULE AT THE SUPER: it is a SuperCall or a SuperProperty, and its unit may not contain one. A unit breaks an error just where one of its Supers does (units28 to units30).
+-- THE RULE AT THE SUPER: it is a SuperCall or a SuperProperty, and its unit may not contain one. A unit breaks an error just where one of its Supers does.
 abbrev pub unit : List ℕ → ℕ → ℕ
 unit ns n = unitOf ns (begins ns) n
 

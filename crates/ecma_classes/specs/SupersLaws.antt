@@ -33,7 +33,7 @@ use Rattle.ecma_base.specs.Telling.{Telling, special}
 use Rattle.ecma_classes.specs.RaisingLaws.{raising-code}
 use Rattle.ecma_classes.specs.ClassElements.{namesConstructor}
 use Rattle.ecma_classes.specs.Supers.{begins, isMethod, isConstructorMethod, classOf, hasHeritage, isObjectMethod, isBlockOrField, isBare, barsCall, barsProperty, isSuperCall, isSuperProperty, standardStray, standardProperty}
-use Rattle.ecma_classes.specs.Changed.{eachBare, isTableConstructor, isTableCall, isTableProperty, tableBare, tableStray, tableProperty, SupersStand, MethodsNamed, ConstructorsOrdinary}
+use Rattle.ecma_classes.specs.Changed.{eachBare, isTableConstructor, isTableCall, isTableProperty, tableBare, tableStray, tableProperty, SuperStands, MethodNamed, ConstructorOrdinary}
 use Rattle.ecma_classes.specs.ScopesFitLaws.{ScopesFit}
 use Rattle.ecma_classes.specs.SuperSearchLaws.{isValue, value-is, inUnit, search-is, no-root, above-other, above-body}
 
@@ -247,14 +247,14 @@ method-kind ns u e =
     eqb-true (kindOf ns (parentOf ns u)) k.MethodDefinition
     (and-left (eqb (kindOf ns (parentOf ns u)) k.MethodDefinition) (isValue ns (parentOf ns u) u) (and-right (eqb (kindOf ns u) k.Function) (eqb (kindOf ns (parentOf ns u)) k.MethodDefinition && isValue ns (parentOf ns u) u) e))
 
--- where each Super stands in a SuperCall or a SuperProperty and the table calls constructors what is, the rules are the standard's; of 28, asked of each constructor
-module _ (ns names : List ℕ) (tree : Tree ns) (stand : SupersStand ns) (n : ℕ) (h : n < count ns) where
+-- where a Super stands in a SuperCall or a SuperProperty and the table calls constructor what is, the rules are the standard's; of 28, asked of each constructor
+module _ (ns names : List ℕ) (tree : Tree ns) (n : ℕ) (h : n < count ns) (stand : SuperStands ns n) where
   call-same : isTableCall ns n ≡ isSuperCall ns n
   unfolding isTableCall isSuperCall
   call-same = go (eqb (kindOf ns n) k.Super) refl
     where
       go : (b : Bool) → eqb (kindOf ns n) k.Super ≡ b → (b && within (kindOf ns (parentOf ns n)) k.Call k.New) ≡ (b && eqb (kindOf ns (parentOf ns n)) k.Call)
-      go true e = ⊎-elim (λ (q : kindOf ns (parentOf ns n) ≡ k.Call). rw q) (λ (q : kindOf ns (parentOf ns n) ≡ k.OtherMember). rw q) (stand n h (eqb-true (kindOf ns n) k.Super e))
+      go true e = ⊎-elim (λ (q : kindOf ns (parentOf ns n) ≡ k.Call). rw q) (λ (q : kindOf ns (parentOf ns n) ≡ k.OtherMember). rw q) (stand (eqb-true (kindOf ns n) k.Super e))
       go false e = refl
 
   property-same : isTableProperty ns n ≡ isSuperProperty ns n
@@ -262,7 +262,7 @@ module _ (ns names : List ℕ) (tree : Tree ns) (stand : SupersStand ns) (n : �
   property-same = go (eqb (kindOf ns n) k.Super) refl
     where
       go : (b : Bool) → eqb (kindOf ns n) k.Super ≡ b → (b && not (within (kindOf ns (parentOf ns n)) k.Call k.New)) ≡ (b && eqb (kindOf ns (parentOf ns n)) k.OtherMember)
-      go true e = ⊎-elim (λ (q : kindOf ns (parentOf ns n) ≡ k.Call). rw q) (λ (q : kindOf ns (parentOf ns n) ≡ k.OtherMember). rw q) (stand n h (eqb-true (kindOf ns n) k.Super e))
+      go true e = ⊎-elim (λ (q : kindOf ns (parentOf ns n) ≡ k.Call). rw q) (λ (q : kindOf ns (parentOf ns n) ≡ k.OtherMember). rw q) (stand (eqb-true (kindOf ns n) k.Super e))
       go false e = refl
 
   abbrev u : ℕ
@@ -293,7 +293,7 @@ module _ (ns names : List ℕ) (tree : Tree ns) (stand : SupersStand ns) (n : �
   pub property-rule-same : tableProperty ns n ≡ standardProperty ns n
   property-rule-same = rw property-same
 
-  module _ (told : Telling) (w : MethodsNamed told ns names) where
+  module _ (told : Telling) (w : MethodNamed told ns names u) where
     -- a unit bars SuperCall unless it is a constructor
     bars-call : barsCall told ns names u ≡ not (isConstructorMethod ns (isTableConstructor ns) u)
     unfolding barsCall isConstructorMethod
@@ -314,26 +314,26 @@ module _ (ns names : List ℕ) (tree : Tree ns) (stand : SupersStand ns) (n : �
         go false x f true q r o s false t = refl
         go false x true false q r true s true t = never (sym t ∙ not-object s)
         go false x true false q r true s false t = refl
-        go false x true false q r false s true t = by (isTableConstructor ns (parentOf ns u)) (namesConstructor ns names (parentOf ns u)) (special told u) (w u below t)
+        go false x true false q r false s true t = by (isTableConstructor ns (parentOf ns u)) (namesConstructor ns names (parentOf ns u)) (special told u) (w t)
         go false x true false q r false s false t = refl
         go false x false false q r o s m t = never (sym r)
 
     pub stray-same : tableStray ns n ≡ standardStray told ns names n
     stray-same = rw (call-same, bars-call)
 
-    constructor-same : ConstructorsOrdinary told ns names → isConstructorMethod ns (isTableConstructor ns) u ≡ isConstructorMethod ns (namesConstructor ns names) u
+    constructor-same : ConstructorOrdinary told ns names u → isConstructorMethod ns (isTableConstructor ns) u ≡ isConstructorMethod ns (namesConstructor ns names) u
     unfolding isConstructorMethod
     constructor-same o = go (isMethod ns u) refl
       where
         by : isMethod ns u ≡ true → (b : Bool) → namesConstructor ns names (parentOf ns u) ≡ b → (b && not (special told u)) ≡ b
-        by e true q = rw (o u below e q)
+        by e true q = rw (o e q)
         by e false q = refl
 
         go : (b : Bool) → isMethod ns u ≡ b → (b && isTableConstructor ns (parentOf ns u)) ≡ (b && namesConstructor ns names (parentOf ns u))
-        go true e = w u below e ∙ by e (namesConstructor ns names (parentOf ns u)) refl
+        go true e = w e ∙ by e (namesConstructor ns names (parentOf ns u)) refl
         go false e = refl
 
-    pub bare-same : ConstructorsOrdinary told ns names → tableBare ns n ≡ eachBare ns names n
+    pub bare-same : ConstructorOrdinary told ns names u → tableBare ns n ≡ eachBare ns names n
     unfolding isBare
     bare-same o = rw (call-same, constructor-same o)
 
@@ -342,7 +342,7 @@ module _ (ns names : List ℕ) (tree : Tree ns) (stand : SupersStand ns) (n : �
     unfolding isConstructorMethod
     named-too e =
         let m = and-left (isMethod ns u) (isTableConstructor ns (parentOf ns u)) e in
-        rw m (and-left (namesConstructor ns names (parentOf ns u)) (not (special told u)) (sym (w u below m) ∙ and-right (isMethod ns u) (isTableConstructor ns (parentOf ns u)) e))
+        rw m (and-left (namesConstructor ns names (parentOf ns u)) (not (special told u)) (sym (w m) ∙ and-right (isMethod ns u) (isTableConstructor ns (parentOf ns u)) e))
 
     pub super-same : (eachBare ns names n || (standardStray told ns names n || standardProperty ns n)) ≡ (tableBare ns n || (tableStray ns n || tableProperty ns n))
     unfolding isBare

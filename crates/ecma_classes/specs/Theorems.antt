@@ -1,20 +1,20 @@
 -- THE THEOREMS: in well-formed tables the findings with these codes are the breaches of ECMA-262's rules, one finding for each; where the Rust keeps a changed rule, they are
 -- breaches of that, and a law says on which condition it is the standard's. `raised c fs` is the nodes that raise the findings of fs with code c.
-use Prim.Native.Nat.{ℕ, _+_, _≤_, _<_}
+use Prim.Native.Nat.{ℕ, _+_, _<_}
 use mathlib.Core.Path.{_≡_, refl, ap, sym, subst, _∙_}
 use mathlib.Core.List.{List, [], _∷_, _++_, flatMap}
 use mathlib.Core.Bool.{Bool, true, false, cond, not, _&&_, _||_}
 use lib.Dec.{eqb, ltb}
-use lib.ListN.{length}
 use Rattle.common.specs.Upto.{upto, any}
 use Rattle.walk.specs.On.{member}
 use Rattle.tables.specs.Table.{kindOf, parentOf, count}
 use Rattle.tables.specs.Kinds as k
 use Rattle.tables.specs.declared.Found.the-variants.{At}
-use Rattle.children.specs.Children.{keep, children, classBodyOf, found}
+use Rattle.children.specs.Children.{keep, classBodyOf, found}
 use Rattle.children.specs.ChildrenLaws.{found-child}
 use Rattle.trees.specs.Rose.{treeOf}
 use Rattle.trees.specs.Walk.{some, only}
+use Rattle.trees.specs.WalkLaws.{someAppend}
 use Rattle.diagnostics.specs.declared.Finding.{Finding}
 use Rattle.diagnostics.specs.Finding.{listed, errorAt}
 use Rattle.diagnostics.specs.Codes as code
@@ -27,26 +27,26 @@ use Rattle.ecma_dispatch.specs.WithCode.{withCode}
 use Rattle.ecma_dispatch.specs.Dispatch.{wholeOne, wholeOther}
 use Rattle.ecma_dispatch.specs.NodesOf.{raised}
 use Rattle.ecma_dispatch.specs.NodesOfLaws.{raisedAppend, raisedFlat}
-use Rattle.ecma_classes.specs.RaisingLaws.{raising-code, flat-upto, keep-upto, any-upto, any-three}
+use Rattle.ecma_classes.specs.RaisingLaws.{raising-code, flat-upto, flat-members, keep-upto, any-upto, any-kept, any-three}
 use Rattle.ecma_classes.specs.ListLaws.{Rising, kept-in}
-use Rattle.ecma_classes.specs.ClassElements.{nameMissing, constructorTwice, isFirstConstructor, isProto, protoTwice}
-use Rattle.ecma_classes.specs.PrivateNames.{sameNode, privateBound, entries, allowed, privateTwice, isClassBody, isUse, allPrivateIdentifiersValid, invalidIdentifiers, bodyAround}
-use Rattle.ecma_classes.specs.Supers.{isSuperCall, isSuperProperty, isBare, barsCall, barsProperty, bareError, callError, propertyError, superError, standardBare, standardStray, standardProperty}
-use Rattle.ecma_classes.specs.Changed.{builtTwice, OneConstructor, ConstructorsNamed, protoAgain, KeysPlain, privateEntered, privateAgain, PrivatesEntered, OnceOrTwice, invalidInTable, PrivatesPlain, isOutside, UsedOutside, eachBare, tableBare, tableStray, tableProperty, MethodsNamed, SupersStand, ConstructorsOrdinary}
+use Rattle.ecma_classes.specs.ClassElements.{nameMissing, constructorTwice, isFirstConstructor, protoTwice}
+use Rattle.ecma_classes.specs.PrivateNames.{privateBound, entries, allowed, privateTwice, isClassBody, isUse, allPrivateIdentifiersValid, invalidIdentifiers}
+use Rattle.ecma_classes.specs.Supers.{isSuperCall, isSuperProperty, isBare, barsCall, barsProperty, bareError, callError, propertyError, superError, standardBare, standardStray, standardProperty, unit}
+use Rattle.ecma_classes.specs.Changed.{builtTwice, OneConstructor, ConstructorsNamed, protoAgain, KeysPlain, ProtosTwiceAtMost, privateEntered, privateAgain, PrivatesEntered, OnceOrTwice, invalidInTable, PrivatesPlain, isOutside, OutsideUsed, UsedOutside, eachBare, OneInClass, tableBare, tableStray, tableProperty, MethodNamed, MethodsNamed, SuperStands, SupersStand, ConstructorOrdinary, ConstructorsOrdinary}
 use Rattle.ecma_classes.specs.SupersByScopes.{bareByScopes, strayByScopes, propertyByScopes}
 use Rattle.ecma_classes.specs.ClassElementsLaws.{class-name, second-constructor, constructors-agree}
-use Rattle.ecma_classes.specs.Raised.{times, reported, inUnit}
-use Rattle.ecma_classes.specs.ObjectsLaws.{proto-again, proto-agrees, proto-once}
+use Rattle.ecma_classes.specs.Raised.{times, sameNode, bodyAround, reported, inUnit}
+use Rattle.ecma_classes.specs.ObjectsLaws.{proto-again, proto-agrees, proto-once, proto-at, proto-once-at}
 use Rattle.ecma_classes.specs.PrivateTwiceLaws.{some-kept, flat-alike, private-again, again-some, again-once, entered-all, entered-rising}
 use Rattle.ecma_classes.specs.PrivateNamesLaws.{invalidAt, invalid-list, valid-none, private-outside, outside-invalid, private-undeclared, invalid-same, class-above, body-of-class}
 use Rattle.ecma_base.specs.Telling.{Telling, ordinary}
 use Rattle.ecma_base.specs.Scopes.{scopesFollow}
 use Rattle.ecma_classes.specs.ScopesFitLaws.{ScopesFit, fit-of}
-use Rattle.ecma_classes.specs.SupersLaws.{super-bare, super-call, super-property, bare-same, stray-same, property-rule-same, super-same}
+use Rattle.ecma_classes.specs.SupersLaws.{unit-is, super-bare, super-call, super-property, bare-same, stray-same, property-rule-same, super-same}
 use Rattle.ecma_classes.specs.SupersByScopesLaws.{bare-by-scopes, stray-by-scopes, property-by-scopes}
-use Rattle.ecma_classes.specs.FirstConstructorLaws.{first-same}
+use Rattle.ecma_classes.specs.FirstConstructorLaws.{one-here, first-same}
 use Rattle.ecma_classes.specs.ContainsLaws.{unit-rule}
-use Rattle.ecma_classes.specs.WholeLaws.{below-of, all-raised, any-unit}
+use Rattle.ecma_classes.specs.WholeLaws.{some-flat, some-times, below-of, all-raised, any-unit}
 
 -- from each node to the whole tree
 module _ (t : ℕ) (ns ss source names : List ℕ) where
@@ -75,16 +75,26 @@ module _ (t : ℕ) (ns ss source names : List ℕ) (w : WellFormed t ns ss sourc
   abbrev findings : List Finding
   findings = findingsOf t ns ss source names
 
+  -- the nodes that raise the findings with code c at a node
+  abbrev at : ℕ → ℕ → List ℕ
+  at c n = raised c (findingsAt t ns ss source names n)
+
   -- 26: class declarations that lack their name (15.7)
+  pub class-name-at : (n : ℕ) → n < count ns → at 26 n ≡ only (nameMissing ns n) n
+  class-name-at n h = class-name t ns ss source names n
+
   pub code26 : raised 26 findings ≡ keep (nameMissing ns) nodes
-  code26 = whole t ns ss source names 26 refl (nameMissing ns) (λ j h. class-name t ns ss source names j)
+  code26 = whole t ns ss source names 26 refl (nameMissing ns) class-name-at
 
   -- 27: classes with a second constructor (15.7.1); changed: with a body
   pub code27 : raised 27 findings ≡ keep (builtTwice ns) nodes
   code27 = whole t ns ss source names 27 refl (builtTwice ns) (λ j h. second-constructor t ns ss source names j)
 
+  pub constructors-at : (n : ℕ) → n < count ns → ConstructorsNamed ns names n → at 27 n ≡ only (constructorTwice ns names n) n
+  constructors-at n h c = second-constructor t ns ss source names n ∙ ap (λ (b : Bool). only b n) (constructors-agree ns names n c)
+
   pub code27-standard : ((n : ℕ) → n < count ns → ConstructorsNamed ns names n) → raised 27 findings ≡ keep (constructorTwice ns names) nodes
-  code27-standard c = code27 ∙ keep-upto (builtTwice ns) (constructorTwice ns names) 0 (count ns) (λ n a b. constructors-agree ns names n (c n b))
+  code27-standard c = whole t ns ss source names 27 refl (constructorTwice ns names) (λ n h. constructors-at n h (c n h))
 
   -- 1: changed: each entry of PrivateBoundIdentifiers that clashes with an earlier one (15.7.1), raised at node 0; each `__proto__` of an object but the first (13.2.5.1)
   pub code1 : raised 1 findings ≡ flatMap (λ b. times 0 (privateAgain ns names (privateEntered ns b))) (keep (isClassBody ns) nodes) ++ flatMap (λ n. times n (protoAgain ns names n)) nodes
@@ -113,16 +123,57 @@ module _ (t : ℕ) (ns ss source names : List ℕ) (w : WellFormed t ns ss sourc
   pub code1-object : (n : ℕ) → KeysPlain ns names n → some (protoAgain ns names n) ≡ protoTwice ns names n
   code1-object n p = proto-agrees ns names n p
 
-  pub code1-object-once : (n : ℕ) → KeysPlain ns names n → length (keep (isProto ns names) (children ns n)) ≤ 2 → times n (protoAgain ns names n) ≡ only (protoTwice ns names n) n
+  pub code1-object-once : (n : ℕ) → KeysPlain ns names n → ProtosTwiceAtMost ns names n → times n (protoAgain ns names n) ≡ only (protoTwice ns names n) n
   code1-object-once n p l = proto-once ns names n p l
+
+  -- so of the findings at a node ..
+  pub protos-at : (n : ℕ) → n < count ns → (kindOf ns n ≡ k.Object → KeysPlain ns names n) → some (at 1 n) ≡ protoTwice ns names n
+  protos-at n h p = ap (λ (l : List ℕ). some l) (proto-again ns names (w .listed) t ss source n) ∙ some-times n (protoAgain ns names n) ∙ proto-at ns names n p
+
+  pub protos-once-at : (n : ℕ) → n < count ns → (kindOf ns n ≡ k.Object → KeysPlain ns names n × ProtosTwiceAtMost ns names n) → at 1 n ≡ only (protoTwice ns names n) n
+  protos-once-at n h p = proto-again ns names (w .listed) t ss source n ∙ proto-once-at ns names n p
+
+  -- .. and of all findings: those of the classes, and those at nodes
+  pub privates-once : ((b : ℕ) → b < count ns → isClassBody ns b ≡ true → PrivatesEntered ns b × OnceOrTwice ns names (privateBound ns b))
+      → raised 1 findings
+      ≡ flatMap (λ b. times 0 (keep (λ e. some (keep (λ d. ltb d e) (entries ns names (privateBound ns b) e)) && not (allowed ns (entries ns names (privateBound ns b) e))) (privateBound ns b))) (keep (isClassBody ns) nodes)
+      ++ flatMap (at 1) nodes
+  privates-once p =
+      code1
+      ∙ rw (
+        flat-members (λ b. times 0 (privateAgain ns names (privateEntered ns b)))
+            (λ b. times 0 (keep (λ e. some (keep (λ d. ltb d e) (entries ns names (privateBound ns b) e)) && not (allowed ns (entries ns names (privateBound ns b) e))) (privateBound ns b))) (keep (isClassBody ns) nodes)
+            (λ b m. let q = kept-in (isClassBody ns) nodes b m in let r = p b (below-of (count ns) b (q .0)) (q .1) in ap (times 0) (code1-class-once b (r .0) (r .1))),
+        flat-alike (λ n. times n (protoAgain ns names n)) (at 1) (λ n. sym (proto-again ns names (w .listed) t ss source n)) nodes,
+      )
+
+  -- there is one just where a class or an object breaks the standard's rule
+  pub redeclared : ((b : ℕ) → b < count ns → isClassBody ns b ≡ true → PrivatesEntered ns b) → ((n : ℕ) → n < count ns → kindOf ns n ≡ k.Object → KeysPlain ns names n)
+      → some (raised 1 findings) ≡ (any (λ b. isClassBody ns b && privateTwice ns names (privateBound ns b)) nodes || any (protoTwice ns names) nodes)
+  redeclared p q =
+      ap (λ (l : List ℕ). some l) code1
+      ∙ someAppend (flatMap (λ b. times 0 (privateAgain ns names (privateEntered ns b))) (keep (isClassBody ns) nodes)) (flatMap (λ n. times n (protoAgain ns names n)) nodes)
+      ∙ rw (
+        some-flat (λ b. times 0 (privateAgain ns names (privateEntered ns b))) (keep (isClassBody ns) nodes) ∙ any-kept (isClassBody ns) (λ b. some (times 0 (privateAgain ns names (privateEntered ns b)))) nodes
+            ∙ any-upto (λ b. isClassBody ns b && some (times 0 (privateAgain ns names (privateEntered ns b)))) (λ b. isClassBody ns b && privateTwice ns names (privateBound ns b)) 0 (count ns)
+            (λ b a h. class-part b h (isClassBody ns b) refl),
+        some-flat (λ n. times n (protoAgain ns names n)) nodes
+            ∙ any-upto (λ n. some (times n (protoAgain ns names n))) (protoTwice ns names) 0 (count ns) (λ n a h. some-times n (protoAgain ns names n) ∙ proto-at ns names n (q n h)),
+      )
+    where
+      class-part : (b : ℕ) → b < count ns → (x : Bool) → isClassBody ns b ≡ x → (x && some (times 0 (privateAgain ns names (privateEntered ns b)))) ≡ (x && privateTwice ns names (privateBound ns b))
+      class-part b h true e = some-times 0 (privateAgain ns names (privateEntered ns b)) ∙ code1-class b (p b h e)
+      class-part b h false e = refl
 
   -- 7: PrivateIdentifiers in no ClassBody; the standard's: those of them at which AllPrivateIdentifiersValid (15.7.7) is false
   pub code7 : raised 7 findings ≡ keep (isOutside ns) nodes
   code7 = whole t ns ss source names 7 refl (isOutside ns) (λ j h. private-outside t ns ss source names j)
 
+  pub outside-at : (j : ℕ) → j < count ns → OutsideUsed ns j → at 7 j ≡ only (member j (invalidIdentifiers ns names) && not (found (bodyAround ns j))) j
+  outside-at j h u = private-outside t ns ss source names j ∙ ap (λ (b : Bool). only b j) (outside-invalid ns names (w .input .tree) j h u)
+
   pub code7-standard : UsedOutside ns → raised 7 findings ≡ keep (λ j. member j (invalidIdentifiers ns names) && not (found (bodyAround ns j))) nodes
-  code7-standard u =
-      code7 ∙ keep-upto (isOutside ns) (λ j. member j (invalidIdentifiers ns names) && not (found (bodyAround ns j))) 0 (count ns) (λ j a b. outside-invalid ns names (w .input .tree) u j b)
+  code7-standard u = whole t ns ss source names 7 refl (λ j. member j (invalidIdentifiers ns names) && not (found (bodyAround ns j))) (λ j h. outside-at j h (u j h))
 
   -- 8: at a Class, one for each PrivateIdentifier at which AllPrivateIdentifiersValid is false and whose nearest ClassBody is the class's; changed: by what the Rust enters
   pub code8 : withCode 8 findings ≡ reported ns (invalidInTable ns names)
@@ -201,18 +252,42 @@ module _ (t : ℕ) (ns ss source names : List ℕ) (w : WellFormed t ns ss sourc
     fit : ScopesFit ns ss
     fit = fit-of ns ss (w .input .tree) follow
 
+    at28 : (n : ℕ) → n < count ns → at 28 n ≡ only (tableBare ns n) n
+    at28 n h = super-bare ns ss (w .input .tree) (w .input .chained) (w .input .scoped) (w .shaped .placed) fit n h t source names
+
+    at29 : (n : ℕ) → n < count ns → at 29 n ≡ only (tableStray ns n) n
+    at29 n h = super-call ns ss (w .input .tree) (w .input .chained) (w .input .scoped) (w .shaped .placed) fit n h t source names
+
+    at30 : (n : ℕ) → n < count ns → at 30 n ≡ only (tableProperty ns n) n
+    at30 n h = super-property ns ss (w .input .tree) (w .input .chained) (w .input .scoped) (w .shaped .placed) fit n h t source names
+
     pub code28 : raised 28 findings ≡ keep (tableBare ns) nodes
-    code28 = whole t ns ss source names 28 refl (tableBare ns) (λ j h. super-bare ns ss (w .input .tree) (w .input .chained) (w .input .scoped) (w .shaped .placed) fit j h t source names)
+    code28 = whole t ns ss source names 28 refl (tableBare ns) at28
 
     pub code29 : raised 29 findings ≡ keep (tableStray ns) nodes
-    code29 = whole t ns ss source names 29 refl (tableStray ns) (λ j h. super-call ns ss (w .input .tree) (w .input .chained) (w .input .scoped) (w .shaped .placed) fit j h t source names)
+    code29 = whole t ns ss source names 29 refl (tableStray ns) at29
 
     pub code30 : raised 30 findings ≡ keep (tableProperty ns) nodes
-    code30 = whole t ns ss source names 30 refl (tableProperty ns) (λ j h. super-property ns ss (w .input .tree) (w .input .chained) (w .input .scoped) (w .shaped .placed) fit j h t source names)
+    code30 = whole t ns ss source names 30 refl (tableProperty ns) at30
+
+    -- at a Super that stands so, where the table calls its unit a constructor just if it is: the standard's
+    pub property-at : (n : ℕ) → n < count ns → SuperStands ns n → at 30 n ≡ only (standardProperty ns n) n
+    property-at n h s = at30 n h ∙ ap (λ (b : Bool). only b n) (property-rule-same ns names (w .input .tree) n h s)
+
+    pub stray-at : (told : Telling) (n : ℕ) → n < count ns → SuperStands ns n → MethodNamed told ns names (unit ns n) → at 29 n ≡ only (standardStray told ns names n) n
+    stray-at told n h s m = at29 n h ∙ ap (λ (b : Bool). only b n) (stray-same ns names (w .input .tree) n h s told m)
+
+    pub bare-at : (told : Telling) (n : ℕ) → n < count ns → SuperStands ns n → MethodNamed told ns names (unit ns n) → ConstructorOrdinary told ns names (unit ns n) → OneInClass ns names (unit ns n)
+        → at 28 n ≡ only (standardBare ns names n) n
+    bare-at told n h s m o once =
+        at28 n h ∙ ap (λ (b : Bool). only b n) (bare-same ns names (w .input .tree) n h s told m o ∙ first-same ns names (w .input .tree) (w .listed) (w .shaped) n h once)
+
+    below : (n : ℕ) → n < count ns → unit ns n < count ns
+    below n h = unit-is ns (w .input .tree) n h .below
 
     module _ (stand : SupersStand ns) where
       pub code30-standard : raised 30 findings ≡ keep (standardProperty ns) nodes
-      code30-standard = code30 ∙ keep-upto (tableProperty ns) (standardProperty ns) 0 (count ns) (λ j a b. property-rule-same ns names (w .input .tree) stand j b)
+      code30-standard = whole t ns ss source names 30 refl (standardProperty ns) (λ n h. property-at n h (stand n h))
 
       -- there is a finding just where some unit breaks the rule
       pub program30 : some (raised 30 findings) ≡ any (propertyError ns) nodes
@@ -225,14 +300,15 @@ module _ (t : ℕ) (ns ss source names : List ℕ) (w : WellFormed t ns ss sourc
       module _ (told : Telling) (named : MethodsNamed told ns names) where
         -- 28 of each constructor, and of the first where no class has two
         pub code28-each : ConstructorsOrdinary told ns names → raised 28 findings ≡ keep (eachBare ns names) nodes
-        code28-each o = code28 ∙ keep-upto (tableBare ns) (eachBare ns names) 0 (count ns) (λ j a b. bare-same ns names (w .input .tree) stand j b told named o)
+        code28-each o = code28 ∙ keep-upto (tableBare ns) (eachBare ns names) 0 (count ns) (λ j a b. bare-same ns names (w .input .tree) j b (stand j b) told (named (unit ns j) (below j b)) (o (unit ns j) (below j b)))
 
         pub code28-standard : ConstructorsOrdinary told ns names → OneConstructor ns names → raised 28 findings ≡ keep (standardBare ns names) nodes
         code28-standard o once =
-            code28-each o ∙ keep-upto (eachBare ns names) (standardBare ns names) 0 (count ns) (λ j a b. first-same ns names (w .input .tree) (w .listed) (w .shaped) once j b)
+            whole t ns ss source names 28 refl (standardBare ns names)
+            (λ n h. bare-at told n h (stand n h) (named (unit ns n) (below n h)) (o (unit ns n) (below n h)) (one-here ns names (w .input .tree) (w .listed) (w .shaped) n h once))
 
         pub code29-standard : raised 29 findings ≡ keep (standardStray told ns names) nodes
-        code29-standard = code29 ∙ keep-upto (tableStray ns) (standardStray told ns names) 0 (count ns) (λ j a b. stray-same ns names (w .input .tree) stand j b told named)
+        code29-standard = whole t ns ss source names 29 refl (standardStray told ns names) (λ n h. stray-at told n h (stand n h) (named (unit ns n) (below n h)))
 
         pub program28 : ConstructorsOrdinary told ns names → OneConstructor ns names → some (raised 28 findings) ≡ any (bareError ns names) nodes
         program28 o once = ap (λ (l : List ℕ). some l) (code28-standard o once) ∙ some-kept (standardBare ns names) nodes ∙ sym any28
@@ -248,7 +324,7 @@ module _ (t : ℕ) (ns ss source names : List ℕ) (w : WellFormed t ns ss sourc
             (sym (any-three (standardBare ns names) (standardStray told ns names) (standardProperty ns) nodes)
             ∙ any-upto (λ j. standardBare ns names j || (standardStray told ns names j || standardProperty ns j)) (λ j. tableBare ns j || (tableStray ns j || tableProperty ns j)) 0 (count ns)
             (λ j a b.
-            ap (λ (x : Bool). x || (standardStray told ns names j || standardProperty ns j)) (sym (first-same ns names (w .input .tree) (w .listed) (w .shaped) once j b))
-            ∙ super-same ns names (w .input .tree) stand j b told named)
+            ap (λ (x : Bool). x || (standardStray told ns names j || standardProperty ns j)) (sym (first-same ns names (w .input .tree) (w .listed) (w .shaped) j b (one-here ns names (w .input .tree) (w .listed) (w .shaped) j b once)))
+            ∙ super-same ns names (w .input .tree) j b (stand j b) told (named (unit ns j) (below j b)))
             ∙ any-three (tableBare ns) (tableStray ns) (tableProperty ns) nodes
             ∙ sym (rw (code28, code29, code30, some-kept (tableBare ns) nodes, some-kept (tableStray ns) nodes, some-kept (tableProperty ns) nodes)))

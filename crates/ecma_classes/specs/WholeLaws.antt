@@ -34,17 +34,20 @@ use Rattle.ecma_dispatch.specs.NodesOf.{nodesOf, raised}
 use Rattle.ecma_dispatch.specs.NodesOfLaws.{raisedFlat}
 use Rattle.ecma_classes.specs.RaisingLaws.{any-upto}
 use Rattle.ecma_classes.specs.ListLaws.{any-hit, any-find, kept-in, in-kept, member-here, in-upto}
-use Rattle.ecma_classes.specs.PrivateNames.{sameNode, bodyAround}
 use Rattle.ecma_classes.specs.Supers.{begins, unitContains}
-use Rattle.ecma_classes.specs.Raised.{times, inUnit}
+use Rattle.ecma_classes.specs.Raised.{times, sameNode, bodyAround, inUnit}
 use Rattle.ecma_classes.specs.PrivateTwiceLaws.{some-kept, both-ways}
 use Rattle.ecma_classes.specs.PrivateNamesLaws.{around-is, class-above, body-of-class}
 use Rattle.ecma_classes.specs.ContainsLaws.{unit-rule}
 
-some-flat : {A : Type 0} (f : ℕ → List A) (l : List ℕ) → some (flatMap f l) ≡ any (λ x. some (f x)) l
+pub some-flat : {A : Type 0} (f : ℕ → List A) (l : List ℕ) → some (flatMap f l) ≡ any (λ x. some (f x)) l
 unfolding flatMap
 some-flat f [] = refl
 some-flat f (x ∷ l) = someAppend (f x) (flatMap f l) ∙ rw (some-flat f l)
+
+pub some-times : (n : ℕ) (l : List ℕ) → some (times n l) ≡ some l
+some-times n [] = refl
+some-times n (x ∷ l) = refl
 
 some-in : (l : List ℕ) → some l ≡ true → (x : ℕ) × (member x l ≡ true)
 some-in [] e = never (sym e)
@@ -81,10 +84,6 @@ module _ (ns : List ℕ) (tree : Tree ns) (listed' : Listed ns) (shaped : Shaped
   unfolding flatMap nodesOf withCode
   raised8 n [] = refl
   raised8 n (m ∷ x) = rw (raised8 n x)
-
-  some-times : (n : ℕ) (x : List ℕ) → some (times n x) ≡ some x
-  some-times n [] = refl
-  some-times n (m ∷ x) = refl
 
   class-raises : (n : ℕ) → some (raised 8 (cond (eqb (kindOf ns n) k.Class) (flatMap (error8 n) (mine n)) [])) ≡ (eqb (kindOf ns n) k.Class && some (mine n))
   unfolding nodesOf withCode
