@@ -93,9 +93,9 @@ unsaid ns n d =
 unfoldable pub saidHead : List ℕ → List ℕ → ℕ → Bool
 saidHead ns ss n = within (kindOf ns n) k.ForIn k.ForOf && ofHead (λ d. badHead ns ss n d && not (unsaid ns n d)) (headOf ns n)
 
--- where they agree: the head has one declaration, and it is no such `let` or `const`
-abbrev pub HeadTold : List ℕ → ℕ → Type 0
-HeadTold ns n = ofHead (unsaid ns n) (headOf ns n) ≡ false
+-- where they agree, and nowhere else: nothing is left unsaid of a head that breaks the rule
+abbrev pub HeadTold : List ℕ → List ℕ → ℕ → Type 0
+HeadTold ns ss n = ofHead (λ d. badHead ns ss n d && unsaid ns n d) (headOf ns n) ≡ false
 
 -- in a script, where the scope is the top one
 unfoldable pub topUsing : ℕ → List ℕ → List ℕ → ℕ → Bool

@@ -14,7 +14,7 @@ use Rattle.trees.specs.Walk.{some, only}
 use Rattle.ecma_dispatch.specs.NodesOf.{raised}
 use Rattle.ecma_base.specs.Telling.{Telling}
 use Rattle.ecma_base.specs.Strict.{strictCode}
-use Rattle.ecma_strict.specs.Literals.{strictOctal, strictNonOctal, strictOctalEscape, strictNonOctalEscape}
+use Rattle.ecma_strict.specs.Literals.{numericLiteral, stringLiteral, strictOctal, strictNonOctal, strictOctalEscape, strictNonOctalEscape}
 use Rattle.ecma_strict.specs.LiteralsLaws.{octalAgrees, nonOctalAgrees, octalEscapeAgrees, nonOctalEscapeAgrees}
 use Rattle.ecma_strict.specs.Delete.{privateReference, derives, deleteExpression, deletesPrivate}
 use Rattle.children.specs.Children.{valueOf}
@@ -32,7 +32,7 @@ use Rattle.ecma_strict.specs.AgreeLaws.{letAgrees, argumentsAgree, param
 use Rattle.ecma_strict.specs.Functions.{functionMisplaced, functionMisplacedElse, sloppyFunction, sloppyFunctionElse, labelsFunction, labelledFunctionAt}
 use Rattle.ecma_strict.specs.FunctionsLaws.{labelledAgrees, labelledStrict, misplacedAgrees, misplacedElseAgrees}
 use Rattle.ecma_strict.specs.Theorems.{code3, code5, code6, code9, code10, code11, code12, code13, code14, code15, code16, code24, code25, code32, code33, beyond, code2}
-use Rattle.ecma_strict.specs.Changed.{BlockTold, LetTold, ArgumentsTold, DirectiveTold, UsingTold, HeadTold, DeleteTold, ParameterTold, letBoundSaid, argumentsSaid, topUsing, deletesPrivateAnywhere, awaitInParameterSaid, firstOctalEscape, BaseTold, EscapesTold, useStrictScoped, awaitNameScoped, scopedInBlock, labelledFunctionSaid, OrdinaryHeld, reservedName, NameTold}
+use Rattle.ecma_strict.specs.Changed.{BlockTold, LetTold, ArgumentsTold, DirectiveTold, UsingTold, HeadTold, DeleteTold, ParameterTold, letBoundSaid, argumentsSaid, topUsing, deletesPrivateAnywhere, awaitInParameterSaid, toldOctal, toldNonOctal, firstOctalEscape, firstNonOctalEscape, BaseTold, EscapesTold, useStrictScoped, awaitNameScoped, scopedInBlock, labelledFunctionSaid, OrdinaryHeld, reservedName, NameTold}
 
 module _ (t : ℕ) (ns ss source names : List ℕ) (w : WellFormed t ns ss source names) (n : ℕ) (h : n < count ns) where
   abbrev at : ℕ → List ℕ
@@ -93,16 +93,36 @@ module _ (t : ℕ) (ns ss source names : List ℕ) (w : WellFormed t ns ss sourc
       go false e = rw e
 
   -- where the table's base is that of the text, the value's length tells of escapes, and no string has both kinds of escape
-  pub standard9 : BaseTold ns source n → EscapesTold ns source n → Rule 9 (strictOctal ns ss source n || strictOctalEscape ns ss source n)
+  pub standard9 : (numericLiteral ns n ≡ true → BaseTold ns source n) → (stringLiteral ns n ≡ true → EscapesTold ns source n)
+      → Rule 9 (strictOctal ns ss source n || strictOctalEscape ns ss source n)
+  unfolding toldOctal strictOctal firstOctalEscape strictOctalEscape
   standard9 b e =
-      code9 t ns ss source names w n h ∙ ap (λ x. only (x || firstOctalEscape ns ss source n) n) (octalAgrees ns ss source n b)
-      ∙ ap (λ x. only (strictOctal ns ss source n || x) n) (octalEscapeAgrees ns ss source n e)
+      code9 t ns ss source names w n h ∙ ap (λ x. only (x || firstOctalEscape ns ss source n) n) (number (numericLiteral ns n) refl)
+      ∙ ap (λ x. only (strictOctal ns ss source n || x) n) (string (stringLiteral ns n) refl)
+    where
+      number : (x : Bool) → numericLiteral ns n ≡ x → toldOctal ns ss source n ≡ strictOctal ns ss source n
+      number true q = octalAgrees ns ss source n (b q)
+      number false q = rw q
 
-  pub standard10 : BaseTold ns source n → Rule 10 (strictNonOctal ns ss source n)
-  standard10 b = code10 t ns ss source names w n h ∙ ap (λ x. only x n) (nonOctalAgrees ns ss source n b)
+      string : (x : Bool) → stringLiteral ns n ≡ x → firstOctalEscape ns ss source n ≡ strictOctalEscape ns ss source n
+      string true q = octalEscapeAgrees ns ss source n (e q)
+      string false q = rw q
 
-  pub standard11 : EscapesTold ns source n → Rule 11 (strictNonOctalEscape ns ss source n)
-  standard11 e = code11 t ns ss source names w n h ∙ ap (λ x. only x n) (nonOctalEscapeAgrees ns ss source n e)
+  pub standard10 : (numericLiteral ns n ≡ true → BaseTold ns source n) → Rule 10 (strictNonOctal ns ss source n)
+  unfolding toldNonOctal strictNonOctal
+  standard10 b = code10 t ns ss source names w n h ∙ ap (λ x. only x n) (go (numericLiteral ns n) refl)
+    where
+      go : (x : Bool) → numericLiteral ns n ≡ x → toldNonOctal ns ss source n ≡ strictNonOctal ns ss source n
+      go true q = nonOctalAgrees ns ss source n (b q)
+      go false q = rw q
+
+  pub standard11 : (stringLiteral ns n ≡ true → EscapesTold ns source n) → Rule 11 (strictNonOctalEscape ns ss source n)
+  unfolding firstNonOctalEscape strictNonOctalEscape
+  standard11 e = code11 t ns ss source names w n h ∙ ap (λ x. only x n) (go (stringLiteral ns n) refl)
+    where
+      go : (x : Bool) → stringLiteral ns n ≡ x → firstNonOctalEscape ns ss source n ≡ strictNonOctalEscape ns ss source n
+      go true q = nonOctalEscapeAgrees ns ss source n (e q)
+      go false q = rw q
 
   -- (`directiveTold` gives the condition where the scopes follow the tree, and a directive stands in the prologue of a program or a function)
   pub standard12 : (kindOf ns n ≡ k.Directive → DirectiveTold ns ss n) → Rule 12 (useStrictThere ns names n)
@@ -150,7 +170,7 @@ module _ (t : ℕ) (ns ss source names : List ℕ) (w : WellFormed t ns ss sourc
           (rw s (none (labelsFunction ns n) (only (functionMisplaced told ns ss n) n ++ only (functionMisplacedElse told ns ss n) n)))
       go false s = rw (code15 t ns ss source names w n h told, standard16 told c s) (rw s)
 
-  pub standard24 : HeadTold ns n → Rule 24 (initializedHead ns ss n)
+  pub standard24 : HeadTold ns ss n → Rule 24 (initializedHead ns ss n)
   standard24 q = code24 t ns ss source names w n h ∙ ap (λ x. only x n) (headAgrees ns ss n q)
 
   pub standard25 : (forAwait ns n ≡ true → BlockTold ns ss n) → Rule 25 (forAwait ns n && awaitInBlock ns n)
