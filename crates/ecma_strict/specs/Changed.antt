@@ -27,8 +27,8 @@ use Rattle.ecma_strict.specs.Statements.{declaratorsOf, plainName, singl
 use Rattle.ecma_strict.specs.ReservedWords.{reservedWords}
 use Rattle.ecma_strict.specs.Parameters.{goalModule, yieldParameter, awaitParameter}
 use Rattle.ecma_strict.specs.Identifiers.{identifier, strictReserved, assignsEval, useStrictDirective, simpleParameters}
-use Rattle.ecma_strict.specs.Contains.{awaitEdge, argumentsEdge, parameterEdge, boundEdge, argumentsReference, parameter, awaitOrYield, lexicalDeclaration, letName}
-use Rattle.ecma_strict.specs.Functions.{endsInStatement, annexHolder, labelsFunction, labelEdge}
+use Rattle.ecma_strict.specs.Contains.{awaitEdge, argumentsEdge, parameterEdge, boundEdge, argumentsReference, parameter, awaitOrYield, lexicalDeclaration, letName, letBound, argumentsInClass}
+use Rattle.ecma_strict.specs.Functions.{endsInStatement, annexHolder, labelsFunction, labelEdge, labelledFunctionAt}
 
 -- 9, 10, 11: literals
 
@@ -154,10 +154,10 @@ unfoldable pub scopedInBlock : List ℕ → List ℕ → ℕ → Bool
 scopedInBlock ns ss n =
     foldr (λ t r. cond (hasFlag (scopeFlagsOf ss t) scope.StaticBlockScope) true (cond (hasFlag (scopeFlagsOf ss t) scope.FunctionScope) false r)) false (scopeOf ns n ∷ outer ss (scopeOf ns n))
 
--- where they agree: the scopes follow the tree, and no Initializer of a field stands between the block and n
+-- where they agree: the scopes follow the tree, and where they say that n is in a static block, no Initializer of a field stands between the block and n
 pub record BlockTold (ns ss : List ℕ) (n : ℕ) : Type 0 where
   pub follow : scopesFollow ns ss ≡ true
-  pub field : within (kindOf ns (unitOf ns (awaitEdge ns) n)) k.PropertyDefinition k.AccessorProperty ≡ false
+  pub field : scopedInBlock ns ss n ≡ true → within (kindOf ns (unitOf ns (awaitEdge ns) n)) k.PropertyDefinition k.AccessorProperty ≡ false
 
 -- 5: not in strict code, where 2 is raised; and the name of a class in the Initializer counts as bound
 abbrev pub letEdge : List ℕ → ℕ → ℕ → Bool
@@ -166,10 +166,10 @@ letEdge ns i j = within (kindOf ns i) k.Program k.Arrow || eqb (kindOf ns i) k.V
 unfoldable pub letBoundSaid : List ℕ → List ℕ → List ℕ → ℕ → Bool
 letBoundSaid ns ss names n = letName ns names n && (not (strictCode ns ss n) && lexicalDeclaration ns (unitOf ns (letEdge ns) n))
 
--- where they agree: the `let` stands in sloppy code, and is not the name of a class in an Initializer
+-- where they agree: a `let` that is bound stands in sloppy code, and one of which the Rust's rule says an error is not the name of a class in an Initializer
 pub record LetTold (ns ss names : List ℕ) (n : ℕ) : Type 0 where
-  pub sloppy : letName ns names n ≡ true → strictCode ns ss n ≡ false
-  pub class : letName ns names n ≡ true → eqb (kindOf ns (unitOf ns (boundEdge ns) n)) k.Class ≡ false
+  pub sloppy : letBound ns names n ≡ true → strictCode ns ss n ≡ false
+  pub class : letBoundSaid ns ss names n ≡ true → eqb (kindOf ns (unitOf ns (boundEdge ns) n)) k.Class ≡ false
 
 -- 6: the Initializer of an auto-accessor is passed over; and a reference at which 4 is raised is left
 abbrev pub fieldEdge : List ℕ → ℕ → ℕ → Bool
@@ -181,10 +181,10 @@ fieldHome ns u = eqb (kindOf ns u) k.StaticBlock || eqb (kindOf ns u) k.Property
 unfoldable pub argumentsSaid : List ℕ → List ℕ → List ℕ → ℕ → Bool
 argumentsSaid ns ss names n = argumentsReference ns names n && (not (assignsEval ns ss names n) && fieldHome ns (unitOf ns (fieldEdge ns) n))
 
--- where they agree: the `arguments` is not assigned to in strict code, and stands in no auto-accessor
+-- where they agree: an `arguments` that breaks the rule is not assigned to in strict code, and stands in no auto-accessor
 pub record ArgumentsTold (ns ss names : List ℕ) (n : ℕ) : Type 0 where
-  pub read : argumentsReference ns names n ≡ true → assignsEval ns ss names n ≡ false
-  pub field : argumentsReference ns names n ≡ true → eqb (kindOf ns (unitOf ns (argumentsEdge ns) n)) k.AccessorProperty ≡ false
+  pub read : argumentsInClass ns names n ≡ true → assignsEval ns ss names n ≡ false
+  pub field : argumentsInClass ns names n ≡ true → eqb (kindOf ns (unitOf ns (argumentsEdge ns) n)) k.AccessorProperty ≡ false
 
 -- 33: static blocks and the Initializers of fields within a parameter count as its parts
 abbrev pub throughClassEdge : List ℕ → ℕ → ℕ → Bool
@@ -193,12 +193,12 @@ throughClassEdge ns i j = within (kindOf ns i) k.Program k.Arrow || parameter ns
 unfoldable pub awaitInParameterSaid : List ℕ → ℕ → Bool
 awaitInParameterSaid ns n = awaitOrYield ns n && parameter ns (unitOf ns (throughClassEdge ns) n)
 
--- where they agree: neither a static block nor the Initializer of a field stands between the parameter and n
+-- where they agree: where the Rust's rule says an error, neither a static block nor the Initializer of a field stands between the parameter and n
 abbrev pub classPart : List ℕ → ℕ → Bool
 classPart ns u = eqb (kindOf ns u) k.StaticBlock || within (kindOf ns u) k.PropertyDefinition k.AccessorProperty
 
 abbrev pub ParameterTold : List ℕ → ℕ → Type 0
-ParameterTold ns n = awaitOrYield ns n ≡ true → classPart ns (unitOf ns (parameterEdge ns) n) ≡ false
+ParameterTold ns n = awaitInParameterSaid ns n ≡ true → classPart ns (unitOf ns (parameterEdge ns) n) ≡ false
 
 -- 16: labelled functions
 
@@ -215,7 +215,7 @@ abbrev pub specialFunction : Telling → List ℕ → Found → Bool
 specialFunction told ns (At m) = eqb (kindOf ns (m .0)) k.Function && special told (m .0)
 specialFunction told ns Nothing = false
 
--- where they agree: where Annex B lets n hold a function, it holds none of these. So in strict code, and at the loops and with, they always agree.
+-- where they agree: where Annex B lets n hold a function, it holds none of these, unless the function is an error as a labelled one. So in strict code, and at the loops and with, they always agree.
 pub record OrdinaryHeld (told : Telling) (ns ss : List ℕ) (n : ℕ) : Type 0 where
-  pub held : annexHolder ns ss n ≡ true → specialFunction told ns (heldOf ns n) ≡ false
+  pub held : annexHolder ns ss n ≡ true → labelledFunctionAt ns n ≡ false → specialFunction told ns (heldOf ns n) ≡ false
   pub behindElse : annexHolder ns ss n ≡ true → specialFunction told ns (alternateOf ns n) ≡ false

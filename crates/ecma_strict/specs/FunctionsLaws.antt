@@ -242,9 +242,9 @@ module _ (told : Telling) (ns ss : List ℕ) (n : ℕ) where
       by false e = refl
   misplacedSame Nothing c = refl
 
-  pub misplacedAgrees : OrdinaryHeld told ns ss n → functionMisplaced ordinary ns ss n ≡ functionMisplaced told ns ss n
+  pub misplacedAgrees : OrdinaryHeld told ns ss n → labelledFunctionAt ns n ≡ false → functionMisplaced ordinary ns ss n ≡ functionMisplaced told ns ss n
   unfolding functionMisplaced
-  misplacedAgrees c = ap (λ b. (endsInStatement ns n || eqb (kindOf ns n) k.Labeled) && b) (misplacedSame (heldOf ns n) (c .held))
+  misplacedAgrees c f = ap (λ b. (endsInStatement ns n || eqb (kindOf ns n) k.Labeled) && b) (misplacedSame (heldOf ns n) (λ a. c .held a f))
 
   pub misplacedElseAgrees : OrdinaryHeld told ns ss n → functionMisplacedElse ordinary ns ss n ≡ functionMisplacedElse told ns ss n
   unfolding functionMisplacedElse
