@@ -28,7 +28,7 @@ use Rattle.ecma_strict.specs.ReservedWords.{reservedWords}
 use Rattle.ecma_strict.specs.Parameters.{goalModule, yieldParameter, awaitParameter}
 use Rattle.ecma_strict.specs.Identifiers.{identifier, strictReserved, assignsEval, useStrictDirective, simpleParameters}
 use Rattle.ecma_strict.specs.Contains.{awaitEdge, argumentsEdge, parameterEdge, boundEdge, argumentsReference, parameter, awaitOrYield, lexicalDeclaration, letName, letBound, argumentsInClass}
-use Rattle.ecma_strict.specs.Functions.{endsInStatement, annexHolder, labelsFunction, labelEdge, labelledFunctionAt}
+use Rattle.ecma_strict.specs.Functions.{endsInStatement, annexHolder, functionMisplaced, functionMisplacedElse, labelsFunction, labelEdge, labelledFunctionAt}
 
 -- 9, 10, 11: literals
 
@@ -207,6 +207,20 @@ unfoldable pub labelledFunctionSaid : List ℕ → List ℕ → ℕ → Bool
 labelledFunctionSaid ns ss n = labelsFunction ns n && (not (strictCode ns ss n) && endsInStatement ns (unitOf ns (labelEdge ns) n))
 
 -- 15, 16: functions in statement position
+
+-- By the codes the rule has two parts: code 15 is of strict code ..
+abbrev pub strictFunction : Telling → List ℕ → List ℕ → ℕ → Bool
+strictFunction told ns ss n = strictCode ns ss n && functionMisplaced told ns ss n
+
+abbrev pub strictFunctionElse : Telling → List ℕ → List ℕ → ℕ → Bool
+strictFunctionElse told ns ss n = strictCode ns ss n && functionMisplacedElse told ns ss n
+
+-- .. and code 16 of code that is not strict
+abbrev pub sloppyFunction : Telling → List ℕ → List ℕ → ℕ → Bool
+sloppyFunction told ns ss n = not (strictCode ns ss n) && functionMisplaced told ns ss n
+
+abbrev pub sloppyFunctionElse : Telling → List ℕ → List ℕ → ℕ → Bool
+sloppyFunctionElse told ns ss n = not (strictCode ns ss n) && functionMisplacedElse told ns ss n
 
 -- The rules are functionMisplaced and functionMisplacedElse at the telling `ordinary`: every function that is found counts as neither async nor a generator.
 

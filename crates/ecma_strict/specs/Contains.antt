@@ -25,17 +25,21 @@ staticBlock ns u = eqb (kindOf ns u) k.StaticBlock
 abbrev pub blockBegin : List ℕ → ℕ → ℕ → Bool
 blockBegin ns i j = staticBlock ns i
 
--- AwaitExpression; for await ( .. of .. ); await using
+-- What `await` is part of: AwaitExpression; for await ( .. of .. ); await using; and names, of which 13.1.1 says the same by [Await] (Identifiers)
+
+-- 15.8: AwaitExpression
 abbrev pub awaitExpression : List ℕ → ℕ → Bool
 awaitExpression ns n = eqb (kindOf ns n) k.Await
 
+-- 14.7.5: for await ( .. of .. )
 abbrev pub forAwait : List ℕ → ℕ → Bool
 forAwait ns n = eqb (kindOf ns n) k.ForOf && hasFlag (flagsOf ns n) flag.ForAwait
 
+-- 14.3.1, as explicit resource management has it: await using
 abbrev pub awaitUsing : List ℕ → ℕ → Bool
 awaitUsing ns n = eqb (kindOf ns n) k.VariableDeclaration && eqb (extraOf ns n) extra.AwaitUsing
 
--- IdentifierReference : Identifier: "If the StringValue of Identifier is "arguments", return true."
+-- 15.7.9 ContainsArguments, IdentifierReference : Identifier: "If the StringValue of Identifier is "arguments", return true."
 abbrev pub argumentsReference : List ℕ → List ℕ → ℕ → Bool
 argumentsReference ns names n = eqb (kindOf ns n) k.IdentifierReference && nameIs ns names n word.argumentsWord
 
@@ -49,13 +53,14 @@ abbrev pub argumentsInto : List ℕ → ℕ → ℕ → Bool
 argumentsInto ns i j = not (eqb (kindOf ns i) k.Function)
 
 -- 15.3.1, 15.5.1, 15.6.1, 15.8.1, 15.9.1: "It is a Syntax Error if FormalParameters Contains YieldExpression is true", "Contains AwaitExpression".
--- FormalParameter, FunctionRestParameter : BindingRestElement
+-- 15.1: FormalParameter, FunctionRestParameter : BindingRestElement
 abbrev pub parameter : List ℕ → ℕ → Bool
 parameter ns i = eqb (kindOf ns i) k.FormalParameter || (eqb (kindOf ns i) k.BindingRestElement && eqb (kindOf ns (parentOf ns i)) k.FormalParameterRest)
 
 abbrev pub parameterBegin : List ℕ → ℕ → ℕ → Bool
 parameterBegin ns i j = parameter ns i
 
+-- 15.8 AwaitExpression, 15.5 YieldExpression
 abbrev pub awaitOrYield : List ℕ → ℕ → Bool
 awaitOrYield ns n = within (kindOf ns n) k.Await k.Yield
 
@@ -70,10 +75,11 @@ boundBegin ns i j = lexicalDeclaration ns i
 abbrev pub boundInto : List ℕ → ℕ → ℕ → Bool
 boundInto ns i j = not (within (kindOf ns i) k.Function k.Arrow || (eqb (kindOf ns i) k.Class || eqb (kindOf ns i) k.VariableDeclaration))
 
+-- 13.1: a BindingIdentifier whose StringValue is "let"
 abbrev pub letName : List ℕ → List ℕ → ℕ → Bool
 letName ns names n = eqb (kindOf ns n) k.BindingIdentifier && nameIs ns names n word.letWord
 
--- THE RULES AT A NODE: it is one of those that make such an operation true. On the way up from it, the first place where one begins or ends is where this one begins.
+-- THE RULES AT A NODE: n makes such an operation true. On the way up from n, the nearest place where one begins or ends is one where it begins (NodeRules: exactly if an operation comes to n).
 
 abbrev pub awaitEdge : List ℕ → ℕ → ℕ → Bool
 awaitEdge ns i j = within (kindOf ns i) k.Program k.StaticBlock || initializer ns i j
@@ -90,14 +96,18 @@ parameterEdge ns i j = (within (kindOf ns i) k.Program k.StaticBlock || paramete
 abbrev pub boundEdge : List ℕ → ℕ → ℕ → Bool
 boundEdge ns i j = (within (kindOf ns i) k.Program k.Arrow || eqb (kindOf ns i) k.Class) || eqb (kindOf ns i) k.VariableDeclaration
 
+-- 15.7.1: in a ClassStaticBlockStatementList that Contains await
 unfoldable pub awaitInBlock : List ℕ → ℕ → Bool
 awaitInBlock ns n = staticBlock ns (unitOf ns (awaitEdge ns) n)
 
+-- 15.7.1: in an Initializer or a ClassStaticBlockStatementList of which ContainsArguments is true
 unfoldable pub argumentsInClass : List ℕ → List ℕ → ℕ → Bool
 argumentsInClass ns names n = argumentsReference ns names n && argumentsHome ns (unitOf ns (argumentsEdge ns) n)
 
+-- 15.3.1, 15.5.1, 15.6.1, 15.8.1, 15.9.1: in a FormalParameter that Contains it
 unfoldable pub awaitInParameter : List ℕ → ℕ → Bool
 awaitInParameter ns n = awaitOrYield ns n && parameter ns (unitOf ns (parameterEdge ns) n)
 
+-- 14.3.1.1, 14.7.5.1: among the BoundNames of a declaration
 unfoldable pub letBound : List ℕ → List ℕ → ℕ → Bool
 letBound ns names n = letName ns names n && lexicalDeclaration ns (unitOf ns (boundEdge ns) n)

@@ -25,10 +25,10 @@ use Rattle.trees.specs.Trail.{unitOf}
 use Rattle.ecma_strict.specs.Nodes.{ofCheck}
 use Rattle.ecma_base.specs.Strict.{strictCode}
 use Rattle.ecma_base.specs.Telling.{Telling, special, ordinary}
-use Rattle.ecma_strict.specs.Functions.{isFunction, endsInStatement, annexHolder, annexAllows, misplaced, functionMisplaced, functionMisplacedElse, strictFunction, strictFunctionElse, sloppyFunction, sloppyFunctionElse, labelEdge, labelledFunctionAt}
+use Rattle.ecma_strict.specs.Functions.{isFunction, endsInStatement, annexHolder, annexAllows, misplaced, functionMisplaced, functionMisplacedElse, labelEdge, labelledFunctionAt}
 use Rattle.ecma_base.specs.ContainsLaws.{upward, unitRoot}
 use Rattle.ecma_strict.specs.SearchLaws.{unitHere, unitPass}
-use Rattle.ecma_strict.specs.Changed.{labelledFunctionSaid, specialFunction, OrdinaryHeld}
+use Rattle.ecma_strict.specs.Changed.{strictFunction, strictFunctionElse, sloppyFunction, sloppyFunctionElse, labelledFunctionSaid, specialFunction, OrdinaryHeld}
 
 module _ (ns ss : List ℕ) (n : ℕ) where
   andTrue : (b : Bool) → (b && true) ≡ b

@@ -33,10 +33,10 @@ use Rattle.ecma_strict.specs.Contains.{letName, argumentsReference, awai
 use Rattle.ecma_base.specs.Scopes.{scopesFollow}
 use Rattle.ecma_strict.specs.ScopesLaws.{scopesTold, directiveTold, usingTold}
 use Rattle.ecma_strict.specs.AgreeLaws.{letAgrees, argumentsAgree, parameterAgrees, blockAgrees}
-use Rattle.ecma_strict.specs.Functions.{functionMisplaced, functionMisplacedElse, sloppyFunction, sloppyFunctionElse, labelsFunction, labelledFunctionAt}
+use Rattle.ecma_strict.specs.Functions.{functionMisplaced, functionMisplacedElse, labelsFunction, labelledFunctionAt}
 use Rattle.ecma_strict.specs.FunctionsLaws.{labelledAgrees, labelledStrict, misplacedAgrees, misplacedElseAgrees}
 use Rattle.ecma_strict.specs.Theorems.{code3, code5, code6, code9, code10, code11, code12, code13, code14, code15, code16, code24, code25, code32, code33, beyond, code2}
-use Rattle.ecma_strict.specs.Changed.{BlockTold, LetTold, ArgumentsTold, DirectiveTold, UsingTold, HeadTold, DeleteTold, ParameterTold, letEdge, letBoundSaid, fieldEdge, fieldHome, classPart, argumentsSaid, topUsing, deletesPrivateAnywhere, awaitInParameterSaid, toldOctal, toldNonOctal, firstOctalEscape, firstNonOctalEscape, BaseTold, EscapesTold, useStrictScoped, awaitNameScoped, scopedInBlock, labelledFunctionSaid, OrdinaryHeld, reservedName, NameTold}
+use Rattle.ecma_strict.specs.Changed.{sloppyFunction, sloppyFunctionElse, BlockTold, LetTold, ArgumentsTold, DirectiveTold, UsingTold, HeadTold, DeleteTold, ParameterTold, letEdge, letBoundSaid, fieldEdge, fieldHome, classPart, argumentsSaid, topUsing, deletesPrivateAnywhere, awaitInParameterSaid, toldOctal, toldNonOctal, firstOctalEscape, firstNonOctalEscape, BaseTold, EscapesTold, useStrictScoped, awaitNameScoped, scopedInBlock, labelledFunctionSaid, OrdinaryHeld, reservedName, NameTold}
 
 module _ (t : ℕ) (ns ss source names : List ℕ) (w : WellFormed t ns ss source names) (n : ℕ) (h : n < count ns) where
   abbrev at : ℕ → List ℕ

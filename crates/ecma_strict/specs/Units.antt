@@ -37,12 +37,12 @@ use Rattle.ecma_strict.specs.ScopesLaws.{scopesTold, directiveTold}
 use Rattle.ecma_base.specs.ContainsLaws.{containsIs, comesIs, comesHome}
 use Rattle.ecma_strict.specs.SearchLaws.{positive}
 use Rattle.ecma_strict.specs.AgreeLaws.{blockEdge, scopesAre}
-use Rattle.ecma_strict.specs.Functions.{isFunction, endsInStatement, endsInLabelled, labelledAmong, labelsFunction, labelEdge, functionMisplaced, strictFunction, strictFunctionElse, sloppyFunction, sloppyFunctionElse}
+use Rattle.ecma_strict.specs.Functions.{isFunction, endsInStatement, endsInLabelled, labelledAmong, labelsFunction, labelEdge, functionMisplaced}
 use Rattle.ecma_strict.specs.FunctionsLaws.{strictMisplaced}
 use Rattle.ecma_strict.specs.LabelledLaws.{statementsOf}
 use Rattle.ecma_strict.specs.Standard.{standard12}
 use Rattle.ecma_strict.specs.Theorems.{code2, code3, code4, code5, code6, code14, code15, code16, code25, code33}
-use Rattle.ecma_strict.specs.Changed.{reservedName, scopedInBlock, awaitNameScoped, letEdge, letBoundSaid, fieldEdge, fieldHome, argumentsSaid, throughClassEdge, awaitInParameterSaid, labelledFunctionSaid}
+use Rattle.ecma_strict.specs.Changed.{strictFunction, strictFunctionElse, sloppyFunction, sloppyFunctionElse, reservedName, scopedInBlock, awaitNameScoped, letEdge, letBoundSaid, fieldEdge, fieldHome, argumentsSaid, throughClassEdge, awaitInParameterSaid, labelledFunctionSaid}
 
 -- two ways to say something, of which each says something where the other does
 someSame : (f g : ℕ → List ℕ) (n : ℕ) → ((j : ℕ) → j < n → some (f j) ≡ some (g j)) → (i : ℕ) → some (each f (upto i n)) ≡ some (each g (upto i n))
@@ -182,7 +182,7 @@ module _ (t : ℕ) (ns ss source names : List ℕ) (w : WellFormed t ns ss sourc
           (someOf (at 6 j) (argumentsSaid ns ss names j) j (code6 t ns ss source names w j l)
           (rw (f, x, comesHome ns (w .input .tree) (argumentsInto ns) (argumentsBegin ns) (fieldEdge ns) (fieldHome ns) u q first on j l e)))
 
-  -- 15.3.1 and others: "FormalParameters Contains YieldExpression", "Contains AwaitExpression": 33
+  -- 15.3.1 and others, of one FormalParameter (FormalParameters contains what one of them does): 33
   pub parametersContain : (u : ℕ) → u < count ns → parameter ns u ≡ true
       → containsFrom ns (awaitOrYield ns) (containsInto ns) (parameterBegin ns) u ≡ some (foundBelow (awaitOrYield ns) (containsInto ns) (parameterBegin ns) u (at 33))
   unfolding awaitInParameterSaid
