@@ -159,17 +159,17 @@ pub record BlockTold (ns ss : List ℕ) (n : ℕ) : Type 0 where
   pub follow : scopesFollow ns ss ≡ true
   pub field : scopedInBlock ns ss n ≡ true → within (kindOf ns (unitOf ns (awaitEdge ns) n)) k.PropertyDefinition k.AccessorProperty ≡ false
 
--- 5: not in strict code, where 2 is raised; and the name of a class in the Initializer counts as bound
+-- 5: not in strict code, where 2 is raised; and what stands in an Initializer or a PropertyName counts as bound, if in no function and no arrow (of names, that of a class, whose code is strict)
 abbrev pub letEdge : List ℕ → ℕ → ℕ → Bool
 letEdge ns i j = within (kindOf ns i) k.Program k.Arrow || eqb (kindOf ns i) k.VariableDeclaration
 
 unfoldable pub letBoundSaid : List ℕ → List ℕ → List ℕ → ℕ → Bool
 letBoundSaid ns ss names n = letName ns names n && (not (strictCode ns ss n) && lexicalDeclaration ns (unitOf ns (letEdge ns) n))
 
--- where they agree: a `let` that is bound stands in sloppy code, and one of which the Rust's rule says an error is not the name of a class in an Initializer
+-- where they agree: a `let` that is bound stands in sloppy code, and on the way up from one of which the Rust's rule says an error, a declaration comes before any Initializer or PropertyName
 pub record LetTold (ns ss names : List ℕ) (n : ℕ) : Type 0 where
   pub sloppy : letBound ns names n ≡ true → strictCode ns ss n ≡ false
-  pub class : letBoundSaid ns ss names n ≡ true → eqb (kindOf ns (unitOf ns (boundEdge ns) n)) k.Class ≡ false
+  pub declared : letBoundSaid ns ss names n ≡ true → eqb (kindOf ns (unitOf ns (boundEdge ns) n)) k.VariableDeclaration ≡ true
 
 -- 6: the Initializer of an auto-accessor is passed over; and a reference at which 4 is raised is left
 abbrev pub fieldEdge : List ℕ → ℕ → ℕ → Bool

@@ -3,11 +3,14 @@ use Prim.Native.Nat.{ℕ}
 use mathlib.Core.List.{List}
 use mathlib.Core.Bool.{Bool, not, _&&_, _||_}
 use lib.Dec.{eqb}
+use Rattle.common.specs.Upto.{any}
 use Rattle.common.specs.Tests.{within}
-use Rattle.tables.specs.Table.{kindOf, parentOf, flagsOf, extraOf, hasFlag}
+use Rattle.tables.specs.Table.{kindOf, parentOf, roleOf, flagsOf, extraOf, hasFlag}
 use Rattle.tables.specs.Kinds as k
+use Rattle.tables.specs.Roles as role
 use Rattle.tables.specs.Extras as extra
 use Rattle.tables.specs.NodeFlag as flag
+use Rattle.children.specs.Children.{children}
 use Rattle.names.specs.Name.{nameIs}
 use Rattle.names.specs.Words as word
 use Rattle.trees.specs.Trail.{unitOf}
@@ -71,9 +74,18 @@ lexicalDeclaration ns u = eqb (kindOf ns u) k.VariableDeclaration && not (eqb (e
 abbrev pub boundBegin : List ℕ → ℕ → ℕ → Bool
 boundBegin ns i j = lexicalDeclaration ns i
 
--- 8.2.1 BoundNames: the BindingIdentifiers below the declaration, but not those of functions, arrows and classes in an Initializer, nor of another declaration
+-- 8.2.1 BoundNames: the BindingIdentifiers of the declaration and its BindingPatterns (14.3.3). "BindingProperty : PropertyName : BindingElement: Return the BoundNames of BindingElement.",
+-- "BindingElement : BindingPattern Initializer: Return the BoundNames of BindingPattern." and so on: into no PropertyName and no Initializer. The BindingElement is the value of a part with a PropertyName,
+-- an Initializer that of one without.
+abbrev pub propertyNamed : List ℕ → ℕ → Bool
+propertyNamed ns i = any (λ c. eqb (roleOf ns c) role.Key) (children ns i)
+
+unfoldable pub unbound : List ℕ → ℕ → ℕ → Bool
+unbound ns i j = eqb (roleOf ns j) role.Key || (eqb (roleOf ns j) role.Value && not (propertyNamed ns i))
+
+-- and into nothing that is no part of a BindingList: a function, an arrow function, another declaration (which stand in a PropertyName or an Initializer)
 abbrev pub boundInto : List ℕ → ℕ → ℕ → Bool
-boundInto ns i j = not (within (kindOf ns i) k.Function k.Arrow || (eqb (kindOf ns i) k.Class || eqb (kindOf ns i) k.VariableDeclaration))
+boundInto ns i j = not ((within (kindOf ns i) k.Function k.Arrow || eqb (kindOf ns i) k.VariableDeclaration) || unbound ns i j)
 
 -- 13.1: a BindingIdentifier whose StringValue is "let"
 abbrev pub letName : List ℕ → List ℕ → ℕ → Bool
@@ -94,7 +106,7 @@ abbrev pub parameterEdge : List ℕ → ℕ → ℕ → Bool
 parameterEdge ns i j = (within (kindOf ns i) k.Program k.StaticBlock || parameter ns i) || initializer ns i j
 
 abbrev pub boundEdge : List ℕ → ℕ → ℕ → Bool
-boundEdge ns i j = (within (kindOf ns i) k.Program k.Arrow || eqb (kindOf ns i) k.Class) || eqb (kindOf ns i) k.VariableDeclaration
+boundEdge ns i j = (within (kindOf ns i) k.Program k.Arrow || eqb (kindOf ns i) k.VariableDeclaration) || unbound ns i j
 
 -- 15.7.1: in a ClassStaticBlockStatementList that Contains await
 unfoldable pub awaitInBlock : List ℕ → ℕ → Bool

@@ -17,7 +17,7 @@ use Rattle.ecma_strict.specs.Delete.{ultimately, privateReference, delet
 use Rattle.ecma_strict.specs.Statements.{annexHead, badHead, initializedHead, heldUsing, badUsing}
 use Rattle.ecma_strict.specs.ReservedWords.{reservedWords}
 use Rattle.ecma_strict.specs.Identifiers.{assignsEval, identifierError}
-use Rattle.ecma_strict.specs.Contains.{awaitInBlock, argumentsInClass, awaitInParameter, letBound}
+use Rattle.ecma_strict.specs.Contains.{awaitInBlock, argumentsInClass, awaitInParameter, unbound, letBound}
 use Rattle.ecma_strict.specs.Functions.{functionMisplaced, functionMisplacedElse, isLabelledFunction, labelledAmong, endsInLabelled, labelledFunctionAt}
 use Rattle.ecma_strict.specs.Changed.{octalFirst, nonOctalFirst, firstOctalEscape, firstNonOctalEscape, deletesPrivateAnywhere, saidHead, topUsing, scopedInBlock, awaitNameScoped, letBoundSaid, argumentsSaid, awaitInParameterSaid, labelledFunctionSaid, reservedName}
 use Rattle.ecma_strict.specs.Parameters.{awaitParameter}
@@ -352,8 +352,45 @@ strictLetTree = record {
 
 -- 14.3.1.1 and 13.1.1: the Rust raises 2 only
 pub strictLet : letBound (strictLetTree .nodes) (strictLetTree .names) 5 ∷ letBoundSaid (strictLetTree .nodes) (strictLetTree .scopes) (strictLetTree .names) 5 ∷ reservedName 0 (strictLetTree .nodes) (strictLetTree .scopes) (strictLetTree .names) 5 ∷ [] ≡ true ∷ false ∷ true ∷ []
-unfolding letBound letBoundSaid reservedName same nameOf above climb upto range keep children isChild firstNode kids others forest partsOf trails.climb trails.trail
+unfolding letBound unbound letBoundSaid reservedName same nameOf above climb upto range keep children isChild firstNode kids others forest partsOf trails.climb trails.trail
 strictLet = refl
+
+-- `let {[class let {}]: let = class let {}} = class let {};`
+abbrev letPatternTree : Tree
+letPatternTree = record {
+  nodes =
+      0 ∷ 0 ∷ 0 ∷ 0 ∷ 57 ∷ 0 ∷ 0 ∷ 0 ∷ 0 ∷ 0
+      ∷ 24 ∷ 0 ∷ 3 ∷ 0 ∷ 56 ∷ 0 ∷ 0 ∷ 1 ∷ 0 ∷ 0
+      ∷ 25 ∷ 1 ∷ 0 ∷ 4 ∷ 55 ∷ 0 ∷ 256 ∷ 0 ∷ 0 ∷ 0
+      ∷ 55 ∷ 2 ∷ 0 ∷ 4 ∷ 40 ∷ 0 ∷ 0 ∷ 0 ∷ 0 ∷ 0
+      ∷ 55 ∷ 3 ∷ 0 ∷ 5 ∷ 39 ∷ 0 ∷ 0 ∷ 0 ∷ 0 ∷ 0
+      ∷ 55 ∷ 4 ∷ 2 ∷ 6 ∷ 18 ∷ 0 ∷ 0 ∷ 0 ∷ 0 ∷ 0
+      ∷ 26 ∷ 5 ∷ 1 ∷ 6 ∷ 18 ∷ 0 ∷ 512 ∷ 1 ∷ 0 ∷ 0
+      ∷ 31 ∷ 6 ∷ 0 ∷ 12 ∷ 15 ∷ 1 ∷ 0 ∷ 0 ∷ 0 ∷ 3
+      ∷ 27 ∷ 6 ∷ 3 ∷ 16 ∷ 18 ∷ 1 ∷ 0 ∷ 0 ∷ 0 ∷ 0
+      ∷ 55 ∷ 4 ∷ 1 ∷ 21 ∷ 39 ∷ 0 ∷ 0 ∷ 0 ∷ 0 ∷ 0
+      ∷ 31 ∷ 9 ∷ 0 ∷ 21 ∷ 24 ∷ 0 ∷ 0 ∷ 0 ∷ 0 ∷ 3
+      ∷ 26 ∷ 9 ∷ 1 ∷ 27 ∷ 39 ∷ 0 ∷ 512 ∷ 2 ∷ 0 ∷ 0
+      ∷ 31 ∷ 11 ∷ 0 ∷ 33 ∷ 36 ∷ 2 ∷ 0 ∷ 0 ∷ 0 ∷ 3
+      ∷ 27 ∷ 11 ∷ 3 ∷ 37 ∷ 39 ∷ 2 ∷ 0 ∷ 0 ∷ 0 ∷ 0
+      ∷ 26 ∷ 2 ∷ 1 ∷ 43 ∷ 55 ∷ 0 ∷ 512 ∷ 3 ∷ 0 ∷ 0
+      ∷ 31 ∷ 14 ∷ 0 ∷ 49 ∷ 52 ∷ 3 ∷ 0 ∷ 0 ∷ 0 ∷ 3
+      ∷ 27 ∷ 14 ∷ 3 ∷ 53 ∷ 55 ∷ 3 ∷ 0 ∷ 0 ∷ 0 ∷ 0
+      ∷ [];
+  scopes = 0 ∷ 2 ∷ 0 ∷ 0 ∷ 1 ∷ 6 ∷ 0 ∷ 1 ∷ 11 ∷ 0 ∷ 1 ∷ 14 ∷ [];
+  names = 108 ∷ 101 ∷ 116 ∷ [];
+  source = [];
+}
+
+-- 8.2.1: the BindingElement of a BindingProperty; not the class in its PropertyName, in its Initializer, nor in that of the declaration
+pub letPattern : map (letBound (letPatternTree .nodes) (letPatternTree .names)) (7 ∷ 10 ∷ 12 ∷ 15 ∷ []) ≡ false ∷ true ∷ false ∷ false ∷ []
+unfolding letBound unbound same nameOf above climb upto range keep children isChild firstNode kids others forest partsOf trails.climb trails.trail
+letPattern = refl
+
+-- .. and the Rust's rule, of code that is not strict
+pub letPatternSaid : map (letBoundSaid (letPatternTree .nodes) (letPatternTree .scopes) (letPatternTree .names)) (7 ∷ 10 ∷ 12 ∷ 15 ∷ []) ≡ false ∷ true ∷ false ∷ false ∷ []
+unfolding letBoundSaid same nameOf above climb upto range keep children isChild firstNode kids others forest partsOf trails.climb trails.trail
+letPatternSaid = refl
 
 -- `for (let x = 1 in o);`
 abbrev letHeadTree : Tree
@@ -733,6 +770,6 @@ unfolding identifierError same nameOf above climb upto range keep children isChi
 wordNames = refl
 
 -- the scopes of all these trees follow the tree
-pub scopesHold : map (λ t. scopesFollow (t .nodes) (t .scopes)) (blockNameTree ∷ arrowParameterTree ∷ arrowBodyTree ∷ functionNameTree ∷ expressionNameTree ∷ parameterBlockTree ∷ accessorTree ∷ assignedTree ∷ strictLetTree ∷ letHeadTree ∷ varHeadTree ∷ usingClauseTree ∷ usingTopTree ∷ usingBlockTree ∷ usingForTree ∷ strictLabelTree ∷ twoLabelsTree ∷ asyncIfTree ∷ generatorElseTree ∷ asyncLabelTree ∷ twoEscapesTree ∷ privateChainTree ∷ generatorTree ∷ asyncTree ∷ []) ≡ map (λ t. true) (blockNameTree ∷ arrowParameterTree ∷ arrowBodyTree ∷ functionNameTree ∷ expressionNameTree ∷ parameterBlockTree ∷ accessorTree ∷ assignedTree ∷ strictLetTree ∷ letHeadTree ∷ varHeadTree ∷ usingClauseTree ∷ usingTopTree ∷ usingBlockTree ∷ usingForTree ∷ strictLabelTree ∷ twoLabelsTree ∷ asyncIfTree ∷ generatorElseTree ∷ asyncLabelTree ∷ twoEscapesTree ∷ privateChainTree ∷ generatorTree ∷ asyncTree ∷ [])
+pub scopesHold : map (λ t. scopesFollow (t .nodes) (t .scopes)) (blockNameTree ∷ arrowParameterTree ∷ arrowBodyTree ∷ functionNameTree ∷ expressionNameTree ∷ parameterBlockTree ∷ accessorTree ∷ assignedTree ∷ strictLetTree ∷ letPatternTree ∷ letHeadTree ∷ varHeadTree ∷ usingClauseTree ∷ usingTopTree ∷ usingBlockTree ∷ usingForTree ∷ strictLabelTree ∷ twoLabelsTree ∷ asyncIfTree ∷ generatorElseTree ∷ asyncLabelTree ∷ twoEscapesTree ∷ privateChainTree ∷ generatorTree ∷ asyncTree ∷ []) ≡ map (λ t. true) (blockNameTree ∷ arrowParameterTree ∷ arrowBodyTree ∷ functionNameTree ∷ expressionNameTree ∷ parameterBlockTree ∷ accessorTree ∷ assignedTree ∷ strictLetTree ∷ letPatternTree ∷ letHeadTree ∷ varHeadTree ∷ usingClauseTree ∷ usingTopTree ∷ usingBlockTree ∷ usingForTree ∷ strictLabelTree ∷ twoLabelsTree ∷ asyncIfTree ∷ generatorElseTree ∷ asyncLabelTree ∷ twoEscapesTree ∷ privateChainTree ∷ generatorTree ∷ asyncTree ∷ [])
 unfolding scopesFollow flaggedAt followsAt classAt upto range
 scopesHold = refl

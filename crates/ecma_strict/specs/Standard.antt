@@ -93,17 +93,16 @@ module _ (t : ℕ) (ns ss source names : List ℕ) (w : WellFormed t ns ss sourc
   unfolding letBoundSaid letBound
   standard5 q = code5 t ns ss source names w n h ∙ ap (λ x. only x n) (go (letBoundSaid ns ss names n) refl (letBound ns names n) refl)
     where
-      by : strictCode ns ss n ≡ false → eqb (kindOf ns (unitOf ns (boundEdge ns) n)) k.Class ≡ false → letBoundSaid ns ss names n ≡ letBound ns names n
+      by : strictCode ns ss n ≡ false → eqb (kindOf ns (unitOf ns (boundEdge ns) n)) k.VariableDeclaration ≡ true → letBoundSaid ns ss names n ≡ letBound ns names n
       by = letAgrees ns ss names n (w .input .tree) h
 
       go : (a : Bool) → letBoundSaid ns ss names n ≡ a → (b : Bool) → letBound ns names n ≡ b → letBoundSaid ns ss names n ≡ letBound ns names n
       go true x b y =
           let s = and-right (letName ns names n) (not (strictCode ns ss n) && lexicalDeclaration ns (unitOf ns (letEdge ns) n)) x in
-          by (not-true (strictCode ns ss n) (and-left (not (strictCode ns ss n)) (lexicalDeclaration ns (unitOf ns (letEdge ns) n)) s)) (q .class x)
+          by (not-true (strictCode ns ss n) (and-left (not (strictCode ns ss n)) (lexicalDeclaration ns (unitOf ns (letEdge ns) n)) s)) (q .declared x)
       go false x true y =
           let l = and-right (letName ns names n) (lexicalDeclaration ns (unitOf ns (boundEdge ns) n)) y in
-          let u = eqb-true (kindOf ns (unitOf ns (boundEdge ns) n)) 24 (and-left (eqb (kindOf ns (unitOf ns (boundEdge ns) n)) 24) (not (eqb (extraOf ns (unitOf ns (boundEdge ns) n)) extra.Var)) l) in
-          by (q .sloppy y) (rw u)
+          by (q .sloppy y) (and-left (eqb (kindOf ns (unitOf ns (boundEdge ns) n)) 24) (not (eqb (extraOf ns (unitOf ns (boundEdge ns) n)) extra.Var)) l)
       go false x false y = x ∙ sym y
 
   pub standard6 : ArgumentsTold ns ss names n → Rule 6 (argumentsInClass ns names n)
