@@ -9,7 +9,7 @@ use native.Mathlib.Omega.{arith}
 use borrow.Author.Tests.{eq-eqb, eqb-true, eqb-false}
 use lib.Dec.{eqb}
 use Rattle.common.specs.Tests.{within}
-use Rattle.common.specs.Bools.{never, in-range, range-of}
+use Rattle.common.specs.Bools.{never, or-second, in-range, range-of}
 use Rattle.tables.specs.Table.{kindOf, parentOf, count, scopeOf, scopeParentOf}
 use Rattle.tables.specs.Facts.{Tree, Chained, Scoped}
 use Rattle.tables.specs.Kinds as k
@@ -20,7 +20,7 @@ use Rattle.trees.specs.Trail.{unitOf}
 use Rattle.ecma_base.specs.Strict.{strictCode}
 use Rattle.ecma_strict.specs.Identifiers.{assignsEval}
 use Rattle.ecma_base.specs.Contains.{initializer}
-use Rattle.ecma_strict.specs.Contains.{awaitEdge, staticBlock, argumentsEdge, argumentsHome, argumentsReference, parameter, parameterEdge, boundEdge, awaitInBlock, argumentsInClass, awaitInParameter, letBound}
+use Rattle.ecma_strict.specs.Contains.{awaitEdge, staticBlock, argumentsEdge, argumentsHome, argumentsReference, parameter, parameterEdge, unbound, boundEdge, awaitInBlock, argumentsInClass, awaitInParameter, letBound}
 use Rattle.ecma_base.specs.Scopes.{blockScope, functionScope}
 use Rattle.ecma_base.specs.ContainsLaws.{upward, unitRoot}
 use Rattle.ecma_strict.specs.SearchLaws.{unitHere, unitPass}
@@ -58,27 +58,17 @@ andLeft : (a b : Bool) → (a && b) ≡ true → a ≡ true
 andLeft true b e = refl
 andLeft false b e = never (sym e)
 
--- CODE 5: in sloppy code, where no class stands between
-pub letAgrees : (ns ss names : List ℕ) (n : ℕ) → Tree ns → n < count ns → strictCode ns ss n ≡ false → eqb (kindOf ns (unitOf ns (boundEdge ns) n)) k.Class ≡ false
+-- CODE 5: in sloppy code, where a declaration comes before any Initializer or PropertyName
+pub letAgrees : (ns ss names : List ℕ) (n : ℕ) → Tree ns → n < count ns → strictCode ns ss n ≡ false → eqb (kindOf ns (unitOf ns (boundEdge ns) n)) k.VariableDeclaration ≡ true
     → letBoundSaid ns ss names n ≡ letBound ns names n
 unfolding letBoundSaid letBound
-letAgrees ns ss names n t h s e = rw (s, unitsAgree ns t (boundEdge ns) (letEdge ns) (λ u. eqb (kindOf ns u) k.Class) sub more n h e)
+letAgrees ns ss names n t h s e = rw (s, unitsAgree ns t (boundEdge ns) (letEdge ns) (λ u. not (eqb (kindOf ns u) k.VariableDeclaration)) sub more n h (ap not e))
   where
     sub : (i j : ℕ) → letEdge ns i j ≡ true → boundEdge ns i j ≡ true
-    sub i j = by (within (kindOf ns i) 0 2) (eqb (kindOf ns i) 26) (eqb (kindOf ns i) 24)
-      where
-        by : (a b c : Bool) → (a || c) ≡ true → ((a || b) || c) ≡ true
-        by true b c e = refl
-        by false true c e = refl
-        by false false c e = e
+    sub i j e = orLeft (letEdge ns i j) (unbound ns i j) e
 
-    more : (i j : ℕ) → boundEdge ns i j ≡ true → letEdge ns i j ≡ false → eqb (kindOf ns i) k.Class ≡ true
-    more i j = by (within (kindOf ns i) 0 2) (eqb (kindOf ns i) 26) (eqb (kindOf ns i) 24)
-      where
-        by : (a b c : Bool) → ((a || b) || c) ≡ true → (a || c) ≡ false → b ≡ true
-        by true b c e f = never f
-        by false true c e f = refl
-        by false false c e f = never (sym e ∙ f)
+    more : (i j : ℕ) → boundEdge ns i j ≡ true → letEdge ns i j ≡ false → not (eqb (kindOf ns i) k.VariableDeclaration) ≡ true
+    more i j e f = ap not (or-second (within (kindOf ns i) 0 2) (eqb (kindOf ns i) 24) f)
 
 -- CODE 6: where the reference is no target of an assignment in strict code, and in no auto-accessor
 pub argumentsAgree : (ns ss names : List ℕ) (n : ℕ) → Tree ns → n < count ns → assignsEval ns ss names n ≡ false → eqb (kindOf ns (unitOf ns (argumentsEdge ns) n)) k.AccessorProperty ≡ false

@@ -27,8 +27,8 @@ use Rattle.ecma_strict.specs.Statements.{declaratorsOf, plainName, singl
 use Rattle.ecma_strict.specs.ReservedWords.{reservedWords}
 use Rattle.ecma_strict.specs.Parameters.{goalModule, yieldParameter, awaitParameter}
 use Rattle.ecma_strict.specs.Identifiers.{identifier, strictReserved, assignsEval, useStrictDirective, simpleParameters}
-use Rattle.ecma_strict.specs.Contains.{awaitEdge, argumentsEdge, parameterEdge, boundEdge, argumentsReference, parameter, awaitOrYield, lexicalDeclaration, letName}
-use Rattle.ecma_strict.specs.Functions.{endsInStatement, annexHolder, labelsFunction, labelEdge}
+use Rattle.ecma_strict.specs.Contains.{awaitEdge, argumentsEdge, parameterEdge, boundEdge, argumentsReference, parameter, awaitOrYield, lexicalDeclaration, letName, letBound, argumentsInClass}
+use Rattle.ecma_strict.specs.Functions.{endsInStatement, annexHolder, functionMisplaced, functionMisplacedElse, labelsFunction, labelEdge, labelledFunctionAt}
 
 -- 9, 10, 11: literals
 
@@ -93,9 +93,9 @@ unsaid ns n d =
 unfoldable pub saidHead : List ℕ → List ℕ → ℕ → Bool
 saidHead ns ss n = within (kindOf ns n) k.ForIn k.ForOf && ofHead (λ d. badHead ns ss n d && not (unsaid ns n d)) (headOf ns n)
 
--- where they agree: the head has one declaration, and it is no such `let` or `const`
-abbrev pub HeadTold : List ℕ → ℕ → Type 0
-HeadTold ns n = ofHead (unsaid ns n) (headOf ns n) ≡ false
+-- where they agree, and nowhere else: nothing is left unsaid of a head that breaks the rule
+abbrev pub HeadTold : List ℕ → List ℕ → ℕ → Type 0
+HeadTold ns ss n = ofHead (λ d. badHead ns ss n d && unsaid ns n d) (headOf ns n) ≡ false
 
 -- in a script, where the scope is the top one
 unfoldable pub topUsing : ℕ → List ℕ → List ℕ → ℕ → Bool
@@ -154,22 +154,22 @@ unfoldable pub scopedInBlock : List ℕ → List ℕ → ℕ → Bool
 scopedInBlock ns ss n =
     foldr (λ t r. cond (hasFlag (scopeFlagsOf ss t) scope.StaticBlockScope) true (cond (hasFlag (scopeFlagsOf ss t) scope.FunctionScope) false r)) false (scopeOf ns n ∷ outer ss (scopeOf ns n))
 
--- where they agree: the scopes follow the tree, and no Initializer of a field stands between the block and n
+-- where they agree: the scopes follow the tree, and where they say that n is in a static block, no Initializer of a field stands between the block and n
 pub record BlockTold (ns ss : List ℕ) (n : ℕ) : Type 0 where
   pub follow : scopesFollow ns ss ≡ true
-  pub field : within (kindOf ns (unitOf ns (awaitEdge ns) n)) k.PropertyDefinition k.AccessorProperty ≡ false
+  pub field : scopedInBlock ns ss n ≡ true → within (kindOf ns (unitOf ns (awaitEdge ns) n)) k.PropertyDefinition k.AccessorProperty ≡ false
 
--- 5: not in strict code, where 2 is raised; and the name of a class in the Initializer counts as bound
+-- 5: not in strict code, where 2 is raised; and what stands in an Initializer or a PropertyName counts as bound, if in no function and no arrow (of names, that of a class, whose code is strict)
 abbrev pub letEdge : List ℕ → ℕ → ℕ → Bool
 letEdge ns i j = within (kindOf ns i) k.Program k.Arrow || eqb (kindOf ns i) k.VariableDeclaration
 
 unfoldable pub letBoundSaid : List ℕ → List ℕ → List ℕ → ℕ → Bool
 letBoundSaid ns ss names n = letName ns names n && (not (strictCode ns ss n) && lexicalDeclaration ns (unitOf ns (letEdge ns) n))
 
--- where they agree: the `let` stands in sloppy code, and is not the name of a class in an Initializer
+-- where they agree: a `let` that is bound stands in sloppy code, and on the way up from one of which the Rust's rule says an error, a declaration comes before any Initializer or PropertyName
 pub record LetTold (ns ss names : List ℕ) (n : ℕ) : Type 0 where
-  pub sloppy : letName ns names n ≡ true → strictCode ns ss n ≡ false
-  pub class : letName ns names n ≡ true → eqb (kindOf ns (unitOf ns (boundEdge ns) n)) k.Class ≡ false
+  pub sloppy : letBound ns names n ≡ true → strictCode ns ss n ≡ false
+  pub declared : letBoundSaid ns ss names n ≡ true → eqb (kindOf ns (unitOf ns (boundEdge ns) n)) k.VariableDeclaration ≡ true
 
 -- 6: the Initializer of an auto-accessor is passed over; and a reference at which 4 is raised is left
 abbrev pub fieldEdge : List ℕ → ℕ → ℕ → Bool
@@ -181,10 +181,10 @@ fieldHome ns u = eqb (kindOf ns u) k.StaticBlock || eqb (kindOf ns u) k.Property
 unfoldable pub argumentsSaid : List ℕ → List ℕ → List ℕ → ℕ → Bool
 argumentsSaid ns ss names n = argumentsReference ns names n && (not (assignsEval ns ss names n) && fieldHome ns (unitOf ns (fieldEdge ns) n))
 
--- where they agree: the `arguments` is not assigned to in strict code, and stands in no auto-accessor
+-- where they agree: an `arguments` that breaks the rule is not assigned to in strict code, and stands in no auto-accessor
 pub record ArgumentsTold (ns ss names : List ℕ) (n : ℕ) : Type 0 where
-  pub read : argumentsReference ns names n ≡ true → assignsEval ns ss names n ≡ false
-  pub field : argumentsReference ns names n ≡ true → eqb (kindOf ns (unitOf ns (argumentsEdge ns) n)) k.AccessorProperty ≡ false
+  pub read : argumentsInClass ns names n ≡ true → assignsEval ns ss names n ≡ false
+  pub field : argumentsInClass ns names n ≡ true → eqb (kindOf ns (unitOf ns (argumentsEdge ns) n)) k.AccessorProperty ≡ false
 
 -- 33: static blocks and the Initializers of fields within a parameter count as its parts
 abbrev pub throughClassEdge : List ℕ → ℕ → ℕ → Bool
@@ -193,12 +193,12 @@ throughClassEdge ns i j = within (kindOf ns i) k.Program k.Arrow || parameter ns
 unfoldable pub awaitInParameterSaid : List ℕ → ℕ → Bool
 awaitInParameterSaid ns n = awaitOrYield ns n && parameter ns (unitOf ns (throughClassEdge ns) n)
 
--- where they agree: neither a static block nor the Initializer of a field stands between the parameter and n
+-- where they agree: where the Rust's rule says an error, neither a static block nor the Initializer of a field stands between the parameter and n
 abbrev pub classPart : List ℕ → ℕ → Bool
 classPart ns u = eqb (kindOf ns u) k.StaticBlock || within (kindOf ns u) k.PropertyDefinition k.AccessorProperty
 
 abbrev pub ParameterTold : List ℕ → ℕ → Type 0
-ParameterTold ns n = awaitOrYield ns n ≡ true → classPart ns (unitOf ns (parameterEdge ns) n) ≡ false
+ParameterTold ns n = awaitInParameterSaid ns n ≡ true → classPart ns (unitOf ns (parameterEdge ns) n) ≡ false
 
 -- 16: labelled functions
 
@@ -208,6 +208,20 @@ labelledFunctionSaid ns ss n = labelsFunction ns n && (not (strictCode ns ss n) 
 
 -- 15, 16: functions in statement position
 
+-- By the codes the rule has two parts: code 15 is of strict code ..
+abbrev pub strictFunction : Telling → List ℕ → List ℕ → ℕ → Bool
+strictFunction told ns ss n = strictCode ns ss n && functionMisplaced told ns ss n
+
+abbrev pub strictFunctionElse : Telling → List ℕ → List ℕ → ℕ → Bool
+strictFunctionElse told ns ss n = strictCode ns ss n && functionMisplacedElse told ns ss n
+
+-- .. and code 16 of code that is not strict
+abbrev pub sloppyFunction : Telling → List ℕ → List ℕ → ℕ → Bool
+sloppyFunction told ns ss n = not (strictCode ns ss n) && functionMisplaced told ns ss n
+
+abbrev pub sloppyFunctionElse : Telling → List ℕ → List ℕ → ℕ → Bool
+sloppyFunctionElse told ns ss n = not (strictCode ns ss n) && functionMisplacedElse told ns ss n
+
 -- The rules are functionMisplaced and functionMisplacedElse at the telling `ordinary`: every function that is found counts as neither async nor a generator.
 
 -- it is a function, and one of the two
@@ -215,7 +229,7 @@ abbrev pub specialFunction : Telling → List ℕ → Found → Bool
 specialFunction told ns (At m) = eqb (kindOf ns (m .0)) k.Function && special told (m .0)
 specialFunction told ns Nothing = false
 
--- where they agree: where Annex B lets n hold a function, it holds none of these. So in strict code, and at the loops and with, they always agree.
+-- where they agree: where Annex B lets n hold a function, it holds none of these, unless the function is an error as a labelled one. So in strict code, and at the loops and with, they always agree.
 pub record OrdinaryHeld (told : Telling) (ns ss : List ℕ) (n : ℕ) : Type 0 where
-  pub held : annexHolder ns ss n ≡ true → specialFunction told ns (heldOf ns n) ≡ false
+  pub held : annexHolder ns ss n ≡ true → labelledFunctionAt ns n ≡ false → specialFunction told ns (heldOf ns n) ≡ false
   pub behindElse : annexHolder ns ss n ≡ true → specialFunction told ns (alternateOf ns n) ≡ false

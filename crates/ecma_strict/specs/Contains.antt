@@ -3,11 +3,14 @@ use Prim.Native.Nat.{ℕ}
 use mathlib.Core.List.{List}
 use mathlib.Core.Bool.{Bool, not, _&&_, _||_}
 use lib.Dec.{eqb}
+use Rattle.common.specs.Upto.{any}
 use Rattle.common.specs.Tests.{within}
-use Rattle.tables.specs.Table.{kindOf, parentOf, flagsOf, extraOf, hasFlag}
+use Rattle.tables.specs.Table.{kindOf, parentOf, roleOf, flagsOf, extraOf, hasFlag}
 use Rattle.tables.specs.Kinds as k
+use Rattle.tables.specs.Roles as role
 use Rattle.tables.specs.Extras as extra
 use Rattle.tables.specs.NodeFlag as flag
+use Rattle.children.specs.Children.{children}
 use Rattle.names.specs.Name.{nameIs}
 use Rattle.names.specs.Words as word
 use Rattle.trees.specs.Trail.{unitOf}
@@ -25,17 +28,21 @@ staticBlock ns u = eqb (kindOf ns u) k.StaticBlock
 abbrev pub blockBegin : List ℕ → ℕ → ℕ → Bool
 blockBegin ns i j = staticBlock ns i
 
--- AwaitExpression; for await ( .. of .. ); await using
+-- What `await` is part of: AwaitExpression; for await ( .. of .. ); await using; and names, of which 13.1.1 says the same by [Await] (Identifiers)
+
+-- 15.8: AwaitExpression
 abbrev pub awaitExpression : List ℕ → ℕ → Bool
 awaitExpression ns n = eqb (kindOf ns n) k.Await
 
+-- 14.7.5: for await ( .. of .. )
 abbrev pub forAwait : List ℕ → ℕ → Bool
 forAwait ns n = eqb (kindOf ns n) k.ForOf && hasFlag (flagsOf ns n) flag.ForAwait
 
+-- 14.3.1, as explicit resource management has it: await using
 abbrev pub awaitUsing : List ℕ → ℕ → Bool
 awaitUsing ns n = eqb (kindOf ns n) k.VariableDeclaration && eqb (extraOf ns n) extra.AwaitUsing
 
--- IdentifierReference : Identifier: "If the StringValue of Identifier is "arguments", return true."
+-- 15.7.9 ContainsArguments, IdentifierReference : Identifier: "If the StringValue of Identifier is "arguments", return true."
 abbrev pub argumentsReference : List ℕ → List ℕ → ℕ → Bool
 argumentsReference ns names n = eqb (kindOf ns n) k.IdentifierReference && nameIs ns names n word.argumentsWord
 
@@ -49,13 +56,14 @@ abbrev pub argumentsInto : List ℕ → ℕ → ℕ → Bool
 argumentsInto ns i j = not (eqb (kindOf ns i) k.Function)
 
 -- 15.3.1, 15.5.1, 15.6.1, 15.8.1, 15.9.1: "It is a Syntax Error if FormalParameters Contains YieldExpression is true", "Contains AwaitExpression".
--- FormalParameter, FunctionRestParameter : BindingRestElement
+-- 15.1: FormalParameter, FunctionRestParameter : BindingRestElement
 abbrev pub parameter : List ℕ → ℕ → Bool
 parameter ns i = eqb (kindOf ns i) k.FormalParameter || (eqb (kindOf ns i) k.BindingRestElement && eqb (kindOf ns (parentOf ns i)) k.FormalParameterRest)
 
 abbrev pub parameterBegin : List ℕ → ℕ → ℕ → Bool
 parameterBegin ns i j = parameter ns i
 
+-- 15.8 AwaitExpression, 15.5 YieldExpression
 abbrev pub awaitOrYield : List ℕ → ℕ → Bool
 awaitOrYield ns n = within (kindOf ns n) k.Await k.Yield
 
@@ -66,14 +74,24 @@ lexicalDeclaration ns u = eqb (kindOf ns u) k.VariableDeclaration && not (eqb (e
 abbrev pub boundBegin : List ℕ → ℕ → ℕ → Bool
 boundBegin ns i j = lexicalDeclaration ns i
 
--- 8.2.1 BoundNames: the BindingIdentifiers below the declaration, but not those of functions, arrows and classes in an Initializer, nor of another declaration
-abbrev pub boundInto : List ℕ → ℕ → ℕ → Bool
-boundInto ns i j = not (within (kindOf ns i) k.Function k.Arrow || (eqb (kindOf ns i) k.Class || eqb (kindOf ns i) k.VariableDeclaration))
+-- 8.2.1 BoundNames: the BindingIdentifiers of the declaration and its BindingPatterns (14.3.3). "BindingProperty : PropertyName : BindingElement: Return the BoundNames of BindingElement.",
+-- "BindingElement : BindingPattern Initializer: Return the BoundNames of BindingPattern." and so on: into no PropertyName and no Initializer. The BindingElement is the value of a part with a PropertyName,
+-- an Initializer that of one without.
+abbrev pub propertyNamed : List ℕ → ℕ → Bool
+propertyNamed ns i = any (λ c. eqb (roleOf ns c) role.Key) (children ns i)
 
+unfoldable pub unbound : List ℕ → ℕ → ℕ → Bool
+unbound ns i j = eqb (roleOf ns j) role.Key || (eqb (roleOf ns j) role.Value && not (propertyNamed ns i))
+
+-- and into nothing that is no part of a BindingList: a function, an arrow function, another declaration (which stand in a PropertyName or an Initializer)
+abbrev pub boundInto : List ℕ → ℕ → ℕ → Bool
+boundInto ns i j = not ((within (kindOf ns i) k.Function k.Arrow || eqb (kindOf ns i) k.VariableDeclaration) || unbound ns i j)
+
+-- 13.1: a BindingIdentifier whose StringValue is "let"
 abbrev pub letName : List ℕ → List ℕ → ℕ → Bool
 letName ns names n = eqb (kindOf ns n) k.BindingIdentifier && nameIs ns names n word.letWord
 
--- THE RULES AT A NODE: it is one of those that make such an operation true. On the way up from it, the first place where one begins or ends is where this one begins.
+-- THE RULES AT A NODE: n makes such an operation true. On the way up from n, the nearest place where one begins or ends is one where it begins (NodeRules: exactly if an operation comes to n).
 
 abbrev pub awaitEdge : List ℕ → ℕ → ℕ → Bool
 awaitEdge ns i j = within (kindOf ns i) k.Program k.StaticBlock || initializer ns i j
@@ -88,16 +106,20 @@ abbrev pub parameterEdge : List ℕ → ℕ → ℕ → Bool
 parameterEdge ns i j = (within (kindOf ns i) k.Program k.StaticBlock || parameter ns i) || initializer ns i j
 
 abbrev pub boundEdge : List ℕ → ℕ → ℕ → Bool
-boundEdge ns i j = (within (kindOf ns i) k.Program k.Arrow || eqb (kindOf ns i) k.Class) || eqb (kindOf ns i) k.VariableDeclaration
+boundEdge ns i j = (within (kindOf ns i) k.Program k.Arrow || eqb (kindOf ns i) k.VariableDeclaration) || unbound ns i j
 
+-- 15.7.1: in a ClassStaticBlockStatementList that Contains await
 unfoldable pub awaitInBlock : List ℕ → ℕ → Bool
 awaitInBlock ns n = staticBlock ns (unitOf ns (awaitEdge ns) n)
 
+-- 15.7.1: in an Initializer or a ClassStaticBlockStatementList of which ContainsArguments is true
 unfoldable pub argumentsInClass : List ℕ → List ℕ → ℕ → Bool
 argumentsInClass ns names n = argumentsReference ns names n && argumentsHome ns (unitOf ns (argumentsEdge ns) n)
 
+-- 15.3.1, 15.5.1, 15.6.1, 15.8.1, 15.9.1: in a FormalParameter that Contains it
 unfoldable pub awaitInParameter : List ℕ → ℕ → Bool
 awaitInParameter ns n = awaitOrYield ns n && parameter ns (unitOf ns (parameterEdge ns) n)
 
+-- 14.3.1.1, 14.7.5.1: among the BoundNames of a declaration
 unfoldable pub letBound : List ℕ → List ℕ → ℕ → Bool
 letBound ns names n = letName ns names n && lexicalDeclaration ns (unitOf ns (boundEdge ns) n)

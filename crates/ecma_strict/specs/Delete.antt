@@ -13,11 +13,11 @@ use Rattle.children.specs.Children.{valueOf}
 use Rattle.trees.specs.Rose.{Rose, Roses, node, rnil, rcons, idx, treeAt}
 use Rattle.ecma_base.specs.Strict.{strictCode}
 
--- PrimaryExpression : CoverParenthesizedExpressionAndArrowParameterList
+-- 13.2, PrimaryExpression : CoverParenthesizedExpressionAndArrowParameterList
 abbrev pub parenthesized : List ℕ → ℕ → Bool
 parenthesized ns e = eqb (kindOf ns e) k.AnythingElse && eqb (extraOf ns e) extra.Parenthesis
 
--- "PrimaryExpression : CoverParenthesizedExpressionAndArrowParameterList and [it] ultimately derives a phrase that, if used in place of UnaryExpression, would
+-- 13.5.1.1: "PrimaryExpression : CoverParenthesizedExpressionAndArrowParameterList and [it] ultimately derives a phrase that, if used in place of UnaryExpression, would
 -- produce a Syntax Error according to these rules. This rule is recursively applied."
 module _ (ns : List ℕ) (phrase : Rose → Bool) where
   unfoldable mutual
@@ -28,7 +28,7 @@ module _ (ns : List ℕ) (phrase : Rose → Bool) where
     ultimatelyFirst rnil = false
     ultimatelyFirst (rcons t ts) = ultimately t
 
--- PrimaryExpression : IdentifierReference
+-- 13.2, PrimaryExpression : IdentifierReference
 unfoldable pub nameReference : List ℕ → Rose → Bool
 nameReference ns (node e ks) = eqb (kindOf ns e) k.IdentifierReference
 
@@ -36,20 +36,21 @@ abbrev pub firstIsPrivate : List ℕ → Roses → Bool
 firstIsPrivate ns rnil = false
 firstIsPrivate ns (rcons t ts) = eqb (kindOf ns (idx t)) k.PrivateField
 
--- MemberExpression : MemberExpression . PrivateIdentifier, CallExpression : CallExpression . PrivateIdentifier; OptionalChain : ?. PrivateIdentifier,
+-- 13.3, MemberExpression : MemberExpression . PrivateIdentifier, CallExpression : CallExpression . PrivateIdentifier; OptionalChain : ?. PrivateIdentifier,
 -- OptionalChain : OptionalChain . PrivateIdentifier: a chain is one node around its last link
 unfoldable pub privateReference : List ℕ → Rose → Bool
 privateReference ns (node e ks) = eqb (kindOf ns e) k.PrivateField || (eqb (kindOf ns e) k.Chain && firstIsPrivate ns ks)
 
--- the derived UnaryExpression is, or derives in parentheses, such a phrase
+-- 13.5.1.1: the derived UnaryExpression is, or derives in parentheses, such a phrase
 abbrev pub derives : List ℕ → (Rose → Bool) → Found → Bool
 derives ns phrase (At m) = ultimately ns phrase (treeAt ns (m .0))
 derives ns phrase Nothing = false
 
+-- 13.5, UnaryExpression : delete UnaryExpression
 abbrev pub deleteExpression : List ℕ → ℕ → Bool
 deleteExpression ns n = eqb (kindOf ns n) k.Unary && hasFlag (flagsOf ns n) flag.Delete
 
--- "It is a Syntax Error if IsStrict(the UnaryExpression) is true and the derived UnaryExpression is" a name, ..
+-- 13.5.1.1: "It is a Syntax Error if IsStrict(the UnaryExpression) is true and the derived UnaryExpression is" a name, ..
 unfoldable pub deletesName : List ℕ → List ℕ → ℕ → Bool
 deletesName ns ss n = deleteExpression ns n && (strictCode ns ss n && derives ns (nameReference ns) (valueOf ns n))
 

@@ -1,7 +1,7 @@
 -- Texts of which the rules are told apart, as the tree maker writes them: what the standard's rule says at a node, and what the Rust's says. Each is computed.
 use Prim.Native.Nat.{ℕ}
 use mathlib.Core.Path.{_≡_, refl}
-use mathlib.Core.List.{List, [], _∷_, map}
+use mathlib.Core.List.{List, [], _∷_, map, foldr, _++_}
 use mathlib.Core.Bool.{Bool, true, false}
 use lib.Dec.{eqb}
 use Rattle.names.specs.Name.{same, nameOf}
@@ -15,8 +15,9 @@ use Rattle.ecma_base.specs.Scopes.{followsAt, flaggedAt, classAt, scopesFollow}
 use Rattle.ecma_strict.specs.Literals.{textOf, legacyOctalInteger, octalsThenNonOctal, nonOctalDecimalInteger, legacyOctalEscape, nonOctalDecimalEscape, escapes, strictOctalEscape, strictNonOctalEscape}
 use Rattle.ecma_strict.specs.Delete.{ultimately, privateReference, deletesPrivate}
 use Rattle.ecma_strict.specs.Statements.{annexHead, badHead, initializedHead, heldUsing, badUsing}
+use Rattle.ecma_strict.specs.ReservedWords.{reservedWords}
 use Rattle.ecma_strict.specs.Identifiers.{assignsEval, identifierError}
-use Rattle.ecma_strict.specs.Contains.{awaitInBlock, argumentsInClass, awaitInParameter, letBound}
+use Rattle.ecma_strict.specs.Contains.{awaitInBlock, argumentsInClass, awaitInParameter, unbound, letBound}
 use Rattle.ecma_strict.specs.Functions.{functionMisplaced, functionMisplacedElse, isLabelledFunction, labelledAmong, endsInLabelled, labelledFunctionAt}
 use Rattle.ecma_strict.specs.Changed.{octalFirst, nonOctalFirst, firstOctalEscape, firstNonOctalEscape, deletesPrivateAnywhere, saidHead, topUsing, scopedInBlock, awaitNameScoped, letBoundSaid, argumentsSaid, awaitInParameterSaid, labelledFunctionSaid, reservedName}
 use Rattle.ecma_strict.specs.Parameters.{awaitParameter}
@@ -351,8 +352,45 @@ strictLetTree = record {
 
 -- 14.3.1.1 and 13.1.1: the Rust raises 2 only
 pub strictLet : letBound (strictLetTree .nodes) (strictLetTree .names) 5 ∷ letBoundSaid (strictLetTree .nodes) (strictLetTree .scopes) (strictLetTree .names) 5 ∷ reservedName 0 (strictLetTree .nodes) (strictLetTree .scopes) (strictLetTree .names) 5 ∷ [] ≡ true ∷ false ∷ true ∷ []
-unfolding letBound letBoundSaid reservedName same nameOf above climb upto range keep children isChild firstNode kids others forest partsOf trails.climb trails.trail
+unfolding letBound unbound letBoundSaid reservedName same nameOf above climb upto range keep children isChild firstNode kids others forest partsOf trails.climb trails.trail
 strictLet = refl
+
+-- `let {[class let {}]: let = class let {}} = class let {};`
+abbrev letPatternTree : Tree
+letPatternTree = record {
+  nodes =
+      0 ∷ 0 ∷ 0 ∷ 0 ∷ 57 ∷ 0 ∷ 0 ∷ 0 ∷ 0 ∷ 0
+      ∷ 24 ∷ 0 ∷ 3 ∷ 0 ∷ 56 ∷ 0 ∷ 0 ∷ 1 ∷ 0 ∷ 0
+      ∷ 25 ∷ 1 ∷ 0 ∷ 4 ∷ 55 ∷ 0 ∷ 256 ∷ 0 ∷ 0 ∷ 0
+      ∷ 55 ∷ 2 ∷ 0 ∷ 4 ∷ 40 ∷ 0 ∷ 0 ∷ 0 ∷ 0 ∷ 0
+      ∷ 55 ∷ 3 ∷ 0 ∷ 5 ∷ 39 ∷ 0 ∷ 0 ∷ 0 ∷ 0 ∷ 0
+      ∷ 55 ∷ 4 ∷ 2 ∷ 6 ∷ 18 ∷ 0 ∷ 0 ∷ 0 ∷ 0 ∷ 0
+      ∷ 26 ∷ 5 ∷ 1 ∷ 6 ∷ 18 ∷ 0 ∷ 512 ∷ 1 ∷ 0 ∷ 0
+      ∷ 31 ∷ 6 ∷ 0 ∷ 12 ∷ 15 ∷ 1 ∷ 0 ∷ 0 ∷ 0 ∷ 3
+      ∷ 27 ∷ 6 ∷ 3 ∷ 16 ∷ 18 ∷ 1 ∷ 0 ∷ 0 ∷ 0 ∷ 0
+      ∷ 55 ∷ 4 ∷ 1 ∷ 21 ∷ 39 ∷ 0 ∷ 0 ∷ 0 ∷ 0 ∷ 0
+      ∷ 31 ∷ 9 ∷ 0 ∷ 21 ∷ 24 ∷ 0 ∷ 0 ∷ 0 ∷ 0 ∷ 3
+      ∷ 26 ∷ 9 ∷ 1 ∷ 27 ∷ 39 ∷ 0 ∷ 512 ∷ 2 ∷ 0 ∷ 0
+      ∷ 31 ∷ 11 ∷ 0 ∷ 33 ∷ 36 ∷ 2 ∷ 0 ∷ 0 ∷ 0 ∷ 3
+      ∷ 27 ∷ 11 ∷ 3 ∷ 37 ∷ 39 ∷ 2 ∷ 0 ∷ 0 ∷ 0 ∷ 0
+      ∷ 26 ∷ 2 ∷ 1 ∷ 43 ∷ 55 ∷ 0 ∷ 512 ∷ 3 ∷ 0 ∷ 0
+      ∷ 31 ∷ 14 ∷ 0 ∷ 49 ∷ 52 ∷ 3 ∷ 0 ∷ 0 ∷ 0 ∷ 3
+      ∷ 27 ∷ 14 ∷ 3 ∷ 53 ∷ 55 ∷ 3 ∷ 0 ∷ 0 ∷ 0 ∷ 0
+      ∷ [];
+  scopes = 0 ∷ 2 ∷ 0 ∷ 0 ∷ 1 ∷ 6 ∷ 0 ∷ 1 ∷ 11 ∷ 0 ∷ 1 ∷ 14 ∷ [];
+  names = 108 ∷ 101 ∷ 116 ∷ [];
+  source = [];
+}
+
+-- 8.2.1: the BindingElement of a BindingProperty; not the class in its PropertyName, in its Initializer, nor in that of the declaration
+pub letPattern : map (letBound (letPatternTree .nodes) (letPatternTree .names)) (7 ∷ 10 ∷ 12 ∷ 15 ∷ []) ≡ false ∷ true ∷ false ∷ false ∷ []
+unfolding letBound unbound same nameOf above climb upto range keep children isChild firstNode kids others forest partsOf trails.climb trails.trail
+letPattern = refl
+
+-- .. and the Rust's rule, of code that is not strict
+pub letPatternSaid : map (letBoundSaid (letPatternTree .nodes) (letPatternTree .scopes) (letPatternTree .names)) (7 ∷ 10 ∷ 12 ∷ 15 ∷ []) ≡ false ∷ true ∷ false ∷ false ∷ []
+unfolding letBoundSaid same nameOf above climb upto range keep children isChild firstNode kids others forest partsOf trails.climb trails.trail
+letPatternSaid = refl
 
 -- `for (let x = 1 in o);`
 abbrev letHeadTree : Tree
@@ -666,7 +704,72 @@ pub privateChain : deletesPrivate (privateChainTree .nodes) (privateChainTree .s
 unfolding deletesPrivate ultimately privateReference deletesPrivateAnywhere same nameOf above climb upto range keep children isChild firstNode kids others forest partsOf trails.climb trails.trail
 privateChain = refl
 
+-- 12.7.2: "ReservedWord :: one of await break case catch class const continue debugger default delete do else enum export extends false finally for function if import in instanceof new null return super switch this throw true try typeof var void while with yield", without `await` and `yield`,
+-- each with a space behind it
+abbrev pub reservedText : List ℕ
+reservedText =
+    98 ∷ 114 ∷ 101 ∷ 97 ∷ 107 ∷ 32
+    ∷ 99 ∷ 97 ∷ 115 ∷ 101 ∷ 32
+    ∷ 99 ∷ 97 ∷ 116 ∷ 99 ∷ 104 ∷ 32
+    ∷ 99 ∷ 108 ∷ 97 ∷ 115 ∷ 115 ∷ 32
+    ∷ 99 ∷ 111 ∷ 110 ∷ 115 ∷ 116 ∷ 32
+    ∷ 99 ∷ 111 ∷ 110 ∷ 116 ∷ 105 ∷ 110 ∷ 117 ∷ 101 ∷ 32
+    ∷ 100 ∷ 101 ∷ 98 ∷ 117 ∷ 103 ∷ 103 ∷ 101 ∷ 114 ∷ 32
+    ∷ 100 ∷ 101 ∷ 102 ∷ 97 ∷ 117 ∷ 108 ∷ 116 ∷ 32
+    ∷ 100 ∷ 101 ∷ 108 ∷ 101 ∷ 116 ∷ 101 ∷ 32
+    ∷ 100 ∷ 111 ∷ 32
+    ∷ 101 ∷ 108 ∷ 115 ∷ 101 ∷ 32
+    ∷ 101 ∷ 110 ∷ 117 ∷ 109 ∷ 32
+    ∷ 101 ∷ 120 ∷ 112 ∷ 111 ∷ 114 ∷ 116 ∷ 32
+    ∷ 101 ∷ 120 ∷ 116 ∷ 101 ∷ 110 ∷ 100 ∷ 115 ∷ 32
+    ∷ 102 ∷ 97 ∷ 108 ∷ 115 ∷ 101 ∷ 32
+    ∷ 102 ∷ 105 ∷ 110 ∷ 97 ∷ 108 ∷ 108 ∷ 121 ∷ 32
+    ∷ 102 ∷ 111 ∷ 114 ∷ 32
+    ∷ 102 ∷ 117 ∷ 110 ∷ 99 ∷ 116 ∷ 105 ∷ 111 ∷ 110 ∷ 32
+    ∷ 105 ∷ 102 ∷ 32
+    ∷ 105 ∷ 109 ∷ 112 ∷ 111 ∷ 114 ∷ 116 ∷ 32
+    ∷ 105 ∷ 110 ∷ 32
+    ∷ 105 ∷ 110 ∷ 115 ∷ 116 ∷ 97 ∷ 110 ∷ 99 ∷ 101 ∷ 111 ∷ 102 ∷ 32
+    ∷ 110 ∷ 101 ∷ 119 ∷ 32
+    ∷ 110 ∷ 117 ∷ 108 ∷ 108 ∷ 32
+    ∷ 114 ∷ 101 ∷ 116 ∷ 117 ∷ 114 ∷ 110 ∷ 32
+    ∷ 115 ∷ 117 ∷ 112 ∷ 101 ∷ 114 ∷ 32
+    ∷ 115 ∷ 119 ∷ 105 ∷ 116 ∷ 99 ∷ 104 ∷ 32
+    ∷ 116 ∷ 104 ∷ 105 ∷ 115 ∷ 32
+    ∷ 116 ∷ 104 ∷ 114 ∷ 111 ∷ 119 ∷ 32
+    ∷ 116 ∷ 114 ∷ 117 ∷ 101 ∷ 32
+    ∷ 116 ∷ 114 ∷ 121 ∷ 32
+    ∷ 116 ∷ 121 ∷ 112 ∷ 101 ∷ 111 ∷ 102 ∷ 32
+    ∷ 118 ∷ 97 ∷ 114 ∷ 32
+    ∷ 118 ∷ 111 ∷ 105 ∷ 100 ∷ 32
+    ∷ 119 ∷ 104 ∷ 105 ∷ 108 ∷ 101 ∷ 32
+    ∷ 119 ∷ 105 ∷ 116 ∷ 104 ∷ 32
+    ∷ []
+
+pub wordsHold : foldr (λ w r. w ++ 32 ∷ r) [] reservedWords ≡ reservedText
+wordsHold = refl
+
+-- `enum`, `null`, `with` and `wit` as names in sloppy code (no parser gives such a tree)
+abbrev wordTree : Tree
+wordTree = record {
+  nodes =
+      0 ∷ 0 ∷ 0 ∷ 0 ∷ 19 ∷ 0 ∷ 0 ∷ 0 ∷ 0 ∷ 0
+      ∷ 32 ∷ 0 ∷ 3 ∷ 0 ∷ 4 ∷ 0 ∷ 0 ∷ 0 ∷ 0 ∷ 4
+      ∷ 32 ∷ 0 ∷ 3 ∷ 5 ∷ 9 ∷ 0 ∷ 0 ∷ 0 ∷ 4 ∷ 4
+      ∷ 32 ∷ 0 ∷ 3 ∷ 10 ∷ 14 ∷ 0 ∷ 0 ∷ 0 ∷ 8 ∷ 4
+      ∷ 32 ∷ 0 ∷ 3 ∷ 15 ∷ 18 ∷ 0 ∷ 0 ∷ 0 ∷ 8 ∷ 3
+      ∷ [];
+  scopes = 0 ∷ 2 ∷ 0 ∷ [];
+  names = 101 ∷ 110 ∷ 117 ∷ 109 ∷ 110 ∷ 117 ∷ 108 ∷ 108 ∷ 119 ∷ 105 ∷ 116 ∷ 104 ∷ [];
+  source = [];
+}
+
+-- 13.1.1: "the StringValue of any ReservedWord"
+pub wordNames : map (identifierError ordinary 0 (wordTree .nodes) (wordTree .scopes) (wordTree .names)) (1 ∷ 2 ∷ 3 ∷ 4 ∷ []) ≡ true ∷ true ∷ true ∷ false ∷ []
+unfolding identifierError same nameOf above climb upto range keep children isChild firstNode kids others forest partsOf trails.climb trails.trail
+wordNames = refl
+
 -- the scopes of all these trees follow the tree
-pub scopesHold : map (λ t. scopesFollow (t .nodes) (t .scopes)) (blockNameTree ∷ arrowParameterTree ∷ arrowBodyTree ∷ functionNameTree ∷ expressionNameTree ∷ parameterBlockTree ∷ accessorTree ∷ assignedTree ∷ strictLetTree ∷ letHeadTree ∷ varHeadTree ∷ usingClauseTree ∷ usingTopTree ∷ usingBlockTree ∷ usingForTree ∷ strictLabelTree ∷ twoLabelsTree ∷ asyncIfTree ∷ generatorElseTree ∷ asyncLabelTree ∷ twoEscapesTree ∷ privateChainTree ∷ generatorTree ∷ asyncTree ∷ []) ≡ map (λ t. true) (blockNameTree ∷ arrowParameterTree ∷ arrowBodyTree ∷ functionNameTree ∷ expressionNameTree ∷ parameterBlockTree ∷ accessorTree ∷ assignedTree ∷ strictLetTree ∷ letHeadTree ∷ varHeadTree ∷ usingClauseTree ∷ usingTopTree ∷ usingBlockTree ∷ usingForTree ∷ strictLabelTree ∷ twoLabelsTree ∷ asyncIfTree ∷ generatorElseTree ∷ asyncLabelTree ∷ twoEscapesTree ∷ privateChainTree ∷ generatorTree ∷ asyncTree ∷ [])
+pub scopesHold : map (λ t. scopesFollow (t .nodes) (t .scopes)) (blockNameTree ∷ arrowParameterTree ∷ arrowBodyTree ∷ functionNameTree ∷ expressionNameTree ∷ parameterBlockTree ∷ accessorTree ∷ assignedTree ∷ strictLetTree ∷ letPatternTree ∷ letHeadTree ∷ varHeadTree ∷ usingClauseTree ∷ usingTopTree ∷ usingBlockTree ∷ usingForTree ∷ strictLabelTree ∷ twoLabelsTree ∷ asyncIfTree ∷ generatorElseTree ∷ asyncLabelTree ∷ twoEscapesTree ∷ privateChainTree ∷ generatorTree ∷ asyncTree ∷ []) ≡ map (λ t. true) (blockNameTree ∷ arrowParameterTree ∷ arrowBodyTree ∷ functionNameTree ∷ expressionNameTree ∷ parameterBlockTree ∷ accessorTree ∷ assignedTree ∷ strictLetTree ∷ letPatternTree ∷ letHeadTree ∷ varHeadTree ∷ usingClauseTree ∷ usingTopTree ∷ usingBlockTree ∷ usingForTree ∷ strictLabelTree ∷ twoLabelsTree ∷ asyncIfTree ∷ generatorElseTree ∷ asyncLabelTree ∷ twoEscapesTree ∷ privateChainTree ∷ generatorTree ∷ asyncTree ∷ [])
 unfolding scopesFollow flaggedAt followsAt classAt upto range
 scopesHold = refl

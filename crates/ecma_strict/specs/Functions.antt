@@ -15,12 +15,12 @@ use Rattle.trees.specs.Trail.{unitOf}
 use Rattle.ecma_base.specs.Strict.{strictCode}
 use Rattle.ecma_base.specs.Telling.{Telling, special}
 
--- a FunctionDeclaration, GeneratorDeclaration, AsyncFunctionDeclaration or AsyncGeneratorDeclaration: a function that is held as a statement is one of these
+-- 15.2, 15.5, 15.6, 15.8: a FunctionDeclaration, GeneratorDeclaration, AsyncFunctionDeclaration or AsyncGeneratorDeclaration: a function that is held as a statement is one of these
 abbrev pub isFunction : List ℕ → Found → Bool
 isFunction ns (At m) = eqb (kindOf ns (m .0)) k.Function
 isFunction ns Nothing = false
 
--- the statements that end in a Statement: if, the loops, with
+-- 14.6, 14.7, 14.11: the statements that end in a Statement: if, the loops, with
 abbrev pub endsInStatement : List ℕ → ℕ → Bool
 endsInStatement ns n = within (kindOf ns n) k.For k.With
 
@@ -46,21 +46,7 @@ functionMisplaced told ns ss n = (endsInStatement ns n || eqb (kindOf ns n) k.La
 unfoldable pub functionMisplacedElse : Telling → List ℕ → List ℕ → ℕ → Bool
 functionMisplacedElse told ns ss n = eqb (kindOf ns n) k.If && misplaced told ns ss n (alternateOf ns n)
 
--- the two parts of the rule: code 15 is of strict code ..
-abbrev pub strictFunction : Telling → List ℕ → List ℕ → ℕ → Bool
-strictFunction told ns ss n = strictCode ns ss n && functionMisplaced told ns ss n
-
-abbrev pub strictFunctionElse : Telling → List ℕ → List ℕ → ℕ → Bool
-strictFunctionElse told ns ss n = strictCode ns ss n && functionMisplacedElse told ns ss n
-
--- .. and code 16 of code that is not strict
-abbrev pub sloppyFunction : Telling → List ℕ → List ℕ → ℕ → Bool
-sloppyFunction told ns ss n = not (strictCode ns ss n) && functionMisplaced told ns ss n
-
-abbrev pub sloppyFunctionElse : Telling → List ℕ → List ℕ → ℕ → Bool
-sloppyFunctionElse told ns ss n = not (strictCode ns ss n) && functionMisplacedElse told ns ss n
-
--- IsLabelledFunction(stmt): "1. If stmt is not a LabelledStatement, return false. 2. Let item be the LabelledItem of stmt. 3. If item is LabelledItem : FunctionDeclaration,
+-- 14.13.2 IsLabelledFunction(stmt): "1. If stmt is not a LabelledStatement, return false. 2. Let item be the LabelledItem of stmt. 3. If item is LabelledItem : FunctionDeclaration,
 -- return true. 4. Let subStmt be the Statement of item. 5. Return IsLabelledFunction(subStmt)." (An async function or a generator is no LabelledItem at all: behind a label it is
 -- functionMisplaced, whatever holds the label; so here no telling is asked for.)
 module _ (ns : List ℕ) where
@@ -81,7 +67,7 @@ module _ (ns : List ℕ) where
 unfoldable pub endsInLabelled : List ℕ → ℕ → Bool
 endsInLabelled ns n = endsInStatement ns n && labelledAmong ns (partsOf ns n)
 
--- THE RULE AT THE LABEL: n labels a function, and the statement that it is labelled statement by labelled statement part of ends in it
+-- THE RULE AT THE LABEL: n labels a function, and the nearest node above n that is no LabelledStatement ends in a Statement
 abbrev pub labelsFunction : List ℕ → ℕ → Bool
 labelsFunction ns n = eqb (kindOf ns n) k.Labeled && isFunction ns (heldOf ns n)
 

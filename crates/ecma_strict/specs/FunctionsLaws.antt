@@ -25,10 +25,10 @@ use Rattle.trees.specs.Trail.{unitOf}
 use Rattle.ecma_strict.specs.Nodes.{ofCheck}
 use Rattle.ecma_base.specs.Strict.{strictCode}
 use Rattle.ecma_base.specs.Telling.{Telling, special, ordinary}
-use Rattle.ecma_strict.specs.Functions.{isFunction, endsInStatement, annexHolder, annexAllows, misplaced, functionMisplaced, functionMisplacedElse, strictFunction, strictFunctionElse, sloppyFunction, sloppyFunctionElse, labelEdge, labelledFunctionAt}
+use Rattle.ecma_strict.specs.Functions.{isFunction, endsInStatement, annexHolder, annexAllows, misplaced, functionMisplaced, functionMisplacedElse, labelEdge, labelledFunctionAt}
 use Rattle.ecma_base.specs.ContainsLaws.{upward, unitRoot}
 use Rattle.ecma_strict.specs.SearchLaws.{unitHere, unitPass}
-use Rattle.ecma_strict.specs.Changed.{labelledFunctionSaid, specialFunction, OrdinaryHeld}
+use Rattle.ecma_strict.specs.Changed.{strictFunction, strictFunctionElse, sloppyFunction, sloppyFunctionElse, labelledFunctionSaid, specialFunction, OrdinaryHeld}
 
 module _ (ns ss : List ℕ) (n : ℕ) where
   andTrue : (b : Bool) → (b && true) ≡ b
@@ -242,9 +242,9 @@ module _ (told : Telling) (ns ss : List ℕ) (n : ℕ) where
       by false e = refl
   misplacedSame Nothing c = refl
 
-  pub misplacedAgrees : OrdinaryHeld told ns ss n → functionMisplaced ordinary ns ss n ≡ functionMisplaced told ns ss n
+  pub misplacedAgrees : OrdinaryHeld told ns ss n → labelledFunctionAt ns n ≡ false → functionMisplaced ordinary ns ss n ≡ functionMisplaced told ns ss n
   unfolding functionMisplaced
-  misplacedAgrees c = ap (λ b. (endsInStatement ns n || eqb (kindOf ns n) k.Labeled) && b) (misplacedSame (heldOf ns n) (c .held))
+  misplacedAgrees c f = ap (λ b. (endsInStatement ns n || eqb (kindOf ns n) k.Labeled) && b) (misplacedSame (heldOf ns n) (λ a. c .held a f))
 
   pub misplacedElseAgrees : OrdinaryHeld told ns ss n → functionMisplacedElse ordinary ns ss n ≡ functionMisplacedElse told ns ss n
   unfolding functionMisplacedElse

@@ -1,4 +1,4 @@
--- ECMA-262, 13.1.1 Identifiers; 8.6.4 AssignmentTargetType; 15.2.1 "use strict" with parameters that are not simple.
+-- ECMA-262: 13.1.1 Static Semantics: Early Errors (Identifiers); 8.6.4 Static Semantics: AssignmentTargetType; 11.2.1 Directive Prologues and the Use Strict Directive; 15.1.3 IsSimpleParameterList; 15.2.1 Early Errors (Function Definitions); 15.2.2 FunctionBodyContainsUseStrict.
 use Prim.Native.Nat.{ℕ}
 use mathlib.Core.List.{List, [], _∷_}
 use mathlib.Core.Bool.{Bool, not, _&&_, _||_}
@@ -16,10 +16,11 @@ use Rattle.ecma_base.specs.Telling.{Telling}
 use Rattle.ecma_strict.specs.ReservedWords.{reservedWords}
 use Rattle.ecma_strict.specs.Parameters.{goalModule, yieldParameter, awaitParameter}
 
--- BindingIdentifier, IdentifierReference, LabelIdentifier
+-- 13.1: BindingIdentifier, IdentifierReference, LabelIdentifier
 abbrev pub identifier : List ℕ → ℕ → Bool
 identifier ns n = within (kindOf ns n) k.BindingIdentifier k.LabelIdentifier
 
+-- 13.1.1, of strict mode code: "implements", "interface", "let", "package", "private", "protected", "public", "static", or "yield"
 abbrev pub strictReserved : List (List ℕ)
 strictReserved =
     word.implementsWord
@@ -50,6 +51,7 @@ identifierError told sourceType ns ss names n =
     -- ".. the StringValue of IdentifierName is the StringValue of any ReservedWord except for yield or await."
     || any (λ w. nameIs ns names n w) reservedWords))))
 
+-- 13.1.1, 8.6.4: "either "arguments" or "eval""
 abbrev pub evalOrArguments : List ℕ → List ℕ → ℕ → Bool
 evalOrArguments ns names n = nameIs ns names n word.evalWord || nameIs ns names n word.argumentsWord
 
@@ -66,7 +68,7 @@ assignsEval ns ss names n = eqb (kindOf ns n) k.IdentifierReference && (evalOrAr
 abbrev pub useStrictDirective : List ℕ → List ℕ → ℕ → Bool
 useStrictDirective ns names n = eqb (kindOf ns n) k.Directive && nameIs ns names n word.useStrict
 
--- IsSimpleParameterList
+-- 15.1.3 IsSimpleParameterList
 abbrev pub simpleParameters : List ℕ → ℕ → Bool
 simpleParameters ns f = hasFlag (flagsOf ns f) flag.SimpleParameters
 

@@ -18,7 +18,7 @@ use Rattle.children.specs.Children.{valueOf, isNode}
 use Rattle.trees.specs.Trail.{unitOf}
 use Rattle.trees.specs.TrailLaws.{handedLaw}
 use Rattle.ecma_base.specs.Contains.{initializer, comes}
-use Rattle.ecma_strict.specs.Contains.{containsInto, staticBlock, blockBegin, awaitEdge, argumentsBegin, argumentsInto, argumentsEdge, argumentsHome, parameter, parameterBegin, parameterEdge, lexicalDeclaration, boundBegin, boundInto, boundEdge}
+use Rattle.ecma_strict.specs.Contains.{containsInto, staticBlock, blockBegin, awaitEdge, argumentsBegin, argumentsInto, argumentsEdge, argumentsHome, parameter, parameterBegin, parameterEdge, lexicalDeclaration, boundBegin, unbound, boundInto, boundEdge}
 use Rattle.ecma_base.specs.ContainsLaws.{upward, unitUp, unitRoot, comesHome}
 use Rattle.ecma_strict.specs.SearchLaws.{positive}
 
@@ -198,22 +198,22 @@ module _ (ns : List ℕ) (t : Tree ns) (n : ℕ) (h : n < count ns) where
   letRule = nodeRule ns t (boundInto ns) (boundBegin ns) (boundEdge ns) (lexicalDeclaration ns) first on (λ u j a e. a) through (rw (t .root)) n h
     where
       first : (u j : ℕ) → lexicalDeclaration ns u ≡ true → boundBegin ns u j ≡ true → boundEdge ns u j ≡ true
-      first u j a e = by (within (kindOf ns u) 0 2) (eqb (kindOf ns u) 26) (eqb (kindOf ns u) 24) (and-left (eqb (kindOf ns u) 24) (not (eqb (extraOf ns u) extra.Var)) a)
+      first u j a e = by (within (kindOf ns u) 0 2) (eqb (kindOf ns u) 24) (unbound ns u j) (and-left (eqb (kindOf ns u) 24) (not (eqb (extraOf ns u) extra.Var)) a)
         where
-          by : (x y z : Bool) → z ≡ true → ((x || y) || z) ≡ true
+          by : (x y z : Bool) → y ≡ true → ((x || y) || z) ≡ true
           by true y z e = refl
           by false true z e = refl
-          by false false z e = e
+          by false false z e = never (sym e)
 
       on : (i j : ℕ) → (kindOf ns i ≡ 0 → ⊥) → boundInto ns i j ≡ true → boundEdge ns i j ≡ true → lexicalDeclaration ns i ≡ true
       on i j z x y =
-          clash (sym (not-true (within (kindOf ns i) 1 2 || (eqb (kindOf ns i) 26 || eqb (kindOf ns i) 24)) x) ∙ by (within (kindOf ns i) 0 2) refl (eqb (kindOf ns i) 26) (eqb (kindOf ns i) 24) y)
+          clash (sym (not-true ((within (kindOf ns i) 1 2 || eqb (kindOf ns i) 24) || unbound ns i j) x) ∙ by (within (kindOf ns i) 0 2) refl (eqb (kindOf ns i) 24) (unbound ns i j) y)
         where
-          by : (a : Bool) → within (kindOf ns i) 0 2 ≡ a → (b c : Bool) → ((a || b) || c) ≡ true → (within (kindOf ns i) 1 2 || (b || c)) ≡ true
+          by : (a : Bool) → within (kindOf ns i) 0 2 ≡ a → (b c : Bool) → ((a || b) || c) ≡ true → ((within (kindOf ns i) 1 2 || b) || c) ≡ true
           by true q b c e = rw (above (kindOf ns i) 2 z q)
           by false q b c e = rw (fewer (kindOf ns i) 1 2 q) e
 
       through : (i j : ℕ) → boundEdge ns i j ≡ false → boundInto ns i j ≡ true
       through i j e =
-          let o = or-first (within (kindOf ns i) 0 2 || eqb (kindOf ns i) 26) (eqb (kindOf ns i) 24) e in
-          rw (fewer (kindOf ns i) 1 2 (or-first (within (kindOf ns i) 0 2) (eqb (kindOf ns i) 26) o), or-second (within (kindOf ns i) 0 2) (eqb (kindOf ns i) 26) o, or-second (within (kindOf ns i) 0 2 || eqb (kindOf ns i) 26) (eqb (kindOf ns i) 24) e)
+          let o = or-first (within (kindOf ns i) 0 2 || eqb (kindOf ns i) 24) (unbound ns i j) e in
+          rw (fewer (kindOf ns i) 1 2 (or-first (within (kindOf ns i) 0 2) (eqb (kindOf ns i) 24) o), or-second (within (kindOf ns i) 0 2) (eqb (kindOf ns i) 24) o, or-second (within (kindOf ns i) 0 2 || eqb (kindOf ns i) 24) (unbound ns i j) e)

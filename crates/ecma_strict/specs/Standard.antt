@@ -3,36 +3,40 @@
 use Prim.Native.Nat.{ℕ, _<_}
 use mathlib.Core.Path.{_≡_, refl, ap, _∙_, sym}
 use mathlib.Core.List.{List, [], _++_, append-nil}
-use mathlib.Core.Bool.{Bool, true, false, _&&_, _||_}
-use borrow.Author.Tests.{eqb-true}
+use mathlib.Core.Bool.{Bool, true, false, not, _&&_, _||_}
+use borrow.Author.Tests.{eqb-true, not-true}
 use lib.Dec.{eqb}
-use Rattle.tables.specs.Table.{kindOf, count}
+use Rattle.common.specs.Tests.{within}
+use Rattle.common.specs.UptoLaws.{and-left, and-right}
+use Rattle.tables.specs.Table.{kindOf, parentOf, count, extraOf}
 use Rattle.tables.specs.Kinds as k
+use Rattle.tables.specs.Extras as extra
 use Rattle.checker.specs.Findings.{findingsAt}
 use Rattle.input.specs.Input.{WellFormed}
 use Rattle.trees.specs.Walk.{some, only}
+use Rattle.trees.specs.Trail.{unitOf}
 use Rattle.ecma_dispatch.specs.NodesOf.{raised}
-use Rattle.ecma_base.specs.Telling.{Telling}
+use Rattle.ecma_base.specs.Telling.{Telling, ordinary}
 use Rattle.ecma_base.specs.Strict.{strictCode}
-use Rattle.ecma_strict.specs.Literals.{strictOctal, strictNonOctal, strictOctalEscape, strictNonOctalEscape}
+use Rattle.ecma_strict.specs.Literals.{numericLiteral, stringLiteral, strictOctal, strictNonOctal, strictOctalEscape, strictNonOctalEscape}
 use Rattle.ecma_strict.specs.LiteralsLaws.{octalAgrees, nonOctalAgrees, octalEscapeAgrees, nonOctalEscapeAgrees}
 use Rattle.ecma_strict.specs.Delete.{privateReference, derives, deleteExpression, deletesPrivate}
 use Rattle.children.specs.Children.{valueOf}
 use Rattle.ecma_strict.specs.DeleteLaws.{deletePrivateAgrees}
 use Rattle.ecma_strict.specs.Statements.{usingDeclaration, initializedHead, badUsing}
 use Rattle.ecma_strict.specs.StatementsLaws.{headAgrees, usingAgrees}
-use Rattle.ecma_strict.specs.Identifiers.{identifier, identifierError, useStrictThere}
+use Rattle.ecma_strict.specs.Identifiers.{identifier, identifierError, assignsEval, useStrictThere}
 use Rattle.ecma_strict.specs.IdentifiersLaws.{useStrictAgrees}
 use Rattle.ecma_strict.specs.NamesLaws.{namesAgree, namesAgreeOnly, namesSound}
 use Rattle.ecma_strict.specs.ParametersLaws.{blockParameters}
-use Rattle.ecma_strict.specs.Contains.{letName, argumentsReference, awaitOrYield, awaitExpression, forAwait, awaitUsing, awaitInBlock, argumentsInClass, awaitInParameter, letBound}
+use Rattle.ecma_strict.specs.Contains.{letName, argumentsReference, awaitOrYield, awaitExpression, forAwait, awaitUsing, awaitInBlock, argumentsInClass, awaitInParameter, letBound, lexicalDeclaration, boundEdge, awaitEdge, argumentsEdge, parameter, parameterEdge}
 use Rattle.ecma_base.specs.Scopes.{scopesFollow}
 use Rattle.ecma_strict.specs.ScopesLaws.{scopesTold, directiveTold, usingTold}
 use Rattle.ecma_strict.specs.AgreeLaws.{letAgrees, argumentsAgree, parameterAgrees, blockAgrees}
-use Rattle.ecma_strict.specs.Functions.{functionMisplaced, functionMisplacedElse, sloppyFunction, sloppyFunctionElse, labelsFunction, labelledFunctionAt}
+use Rattle.ecma_strict.specs.Functions.{functionMisplaced, functionMisplacedElse, labelsFunction, labelledFunctionAt}
 use Rattle.ecma_strict.specs.FunctionsLaws.{labelledAgrees, labelledStrict, misplacedAgrees, misplacedElseAgrees}
 use Rattle.ecma_strict.specs.Theorems.{code3, code5, code6, code9, code10, code11, code12, code13, code14, code15, code16, code24, code25, code32, code33, beyond, code2}
-use Rattle.ecma_strict.specs.Changed.{BlockTold, LetTold, ArgumentsTold, DirectiveTold, UsingTold, HeadTold, DeleteTold, ParameterTold, letBoundSaid, argumentsSaid, topUsing, deletesPrivateAnywhere, awaitInParameterSaid, firstOctalEscape, BaseTold, EscapesTold, useStrictScoped, awaitNameScoped, scopedInBlock, labelledFunctionSaid, OrdinaryHeld, reservedName, NameTold}
+use Rattle.ecma_strict.specs.Changed.{sloppyFunction, sloppyFunctionElse, BlockTold, LetTold, ArgumentsTold, DirectiveTold, UsingTold, HeadTold, DeleteTold, ParameterTold, letEdge, letBoundSaid, fieldEdge, fieldHome, classPart, argumentsSaid, topUsing, deletesPrivateAnywhere, awaitInParameterSaid, toldOctal, toldNonOctal, firstOctalEscape, firstNonOctalEscape, BaseTold, EscapesTold, useStrictScoped, awaitNameScoped, scopedInBlock, labelledFunctionSaid, OrdinaryHeld, reservedName, NameTold}
 
 module _ (t : ℕ) (ns ss source names : List ℕ) (w : WellFormed t ns ss source names) (n : ℕ) (h : n < count ns) where
   abbrev at : ℕ → List ℕ
@@ -65,7 +69,16 @@ module _ (t : ℕ) (ns ss source names : List ℕ) (w : WellFormed t ns ss sourc
         namesSound told t ns ss names n i (λ e. ap (λ x. x .await) (blockParameters told t ns (w .input .tree) ss s (w .shaped .placed) n h e)) (ap some (sym codes) ∙ q)
 
   block : BlockTold ns ss n → scopedInBlock ns ss n ≡ awaitInBlock ns n
-  block q = blockAgrees ns ss (w .input .tree) (w .input .chained) (w .input .scoped) (scopesTold ns ss (w .input .tree) (q .follow)) n h (q .field)
+  unfolding awaitInBlock
+  block q = go (scopedInBlock ns ss n) refl (awaitInBlock ns n) refl
+    where
+      by : within (kindOf ns (unitOf ns (awaitEdge ns) n)) k.PropertyDefinition k.AccessorProperty ≡ false → scopedInBlock ns ss n ≡ awaitInBlock ns n
+      by f = blockAgrees ns ss (w .input .tree) (w .input .chained) (w .input .scoped) (scopesTold ns ss (w .input .tree) (q .follow)) n h f
+
+      go : (a : Bool) → scopedInBlock ns ss n ≡ a → (b : Bool) → awaitInBlock ns n ≡ b → scopedInBlock ns ss n ≡ awaitInBlock ns n
+      go true x b y = by (q .field x)
+      go false x true y = let u = eqb-true (kindOf ns (unitOf ns (awaitEdge ns) n)) 3 y in by (rw u)
+      go false x false y = x ∙ sym y
 
   -- 3 at what is no name
   pub standard3 : identifier ns n ≡ false → (awaitExpression ns n ≡ true → BlockTold ns ss n) → Rule 3 (awaitExpression ns n && awaitInBlock ns n)
@@ -78,31 +91,72 @@ module _ (t : ℕ) (ns ss source names : List ℕ) (w : WellFormed t ns ss sourc
 
   pub standard5 : LetTold ns ss names n → Rule 5 (letBound ns names n)
   unfolding letBoundSaid letBound
-  standard5 q = code5 t ns ss source names w n h ∙ ap (λ x. only x n) (go (letName ns names n) refl)
+  standard5 q = code5 t ns ss source names w n h ∙ ap (λ x. only x n) (go (letBoundSaid ns ss names n) refl (letBound ns names n) refl)
     where
-      go : (b : Bool) → letName ns names n ≡ b → letBoundSaid ns ss names n ≡ letBound ns names n
-      go true e = letAgrees ns ss names n (w .input .tree) h (q .sloppy e) (q .class e)
-      go false e = rw e
+      by : strictCode ns ss n ≡ false → eqb (kindOf ns (unitOf ns (boundEdge ns) n)) k.VariableDeclaration ≡ true → letBoundSaid ns ss names n ≡ letBound ns names n
+      by = letAgrees ns ss names n (w .input .tree) h
+
+      go : (a : Bool) → letBoundSaid ns ss names n ≡ a → (b : Bool) → letBound ns names n ≡ b → letBoundSaid ns ss names n ≡ letBound ns names n
+      go true x b y =
+          let s = and-right (letName ns names n) (not (strictCode ns ss n) && lexicalDeclaration ns (unitOf ns (letEdge ns) n)) x in
+          by (not-true (strictCode ns ss n) (and-left (not (strictCode ns ss n)) (lexicalDeclaration ns (unitOf ns (letEdge ns) n)) s)) (q .declared x)
+      go false x true y =
+          let l = and-right (letName ns names n) (lexicalDeclaration ns (unitOf ns (boundEdge ns) n)) y in
+          by (q .sloppy y) (and-left (eqb (kindOf ns (unitOf ns (boundEdge ns) n)) 24) (not (eqb (extraOf ns (unitOf ns (boundEdge ns) n)) extra.Var)) l)
+      go false x false y = x ∙ sym y
 
   pub standard6 : ArgumentsTold ns ss names n → Rule 6 (argumentsInClass ns names n)
   unfolding argumentsSaid argumentsInClass
-  standard6 q = code6 t ns ss source names w n h ∙ ap (λ x. only x n) (go (argumentsReference ns names n) refl)
+  standard6 q = code6 t ns ss source names w n h ∙ ap (λ x. only x n) (go (argumentsSaid ns ss names n) refl (argumentsInClass ns names n) refl)
     where
-      go : (b : Bool) → argumentsReference ns names n ≡ b → argumentsSaid ns ss names n ≡ argumentsInClass ns names n
-      go true e = argumentsAgree ns ss names n (w .input .tree) h (q .read e) (q .field e)
-      go false e = rw e
+      by : assignsEval ns ss names n ≡ false → eqb (kindOf ns (unitOf ns (argumentsEdge ns) n)) k.AccessorProperty ≡ false → argumentsSaid ns ss names n ≡ argumentsInClass ns names n
+      by = argumentsAgree ns ss names n (w .input .tree) h
+
+      -- what the Rust's rule says is an error: in an auto-accessor too
+      accessor : argumentsReference ns names n ≡ true → (c : Bool) → eqb (kindOf ns (unitOf ns (argumentsEdge ns) n)) k.AccessorProperty ≡ c → assignsEval ns ss names n ≡ false → argumentsSaid ns ss names n ≡ true
+          → argumentsSaid ns ss names n ≡ argumentsInClass ns names n
+      accessor r true c s x = let u = eqb-true (kindOf ns (unitOf ns (argumentsEdge ns) n)) 30 c in x ∙ sym (rw (r, u))
+      accessor r false c s x = by s c
+
+      go : (a : Bool) → argumentsSaid ns ss names n ≡ a → (b : Bool) → argumentsInClass ns names n ≡ b → argumentsSaid ns ss names n ≡ argumentsInClass ns names n
+      go a x true y = by (q .read y) (q .field y)
+      go true x false y =
+          let s = and-right (argumentsReference ns names n) (not (assignsEval ns ss names n) && fieldHome ns (unitOf ns (fieldEdge ns) n)) x in
+          accessor (and-left (argumentsReference ns names n) (not (assignsEval ns ss names n) && fieldHome ns (unitOf ns (fieldEdge ns) n)) x) (eqb (kindOf ns (unitOf ns (argumentsEdge ns) n)) k.AccessorProperty) refl
+          (not-true (assignsEval ns ss names n) (and-left (not (assignsEval ns ss names n)) (fieldHome ns (unitOf ns (fieldEdge ns) n)) s)) x
+      go false x false y = x ∙ sym y
 
   -- where the table's base is that of the text, the value's length tells of escapes, and no string has both kinds of escape
-  pub standard9 : BaseTold ns source n → EscapesTold ns source n → Rule 9 (strictOctal ns ss source n || strictOctalEscape ns ss source n)
+  pub standard9 : (numericLiteral ns n ≡ true → BaseTold ns source n) → (stringLiteral ns n ≡ true → EscapesTold ns source n)
+      → Rule 9 (strictOctal ns ss source n || strictOctalEscape ns ss source n)
+  unfolding toldOctal strictOctal firstOctalEscape strictOctalEscape
   standard9 b e =
-      code9 t ns ss source names w n h ∙ ap (λ x. only (x || firstOctalEscape ns ss source n) n) (octalAgrees ns ss source n b)
-      ∙ ap (λ x. only (strictOctal ns ss source n || x) n) (octalEscapeAgrees ns ss source n e)
+      code9 t ns ss source names w n h ∙ ap (λ x. only (x || firstOctalEscape ns ss source n) n) (number (numericLiteral ns n) refl)
+      ∙ ap (λ x. only (strictOctal ns ss source n || x) n) (string (stringLiteral ns n) refl)
+    where
+      number : (x : Bool) → numericLiteral ns n ≡ x → toldOctal ns ss source n ≡ strictOctal ns ss source n
+      number true q = octalAgrees ns ss source n (b q)
+      number false q = rw q
 
-  pub standard10 : BaseTold ns source n → Rule 10 (strictNonOctal ns ss source n)
-  standard10 b = code10 t ns ss source names w n h ∙ ap (λ x. only x n) (nonOctalAgrees ns ss source n b)
+      string : (x : Bool) → stringLiteral ns n ≡ x → firstOctalEscape ns ss source n ≡ strictOctalEscape ns ss source n
+      string true q = octalEscapeAgrees ns ss source n (e q)
+      string false q = rw q
 
-  pub standard11 : EscapesTold ns source n → Rule 11 (strictNonOctalEscape ns ss source n)
-  standard11 e = code11 t ns ss source names w n h ∙ ap (λ x. only x n) (nonOctalEscapeAgrees ns ss source n e)
+  pub standard10 : (numericLiteral ns n ≡ true → BaseTold ns source n) → Rule 10 (strictNonOctal ns ss source n)
+  unfolding toldNonOctal strictNonOctal
+  standard10 b = code10 t ns ss source names w n h ∙ ap (λ x. only x n) (go (numericLiteral ns n) refl)
+    where
+      go : (x : Bool) → numericLiteral ns n ≡ x → toldNonOctal ns ss source n ≡ strictNonOctal ns ss source n
+      go true q = nonOctalAgrees ns ss source n (b q)
+      go false q = rw q
+
+  pub standard11 : (stringLiteral ns n ≡ true → EscapesTold ns source n) → Rule 11 (strictNonOctalEscape ns ss source n)
+  unfolding firstNonOctalEscape strictNonOctalEscape
+  standard11 e = code11 t ns ss source names w n h ∙ ap (λ x. only x n) (go (stringLiteral ns n) refl)
+    where
+      go : (x : Bool) → stringLiteral ns n ≡ x → firstNonOctalEscape ns ss source n ≡ strictNonOctalEscape ns ss source n
+      go true q = nonOctalEscapeAgrees ns ss source n (e q)
+      go false q = rw q
 
   -- (`directiveTold` gives the condition where the scopes follow the tree, and a directive stands in the prologue of a program or a function)
   pub standard12 : (kindOf ns n ≡ k.Directive → DirectiveTold ns ss n) → Rule 12 (useStrictThere ns names n)
@@ -129,10 +183,22 @@ module _ (t : ℕ) (ns ss source names : List ℕ) (w : WellFormed t ns ss sourc
       go true e = rw (block (q e))
       go false e = rw e
 
-  -- in sloppy code (in strict code 15 is raised at the label), where an if or a label holds no async function and no generator
+  -- in sloppy code (in strict code 15 is raised at the label), where an if or a label holds no async function and no generator that is not an error as a labelled function
   pub standard16 : (told : Telling) → OrdinaryHeld told ns ss n → strictCode ns ss n ≡ false
       → at 16 ≡ only (sloppyFunction told ns ss n || labelledFunctionAt ns n) n ++ only (sloppyFunctionElse told ns ss n) n
-  standard16 told c s = code16 t ns ss source names w n h ∙ rw (misplacedAgrees told ns ss n c, misplacedElseAgrees told ns ss n c, labelledAgrees ns ss n s)
+  standard16 told c s =
+      code16 t ns ss source names w n h ∙ rw (misplacedElseAgrees told ns ss n c, labelledAgrees ns ss n s)
+      (ap (λ x. only x n ++ only (sloppyFunctionElse told ns ss n) n) (go (labelledFunctionAt ns n) refl))
+    where
+      either : (a b : Bool) → (a || true) ≡ (b || true)
+      either true true = refl
+      either true false = refl
+      either false true = refl
+      either false false = refl
+
+      go : (b : Bool) → labelledFunctionAt ns n ≡ b → (sloppyFunction ordinary ns ss n || labelledFunctionAt ns n) ≡ (sloppyFunction told ns ss n || labelledFunctionAt ns n)
+      go true e = rw e (either (sloppyFunction ordinary ns ss n) (sloppyFunction told ns ss n))
+      go false e = rw (misplacedAgrees told ns ss n c e)
 
   -- 15 and 16 together, in strict code and in sloppy code: one for a function that is misplaced or labelled, and one for a function that is misplaced behind else
   pub standard15with16 : (told : Telling) → OrdinaryHeld told ns ss n
@@ -150,7 +216,7 @@ module _ (t : ℕ) (ns ss source names : List ℕ) (w : WellFormed t ns ss sourc
           (rw s (none (labelsFunction ns n) (only (functionMisplaced told ns ss n) n ++ only (functionMisplacedElse told ns ss n) n)))
       go false s = rw (code15 t ns ss source names w n h told, standard16 told c s) (rw s)
 
-  pub standard24 : HeadTold ns n → Rule 24 (initializedHead ns ss n)
+  pub standard24 : HeadTold ns ss n → Rule 24 (initializedHead ns ss n)
   standard24 q = code24 t ns ss source names w n h ∙ ap (λ x. only x n) (headAgrees ns ss n q)
 
   pub standard25 : (forAwait ns n ≡ true → BlockTold ns ss n) → Rule 25 (forAwait ns n && awaitInBlock ns n)
@@ -175,8 +241,17 @@ module _ (t : ℕ) (ns ss source names : List ℕ) (w : WellFormed t ns ss sourc
 
   pub standard33 : ParameterTold ns n → Rule 33 (awaitInParameter ns n)
   unfolding awaitInParameterSaid awaitInParameter
-  standard33 q = code33 t ns ss source names w n h ∙ ap (λ x. only x n) (go (awaitOrYield ns n) refl)
+  standard33 q = code33 t ns ss source names w n h ∙ ap (λ x. only x n) (go (awaitInParameterSaid ns n) refl (awaitInParameter ns n) refl)
     where
-      go : (b : Bool) → awaitOrYield ns n ≡ b → awaitInParameterSaid ns n ≡ awaitInParameter ns n
-      go true e = parameterAgrees ns n (w .input .tree) h (q e)
-      go false e = rw e
+      part : (u : ℕ) → (a : Bool) → eqb (kindOf ns u) k.FormalParameter ≡ a → parameter ns u ≡ true → classPart ns u ≡ false
+      part u true x y = let e = eqb-true (kindOf ns u) 49 x in rw e
+      part u false x y =
+          let e = eqb-true (kindOf ns u) 51 (and-left (eqb (kindOf ns u) 51) (eqb (kindOf ns (parentOf ns u)) k.FormalParameterRest) (rw x at y)) in
+          rw e
+
+      go : (a : Bool) → awaitInParameterSaid ns n ≡ a → (b : Bool) → awaitInParameter ns n ≡ b → awaitInParameterSaid ns n ≡ awaitInParameter ns n
+      go true x b y = parameterAgrees ns n (w .input .tree) h (q x)
+      go false x true y =
+          let u = unitOf ns (parameterEdge ns) n in
+          parameterAgrees ns n (w .input .tree) h (part u (eqb (kindOf ns u) k.FormalParameter) refl (and-right (awaitOrYield ns n) (parameter ns u) y))
+      go false x false y = x ∙ sym y

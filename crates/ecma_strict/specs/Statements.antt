@@ -22,16 +22,18 @@ strictWith ns ss n = eqb (kindOf ns n) k.With && strictCode ns ss n
 
 -- 14.7.5: THE HEAD OF A FOR-IN OR A FOR-OF
 
--- the declarations of a head, and those with an Initializer
+-- 14.3.1 LexicalBinding, 14.3.2 VariableDeclaration: the declarations of a head, and those with an Initializer
 abbrev pub declaratorsOf : List ℕ → ℕ → List ℕ
 declaratorsOf ns d = keep (isChild ns d k.VariableDeclarator k.VariableDeclarator 0 7) (upto (d + 1) (count ns))
 
 abbrev pub initialized : List ℕ → ℕ → Bool
 initialized ns v = hasFlag (flagsOf ns v) flag.Initialiser
 
+-- what is declared is a BindingIdentifier, no BindingPattern (14.3.3)
 abbrev pub plainName : List ℕ → ℕ → Bool
 plainName ns v = hasFlag (flagsOf ns v) flag.PlainName
 
+-- there is no second one
 abbrev pub single : List ℕ → Bool
 single l = leb (length l) 1
 
@@ -40,11 +42,11 @@ unfoldable pub annexHead : List ℕ → List ℕ → ℕ → ℕ → Bool
 annexHead ns ss n d =
     (eqb (kindOf ns n) k.ForIn && eqb (extraOf ns d) extra.Var) && ((single (declaratorsOf ns d) && all (plainName ns) (declaratorsOf ns d)) && not (strictCode ns ss n))
 
--- the declaration d in the head of n has an Initializer, which no production of ForInOfStatement but that of B.3.5 has
+-- 14.7.5: the declaration d in the head of n has an Initializer, which no production of ForInOfStatement but that of B.3.5 has
 unfoldable pub badHead : List ℕ → List ℕ → ℕ → ℕ → Bool
 badHead ns ss n d = eqb (kindOf ns d) k.VariableDeclaration && (any (initialized ns) (declaratorsOf ns d) && not (annexHead ns ss n d))
 
--- the left of a for-in or a for-of
+-- 14.7.5: the left of a for-in or a for-of
 abbrev pub headOf : List ℕ → ℕ → Found
 headOf ns n = firstChild ns n 0 55 role.Left role.Left
 
@@ -52,11 +54,13 @@ abbrev pub ofHead : (ℕ → Bool) → Found → Bool
 ofHead p (At d) = p (d .0)
 ofHead p Nothing = false
 
+-- 14.7.5, B.3.5: of n, a ForInOfStatement
 unfoldable pub initializedHead : List ℕ → List ℕ → ℕ → Bool
 initializedHead ns ss n = within (kindOf ns n) k.ForIn k.ForOf && ofHead (badHead ns ss n) (headOf ns n)
 
 -- 14.3.1.1 as explicit resource management has it (not in the edition of 2025): USING
 
+-- 14.3.1: UsingDeclaration, AwaitUsingDeclaration
 abbrev pub usingDeclaration : List ℕ → ℕ → Bool
 usingDeclaration ns n = eqb (kindOf ns n) k.VariableDeclaration && within (extraOf ns n) extra.Using extra.AwaitUsing
 

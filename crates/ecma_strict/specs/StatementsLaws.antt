@@ -27,7 +27,7 @@ use Rattle.ecma_strict.specs.Nodes.{ofCheck}
 use Rattle.ecma_base.specs.Strict.{strictCode}
 use Rattle.ecma_strict.specs.Statements.{strictWith, declaratorsOf, initialized, plainName, single, annexHead, badHead, headOf, ofHead, initializedHead, heldUsing, badUsing}
 use Rattle.ecma_base.specs.Scopes.{topScope}
-use Rattle.ecma_strict.specs.Changed.{unsaid, saidHead, topUsing, UsingTold}
+use Rattle.ecma_strict.specs.Changed.{unsaid, saidHead, HeadTold, topUsing, UsingTold}
 
 -- one finding where a test says so
 pub ifOnly : (c s e n x : ℕ) (b : Bool) → ofCheck c (cond b (errorSpan c n s e x) Clear) ≡ only b n
@@ -110,13 +110,18 @@ module _ (ns ss : List ℕ) (n : ℕ) (f : Bool) (e : eqb (kindOf ns n) k.ForIn 
   unfolding saidHead
   headIs q = rw q (headBy (headOf ns n))
 
--- where nothing is left unsaid the changed rule is the standard's
-pub headAgrees : (ns ss : List ℕ) (n : ℕ) → ofHead (unsaid ns n) (headOf ns n) ≡ false → saidHead ns ss n ≡ initializedHead ns ss n
+-- where nothing is left unsaid of a head that breaks the rule, the changed rule is the standard's
+pub headAgrees : (ns ss : List ℕ) (n : ℕ) → HeadTold ns ss n → saidHead ns ss n ≡ initializedHead ns ss n
 unfolding saidHead initializedHead
 headAgrees ns ss n e = ap (λ b. within (kindOf ns n) k.ForIn k.ForOf && b) (go (headOf ns n) e)
   where
-    go : (r : Found) → ofHead (unsaid ns n) r ≡ false → ofHead (λ d. badHead ns ss n d && not (unsaid ns n d)) r ≡ ofHead (badHead ns ss n) r
-    go (At d) q = rw q (andTrue (badHead ns ss n (d .0)))
+    by : (b u : Bool) → (b && u) ≡ false → (b && not u) ≡ b
+    by true true q = sym q
+    by true false q = refl
+    by false u q = refl
+
+    go : (r : Found) → ofHead (λ d. badHead ns ss n d && unsaid ns n d) r ≡ false → ofHead (λ d. badHead ns ss n d && not (unsaid ns n d)) r ≡ ofHead (badHead ns ss n) r
+    go (At d) q = by (badHead ns ss n (d .0)) (unsaid ns n (d .0)) q
     go Nothing q = refl
 
 -- CODE 13

@@ -43,9 +43,9 @@ use Rattle.ecma_strict.specs.IdentifiersLaws.{reservedIs, awaitNameIs, u
 use Rattle.ecma_strict.specs.Contains.{awaitExpression, awaitUsing, forAwait, awaitOrYield}
 use Rattle.ecma_strict.specs.SearchLaws.{bindingIs, letBoundIs, referenceIs, argumentsSaidIs, parameterIs, awaitBlockIs, awaitUsingIs, forAwaitIs}
 use Rattle.ecma_base.specs.Telling.{Telling, ordinary}
-use Rattle.ecma_strict.specs.Functions.{functionMisplaced, functionMisplacedElse, strictFunction, strictFunctionElse, sloppyFunction, sloppyFunctionElse}
+use Rattle.ecma_strict.specs.Functions.{functionMisplaced, functionMisplacedElse}
 use Rattle.ecma_strict.specs.FunctionsLaws.{andFalse, bodyStrict, consequentStrict, alternateStrict, bodySloppy, consequentSloppy, alternateSloppy, labelStrict, labelSloppy, labelFree}
-use Rattle.ecma_strict.specs.Changed.{toldOctal, toldNonOctal, firstOctalEscape, firstNonOctalEscape, deletesPrivateAnywhere, saidHead, topUsing, useStrictScoped, scopedInBlock, awaitNameScoped, letBoundSaid, argumentsSaid, awaitInParameterSaid, labelledFunctionSaid, reservedName}
+use Rattle.ecma_strict.specs.Changed.{strictFunction, strictFunctionElse, sloppyFunction, sloppyFunctionElse, toldOctal, toldNonOctal, firstOctalEscape, firstNonOctalEscape, deletesPrivateAnywhere, saidHead, topUsing, useStrictScoped, scopedInBlock, awaitNameScoped, letBoundSaid, argumentsSaid, awaitInParameterSaid, labelledFunctionSaid, reservedName}
 
 -- one of two rules, where the other says nothing
 left : (a b : Bool) (n : ℕ) → b ≡ false → only a n ≡ only (a || b) n

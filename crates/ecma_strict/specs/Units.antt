@@ -30,19 +30,19 @@ use Rattle.ecma_base.specs.Strict.{strictCode}
 use Rattle.ecma_base.specs.Telling.{ordinary}
 use Rattle.ecma_strict.specs.Identifiers.{strictReserved, bindsEval, assignsEval, useStrictDirective, simpleParameters, containsUseStrict, useStrictThere}
 use Rattle.ecma_base.specs.Contains.{containsFrom, initializer, containsIn, comes}
-use Rattle.ecma_strict.specs.Contains.{containsInto, staticBlock, blockBegin, awaitExpression, forAwait, awaitUsing, argumentsReference, argumentsBegin, argumentsInto, parameter, parameterBegin, awaitOrYield, lexicalDeclaration, boundBegin, boundInto, letName}
+use Rattle.ecma_strict.specs.Contains.{containsInto, staticBlock, blockBegin, awaitExpression, forAwait, awaitUsing, argumentsReference, argumentsBegin, argumentsInto, parameter, parameterBegin, awaitOrYield, lexicalDeclaration, unbound, boundBegin, boundInto, letName}
 use Rattle.ecma_base.specs.Scopes.{scopesFollow}
 use Rattle.ecma_base.specs.ScopesLaws.{notProgram}
 use Rattle.ecma_strict.specs.ScopesLaws.{scopesTold, directiveTold}
 use Rattle.ecma_base.specs.ContainsLaws.{containsIs, comesIs, comesHome}
 use Rattle.ecma_strict.specs.SearchLaws.{positive}
 use Rattle.ecma_strict.specs.AgreeLaws.{blockEdge, scopesAre}
-use Rattle.ecma_strict.specs.Functions.{isFunction, endsInStatement, endsInLabelled, labelledAmong, labelsFunction, labelEdge, functionMisplaced, strictFunction, strictFunctionElse, sloppyFunction, sloppyFunctionElse}
+use Rattle.ecma_strict.specs.Functions.{isFunction, endsInStatement, endsInLabelled, labelledAmong, labelsFunction, labelEdge, functionMisplaced}
 use Rattle.ecma_strict.specs.FunctionsLaws.{strictMisplaced}
 use Rattle.ecma_strict.specs.LabelledLaws.{statementsOf}
 use Rattle.ecma_strict.specs.Standard.{standard12}
 use Rattle.ecma_strict.specs.Theorems.{code2, code3, code4, code5, code6, code14, code15, code16, code25, code33}
-use Rattle.ecma_strict.specs.Changed.{reservedName, scopedInBlock, awaitNameScoped, letEdge, letBoundSaid, fieldEdge, fieldHome, argumentsSaid, throughClassEdge, awaitInParameterSaid, labelledFunctionSaid}
+use Rattle.ecma_strict.specs.Changed.{strictFunction, strictFunctionElse, sloppyFunction, sloppyFunctionElse, reservedName, scopedInBlock, awaitNameScoped, letEdge, letBoundSaid, fieldEdge, fieldHome, argumentsSaid, throughClassEdge, awaitInParameterSaid, labelledFunctionSaid}
 
 -- two ways to say something, of which each says something where the other does
 someSame : (f g : ℕ → List ℕ) (n : ℕ) → ((j : ℕ) → j < n → some (f j) ≡ some (g j)) → (i : ℕ) → some (each f (upto i n)) ≡ some (each g (upto i n))
@@ -182,7 +182,7 @@ module _ (t : ℕ) (ns ss source names : List ℕ) (w : WellFormed t ns ss sourc
           (someOf (at 6 j) (argumentsSaid ns ss names j) j (code6 t ns ss source names w j l)
           (rw (f, x, comesHome ns (w .input .tree) (argumentsInto ns) (argumentsBegin ns) (fieldEdge ns) (fieldHome ns) u q first on j l e)))
 
-  -- 15.3.1 and others: "FormalParameters Contains YieldExpression", "Contains AwaitExpression": 33
+  -- 15.3.1 and others, of one FormalParameter (FormalParameters contains what one of them does): 33
   pub parametersContain : (u : ℕ) → u < count ns → parameter ns u ≡ true
       → containsFrom ns (awaitOrYield ns) (containsInto ns) (parameterBegin ns) u ≡ some (foundBelow (awaitOrYield ns) (containsInto ns) (parameterBegin ns) u (at 33))
   unfolding awaitInParameterSaid
@@ -219,15 +219,15 @@ module _ (t : ℕ) (ns ss source names : List ℕ) (w : WellFormed t ns ss sourc
       on : (i j : ℕ) → (kindOf ns i ≡ 0 → ⊥) → boundInto ns i j ≡ true → letEdge ns i j ≡ true → lexicalDeclaration ns i ≡ true
       on i j n x y = by (within (kindOf ns i) 0 2) refl (eqb (kindOf ns i) 24) refl y
         where
-          out : (within (kindOf ns i) 1 2 || (eqb (kindOf ns i) 26 || eqb (kindOf ns i) 24)) ≡ false
-          out = not-true (within (kindOf ns i) 1 2 || (eqb (kindOf ns i) 26 || eqb (kindOf ns i) 24)) x
+          out : (within (kindOf ns i) 1 2 || eqb (kindOf ns i) 24) ≡ false
+          out = or-first (within (kindOf ns i) 1 2 || eqb (kindOf ns i) 24) (unbound ns i j) (not-true ((within (kindOf ns i) 1 2 || eqb (kindOf ns i) 24) || unbound ns i j) x)
 
           by : (a : Bool) → within (kindOf ns i) 0 2 ≡ a → (b : Bool) → eqb (kindOf ns i) 24 ≡ b → (a || b) ≡ true → lexicalDeclaration ns i ≡ true
           by true z b c e =
               let r = range-of (kindOf ns i) 0 2 z in
               let r1 = r .1 in
-              clash (sym (or-first (within (kindOf ns i) 1 2) (eqb (kindOf ns i) 26 || eqb (kindOf ns i) 24) out) ∙ in-range (kindOf ns i) 1 2 (positive (kindOf ns i) n) r1)
-          by false z true c e = clash (sym (or-second (eqb (kindOf ns i) 26) (eqb (kindOf ns i) 24) (or-second (within (kindOf ns i) 1 2) (eqb (kindOf ns i) 26 || eqb (kindOf ns i) 24) out)) ∙ c)
+              clash (sym (or-first (within (kindOf ns i) 1 2) (eqb (kindOf ns i) 24) out) ∙ in-range (kindOf ns i) 1 2 (positive (kindOf ns i) n) r1)
+          by false z true c e = clash (sym (or-second (within (kindOf ns i) 1 2) (eqb (kindOf ns i) 24) out) ∙ c)
           by false z false c e = never (sym e)
 
       go : (j : ℕ) → j < count ns → comes ns (boundBegin ns) (boundInto ns) u j ≡ true → letName ns names j ≡ true → (b : Bool) → strictCode ns ss j ≡ b → (some (at 5 j) || some (at 2 j)) ≡ true
