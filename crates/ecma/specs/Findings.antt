@@ -31,7 +31,7 @@ use Rattle.ecma_base.specs.Scopes.{scopesFollow}
 use Rattle.ecma_classes.specs.Theorems as classes
 
 pub record Broken (t : ℕ) (ns ss source names : List ℕ) : Type 0 where
-  -- 2 to 6, 9 to 17, 24, 25, 31 to 33; each says whether its rule is changed
+  -- 2 to 6, 9 to 17, 24, 25, 31 to 33; the theorems code2 .. code33 of ecma_strict/specs/Theorems.antt say which rules are changed
   pub strict : EarlyErrors t ns ss source names
   -- 14.9.1: a break without a label in no loop or switch
   pub code18 : raised 18 (findingsOf t ns ss source names) ≡ keep (breakNotNestedAt ns names) (upto 0 (count ns))
@@ -54,7 +54,7 @@ pub record Broken (t : ℕ) (ns ss source names : List ℕ) : Type 0 where
   pub code26 : raised 26 (findingsOf t ns ss source names) ≡ keep (nameMissing ns) (upto 0 (count ns))
   -- 15.7.1 changed: a second constructor
   pub code27 : raised 27 (findingsOf t ns ss source names) ≡ keep (builtTwice ns) (upto 0 (count ns))
-  -- `super`, changed: by the search through the scopes, whatever they are
+  -- `super`, changed, whatever the scopes are: by the checker's own search (`reachOf`), so this says only which code each of its answers gives
   pub code28-scopes : raised 28 (findingsOf t ns ss source names) ≡ keep (bareByScopes ns ss) (upto 0 (count ns))
   pub code29-scopes : raised 29 (findingsOf t ns ss source names) ≡ keep (strayByScopes ns ss) (upto 0 (count ns))
   pub code30-scopes : raised 30 (findingsOf t ns ss source names) ≡ keep (propertyByScopes ns ss) (upto 0 (count ns))

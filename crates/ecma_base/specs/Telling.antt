@@ -8,9 +8,9 @@ pub record Telling : Type 0 where
   pub generator : ℕ → Bool
 
 -- GeneratorDeclaration, AsyncFunctionDeclaration, AsyncGeneratorDeclaration, and so for expressions and methods
-abbrev pub special : Telling → ℕ → Bool
-special told f = told .async f || told .generator f
+abbrev pub asyncOrGenerator : Telling → ℕ → Bool
+asyncOrGenerator told f = told .async f || told .generator f
 
--- The Rust has no such rule: its findings are those of a tree in which no function is async or a generator.
+-- the telling by which no function is either
 abbrev pub ordinary : Telling
 ordinary = record { async = λ f. false; generator = λ f. false }

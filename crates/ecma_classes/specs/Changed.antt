@@ -19,7 +19,7 @@ use Rattle.names.specs.Name.{same}
 use Rattle.names.specs.Words as word
 use Rattle.children.specs.Children.{keep, children, keyOf, valueOf, functionBodyOf, found}
 use Rattle.trees.specs.Rose.{treeOf}
-use Rattle.ecma_base.specs.Telling.{Telling, special}
+use Rattle.ecma_base.specs.Telling.{Telling, asyncOrGenerator}
 use Rattle.ecma_classes.specs.ClassElements.{keyName, computed, classElements, namesConstructor, constructorTwice, isColon, isProto}
 use Rattle.ecma_classes.specs.PrivateNames.{isPrivateBound, entries, isSetter, matched, invalid, isUse}
 use Rattle.ecma_classes.specs.Supers.{isSuperCall, isMethod, isConstructorMethod, isBare, barsProperty, classOf, unit}
@@ -187,14 +187,14 @@ SupersStand ns = (n : ℕ) → n < count ns → SuperStands ns n
 
 -- CONDITION: the table calls a method of a class a constructor just where it is called "constructor" and is neither async nor a generator; so of each
 abbrev pub MethodNamed : Telling → List ℕ → List ℕ → ℕ → Type 0
-MethodNamed told ns names u = isMethod ns u ≡ true → isTableConstructor ns (parentOf ns u) ≡ (namesConstructor ns names (parentOf ns u) && not (special told u))
+MethodNamed told ns names u = isMethod ns u ≡ true → isTableConstructor ns (parentOf ns u) ≡ (namesConstructor ns names (parentOf ns u) && not (asyncOrGenerator told u))
 
 abbrev pub MethodsNamed : Telling → List ℕ → List ℕ → Type 0
 MethodsNamed told ns names = (u : ℕ) → u < count ns → MethodNamed told ns names u
 
 -- CONDITION: a method called "constructor" is neither async nor a generator; else 28 may be broken too (15.7.1), and the Rust raises 29 alone; so of each
 abbrev pub ConstructorOrdinary : Telling → List ℕ → List ℕ → ℕ → Type 0
-ConstructorOrdinary told ns names u = isMethod ns u ≡ true → namesConstructor ns names (parentOf ns u) ≡ true → special told u ≡ false
+ConstructorOrdinary told ns names u = isMethod ns u ≡ true → namesConstructor ns names (parentOf ns u) ≡ true → asyncOrGenerator told u ≡ false
 
 abbrev pub ConstructorsOrdinary : Telling → List ℕ → List ℕ → Type 0
 ConstructorsOrdinary told ns names = (u : ℕ) → u < count ns → ConstructorOrdinary told ns names u

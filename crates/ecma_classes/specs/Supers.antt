@@ -10,7 +10,7 @@ use Rattle.tables.specs.Extras as extra
 use Rattle.tables.specs.NodeFlag as flag
 use Rattle.children.specs.Children.{valueOf, isNode}
 use Rattle.trees.specs.Trail.{unitOf}
-use Rattle.ecma_base.specs.Telling.{Telling, special}
+use Rattle.ecma_base.specs.Telling.{Telling, asyncOrGenerator}
 use Rattle.ecma_base.specs.Contains.{initializer, containsIn}
 use Rattle.ecma_classes.specs.ClassElements.{namesConstructor, isFirstConstructor}
 
@@ -79,7 +79,7 @@ barsCall told ns names u =
     -- 15.7.1 ClassElement : MethodDefinition: "PropName of MethodDefinition is not "constructor" and HasDirectSuper of MethodDefinition"; static MethodDefinition: "HasDirectSuper of MethodDefinition"
     || ((isMethod ns u && not (namesConstructor ns names (parentOf ns u)))
     -- 15.5.1 GeneratorMethod, 15.6.1 AsyncGeneratorMethod, 15.8.1 AsyncMethod: "HasDirectSuper of GeneratorMethod" and so on
-    || (((isMethod ns u || isObjectMethod ns u) && special told u)
+    || (((isMethod ns u || isObjectMethod ns u) && asyncOrGenerator told u)
     -- 15.2.1, 15.5.1, 15.6.1, 15.8.1, functions: "FormalParameters Contains SuperCall", "FunctionBody Contains SuperCall"
     || isPlainFunction ns u))))
 

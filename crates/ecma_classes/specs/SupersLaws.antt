@@ -29,7 +29,7 @@ use Rattle.checker.specs.Findings.{findingsAt}
 use Rattle.ecma_dispatch.specs.WithCode.{withCode}
 use Rattle.ecma_dispatch.specs.Dispatch.{at28, at29, at30}
 use Rattle.ecma_dispatch.specs.NodesOf.{nodesOf, raised}
-use Rattle.ecma_base.specs.Telling.{Telling, special}
+use Rattle.ecma_base.specs.Telling.{Telling, asyncOrGenerator}
 use Rattle.ecma_classes.specs.RaisingLaws.{raising-code}
 use Rattle.ecma_classes.specs.ClassElements.{namesConstructor}
 use Rattle.ecma_classes.specs.Supers.{begins, isMethod, isConstructorMethod, classOf, hasHeritage, isObjectMethod, isBlockOrField, isBare, barsCall, barsProperty, isSuperCall, isSuperProperty, standardStray, standardProperty}
@@ -307,14 +307,14 @@ module _ (ns names : List ℕ) (tree : Tree ns) (n : ℕ) (h : n < count ns) (st
         by t false s e = rw e
 
         go : (z : Bool) → eqb u 0 ≡ z → (f b : Bool) → isBlockOrField ns u ≡ b → (f || b) ≡ true → (o : Bool) → isObjectMethod ns u ≡ o → (m : Bool) → isMethod ns u ≡ m
-            → (z || (b || (o || ((m && not (namesConstructor ns names (parentOf ns u))) || (((m || o) && special told u) || (f && not (m || o))))))) ≡ not (m && isTableConstructor ns (parentOf ns u))
+            → (z || (b || (o || ((m && not (namesConstructor ns names (parentOf ns u))) || (((m || o) && asyncOrGenerator told u) || (f && not (m || o))))))) ≡ not (m && isTableConstructor ns (parentOf ns u))
         go true x f b q r o s true t = never (sym t ∙ not-program (eqb-true u 0 x))
         go true x f b q r o s false t = refl
         go false x f true q r o s true t = never (sym t ∙ not-function q)
         go false x f true q r o s false t = refl
         go false x true false q r true s true t = never (sym t ∙ not-object s)
         go false x true false q r true s false t = refl
-        go false x true false q r false s true t = by (isTableConstructor ns (parentOf ns u)) (namesConstructor ns names (parentOf ns u)) (special told u) (w t)
+        go false x true false q r false s true t = by (isTableConstructor ns (parentOf ns u)) (namesConstructor ns names (parentOf ns u)) (asyncOrGenerator told u) (w t)
         go false x true false q r false s false t = refl
         go false x false false q r o s m t = never (sym r)
 
@@ -325,7 +325,7 @@ module _ (ns names : List ℕ) (tree : Tree ns) (n : ℕ) (h : n < count ns) (st
     unfolding isConstructorMethod
     constructor-same o = go (isMethod ns u) refl
       where
-        by : isMethod ns u ≡ true → (b : Bool) → namesConstructor ns names (parentOf ns u) ≡ b → (b && not (special told u)) ≡ b
+        by : isMethod ns u ≡ true → (b : Bool) → namesConstructor ns names (parentOf ns u) ≡ b → (b && not (asyncOrGenerator told u)) ≡ b
         by e true q = rw (o e q)
         by e false q = refl
 
@@ -342,7 +342,7 @@ module _ (ns names : List ℕ) (tree : Tree ns) (n : ℕ) (h : n < count ns) (st
     unfolding isConstructorMethod
     named-too e =
         let m = and-left (isMethod ns u) (isTableConstructor ns (parentOf ns u)) e in
-        rw m (and-left (namesConstructor ns names (parentOf ns u)) (not (special told u)) (sym (w m) ∙ and-right (isMethod ns u) (isTableConstructor ns (parentOf ns u)) e))
+        rw m (and-left (namesConstructor ns names (parentOf ns u)) (not (asyncOrGenerator told u)) (sym (w m) ∙ and-right (isMethod ns u) (isTableConstructor ns (parentOf ns u)) e))
 
     pub super-same : (eachBare ns names n || (standardStray told ns names n || standardProperty ns n)) ≡ (tableBare ns n || (tableStray ns n || tableProperty ns n))
     unfolding isBare

@@ -18,7 +18,7 @@ use Rattle.children.specs.Children.{valueOf, heldOf, alternateOf, isNode}
 use Rattle.trees.specs.Trail.{unitOf}
 use Rattle.names.specs.Name.{nameIs}
 use Rattle.names.specs.Words as word
-use Rattle.ecma_base.specs.Telling.{Telling, special}
+use Rattle.ecma_base.specs.Telling.{Telling, asyncOrGenerator}
 use Rattle.ecma_base.specs.Strict.{strictCode}
 use Rattle.ecma_base.specs.Scopes.{mayMakeScope, blockScope, topScope, scopesFollow}
 use Rattle.ecma_strict.specs.Literals.{textOf, decimalDigit, next, legacyOctalInteger, nonOctalDecimalInteger, numericLiteral, legacyOctalEscape, nonOctalDecimalEscape, escapes, stringLiteral}
@@ -226,7 +226,7 @@ sloppyFunctionElse told ns ss n = not (strictCode ns ss n) && functionMisplacedE
 
 -- it is a function, and one of the two
 abbrev pub specialFunction : Telling → List ℕ → Found → Bool
-specialFunction told ns (At m) = eqb (kindOf ns (m .0)) k.Function && special told (m .0)
+specialFunction told ns (At m) = eqb (kindOf ns (m .0)) k.Function && asyncOrGenerator told (m .0)
 specialFunction told ns Nothing = false
 
 -- where they agree: where Annex B lets n hold a function, it holds none of these, unless the function is an error as a labelled one. So in strict code, and at the loops and with, they always agree.

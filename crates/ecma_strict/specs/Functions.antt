@@ -13,7 +13,7 @@ use Rattle.children.specs.Children.{heldOf, alternateOf}
 use Rattle.trees.specs.Rose.{Rose, Roses, node, rnil, rcons, idx, partsOf}
 use Rattle.trees.specs.Trail.{unitOf}
 use Rattle.ecma_base.specs.Strict.{strictCode}
-use Rattle.ecma_base.specs.Telling.{Telling, special}
+use Rattle.ecma_base.specs.Telling.{Telling, asyncOrGenerator}
 
 -- 15.2, 15.5, 15.6, 15.8: a FunctionDeclaration, GeneratorDeclaration, AsyncFunctionDeclaration or AsyncGeneratorDeclaration: a function that is held as a statement is one of these
 abbrev pub isFunction : List ℕ → Found → Bool
@@ -30,7 +30,7 @@ annexHolder ns ss n = not (strictCode ns ss n) && (eqb (kindOf ns n) k.If || eqb
 
 -- .. which is neither an async function nor a generator
 abbrev pub annexAllows : Telling → List ℕ → List ℕ → ℕ → ℕ → Bool
-annexAllows told ns ss n f = annexHolder ns ss n && not (special told f)
+annexAllows told ns ss n f = annexHolder ns ss n && not (asyncOrGenerator told f)
 
 -- 14.6, 14.7, 14.11, 14.13: no Statement is a FunctionDeclaration, GeneratorDeclaration, AsyncFunctionDeclaration or AsyncGeneratorDeclaration. 14.13.1, LabelledItem :
 -- FunctionDeclaration: "It is a Syntax Error if any source text is matched by this production." Of a part of n: it is a function, and Annex B does not allow it.

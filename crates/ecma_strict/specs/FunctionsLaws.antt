@@ -24,7 +24,7 @@ use Rattle.trees.specs.Walk.{only}
 use Rattle.trees.specs.Trail.{unitOf}
 use Rattle.ecma_strict.specs.Nodes.{ofCheck}
 use Rattle.ecma_base.specs.Strict.{strictCode}
-use Rattle.ecma_base.specs.Telling.{Telling, special, ordinary}
+use Rattle.ecma_base.specs.Telling.{Telling, asyncOrGenerator, ordinary}
 use Rattle.ecma_strict.specs.Functions.{isFunction, endsInStatement, annexHolder, annexAllows, misplaced, functionMisplaced, functionMisplacedElse, labelEdge, labelledFunctionAt}
 use Rattle.ecma_base.specs.ContainsLaws.{upward, unitRoot}
 use Rattle.ecma_strict.specs.SearchLaws.{unitHere, unitPass}
@@ -39,7 +39,7 @@ module _ (ns ss : List ℕ) (n : ℕ) where
   strictDenied : (told : Telling) (f : ℕ) → strictCode ns ss n ≡ true → annexAllows told ns ss n f ≡ false
   strictDenied told f s = rw s
 
-  specialDenied : (told : Telling) (f : ℕ) → special told f ≡ true → annexAllows told ns ss n f ≡ false
+  specialDenied : (told : Telling) (f : ℕ) → asyncOrGenerator told f ≡ true → annexAllows told ns ss n f ≡ false
   specialDenied told f e = rw e (by (annexHolder ns ss n))
     where
       by : (a : Bool) → (a && false) ≡ false
@@ -227,7 +227,7 @@ labelledStrict told ns ss n s =
 
 -- FUNCTIONS IN STATEMENT POSITION: where what Annex B has is ordinary, the changed rule is the standard's
 module _ (told : Telling) (ns ss : List ℕ) (n : ℕ) where
-  allowsSame : (f : ℕ) → (annexHolder ns ss n ≡ true → special told f ≡ false) → annexAllows ordinary ns ss n f ≡ annexAllows told ns ss n f
+  allowsSame : (f : ℕ) → (annexHolder ns ss n ≡ true → asyncOrGenerator told f ≡ false) → annexAllows ordinary ns ss n f ≡ annexAllows told ns ss n f
   allowsSame f c = go (annexHolder ns ss n) refl
     where
       go : (a : Bool) → annexHolder ns ss n ≡ a → annexAllows ordinary ns ss n f ≡ annexAllows told ns ss n f
@@ -253,7 +253,7 @@ module _ (told : Telling) (ns ss : List ℕ) (n : ℕ) where
   -- elsewhere it is not: of a function there that is special the standard's rule says an error, and the changed one none
   pub misplacedDiffers : (r : Found) → annexHolder ns ss n ≡ true → specialFunction told ns r ≡ true → (misplaced told ns ss n r ≡ true) × (misplaced ordinary ns ss n r ≡ false)
   misplacedDiffers (At m) a q =
-      let d = specialDenied ns ss n told (m .0) (and-right (eqb (kindOf ns (m .0)) k.Function) (special told (m .0)) q) in
-      let f = and-left (eqb (kindOf ns (m .0)) k.Function) (special told (m .0)) q in
+      let d = specialDenied ns ss n told (m .0) (and-right (eqb (kindOf ns (m .0)) k.Function) (asyncOrGenerator told (m .0)) q) in
+      let f = and-left (eqb (kindOf ns (m .0)) k.Function) (asyncOrGenerator told (m .0)) q in
       (ap (λ v. eqb (kindOf ns (m .0)) k.Function && not v) d ∙ rw f, rw (f, a))
   misplacedDiffers Nothing a q = never (sym q)
