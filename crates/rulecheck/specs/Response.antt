@@ -1,9 +1,10 @@
 -- What `rulecheck` prints, from the bytes that it reads (document 01, "The reader program").
-use Prim.Native.Nat.{ℕ, _*_}
+use Prim.Native.Nat.{ℕ, _*_, _≤_}
+use mathlib.Core.Path.{_≡_}
 use mathlib.Core.Bool.{cond}
 use mathlib.Core.List.{List, [], _∷_, _++_}
 use lib.Dec.{leb}
-use lib.ListN.{length}
+use lib.ListN.{length, take}
 use Rattle.diagnostics.specs.declared.Finding.{Finding}
 use Rattle.diagnostics.specs.Finding.{numbers}
 use Rattle.verdict.specs.declared.Verdict.{Verdict}
@@ -12,7 +13,7 @@ use Rattle.wellformed.specs.WellFormed.{inputRefusal}
 use Rattle.checker.specs.Findings.{findingsOf}
 use Rattle.lines.specs.declared.Input.{Input}
 use Rattle.lines.specs.declared.Input.the-variants.{Tables, Unread}
-use Rattle.lines.specs.Format.{Room, Reading, readInput}
+use Rattle.lines.specs.Format.{Room, Reading, readInput, front}
 use Rattle.print.specs.Print.{lineOf}
 
 -- "It prints F with the seven numbers": a line for each finding
@@ -48,3 +49,9 @@ inputText (Tables kind n s x m) d = checkText kind (d .nodes) (d .scopes) (d .so
 
 unfoldable pub response : List ℕ → List ℕ
 response b = inputText (readInput lent b .answer) (readInput lent b)
+
+-- of b, the bytes that were read stand at the start, and at the start of o what is printed for these; o₀ is the slice before
+pub record Responded (b o₀ o : List ℕ) : Type 0 where
+  pub size : ℕ
+  pub inside : size ≤ length b
+  pub text : o ≡ front (response (take size b)) o₀

@@ -25,7 +25,7 @@ use Rattle.lines.specs.declared.Input.the-variants.{Tables, Unread}
 use Rattle.lines.specs.Format.{Room, roomOf, Reading, stopped, tables, ssIn, nsIn, xIn, readBehind, readLines, readInput, front, Given}
 use Rattle.print.specs.Print.{lineOf}
 use Rattle.answers.specs.Answer.{findingLines, answerText, Counted}
-use Rattle.rulecheck.specs.Response.{linesFor, refusedText, verdictText, checkText, lent, inputText, response}
+use Rattle.rulecheck.specs.Response.{linesFor, refusedText, verdictText, checkText, lent, inputText, response, Responded}
 
 -- the findings as they stand in the slice
 lines-flat : (fs : List Finding) (r : List ℕ) → findingLines (length fs) (flat fs ++ r) ≡ linesFor fs
@@ -141,3 +141,7 @@ front-put f g t u r e p = (p .0 ∙ ap length e, p .1 ∙ ap (λ (k : ℕ). t ++
 
 pub front-same : (f g t u : List ℕ) (r : ℕ) → t ≡ u → (r ≡ length t) × (g ≡ front t f) → (r ≡ length u) × (g ≡ front u f)
 front-same f g t u r e p = rw (sym e) p
+
+-- what was read, and what is printed for it
+pub responded : (b o₀ o l : List ℕ) (k : ℕ) → k ≤ length b → l ≡ take k b → o ≡ front (response l) o₀ → Responded b o₀ o
+responded b o₀ o l k h e t = record { size = k; inside = h; text = t ∙ ap (λ (x : List ℕ). front (response x) o₀) e }
