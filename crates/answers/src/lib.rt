@@ -39,7 +39,8 @@ fn findings_text(findings: &[u32], count: usize, out: &mut [u8]) -> usize
     ensures { λ r. ⌜ (r ≡ length (findingsText count (now (findings .entry)))) × (now (out .exit) ≡ put (now (out .entry)) 0 (findingsText count (now (findings .entry)))) ⌝ }
 {
     let at = put_findings(findings, count, out);
-    let e = [count as u32];
+    let total = count as u32;
+    let e = [total];
     print::line(b'E', &e, out, at)
 }
 

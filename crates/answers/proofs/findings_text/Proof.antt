@@ -17,8 +17,8 @@ put-findings-requires c κs =
     let q = c .before .before .before .pre .1 in
     (omega arith, omega (arith, length-append (findingLines (a .count) (a .findings .now)) (lineOf 69 (a .count ∷ []))))
 
-cast-t8 : tie.Need-cast-t8
-cast-t8 c = search needs
+cast-total : tie.Need-cast-total
+cast-total c = search needs
 
 slice-aggregate-line : tie.Need-slice-aggregate-line
 slice-aggregate-line c = search needs
@@ -42,4 +42,4 @@ returns c =
 pub findings-text-spec : {M : Type 1} → statement M
 findings-text-spec =
     tie.close
-    (tie.spec put-findings-requires cast-t8 slice-aggregate-line line-requires same-length returns)
+    (tie.spec put-findings-requires cast-total slice-aggregate-line line-requires same-length returns)
