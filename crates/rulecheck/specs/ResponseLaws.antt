@@ -25,7 +25,7 @@ use Rattle.lines.specs.declared.Input.the-variants.{Tables, Unread}
 use Rattle.lines.specs.Format.{Room, roomOf, Reading, stopped, tables, ssIn, nsIn, xIn, readBehind, readLines, readInput, front, Given}
 use Rattle.print.specs.Print.{lineOf}
 use Rattle.answers.specs.Answer.{findingLines, answerText, Counted}
-use Rattle.rulecheck.specs.Response.{linesFor, refusedText, verdictText, checkText, lent, inputText, response, Responded}
+use Rattle.rulecheck.specs.Response.{linesFor, refusedText, verdictText, checkText, lent, response, Responded}
 
 -- the findings as they stand in the slice
 lines-flat : (fs : List Finding) (r : List ℕ) → findingLines (length fs) (flat fs ++ r) ≡ linesFor fs

@@ -3,7 +3,6 @@ use Rattle.print.specs.PrintLaws.{line-put, length-line}
 use lib.ListN.{length-set}
 use native.Mathlib.Omega.{arith}
 use mathlib.Core.Path.{_∙_}
-use borrow.Author.Needs.{needs}
 use Rattle.print.proofs.line.Statement.{statement}
 use Rattle.print.proofs.line.Tie as tie
 
