@@ -1,4 +1,4 @@
-// What the two programs print: lines of a letter and numbers.
+// The front of a slice, and what `ruleroute` prints: lines of a letter and numbers.
 ghost use Prim.Native.Nat.{_≤_};
 ghost use mathlib.Core.Path.{_≡_};
 ghost use lib.ListN.{length, take};

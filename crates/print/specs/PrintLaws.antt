@@ -4,7 +4,7 @@ use mathlib.Core.Path.{_≡_, refl, ap, sym, subst, _∙_}
 use mathlib.Core.Bool.{Bool, true, false}
 use mathlib.Core.List.{List, [], _∷_, _++_, map, append-assoc, append-nil}
 use native.Mathlib.Omega.{arith}
-use native.Mathlib.Nat.{pow-suc}
+use native.Mathlib.Nat.{pow-suc, mul-suc}
 use lib.Dec.{ltb}
 use lib.ListN.{length, getD, set, take, drop, length-append}
 use lib.Seq.{set-split, take-set-le, length-take-le, drop-at}
@@ -66,6 +66,9 @@ length-decimal (suc k) n h = go (ltb n 10) refl (length-decimal k (n / 10))
 pub length-word : (n : ℕ) → n < 18446744073709551616 → length (decimal n) ≤ 20
 length-word n h = length-decimal 19 n (omega arith)
 
+pub length-number : (n : ℕ) → n < 4294967296 → length (decimal n) ≤ 10
+length-number n h = length-decimal 9 n (omega arith)
+
 -- a digit written before those that are written: place i comes behind the digits that are left
 module _ (f whole : List ℕ) (at i rest : ℕ) (e : i ≡ at + length (decimal rest)) (h : i ≤ length f) (o : take at f ++ decimal rest ++ drop i f ≡ whole) where
   pub digit-turn : 10 ≤ rest → take at (set f (i - 1) (48 + rest % 10)) ++ decimal (rest / 10) ++ drop (i - 1) (set f (i - 1) (48 + rest % 10)) ≡ whole
@@ -113,14 +116,11 @@ fields-nil : fieldsFor [] ≡ []
 unfolding fieldsFor tails
 fields-nil = refl
 
--- every number of the list is a word's
-abbrev pub Words : List ℕ → Type 0
-Words ns = (i : ℕ) → getD ns i 0 < 18446744073709551616
-
-pub length-fields : (ns : List ℕ) → Words ns → length (fieldsFor ns) ≤ 21 * length ns
-length-fields [] w = omega (arith, ap length fields-nil)
-length-fields (n ∷ ns) w =
-    omega (arith, ap length (fields-cons n ns) ∙ length-append (44 ∷ decimal n) (fieldsFor ns), length-word n (w 0), length-fields ns (λ i. w (suc i)))
+-- numbers of at most k digits each
+length-fields : (k : ℕ) (ns : List ℕ) → ((i : ℕ) → length (decimal (getD ns i 0)) ≤ k) → length (fieldsFor ns) ≤ suc k * length ns
+length-fields k [] w = omega (arith, ap length fields-nil)
+length-fields k (n ∷ ns) w =
+    omega (arith, ap length (fields-cons n ns) ∙ length-append (44 ∷ decimal n) (fieldsFor ns), w 0, length-fields k ns (λ i. w (suc i)), mul-suc (suc k) (length ns))
 
 -- one number a turn
 module _ (f₀ f : List ℕ) (w : ℕ) (ns : List ℕ) (i : ℕ) (whole : List ℕ) (o : Wrote f₀ f w (fieldsFor (drop i ns)) whole) where
@@ -128,6 +128,12 @@ module _ (f₀ f : List ℕ) (w : ℕ) (ns : List ℕ) (i : ℕ) (whole : List �
   fields-turn h =
       let e : fieldsFor (drop i ns) ≡ (44 ∷ decimal (getD ns i 0)) ++ fieldsFor (drop (i + 1) ns) = ap fieldsFor (drop-step ns i h) ∙ fields-cons (getD ns i 0) (drop (i + 1) ns) in
       wrote-put f₀ f w (44 ∷ decimal (getD ns i 0)) (fieldsFor (drop (i + 1) ns)) whole (subst (λ (x : List ℕ). Wrote f₀ f w x whole) e o)
+
+  pub fields-room : i < length ns → w + length (44 ∷ decimal (getD ns i 0)) ≤ length f
+  fields-room h =
+      let r = o .room in
+      let s = o .same in
+      omega (arith, ap length (ap fieldsFor (drop-step ns i h) ∙ fields-cons (getD ns i 0) (drop (i + 1) ns)) ∙ length-append (44 ∷ decimal (getD ns i 0)) (fieldsFor (drop (i + 1) ns)))
 
   pub fields-end : length ns ≤ i → Wrote f₀ f w [] whole
   fields-end h = subst (λ (x : List ℕ). Wrote f₀ f w x whole) (ap fieldsFor (drop-end ns i h) ∙ fields-nil) o
@@ -139,17 +145,30 @@ set-put f w c h = set-split f w c h ∙ rw (add-one w) (sym (append-assoc (take 
 pub byte-put : (f : List ℕ) (w c : ℕ) (vs : List ℕ) → w + 1 + length vs ≤ length f → put (set f w c) (w + 1) vs ≡ put f w (c ∷ vs)
 byte-put f w c vs h = ap (λ (g : List ℕ). put g (w + 1) vs) (set-put f w c (omega arith)) ∙ put-put f w (c ∷ []) vs (omega arith)
 
+line-tails : (letter : ℕ) (ns : List ℕ) → lineOf letter ns ≡ (letter ∷ fieldsFor ns) ++ 10 ∷ []
+unfolding lineOf fieldsFor
+line-tails letter ns = ap (λ (y : List ℕ). y ++ 10 ∷ []) (joined-tails (letter ∷ []) (map decimal ns))
+
+-- how long a line is
+pub length-line : (letter : ℕ) (ns : List ℕ) → length (lineOf letter ns) ≡ 2 + length (fieldsFor ns)
+length-line letter ns = omega (arith, ap length (line-tails letter ns) ∙ length-append (letter ∷ fieldsFor ns) (10 ∷ []))
+
+-- each number takes at most eleven bytes with its comma, and each word 21
+pub line-numbers : (letter : ℕ) (ns : List ℕ) → ((i : ℕ) → getD ns i 0 < 4294967296) → length (lineOf letter ns) ≤ 2 + 11 * length ns
+line-numbers letter ns w = omega (arith, length-line letter ns, length-fields 10 ns (λ i. length-number (getD ns i 0) (w i)))
+
+pub line-words : (letter : ℕ) (ns : List ℕ) → ((i : ℕ) → getD ns i 0 < 18446744073709551616) → length (lineOf letter ns) ≤ 2 + 21 * length ns
+line-words letter ns w = omega (arith, length-line letter ns, length-fields 20 ns (λ i. length-word (getD ns i 0) (w i)))
+
 -- the letter, the fields, the end
 pub line-put : (f : List ℕ) (w letter : ℕ) (ns : List ℕ) (e : ℕ) (g : List ℕ) → w + 2 + length (fieldsFor ns) ≤ length f → e ≡ w + 1 + length (fieldsFor ns)
     → g ≡ put (set f w letter) (w + 1) (fieldsFor ns) → (set g e 10 ≡ put f w (lineOf letter ns)) × (e + 1 ≡ w + length (lineOf letter ns))
-unfolding lineOf fieldsFor
 line-put f w letter ns e g h k q =
     let t = fieldsFor ns in
     let p : g ≡ put f w (letter ∷ t) = q ∙ byte-put f w letter t (omega arith) in
     let l : length g ≡ length f = ap length p ∙ length-put f w (letter ∷ t) (omega arith) in
     let j : e ≡ w + length (letter ∷ t) = omega arith in
-    let x : lineOf letter ns ≡ (letter ∷ t) ++ 10 ∷ [] = ap (λ (y : List ℕ). y ++ 10 ∷ []) (joined-tails (letter ∷ []) (map decimal ns)) in
-    (set-put g e 10 (omega arith) ∙ rw (p, j, x) (put-put f w (letter ∷ t) (10 ∷ []) (omega arith)), rw x (omega (arith, length-append (letter ∷ t) (10 ∷ []))))
+    (set-put g e 10 (omega arith) ∙ rw (p, j, line-tails letter ns) (put-put f w (letter ∷ t) (10 ∷ []) (omega arith)), omega (arith, length-line letter ns))
 
 -- all that was to be put at place w is written
 pub put-done : (f₀ f : List ℕ) (w k : ℕ) (vs : List ℕ) → w + length vs ≤ length f₀ → Wrote f₀ f k [] (take w f₀ ++ vs) → (k ≡ w + length vs) × (f ≡ put f₀ w vs)

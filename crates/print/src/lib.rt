@@ -1,6 +1,6 @@
 // Lines of numbers, as the programs print them.
 ghost use mathlib.Core.Path.{_≡_};
-ghost use Prim.Native.Nat.{_+_, _*_, _≤_, _<_};
+ghost use Prim.Native.Nat.{_+_, _≤_, _<_};
 ghost use mathlib.Core.List.{_∷_};
 ghost use lib.ListN.{length};
 ghost use Rattle.common.specs.Wrote.{put};
@@ -29,8 +29,8 @@ fn glyph(d: u64) -> u8
 
 // Writes n's decimal digits from place w on, the last one first. Says where they end.
 fn put_number(n: u64, out: &mut [u8], w: usize) -> usize
-    requires { ⌜ w + 20 ≤ length (now out) ⌝ }
-    ensures { λ r. ⌜ (r ≡ w + length (decimal n)) × (r ≤ w + 20) × (now (out .exit) ≡ put (now (out .entry)) w (decimal n)) ⌝ }
+    requires { ⌜ w + length (decimal n) ≤ length (now out) ⌝ }
+    ensures { λ r. ⌜ (r ≡ w + length (decimal n)) × (now (out .exit) ≡ put (now (out .entry)) w (decimal n)) ⌝ }
 {
     let end = w + places(n);
     let mut i = end;
@@ -46,8 +46,8 @@ fn put_number(n: u64, out: &mut [u8], w: usize) -> usize
 
 // Writes a comma and a number.
 fn put_field(n: u64, out: &mut [u8], w: usize) -> usize
-    requires { ⌜ w + 21 ≤ length (now out) ⌝ }
-    ensures { λ r. ⌜ (r ≡ w + length (44 ∷ decimal n)) × (r ≤ w + 21) × (now (out .exit) ≡ put (now (out .entry)) w (44 ∷ decimal n)) ⌝ }
+    requires { ⌜ w + length (44 ∷ decimal n) ≤ length (now out) ⌝ }
+    ensures { λ r. ⌜ (r ≡ w + length (44 ∷ decimal n)) × (now (out .exit) ≡ put (now (out .entry)) w (44 ∷ decimal n)) ⌝ }
 {
     out[w] = 44;
     put_number(n, out, w + 1)
@@ -61,8 +61,8 @@ fn wide(x: u32) -> u64
 
 // Writes numbers from place w on, each behind a comma. Says where they end.
 fn put_fields(numbers: &[u32], out: &mut [u8], w: usize) -> usize
-    requires { ⌜ w + 21 * length (now numbers) ≤ length (now out) ⌝ }
-    ensures { λ r. ⌜ (r ≡ w + length (fieldsFor (now (numbers .entry)))) × (r ≤ w + 21 * length (now (numbers .entry))) × (now (out .exit) ≡ put (now (out .entry)) w (fieldsFor (now (numbers .entry)))) ⌝ }
+    requires { ⌜ w + length (fieldsFor (now numbers)) ≤ length (now out) ⌝ }
+    ensures { λ r. ⌜ (r ≡ w + length (fieldsFor (now (numbers .entry)))) × (now (out .exit) ≡ put (now (out .entry)) w (fieldsFor (now (numbers .entry)))) ⌝ }
 {
     let mut at = w;
     let mut i = 0;
@@ -75,8 +75,8 @@ fn put_fields(numbers: &[u32], out: &mut [u8], w: usize) -> usize
 
 // The same for words.
 fn put_words(numbers: &[u64], out: &mut [u8], w: usize) -> usize
-    requires { ⌜ w + 21 * length (now numbers) ≤ length (now out) ⌝ }
-    ensures { λ r. ⌜ (r ≡ w + length (fieldsFor (now (numbers .entry)))) × (r ≤ w + 21 * length (now (numbers .entry))) × (now (out .exit) ≡ put (now (out .entry)) w (fieldsFor (now (numbers .entry)))) ⌝ }
+    requires { ⌜ w + length (fieldsFor (now numbers)) ≤ length (now out) ⌝ }
+    ensures { λ r. ⌜ (r ≡ w + length (fieldsFor (now (numbers .entry)))) × (now (out .exit) ≡ put (now (out .entry)) w (fieldsFor (now (numbers .entry)))) ⌝ }
 {
     let mut at = w;
     let mut i = 0;
@@ -89,8 +89,8 @@ fn put_words(numbers: &[u64], out: &mut [u8], w: usize) -> usize
 
 // Writes a line from place w on, and says where it ends.
 pub fn line(letter: u8, numbers: &[u32], out: &mut [u8], w: usize) -> usize
-    requires { ⌜ w + 2 + 21 * length (now numbers) ≤ length (now out) ⌝ }
-    ensures { λ r. ⌜ (r ≡ w + length (lineOf letter (now (numbers .entry)))) × (r ≤ w + 2 + 21 * length (now (numbers .entry))) × (now (out .exit) ≡ put (now (out .entry)) w (lineOf letter (now (numbers .entry)))) ⌝ }
+    requires { ⌜ w + length (lineOf letter (now numbers)) ≤ length (now out) ⌝ }
+    ensures { λ r. ⌜ (r ≡ w + length (lineOf letter (now (numbers .entry)))) × (now (out .exit) ≡ put (now (out .entry)) w (lineOf letter (now (numbers .entry)))) ⌝ }
 {
     out[w] = letter;
     let end = put_fields(numbers, out, w + 1);
@@ -100,8 +100,8 @@ pub fn line(letter: u8, numbers: &[u32], out: &mut [u8], w: usize) -> usize
 
 // The same for words.
 pub fn long_line(letter: u8, numbers: &[u64], out: &mut [u8], w: usize) -> usize
-    requires { ⌜ w + 2 + 21 * length (now numbers) ≤ length (now out) ⌝ }
-    ensures { λ r. ⌜ (r ≡ w + length (lineOf letter (now (numbers .entry)))) × (r ≤ w + 2 + 21 * length (now (numbers .entry))) × (now (out .exit) ≡ put (now (out .entry)) w (lineOf letter (now (numbers .entry)))) ⌝ }
+    requires { ⌜ w + length (lineOf letter (now numbers)) ≤ length (now out) ⌝ }
+    ensures { λ r. ⌜ (r ≡ w + length (lineOf letter (now (numbers .entry)))) × (now (out .exit) ≡ put (now (out .entry)) w (lineOf letter (now (numbers .entry)))) ⌝ }
 {
     out[w] = letter;
     let end = put_words(numbers, out, w + 1);

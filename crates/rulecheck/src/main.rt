@@ -1,59 +1,14 @@
 // rulecheck: reads the lines of a rule's tables from standard input, checks them, and prints the findings or the refusal.
+ghost use mathlib.Core.Path.{_≡_};
+ghost use lib.ListN.{length, take};
+ghost use Rattle.lines.specs.Format.{front};
+ghost use Rattle.rulecheck.specs.Response.{checkText, response, Responded};
 use libc::STDIN_FILENO;
+use libc::STDOUT_FILENO;
 use lines::Input;
-use rules::Checked;
 
-// Prints the finding that starts at `at`.
-fn print_finding(findings: &[u32], at: usize) {
-    if at <= findings.len() {
-        output::print_line(b'F', output::front_numbers(&findings[at..], 7));
-    }
-}
-
-// A table of 1,024 nodes has no more than 8,192 findings.
-fn print_findings(findings: &[u32], count: usize) {
-    let mut i: usize = 0;
-    while i < count {
-        if 8192 <= i {
-            return;
-        }
-        print_finding(findings, i * 7);
-        i += 1;
-    }
-    if count <= 8192 {
-        let e = [count as u32];
-        output::print_line(b'E', &e);
-    }
-}
-
-fn print_checked(answer: Checked, findings: &[u32]) {
-    match answer {
-        Checked::Findings(count) => print_findings(findings, count),
-        Checked::Refused(number, place) => output::print_refusal(number, place),
-        Checked::Short(_) => output::print_refusal(10, 0),
-    }
-}
-
-// Checks the tables, with `findings` to write to, and prints the answer.
-fn check_by(
-    kind: u32,
-    nodes: &[u32],
-    scopes: &[u32],
-    source: &[u8],
-    names: &[u8],
-    findings: &mut [u32],
-) {
-    let answer = rules::check(kind, nodes, scopes, source, names, findings);
-    print_checked(answer, findings);
-}
-
-fn check(kind: u32, nodes: &[u32], scopes: &[u32], source: &[u8], names: &[u8]) {
-    let mut findings = [0u32; 57344];
-    check_by(kind, nodes, scopes, source, names, &mut findings);
-}
-
-// Checks what was read, which stands at the front of each slice.
-fn check_front(
+// Writes the text of the tables, which stand at the front of each slice. Says where it ends.
+fn check_text(
     kind: u32,
     n: usize,
     s: usize,
@@ -63,51 +18,95 @@ fn check_front(
     scopes: &[u32],
     source: &[u8],
     names: &[u8],
-) {
-    check(
+    findings: &mut [u32],
+    out: &mut [u8],
+) -> usize
+    requires { ⌜ (length (now findings) ≡ 57344) × (length (now out) ≡ 655360) ⌝ }
+    ensures { λ r. ⌜ (r ≡ length (checkText kind (take n (now (nodes .entry))) (take s (now (scopes .entry))) (take b (now (source .entry))) (take m (now (names .entry))))) × (now (out .exit) ≡ front (checkText kind (take n (now (nodes .entry))) (take s (now (scopes .entry))) (take b (now (source .entry))) (take m (now (names .entry)))) (now (out .entry))) ⌝ }
+{
+    let answer = rules::check(
         kind,
         output::front_numbers(nodes, n),
         output::front_numbers(scopes, s),
         output::front(source, b),
         output::front(names, m),
+        findings,
     );
+    answers::answer_text(answer, findings, out)
 }
 
-// Reads the lines into the slices, and checks what was read.
-fn run_by(
+// Writes what is printed for the bytes `input`, with slices for the tables and for the findings. Says where it ends.
+fn respond_by(
     input: &[u8],
     nodes: &mut [u32],
     scopes: &mut [u32],
     source: &mut [u8],
     names: &mut [u8],
-) {
+    findings: &mut [u32],
+    out: &mut [u8],
+) -> usize
+    requires { ⌜ (length (now nodes) ≡ 10240) × (length (now scopes) ≡ 3072) × (length (now source) ≡ 1024) × (length (now names) ≡ 1024) ⌝ }
+    requires { ⌜ (length (now findings) ≡ 57344) × (length (now out) ≡ 655360) ⌝ }
+    ensures { λ r. ⌜ (r ≡ length (response (now (input .entry)))) × (now (out .exit) ≡ front (response (now (input .entry))) (now (out .entry))) ⌝ }
+{
     let read = lines::read(input, nodes, scopes, source, names);
     match read {
-        Input::Unread(line) => output::print_refusal(0, line),
+        Input::Unread(line) => answers::refusal_text(0, line, out),
         Input::Tables {
             kind,
             nodes: n,
             scopes: s,
             source: b,
             names: m,
-        } => check_front(kind, n, s, b, m, nodes, scopes, source, names),
+        } => check_text(
+            kind,
+            n,
+            s,
+            b,
+            m,
+            nodes,
+            scopes,
+            source,
+            names,
+            findings,
+            out,
+        ),
     }
 }
 
-fn run(input: &[u8]) {
+// Writes what is printed for the bytes `input`. Says where it ends.
+fn respond(input: &[u8], out: &mut [u8]) -> usize
+    requires { ⌜ length (now out) ≡ 655360 ⌝ }
+    ensures { λ r. ⌜ (r ≡ length (response (now (input .entry)))) × (now (out .exit) ≡ front (response (now (input .entry))) (now (out .entry))) ⌝ }
+{
     let mut nodes = [0u32; 10240];
     let mut scopes = [0u32; 3072];
     let mut source = [0u8; 1024];
     let mut names = [0u8; 1024];
-    run_by(input, &mut nodes, &mut scopes, &mut source, &mut names);
+    let mut findings = [0u32; 57344];
+    respond_by(
+        input,
+        &mut nodes,
+        &mut scopes,
+        &mut source,
+        &mut names,
+        &mut findings,
+        out,
+    )
 }
 
-fn read_and_run(input: &mut [u8]) {
+// Reads, and prints what there is to print for what was read.
+fn run(input: &mut [u8], out: &mut [u8])
+    requires { ⌜ length (now out) ≡ 655360 ⌝ }
+    ensures { λ _. ⌜ Responded (now (input .exit)) (now (out .entry)) (now (out .exit)) ⌝ }
+{
     let got = io::read_full(STDIN_FILENO, input);
-    run(output::front(input, got));
+    let end = respond(output::front(input, got), out);
+    io::write_all(STDOUT_FILENO, output::front(out, end));
 }
 
 fn main() {
     let mut input = [0u8; 655360];
-    read_and_run(&mut input);
+    let mut out = [0u8; 655360];
+    run(&mut input, &mut out);
 }

@@ -1,31 +1,31 @@
 -- `print::long_line` meets its contract.
-use Rattle.print.specs.PrintLaws.{line-put}
+use Rattle.print.specs.PrintLaws.{line-put, length-line}
 use lib.ListN.{length-set}
 use native.Mathlib.Omega.{arith}
 use mathlib.Core.Path.{_∙_}
-use borrow.Author.Needs.{needs}
 use Rattle.print.proofs.long_line.Statement.{statement}
 use Rattle.print.proofs.long_line.Tie as tie
 
 slice-write-out : tie.Need-slice-write-out
-slice-write-out c = search needs
+slice-write-out c = omega (arith, length-line (c .before .before .args .letter) (c .before .before .args .numbers .now))
 
 add-put-words : tie.Need-add-put-words
-add-put-words c = search needs
+add-put-words c = omega (arith, length-line (c .before .before .before .args .letter) (c .before .before .before .args .numbers .now))
 
 put-words-requires : tie.Need-put-words-requires
-put-words-requires c κs = let p = c .before .before .before .pre in simp length-set (omega arith)
+put-words-requires c κs = let p = c .before .before .before .pre in simp length-set (omega (arith, length-line (c .before .before .before .args .letter) (c .before .before .before .args .numbers .now)))
 
 slice-write-out-2 : tie.Need-slice-write-out-2
 slice-write-out-2 c =
     let p = c .before .before .before .before .before .before .pre in
-    let e = c .before .before .put-words .ensures .1 in
+    let e = c .before .before .put-words .ensures .0 in
+    let n = length-line (c .before .before .before .before .before .before .args .letter) (c .before .before .before .before .before .before .args .numbers .now) in
     let k = c .before .before .put-words .kept .1 .0 in
     let s = length-set (c .before .before .before .before .before .before .args .out .now) (c .before .before .before .before .before .before .args .w) (c .before .before .before .before .before .before .args .letter) in
     omega arith
 
 add-result : tie.Need-add-result
-add-result c = search needs
+add-result c = omega (arith, length-line (c .before .before .before .before .before .before .args .letter) (c .before .before .before .before .before .before .args .numbers .now))
 
 same-length : tie.Need-same-length
 same-length c = simp length-set (c .before .before .put-words .kept .1 .0 ∙ length-set (c .before .before .before .before .before .before .args .out .now) (c .before .before .before .before .before .before .args .w) (c .before .before .before .before .before .before .args .letter))
@@ -36,10 +36,9 @@ returns c =
     let p = c .before .before .before .before .before .before .pre in
     let e = c .before .before .put-words .ensures in
     let m = e .0 in
-    let b = e .1 in
-    let t = line-put (a .out .now) (a .w) (a .letter) (a .numbers .now) (c .before .before .put-words .result) (c .before .before .put-words .last .1 .0) (omega arith) m (e .2) in
-    let k = t .1 in
-    (k, omega arith, t .0)
+    let n = length-line (c .before .before .before .before .before .before .args .letter) (c .before .before .before .before .before .before .args .numbers .now) in
+    let t = line-put (a .out .now) (a .w) (a .letter) (a .numbers .now) (c .before .before .put-words .result) (c .before .before .put-words .last .1 .0) (omega arith) m (e .1) in
+    (t .1, t .0)
 
 pub long-line-spec : {M : Type 1} → statement M
 long-line-spec =

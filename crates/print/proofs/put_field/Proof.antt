@@ -24,9 +24,8 @@ returns : tie.Need-returns
 returns c =
     let e = c .before .before .put-number .ensures in
     let a = e .0 in
-    let b = e .1 in
     let p = c .before .before .before .before .before .pre in
-    (omega arith, omega arith, e .2 ∙ byte-put (c .before .before .before .before .before .args .out .now) (c .before .before .before .before .before .args .w) 44 (decimal (c .before .before .before .before .before .args .n)) (omega arith))
+    (omega arith, e .1 ∙ byte-put (c .before .before .before .before .before .args .out .now) (c .before .before .before .before .before .args .w) 44 (decimal (c .before .before .before .before .before .args .n)) (omega arith))
 
 pub put-field-spec : {M : Type 1} → statement M
 put-field-spec =

@@ -1,17 +1,17 @@
 -- `print::put_fields` meets its contract. The loop keeps: what is left of the work, with what is done, is the whole.
-use Rattle.print.specs.PrintLaws.{put-done, fieldsFor, length-fields, fields-turn, fields-end}
+use Rattle.print.specs.PrintLaws.{put-done, fieldsFor, fields-turn, fields-room, fields-end}
 use Rattle.digits.specs.Writes.{put-start}
 use Rattle.common.specs.Wrote.{Wrote}
 use lib.ListN.{length, take, drop}
 use native.Mathlib.Omega.{arith}
 use mathlib.Core.List.{_++_}
-use Prim.Native.Nat.{_+_, _-_, _*_, _≤_}
+use Prim.Native.Nat.{_+_, _-_, _≤_}
 use borrow.Author.Needs.{needs}
 use Rattle.print.proofs.put_fields.Statement.{statement}
 use Rattle.print.proofs.put_fields.Tie as tie
 
 abbrev Inv-loop : tie.InvT-loop
-Inv-loop numbers out₀ w at₀ i₀ out at i = (i ≤ length numbers) × (at ≤ w + 21 * i) × Wrote out₀ out at (fieldsFor (drop i numbers)) (take w out₀ ++ fieldsFor numbers)
+Inv-loop numbers out₀ w at₀ i₀ out at i = (i ≤ length numbers) × Wrote out₀ out at (fieldsFor (drop i numbers)) (take w out₀ ++ fieldsFor numbers)
 
 abbrev μ-loop : tie.MeasureT-loop
 μ-loop numbers out₀ w at₀ i₀ out at i = length numbers - i
@@ -20,8 +20,7 @@ loop-holds : tie.Need-loop-holds Inv-loop μ-loop
 loop-holds c =
     let a = c .before .before .args in
     let p = c .before .before .pre in
-    let l = length-fields (a .numbers .now) (λ i. omega (arith, c .before .shared-slice-known .given i)) in
-    (omega arith, omega arith, put-start (a .out .now) (a .w) (fieldsFor (a .numbers .now)) (omega arith))
+    (omega arith, put-start (a .out .now) (a .w) (fieldsFor (a .numbers .now)) (omega arith))
 
 mul-wide : tie.Need-mul-wide Inv-loop μ-loop
 mul-wide c = search needs
@@ -33,7 +32,10 @@ wide-requires : tie.Need-wide-requires Inv-loop μ-loop
 wide-requires c κs = search needs
 
 put-field-requires : tie.Need-put-field-requires Inv-loop μ-loop
-put-field-requires c κs = search needs
+put-field-requires c κs =
+    let a = c .before .before .before .before .before .before .before .args in
+    let o = c .before .before .before .before .loop in
+    rw (c .before .wide .ensures) (fields-room (a .out .now) (o .out) (o .at) (a .numbers .now) (o .i) _ (o .inv .1) (c .before .before .before .loop-test .taken))
 
 add-i : tie.Need-add-i Inv-loop μ-loop
 add-i c = search needs
@@ -47,10 +49,8 @@ loop-again c =
     let o = c .before .before .before .before .before .before .before .loop in
     let v = o .inv in
     let e = c .before .before .put-field .ensures in
-    let b = e .1 in
-    let m = v .1 in
     let t = c .before .before .before .before .before .before .loop-test .taken in
-    (omega arith, omega arith, rw (e .2, e .0, c .before .before .before .before .wide .ensures) (fields-turn (a .out .now) (o .out) (o .at) (a .numbers .now) (o .i) _ (v .2) t))
+    (omega arith, rw (e .1, e .0, c .before .before .before .before .wide .ensures) (fields-turn (a .out .now) (o .out) (o .at) (a .numbers .now) (o .i) _ (v .1) t))
 
 same-length : tie.Need-same-length Inv-loop μ-loop
 same-length c = search needs
@@ -61,12 +61,9 @@ returns c =
     let o = c .before .loop in
     let v = o .inv in
     let p = c .before .before .before .before .pre in
-    let m = v .1 in
     let t = c .loop-test .left in
-    let l = length-fields (a .numbers .now) (λ i. omega (arith, c .before .before .before .shared-slice-known .given i)) in
-    let d = put-done (a .out .now) (o .out) (a .w) (o .at) (fieldsFor (a .numbers .now)) (omega arith) (fields-end (a .out .now) (o .out) (o .at) (a .numbers .now) (o .i) _ (v .2) t) in
-    let k = d .0 in
-    (k, omega arith, d .1)
+    let d = put-done (a .out .now) (o .out) (a .w) (o .at) (fieldsFor (a .numbers .now)) (omega arith) (fields-end (a .out .now) (o .out) (o .at) (a .numbers .now) (o .i) _ (v .1) t) in
+    (d .0, d .1)
 
 pub put-fields-spec : {M : Type 1} → statement M
 put-fields-spec =

@@ -1,6 +1,6 @@
 -- `print::put_number` meets its contract. The loop keeps: what is left of the work, with what is done, is the whole.
 use Prim.Native.Nat.{ℕ, _+_, _-_, _≤_}
-use Rattle.print.specs.PrintLaws.{length-more, digit-turn, digit-last}
+use Rattle.print.specs.PrintLaws.{length-more, length-less, digit-turn, digit-last}
 use Rattle.print.specs.Print.{decimal}
 use Rattle.common.specs.Wrote.{put}
 use lib.ListN.{length, take, drop, length-set}
@@ -35,7 +35,15 @@ glyph-requires : tie.Need-glyph-requires Inv-loop μ-loop
 glyph-requires c κs = search needs
 
 slice-write-out : tie.Need-slice-write-out Inv-loop μ-loop
-slice-write-out c = search needs
+slice-write-out c =
+    let v = c .before .before .loop .inv in
+    let i = v .0 in
+    let b = v .1 in
+    let l = v .2 in
+    let e = c .before .before .before .places .ensures .0 in
+    let n = length-more (c .before .before .loop .rest) (c .before .loop-test .taken) in
+    let q = c .before .before .before .before .before .pre in
+    omega arith
 
 loop-less : tie.Need-loop-less Inv-loop μ-loop
 loop-less c = search needs
@@ -57,7 +65,15 @@ glyph-requires-2 : tie.Need-glyph-requires-2 Inv-loop μ-loop
 glyph-requires-2 c κs = search needs
 
 slice-write-out-2 : tie.Need-slice-write-out-2 Inv-loop μ-loop
-slice-write-out-2 c = search needs
+slice-write-out-2 c =
+    let v = c .before .before .loop .inv in
+    let i = v .0 in
+    let b = v .1 in
+    let l = v .2 in
+    let e = c .before .before .before .places .ensures .0 in
+    let n = length-less (c .before .before .loop .rest) (c .before .loop-test .left) in
+    let q = c .before .before .before .before .before .pre in
+    omega arith
 
 same-length : tie.Need-same-length Inv-loop μ-loop
 same-length c = search needs
@@ -73,7 +89,7 @@ returns c =
     let b = v .1 in
     let p = e .1 in
     let q = c .before .before .before .before .before .pre in
-    (ap (λ (k : ℕ). a .w + k) (e .0), omega arith, rw (c .glyph2 .ensures) (digit-last (o .out) _ (a .w) (o .i) (o .rest) i (omega arith) (v .3) (c .before .loop-test .left)))
+    (ap (λ (k : ℕ). a .w + k) (e .0), rw (c .glyph2 .ensures) (digit-last (o .out) _ (a .w) (o .i) (o .rest) i (omega arith) (v .3) (c .before .loop-test .left)))
 
 pub put-number-spec : {M : Type 1} → statement M
 put-number-spec =

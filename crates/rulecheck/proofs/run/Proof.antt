@@ -1,0 +1,43 @@
+-- `rulecheck::run` meets its contract.
+use Rattle.rulecheck.specs.ResponseLaws.{responded}
+use borrow.Author.Needs.{needs}
+use Rattle.rulecheck.proofs.run.Statement.{statement}
+use Rattle.rulecheck.proofs.run.Tie as tie
+
+read-full-requires : tie.Need-read-full-requires
+read-full-requires c κs = search needs
+
+front-requires : tie.Need-front-requires
+front-requires c κs = search needs
+
+respond-requires : tie.Need-respond-requires
+respond-requires c κs = search needs
+
+front-requires-2 : tie.Need-front-requires-2
+front-requires-2 c κs = search needs
+
+write-all-requires : tie.Need-write-all-requires
+write-all-requires c κs = search needs
+
+same-length : tie.Need-same-length
+same-length c = search needs
+
+same-length-2 : tie.Need-same-length-2
+same-length-2 c = search needs
+
+returns : tie.Need-returns
+returns c =
+    responded (c .before .before .before .before .before .before .before .before .before .before .before .read-full .last .1 .0) (c .before .before .before .before .before .before .before .before .before .before .before .before .before .before .before .args .out .now) (c .before .before .before .before .before .respond .last .1 .0) (c .before .before .before .before .before .before .before .front .result .now) (c .before .before .before .before .before .before .before .before .before .before .before .read-full .result) (c .before .before .before .before .before .before .before .before .before .before .before .read-full .ensures .0) (c .before .before .before .before .before .before .before .front .ensures) (c .before .before .before .before .before .respond .ensures .1)
+
+pub run-spec : {M : Type 1} → statement M
+run-spec =
+    tie.close
+    (tie.spec
+    read-full-requires
+    front-requires
+    respond-requires
+    front-requires-2
+    write-all-requires
+    same-length
+    same-length-2
+    returns)

@@ -1,0 +1,147 @@
+-- The text as the code comes to it: from the answer of `check` and its slice, and from the slices that were read.
+use Prim.Native.Nat.{ℕ, _+_, _*_, _≤_}
+use mathlib.Core.Path.{_≡_, refl, ap, sym, subst, _∙_}
+use mathlib.Core.Bool.{Bool, true, false, cond}
+use mathlib.Core.List.{List, [], _∷_, _++_}
+use native.Mathlib.Nat.{zero-add}
+use borrow.Author.Tests.{leb-true}
+use lib.Dec.{leb, eqb}
+use lib.ListN.{length, take, drop}
+use lib.Seq.{take-at}
+use Rattle.common.specs.Wrote.{put}
+use Rattle.diagnostics.specs.declared.Finding.{Finding}
+use Rattle.diagnostics.specs.Finding.{numbers, flat}
+use Rattle.verdict.specs.declared.Verdict.{Verdict}
+use Rattle.verdict.specs.declared.Verdict.the-variants as verdict
+use Rattle.wellformed.specs.WellFormed.{inputRefusal}
+use Rattle.checker.specs.Findings.{findingsOf}
+use Rattle.rules.specs.declared.Checked.{Checked}
+use Rattle.rules.specs.declared.Checked.the-variants.{Findings, Short}
+use Rattle.rules.specs.Check.{reportAnswer, reportSlice, answerBy, sliceBy, checkAnswer, checkSlice}
+use Rattle.line_fields.specs.Split.{linesOf}
+use Rattle.forms.specs.Forms.{kindIn, nodesIn, scopesIn, isJ, isX}
+use Rattle.lines.specs.declared.Input.{Input}
+use Rattle.lines.specs.declared.Input.the-variants.{Tables, Unread}
+use Rattle.lines.specs.Format.{Room, roomOf, Reading, stopped, tables, ssIn, nsIn, xIn, readBehind, readLines, readInput, front, Given}
+use Rattle.print.specs.Print.{lineOf}
+use Rattle.answers.specs.Answer.{findingLines, answerText, Counted}
+use Rattle.rulecheck.specs.Response.{linesFor, refusedText, verdictText, checkText, lent, response, Responded}
+
+-- the findings as they stand in the slice
+lines-flat : (fs : List Finding) (r : List ℕ) → findingLines (length fs) (flat fs ++ r) ≡ linesFor fs
+unfolding findingLines flat linesFor
+lines-flat [] r = refl
+lines-flat (f ∷ fs) r = ap (λ (x : List ℕ). lineOf 70 (numbers f) ++ x) (lines-flat fs r)
+
+-- what `check` answers and leaves gives the text
+module _ (fs : List Finding) (s : List ℕ) (h : length s ≡ 57344) where
+  report-text : answerText (reportAnswer fs (length s)) (reportSlice fs s) ≡ verdictText verdict.Passed fs
+  unfolding reportAnswer reportSlice answerText verdictText
+  report-text = rw h (go (leb (7 * length fs) 57344))
+    where
+      go : (t : Bool) → answerText (cond t (Findings (length fs)) (Short (7 * length fs))) (cond t (flat fs ++ drop (7 * length fs) s) s)
+          ≡ cond t (linesFor fs ++ lineOf 69 (length fs ∷ [])) (refusedText 10 0)
+      go true = ap (λ (x : List ℕ). x ++ lineOf 69 (length fs ∷ [])) (lines-flat fs (drop (7 * length fs) s))
+      go false = refl
+
+  by-text : (v : Verdict) → answerText (answerBy v (reportAnswer fs (length s))) (sliceBy v s (reportSlice fs s)) ≡ verdictText v fs
+  unfolding answerText verdictText
+  by-text (verdict.Refused number place) = refl
+  by-text verdict.Passed = report-text
+
+report-counted : (fs : List Finding) (len : ℕ) → Counted (reportAnswer fs len) len
+unfolding reportAnswer
+report-counted fs len = go (leb (7 * length fs) len) refl
+  where
+    go : (t : Bool) → leb (7 * length fs) len ≡ t → Counted (cond t (Findings (length fs)) (Short (7 * length fs))) len
+    go true e = leb-true (7 * length fs) len e
+    go false e = tt
+
+by-counted : (v : Verdict) (fs : List Finding) (len : ℕ) → Counted (answerBy v (reportAnswer fs len)) len
+by-counted (verdict.Refused number place) fs len = tt
+by-counted verdict.Passed fs len = report-counted fs len
+
+module _ (kind : ℕ) (ns ss source names : List ℕ) where
+  pub check-text : (s : List ℕ) → length s ≡ 57344 → answerText (checkAnswer kind ns ss source names (length s)) (checkSlice kind ns ss source names s) ≡ checkText kind ns ss source names
+  unfolding checkAnswer checkSlice checkText
+  check-text s h = by-text (findingsOf kind ns ss source names) s h (inputRefusal kind ns ss source names)
+
+  pub check-counted : (len : ℕ) → Counted (checkAnswer kind ns ss source names len) len
+  unfolding checkAnswer
+  check-counted len = by-counted (inputRefusal kind ns ss source names) (findingsOf kind ns ss source names) len
+
+-- the same of the slices as the code has them
+module _ (kind : ℕ) (s g : List ℕ) (r : Checked) (ns ss xs ms : List ℕ) (h : length s ≡ 57344) (a : r ≡ checkAnswer kind ns ss xs ms (length s)) (b : g ≡ checkSlice kind ns ss xs ms s) where
+  pub checked-counted : length g ≡ length s → Counted r (length g)
+  checked-counted e = rw (e, a) (check-counted kind ns ss xs ms (length s))
+
+  pub checked-text : (ns′ ss′ xs′ ms′ : List ℕ) → ns ≡ ns′ → ss ≡ ss′ → xs ≡ xs′ → ms ≡ ms′ → answerText r g ≡ checkText kind ns′ ss′ xs′ ms′
+  checked-text ns′ ss′ xs′ ms′ p q u v = rw (a, b, sym p, sym q, sym u, sym v) (check-text kind ns ss xs ms s h)
+
+-- the sizes that are answered are those of what was read
+abbrev Sized : Input → Reading → Type 0
+Sized (Unread line) d = Unit {0}
+Sized (Tables kind n s x m) d = (length (d .nodes) ≡ n) × (length (d .scopes) ≡ s) × (length (d .source) ≡ x) × (length (d .names) ≡ m)
+
+abbrev Told : Reading → Type 0
+Told d = Sized (d .answer) d
+
+behind-told : (room : Room) (kind n s : ℕ) (ls : List (List ℕ)) → Told (readBehind room kind n s ls)
+unfolding readBehind
+behind-told room kind n s ls = go (eqb (length ss) s) (eqb (length ns) n) (isX (room .source) x)
+  where
+    ss : List (List ℕ)
+    ss = ssIn room kind n s ls
+
+    ns : List (List ℕ)
+    ns = nsIn room kind n s ls
+
+    x : List ℕ
+    x = xIn room kind n s ls
+
+    go : (p q r : Bool) → Told (cond p (cond q (cond r (tables kind ss ns x) (stopped (2 + s + n) ss ns)) (stopped (2 + s + length ns) ss ns)) (stopped (2 + length ss) ss []))
+    go true true true = (refl, refl, refl, refl)
+    go true true false = tt
+    go true false r = tt
+    go false q r = tt
+
+lines-told : (room : Room) (ls : List (List ℕ)) → Told (readLines room ls)
+unfolding readLines
+lines-told room [] = tt
+lines-told room (j ∷ ls) = go (isJ (room .nodes) (room .scopes) j)
+  where
+    go : (t : Bool) → Told (cond t (readBehind room (kindIn j) (nodesIn j) (scopesIn j) ls) (stopped 1 [] []))
+    go true = behind-told room (kindIn j) (nodesIn j) (scopesIn j) ls
+    go false = tt
+
+pub room-lent : (ns ss xs ms : List ℕ) → length ns ≡ 10240 → length ss ≡ 3072 → length xs ≡ 1024 → length ms ≡ 1024 → roomOf ns ss xs ms ≡ lent
+room-lent ns ss xs ms g h i j = rw (g, h, i, j)
+
+-- what was read stands at the front of a slice
+part : (l f g : List ℕ) (n : ℕ) → length l ≡ n → g ≡ front l f → take n g ≡ l
+part l f g n e h = ap (take n) h ∙ take-at l (drop (length l) f) n e
+
+-- the text by what `read` answers
+module _ (room : Room) (b : List ℕ) (q : room ≡ lent) (r : Input) (a : r ≡ readInput room b .answer) where
+  pub text-unread : (line : ℕ) → r ≡ Unread line → response b ≡ refusedText 0 line
+  unfolding response
+  text-unread line e = rw (sym q, sym a, e)
+
+  pub text-tables : (kind n s x m : ℕ) (n₀ s₀ x₀ m₀ ns ss xs ms : List ℕ) → r ≡ Tables kind n s x m → Given (readInput room b) n₀ s₀ x₀ m₀ ns ss xs ms
+      → response b ≡ checkText kind (take n ns) (take s ss) (take x xs) (take m ms)
+  unfolding response
+  text-tables kind n s x m n₀ s₀ x₀ m₀ ns ss xs ms e g =
+      let d : Reading = readInput room b in
+      let t : Sized (Tables kind n s x m) d = subst (λ (i : Input). Sized i d) (sym a ∙ e) (lines-told room (linesOf b)) in
+      rw (sym q, sym a, e, part (d .nodes) n₀ ns n (t .0) (g .nodes), part (d .scopes) s₀ ss s (t .1) (g .scopes), part (d .source) x₀ xs x (t .2) (g .source), part (d .names) m₀ ms m (t .3) (g .names))
+
+-- a text put at a slice's start
+pub front-put : (f g t u : List ℕ) (r : ℕ) → t ≡ u → (r ≡ length t) × (g ≡ put f 0 t) → (r ≡ length u) × (g ≡ front u f)
+front-put f g t u r e p = (p .0 ∙ ap length e, p .1 ∙ ap (λ (k : ℕ). t ++ drop k f) (zero-add (length t)) ∙ ap (λ (x : List ℕ). front x f) e)
+
+pub front-same : (f g t u : List ℕ) (r : ℕ) → t ≡ u → (r ≡ length t) × (g ≡ front t f) → (r ≡ length u) × (g ≡ front u f)
+front-same f g t u r e p = rw (sym e) p
+
+-- what was read, and what is printed for it
+pub responded : (b o₀ o l : List ℕ) (k : ℕ) → k ≤ length b → l ≡ take k b → o ≡ front (response l) o₀ → Responded b o₀ o
+responded b o₀ o l k h e t = record { size = k; inside = h; text = t ∙ ap (λ (x : List ℕ). front (response x) o₀) e }
