@@ -1,4 +1,4 @@
--- ECMA-262, 8.5.1 Contains, and operations like it: they begin at some parts of a node, go down, and end at others.
+-- ECMA-262, 8.5.1 Static Semantics: Contains, and operations like it: they begin at some parts of a node, go down, and end at others.
 use Prim.Native.Nat.{ℕ}
 use mathlib.Core.List.{List}
 use mathlib.Core.Bool.{Bool, false, cond, not, _&&_, _||_}

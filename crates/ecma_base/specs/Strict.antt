@@ -1,4 +1,4 @@
--- Strict mode code (11.2.2). Document 01: "A node's code is strict if its scope is": which code is strict is told by the tables.
+-- ECMA-262, 11.2.2 Strict Mode Code. Document 01: "A node's code is strict if its scope is": which code is strict is told by the tables.
 use Prim.Native.Nat.{ℕ}
 use mathlib.Core.List.{List}
 use mathlib.Core.Bool.{Bool}

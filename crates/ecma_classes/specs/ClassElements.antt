@@ -1,4 +1,4 @@
--- ECMA-262, 15.7 "Class Definitions" and 13.2.5 "Object Initializer": the early errors on the elements of one class or one object.
+-- ECMA-262, 15.7 Class Definitions, 15.7.1 Static Semantics: Early Errors, and 13.2.5 Object Initializer, 13.2.5.1 Static Semantics: Early Errors: those on the elements of one class or one object.
 use Prim.Native.Nat.{ℕ}
 use mathlib.Core.List.{List, [], _∷_}
 use mathlib.Core.Bool.{Bool, true, false, cond, not, _&&_, _||_}

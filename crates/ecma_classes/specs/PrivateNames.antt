@@ -1,4 +1,4 @@
--- ECMA-262, 15.7: private names of classes. 15.7.8 PrivateBoundIdentifiers and the early error on its duplicates (15.7.1); 15.7.7 AllPrivateIdentifiersValid.
+-- ECMA-262, 15.7 Class Definitions, private names: 15.7.8 Static Semantics: PrivateBoundIdentifiers and the early error on its duplicates (15.7.1); 15.7.7 Static Semantics: AllPrivateIdentifiersValid.
 use Prim.Native.Nat.{ℕ}
 use mathlib.Core.List.{List, [], _∷_, _++_, foldr}
 use mathlib.Core.Bool.{Bool, true, false, cond, not, xor, _&&_, _||_}

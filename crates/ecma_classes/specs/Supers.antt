@@ -1,4 +1,4 @@
--- ECMA-262: where `super` may stand. 8.5.1 Contains, 15.4.2 HasDirectSuper, and the early errors that name SuperCall or SuperProperty.
+-- ECMA-262, where `super` may stand: 8.5.1 Static Semantics: Contains, 15.4.2 Static Semantics: HasDirectSuper, and the early errors that name SuperCall or SuperProperty.
 use Prim.Native.Nat.{ℕ}
 use mathlib.Core.List.{List}
 use mathlib.Core.Bool.{Bool, not, _&&_, _||_}

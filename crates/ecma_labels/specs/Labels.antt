@@ -1,4 +1,4 @@
--- ECMA-262: labels, break and continue. The operations of 8.3 and the rules of 14.8.1 and 14.9.1, over the tree of a table.
+-- ECMA-262, 8.3 Labels; 14.8 The continue Statement, 14.8.1 Static Semantics: Early Errors; 14.9 The break Statement, 14.9.1 Static Semantics: Early Errors; over the tree of a table.
 -- They go through FunctionBody, Block, Labeled, For, ForIn, ForOf, While, DoWhile, If, With, Switch, SwitchCase, Try and CatchClause (kinds 4 to 17). For a
 -- function, a class, any other declaration, an expression and every statement not named the standard has "Return false".
 use Prim.Native.Nat.{ℕ}

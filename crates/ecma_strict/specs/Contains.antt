@@ -1,4 +1,4 @@
--- ECMA-262, the rules that Contains (8.5.1), ContainsArguments (15.7.9) and BoundNames (8.2.1) decide: what is sought, where the operation begins, and where it ends.
+-- ECMA-262, 8.5.1 Static Semantics: Contains, 15.7.9 Static Semantics: ContainsArguments, 8.2.1 Static Semantics: BoundNames, and the rules that they decide: what is sought, where the operation begins, and where it ends.
 use Prim.Native.Nat.{ℕ}
 use mathlib.Core.List.{List}
 use mathlib.Core.Bool.{Bool, not, _&&_, _||_}

@@ -1,4 +1,4 @@
--- ECMA-262, 13.5.1.1 Static Semantics: Early Errors of UnaryExpression : delete UnaryExpression.
+-- ECMA-262, 13.5.1 The delete Operator, 13.5.1.1 Static Semantics: Early Errors of UnaryExpression : delete UnaryExpression.
 use Prim.Native.Nat.{ℕ}
 use mathlib.Core.List.{List}
 use mathlib.Core.Bool.{Bool, false, cond, _&&_, _||_}

@@ -1,4 +1,5 @@
--- ECMA-262, functions in statement position: 14.6, 14.7, 14.11, 14.13 with B.3.1 and B.3.3.
+-- ECMA-262, functions in statement position: 14.6 The if Statement, 14.7 Iteration Statements, 14.11 The with Statement, 14.13 Labelled Statements, with B.3.1 Labelled Function Declarations and
+-- B.3.3 FunctionDeclarations in IfStatement Statement Clauses.
 use Prim.Native.Nat.{ℕ}
 use mathlib.Core.List.{List}
 use mathlib.Core.Bool.{Bool, false, cond, not, _&&_, _||_}

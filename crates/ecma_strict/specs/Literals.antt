@@ -1,4 +1,4 @@
--- ECMA-262, 12.9.3 Numeric Literals and 12.9.4 String Literals: what strict mode code may not have. A literal's text is the bytes of its span.
+-- ECMA-262, 12.9.3 Numeric Literals and 12.9.4 String Literals, with 12.9.3.1 and 12.9.4.1 Static Semantics: Early Errors: what strict mode code may not have. A literal's text is the bytes of its span.
 use Prim.Native.Nat.{ℕ, _-_}
 use mathlib.Core.List.{List, [], _∷_}
 use mathlib.Core.Bool.{Bool, false, cond, not, _&&_, _||_}

@@ -1,4 +1,4 @@
--- ECMA-262, the parameters [Yield] and [Await] of the grammar (5.1.5), as each production hands them to its parts. Which functions are generators or async is told (Telling).
+-- ECMA-262, 5.1.5 Grammar Notation: the parameters [Yield] and [Await] of the grammar, as each production hands them to its parts. Which functions are generators or async is told (Telling).
 use Prim.Native.Nat.{ℕ}
 use mathlib.Core.List.{List}
 use mathlib.Core.Bool.{Bool, true, false, cond, _&&_, _||_}

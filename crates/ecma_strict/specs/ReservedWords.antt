@@ -1,4 +1,4 @@
--- ECMA-262, 12.7.2 ReservedWord, without `yield` and `await`, as bytes.
+-- ECMA-262, 12.7.2 Keywords and Reserved Words: ReservedWord, without `yield` and `await`, as bytes.
 use Prim.Native.Nat.{ℕ}
 use mathlib.Core.List.{List, [], _∷_}
 

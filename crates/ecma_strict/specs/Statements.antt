@@ -1,4 +1,4 @@
--- ECMA-262, 14.11.1 With; 14.7.5 and B.3.5 heads of for-in and for-of; 14.3.1.1 using.
+-- ECMA-262, 14.11 The with Statement, 14.11.1 Static Semantics: Early Errors; 14.7.5 The for-in, for-of, and for-await-of Statements, with B.3.5 Initializers in ForIn Statement Heads; 14.3.1.1 Static Semantics: Early Errors, of using.
 use Prim.Native.Nat.{ℕ, _+_}
 use mathlib.Core.List.{List}
 use mathlib.Core.Bool.{Bool, false, not, _&&_, _||_}
