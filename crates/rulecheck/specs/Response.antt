@@ -1,10 +1,9 @@
 -- What `rulecheck` prints, from the bytes that it reads (document 01, "The reader program").
-use Prim.Native.Nat.{ℕ, _*_, _≤_}
-use mathlib.Core.Path.{_≡_}
+use Prim.Native.Nat.{ℕ, _*_}
 use mathlib.Core.Bool.{cond}
 use mathlib.Core.List.{List, [], _∷_, _++_}
 use lib.Dec.{leb}
-use lib.ListN.{length, take}
+use lib.ListN.{length}
 use Rattle.diagnostics.specs.declared.Finding.{Finding}
 use Rattle.diagnostics.specs.Finding.{numbers}
 use Rattle.verdict.specs.declared.Verdict.{Verdict}
@@ -13,8 +12,9 @@ use Rattle.wellformed.specs.WellFormed.{inputRefusal}
 use Rattle.checker.specs.Findings.{findingsOf}
 use Rattle.lines.specs.declared.Input.{Input}
 use Rattle.lines.specs.declared.Input.the-variants.{Tables, Unread}
-use Rattle.lines.specs.Format.{Room, Reading, readInput, front}
+use Rattle.lines.specs.Format.{Room, Reading, readInput}
 use Rattle.print.specs.Print.{lineOf}
+use Rattle.answers.specs.Answer.{refusalText}
 
 -- "It prints F with the seven numbers": a line for each finding
 unfoldable pub linesFor : List Finding → List ℕ
@@ -25,14 +25,10 @@ linesFor (f ∷ fs) = lineOf 70 (numbers f) ++ linesFor fs
 abbrev pub foundText : List Finding → List ℕ
 foundText fs = linesFor fs ++ lineOf 69 (length fs ∷ [])
 
--- "or only R with number and place"
-abbrev pub refusedText : ℕ → ℕ → List ℕ
-refusedText number place = lineOf 82 (number ∷ place ∷ [])
-
--- the program has room for 57,344 numbers; more findings than these hold are refusal 10, place 0
+-- "or only R with number and place" (refusalText); the program has room for 57,344 numbers, and more findings than these hold are refusal 10, place 0
 unfoldable pub verdictText : Verdict → List Finding → List ℕ
-verdictText (Refused number place) fs = refusedText number place
-verdictText Passed fs = cond (leb (7 * length fs) 57344) (foundText fs) (refusedText 10 0)
+verdictText (Refused number place) fs = refusalText number place
+verdictText Passed fs = cond (leb (7 * length fs) 57344) (foundText fs) (refusalText 10 0)
 
 -- the text of tables that are read
 unfoldable pub checkText : ℕ → List ℕ → List ℕ → List ℕ → List ℕ → List ℕ
@@ -44,14 +40,8 @@ lent = record { nodes = 10240; scopes = 3072; source = 1024; names = 1024 }
 
 -- "(R,0,line, from 1, where a line can't be read or is missing)"
 abbrev pub inputText : Input → Reading → List ℕ
-inputText (Unread line) d = refusedText 0 line
+inputText (Unread line) d = refusalText 0 line
 inputText (Tables kind n s x m) d = checkText kind (d .nodes) (d .scopes) (d .source) (d .names)
 
 unfoldable pub response : List ℕ → List ℕ
 response b = inputText (readInput lent b .answer) (readInput lent b)
-
--- of b, the bytes that were read stand at the start, and at the start of o what is printed for these; o₀ is the slice before
-pub record Responded (b o₀ o : List ℕ) : Type 0 where
-  pub size : ℕ
-  pub inside : size ≤ length b
-  pub text : o ≡ front (response (take size b)) o₀

@@ -24,8 +24,8 @@ use Rattle.lines.specs.declared.Input.{Input}
 use Rattle.lines.specs.declared.Input.the-variants.{Tables, Unread}
 use Rattle.lines.specs.Format.{Room, roomOf, Reading, stopped, tables, ssIn, nsIn, xIn, readBehind, readLines, readInput, front, Given}
 use Rattle.print.specs.Print.{lineOf}
-use Rattle.answers.specs.Answer.{findingLines, answerText, Counted}
-use Rattle.rulecheck.specs.Response.{linesFor, refusedText, verdictText, checkText, lent, response, Responded}
+use Rattle.answers.specs.Answer.{findingLines, answerText, Counted, refusalText}
+use Rattle.rulecheck.specs.Response.{linesFor, verdictText, checkText, lent, response}
 
 -- the findings as they stand in the slice
 lines-flat : (fs : List Finding) (r : List ℕ) → findingLines (length fs) (flat fs ++ r) ≡ linesFor fs
@@ -40,7 +40,7 @@ module _ (fs : List Finding) (s : List ℕ) (h : length s ≡ 57344) where
   report-text = rw h (go (leb (7 * length fs) 57344))
     where
       go : (t : Bool) → answerText (cond t (Findings (length fs)) (Short (7 * length fs))) (cond t (flat fs ++ drop (7 * length fs) s) s)
-          ≡ cond t (linesFor fs ++ lineOf 69 (length fs ∷ [])) (refusedText 10 0)
+          ≡ cond t (linesFor fs ++ lineOf 69 (length fs ∷ [])) (refusalText 10 0)
       go true = ap (λ (x : List ℕ). x ++ lineOf 69 (length fs ∷ [])) (lines-flat fs (drop (7 * length fs) s))
       go false = refl
 
@@ -123,7 +123,7 @@ part l f g n e h = ap (take n) h ∙ take-at l (drop (length l) f) n e
 
 -- the text by what `read` answers
 module _ (room : Room) (b : List ℕ) (q : room ≡ lent) (r : Input) (a : r ≡ readInput room b .answer) where
-  pub text-unread : (line : ℕ) → r ≡ Unread line → response b ≡ refusedText 0 line
+  pub text-unread : (line : ℕ) → r ≡ Unread line → response b ≡ refusalText 0 line
   unfolding response
   text-unread line e = rw (sym q, sym a, e)
 
@@ -141,7 +141,3 @@ front-put f g t u r e p = (p .0 ∙ ap length e, p .1 ∙ ap (λ (k : ℕ). t ++
 
 pub front-same : (f g t u : List ℕ) (r : ℕ) → t ≡ u → (r ≡ length t) × (g ≡ front t f) → (r ≡ length u) × (g ≡ front u f)
 front-same f g t u r e p = rw (sym e) p
-
--- what was read, and what is printed for it
-pub responded : (b o₀ o l : List ℕ) (k : ℕ) → k ≤ length b → l ≡ take k b → o ≡ front (response l) o₀ → Responded b o₀ o
-responded b o₀ o l k h e t = record { size = k; inside = h; text = t ∙ ap (λ (x : List ℕ). front (response x) o₀) e }

@@ -1,5 +1,4 @@
 -- `rulecheck::run` meets its contract.
-use Rattle.rulecheck.specs.ResponseLaws.{responded}
 use borrow.Author.Needs.{needs}
 use Rattle.rulecheck.proofs.run.Statement.{statement}
 use Rattle.rulecheck.proofs.run.Tie as tie
@@ -26,8 +25,7 @@ same-length-2 : tie.Need-same-length-2
 same-length-2 c = search needs
 
 returns : tie.Need-returns
-returns c =
-    responded (c .before .before .before .before .before .before .before .before .before .before .before .read-full .last .1 .0) (c .before .before .before .before .before .before .before .before .before .before .before .before .before .before .before .args .out .now) (c .before .before .before .before .before .respond .last .1 .0) (c .before .before .before .before .before .before .before .front .result .now) (c .before .before .before .before .before .before .before .before .before .before .before .read-full .result) (c .before .before .before .before .before .before .before .before .before .before .before .read-full .ensures .0) (c .before .before .before .before .before .before .before .front .ensures) (c .before .before .before .before .before .respond .ensures .1)
+returns c = search needs
 
 pub run-spec : {M : Type 1} → statement M
 run-spec =
