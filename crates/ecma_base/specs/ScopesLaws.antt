@@ -2,16 +2,16 @@
 use Prim.Native.Nat.{ℕ, _<_}
 use mathlib.Core.Path.{_≡_, refl, ap, sym, _∙_}
 use mathlib.Core.List.{List}
-use mathlib.Core.Bool.{Bool, true, false, not, _&&_, _||_}
+use mathlib.Core.Bool.{Bool, true, false, _&&_, _||_}
 use mathlib.Core.Logic.{_⊎_, inl, inr, ⊎-elim}
 use native.Mathlib.Nat.{eq-or-lt-of-le}
 use native.Mathlib.Omega.{arith}
-use borrow.Author.Tests.{eq-eqb, eqb-true, ltb-true}
+use borrow.Author.Tests.{eq-eqb, ne-eqb, eqb-true, ltb-true}
 use lib.Dec.{eqb, ltb}
 use Rattle.common.specs.Upto.{upto, all}
 use Rattle.common.specs.UptoLaws.{all-upto, and-left, and-right}
 use Rattle.common.specs.Tests.{within}
-use Rattle.common.specs.Bools.{never, either}
+use Rattle.common.specs.Bools.{never, either, in-range, range-of}
 use Rattle.tables.specs.Table.{kindOf, parentOf, extraOf, count, scopeOf, scopeParentOf, scopeNodeOf}
 use Rattle.tables.specs.Facts.{Tree}
 use Rattle.tables.specs.Kinds as k
@@ -25,6 +25,14 @@ same true true e = refl
 same true false e = sym e
 same false true e = e
 same false false e = refl
+
+-- what is no function, no arrow and no static block is none of them
+pub noFunction : (a : ℕ) → within a 1 3 ≡ false → (eqb a 3 ≡ false) × (within a 1 2 ≡ false)
+noFunction a e = (ne-eqb a 3 (λ q. never (sym (in-range a 1 3 (omega arith) (omega arith)) ∙ e)), go (within a 1 2) refl)
+  where
+    go : (x : Bool) → within a 1 2 ≡ x → x ≡ false
+    go true q = let r = range-of a 1 2 q in let r0 = r .0 in let r1 = r .1 in never (sym (in-range a 1 3 r0 (omega arith)) ∙ e)
+    go false q = refl
 
 -- a scope that the parent p of i makes
 pub record Made (ns ss : List ℕ) (i : ℕ) : Type 0 where

@@ -1,6 +1,6 @@
 -- What the search for `super` needs of scopes that follow the tree.
 use Prim.Native.Nat.{ℕ, _≤_, _<_}
-use mathlib.Core.Path.{_≡_, refl, ap, sym, _∙_}
+use mathlib.Core.Path.{_≡_, refl, ap, _∙_}
 use mathlib.Core.List.{List}
 use mathlib.Core.Bool.{Bool, true, false, _||_}
 use mathlib.Core.Logic.{_⊎_, inl, inr, ⊎-elim}
@@ -8,13 +8,13 @@ use native.Mathlib.Omega.{arith}
 use borrow.Author.Tests.{ne-eqb}
 use lib.Dec.{eqb}
 use Rattle.common.specs.Tests.{within}
-use Rattle.common.specs.Bools.{never, in-range, range-of}
+use Rattle.common.specs.Bools.{range-of}
 use Rattle.tables.specs.Table.{kindOf, parentOf, extraOf, scopeOf, count, scopeFlagsOf, scopeNodeOf, hasFlag}
 use Rattle.tables.specs.Facts.{Tree}
 use Rattle.tables.specs.Kinds as k
 use Rattle.tables.specs.ScopeFlag as scope
 use Rattle.ecma_base.specs.Scopes.{makesScope, mayMakeScope, scopeKind, scopesFollow}
-use Rattle.ecma_base.specs.ScopesLaws.{notProgram, Made, root, blockFlag, functionFlag, arrowFlag, made, sameOrMade, sameOnly, madeKind, rootKind, className, classBody, classElement}
+use Rattle.ecma_base.specs.ScopesLaws.{notProgram, noFunction, Made, root, blockFlag, functionFlag, arrowFlag, made, sameOrMade, sameOnly, madeKind, rootKind, className, classBody, classElement}
 
 abbrev pub isFunctionScope : List ℕ → ℕ → Bool
 isFunctionScope ss s = hasFlag (scopeFlagsOf ss s) scope.FunctionScope
@@ -47,8 +47,8 @@ pub record ScopesFit (ns ss : List ℕ) : Type 0 where
 -- kinds 28 to 30 make no scope
 no-scope : (a : ℕ) → 28 ≤ a → a ≤ 30 → (makesScope a ≡ false) × (mayMakeScope a ≡ false)
 no-scope a l u = (
-  off (within a 1 3) (eqb a 5) (within a 7 9) (out 1 3 (omega arith)) (ne-eqb a 5 (λ q. omega arith)) (out 7 9 (omega arith)),
-  more (within a 13 14) (eqb a 17) (eqb a 26) (out 13 14 (omega arith)) (ne-eqb a 17 (λ q. omega arith)) (ne-eqb a 26 (λ q. omega arith)),
+  none (within a 1 3) (eqb a 5) (within a 7 9) (out 1 3 (omega arith)) (ne-eqb a 5 (λ q. omega arith)) (out 7 9 (omega arith)),
+  none (within a 13 14) (eqb a 17) (eqb a 26) (out 13 14 (omega arith)) (ne-eqb a 17 (λ q. omega arith)) (ne-eqb a 26 (λ q. omega arith)),
 )
   where
     out : (lo hi : ℕ) → hi < a → within a lo hi ≡ false
@@ -58,11 +58,8 @@ no-scope a l u = (
         go true q = let r = range-of a lo hi q in let r1 = r .1 in absurd (omega arith)
         go false q = refl
 
-    off : (x y z : Bool) → x ≡ false → y ≡ false → z ≡ false → (x || (y || z)) ≡ false
-    off x y z p q r = rw (p, q, r)
-
-    more : (x y z : Bool) → x ≡ false → y ≡ false → z ≡ false → (x || (y || z)) ≡ false
-    more x y z p q r = rw (p, q, r)
+    none : (x y z : Bool) → x ≡ false → y ≡ false → z ≡ false → (x || (y || z)) ≡ false
+    none x y z p q r = rw (p, q, r)
 
 module _ (ns ss : List ℕ) (tree : Tree ns) (w : scopesFollow ns ss ≡ true) where
   -- the flags of a scope whose node is of a kind
@@ -75,13 +72,6 @@ module _ (ns ss : List ℕ) (tree : Tree ns) (w : scopesFollow ns ss ≡ true) w
 
   later : (j : ℕ) → (kindOf ns j ≡ 0 → ⊥) → 0 < j
   later = notProgram ns tree
-
-  no-function : (a : ℕ) → within a 1 3 ≡ false → (eqb a 3 ≡ false) × (within a 1 2 ≡ false)
-  no-function a e = (ne-eqb a 3 (λ q. never (sym (in-range a 1 3 (omega arith) (omega arith)) ∙ e)), go (within a 1 2) refl)
-    where
-      go : (x : Bool) → within a 1 2 ≡ x → x ≡ false
-      go true q = let r = range-of a 1 2 q in let r0 = r .0 in let r1 = r .1 in never (sym (in-range a 1 3 r0 (omega arith)) ∙ e)
-      go false q = refl
 
   pub fit-of : ScopesFit ns ss
   fit-of = record {
@@ -96,6 +86,6 @@ module _ (ns ss : List ℕ) (tree : Tree ns) (w : scopesFollow ns ss ≡ true) w
     element = λ j z h l u. let n = no-scope (kindOf ns (parentOf ns j)) l u in sameOnly ns ss tree w j z h (n .0) (n .1);
     other = λ j z h e.
         ⊎-elim (λ q. inl q)
-        (λ m. let f = flags j (kindOf ns (parentOf ns j)) h (madeKind ns ss tree w j m) in let n = no-function (kindOf ns (parentOf ns j)) e in inr (m, f .0 ∙ n .0, f .1 ∙ n .1))
+        (λ m. let f = flags j (kindOf ns (parentOf ns j)) h (madeKind ns ss tree w j m) in let n = noFunction (kindOf ns (parentOf ns j)) e in inr (m, f .0 ∙ n .0, f .1 ∙ n .1))
         (sameOrMade ns ss tree w j z h);
   }

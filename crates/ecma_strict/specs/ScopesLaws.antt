@@ -6,19 +6,17 @@ use mathlib.Core.Bool.{Bool, true, false, not, _&&_, _||_}
 use mathlib.Core.Logic.{_⊎_, inl, inr, ⊎-elim}
 use native.Mathlib.Nat.{eq-or-lt-of-le}
 use native.Mathlib.Omega.{arith}
-use borrow.Author.Tests.{eq-eqb, ne-eqb, eqb-true, eqb-false, ltb-true}
-use lib.Dec.{eqb, ltb}
-use Rattle.common.specs.Upto.{upto, all}
-use Rattle.common.specs.UptoLaws.{all-upto, and-left, and-right}
+use borrow.Author.Tests.{eq-eqb, ne-eqb, eqb-true, eqb-false}
+use lib.Dec.{eqb}
 use Rattle.common.specs.Tests.{within}
 use Rattle.common.specs.Bools.{never, or-first, or-second, either, in-range, range-of}
-use Rattle.tables.specs.Table.{kindOf, parentOf, count, scopeOf, scopeParentOf, scopeNodeOf}
+use Rattle.tables.specs.Table.{kindOf, parentOf, count, scopeOf, scopeNodeOf}
 use Rattle.tables.specs.Facts.{Tree}
 use Rattle.tables.specs.Kinds as k
 use Rattle.ancestry.specs.AncestryLaws.{parent-in, ancestors-up, ancestors-root}
 use Rattle.standing.specs.Standing.{Placed}
 use Rattle.ecma_base.specs.Scopes.{makesScope, mayMakeScope, scopesFollow}
-use Rattle.ecma_base.specs.ScopesLaws.{notProgram, Made, root, blockFlag, functionFlag, topFlag, made, sameOrMade, sameOnly, madeKind, rootKind}
+use Rattle.ecma_base.specs.ScopesLaws.{notProgram, noFunction, root, blockFlag, functionFlag, topFlag, made, sameOrMade, sameOnly, madeKind, rootKind}
 use Rattle.ecma_strict.specs.Statements.{holdsUsing, heldUsing}
 use Rattle.ecma_strict.specs.AgreeLaws.{ScopesTold}
 use Rattle.ecma_base.specs.ContainsLaws.{rootOnly, upward}
@@ -70,16 +68,6 @@ module _ (ns ss : List ℕ) (t : Tree ns) (w : scopesFollow ns ss ≡ true) wher
           let r1 = r .1 in
           in-range a 1 2 r0 (⊎-elim (λ (y : a ≡ 3). absurd (eqb-false a 3 q y)) (λ (y : a < 3). omega arith) (eq-or-lt-of-le r1))
 
-  fewer : (a lo hi : ℕ) → within a 1 3 ≡ false → 1 ≤ lo → hi ≤ 3 → within a lo hi ≡ false
-  fewer a lo hi e l h = go (within a lo hi) refl
-    where
-      go : (x : Bool) → within a lo hi ≡ x → x ≡ false
-      go true q = let r = range-of a lo hi q in let r0 = r .0 in let r1 = r .1 in never (sym (in-range a 1 3 (omega arith) (omega arith)) ∙ e)
-      go false q = refl
-
-  notThree : (a : ℕ) → within a 1 3 ≡ false → eqb a 3 ≡ false
-  notThree a e = ne-eqb a 3 (λ q. never (sym (in-range a 1 3 (omega arith) (omega arith)) ∙ e))
-
   pub scopesTold : ScopesTold ns ss
   scopesTold = record {
     top = (root ns ss t w);
@@ -92,8 +80,8 @@ module _ (ns ss : List ℕ) (t : Tree ns) (w : scopesFollow ns ss ≡ true) wher
         (λ m. inr (
           m .later,
           m .around,
-          blockFlag ns ss t w i h ∙ ap (λ (x : ℕ). eqb x 3) (madeKind ns ss t w i m) ∙ notThree (kindOf ns (parentOf ns i)) e,
-          functionFlag ns ss t w i h ∙ ap (λ (x : ℕ). within x 1 2) (madeKind ns ss t w i m) ∙ fewer (kindOf ns (parentOf ns i)) 1 2 e (omega arith) (omega arith),
+          blockFlag ns ss t w i h ∙ ap (λ (x : ℕ). eqb x 3) (madeKind ns ss t w i m) ∙ noFunction (kindOf ns (parentOf ns i)) e .0,
+          functionFlag ns ss t w i h ∙ ap (λ (x : ℕ). within x 1 2) (madeKind ns ss t w i m) ∙ noFunction (kindOf ns (parentOf ns i)) e .1,
         ))
         (sameOrMade ns ss t w i z h);
   }
