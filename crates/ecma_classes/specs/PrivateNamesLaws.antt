@@ -45,7 +45,8 @@ use Rattle.checker.specs.Findings.{findingsAt}
 use Rattle.ecma_dispatch.specs.WithCode.{withCode}
 use Rattle.ecma_dispatch.specs.Dispatch.{at7, at8}
 use Rattle.ecma_dispatch.specs.NodesOf.{nodesOf, raised}
-use Rattle.ecma_classes.specs.RaisingLaws.{raising-code, keep-upto, flat-upto, keep-from}
+use Rattle.ecma_classes.specs.RaisingLaws.{keep-upto, flat-upto, keep-from}
+use Rattle.ecma_dispatch.specs.NodesOfLaws.{raisedAgain}
 use Rattle.ecma_classes.specs.ListLaws.{kept-in, in-kept, keep-none, in-upto, upto-in}
 use Rattle.ecma_classes.specs.ClassElements.{keyName}
 use Rattle.ecma_classes.specs.PrivateNames.{privateBound, strings, isClassBody, newNames, valid, allValid, invalid, isUse, invalidIdentifiers}
@@ -164,7 +165,7 @@ module _ (t : ℕ) (ns ss source names : List ℕ) (n : ℕ) where
 
   pub private-outside : raised 7 (findingsAt t ns ss source names n) ≡ only (isOutside ns n) n
   unfolding isOutside nodesOf withCode
-  private-outside = raising-code 7 (findingsAt t ns ss source names n) ∙ rw (at7 t ns ss source names n) (go (eqb (kindOf ns n) k.PrivateIdentifier) refl)
+  private-outside = sym (raisedAgain 7 (findingsAt t ns ss source names n)) ∙ rw (at7 t ns ss source names n) (go (eqb (kindOf ns n) k.PrivateIdentifier) refl)
     where
       go : (b : Bool) → eqb (kindOf ns n) k.PrivateIdentifier ≡ b → raised 7 (cond b (listed (privateOutside ns n)) []) ≡ only (b && not (found (bodyAround ns n))) n
       go true q = rw (current-is ns n q) (outside-raised (bodyAround ns n))

@@ -1,6 +1,6 @@
 -- Laws of lists of nodes that pass a test, and of findings with one code.
 use Prim.Native.Nat.{ℕ, zero, suc, _+_, _-_, _≤_, _<_}
-use mathlib.Core.Path.{_≡_, refl, sym, _∙_}
+use mathlib.Core.Path.{_≡_, refl, _∙_}
 use mathlib.Core.List.{List, [], _∷_, _++_, flatMap}
 use mathlib.Core.Bool.{Bool, true, false, cond, _&&_, _||_}
 use borrow.Author.Tests.{eq-eqb}
@@ -11,10 +11,6 @@ use Rattle.common.specs.UptoLaws.{upto-cons}
 use lib.Dec.{eqb}
 use Rattle.walk.specs.On.{member}
 use Rattle.children.specs.Children.{keep}
-use Rattle.diagnostics.specs.declared.Finding.{Finding}
-use Rattle.ecma_dispatch.specs.WithCode.{withCode}
-use Rattle.ecma_dispatch.specs.NodesOf.{raised}
-use Rattle.ecma_dispatch.specs.NodesOfLaws.{raisedAgain}
 
 pub keep-same : (p q : ℕ → Bool) → ((k : ℕ) → p k ≡ q k) → (l : List ℕ) → keep p l ≡ keep q l
 unfolding keep
@@ -40,10 +36,6 @@ keep-upto p q i n h = go i (n - i) (λ x a b. h x a (omega arith))
     go : (i f : ℕ) → ((x : ℕ) → i ≤ x → x < i + f → p x ≡ q x) → keep p (range i f) ≡ keep q (range i f)
     go i zero h = refl
     go i (suc f) h = rw (h i (omega arith) (omega arith), go (suc i) f (λ x a b. h x (omega arith) (omega arith)))
-
--- the same of the findings with that code alone
-pub raising-code : (c : ℕ) (fs : List Finding) → raised c fs ≡ raised c (withCode c fs)
-raising-code c fs = sym (raisedAgain c fs)
 
 pub flat-upto : {A : Type 0} (f g : ℕ → List A) (i n : ℕ) → ((x : ℕ) → i ≤ x → x < n → f x ≡ g x) → flatMap f (upto i n) ≡ flatMap g (upto i n)
 unfolding upto range flatMap

@@ -30,7 +30,7 @@ use Rattle.ecma_dispatch.specs.WithCode.{withCode}
 use Rattle.ecma_dispatch.specs.Dispatch.{at28, at29, at30}
 use Rattle.ecma_dispatch.specs.NodesOf.{nodesOf, raised}
 use Rattle.ecma_base.specs.Telling.{Telling, asyncOrGenerator}
-use Rattle.ecma_classes.specs.RaisingLaws.{raising-code}
+use Rattle.ecma_dispatch.specs.NodesOfLaws.{raisedAgain}
 use Rattle.ecma_classes.specs.ClassElements.{namesConstructor}
 use Rattle.ecma_classes.specs.Supers.{begins, isMethod, isConstructorMethod, classOf, hasHeritage, isObjectMethod, isBlockOrField, isBare, barsCall, barsProperty, isSuperCall, isSuperProperty, standardStray, standardProperty}
 use Rattle.ecma_classes.specs.Changed.{eachBare, isTableConstructor, isTableCall, isTableProperty, tableBare, tableStray, tableProperty, SuperStands, MethodNamed, ConstructorOrdinary}
@@ -216,29 +216,29 @@ module _ (ns ss : List ℕ) (tree : Tree ns) (chained : Chained ss) (scoped : Sc
   module _ (t : ℕ) (source names : List ℕ) where
     pub super-bare : raised 28 (findingsAt t ns ss source names n) ≡ only (tableBare ns n) n
     unfolding isBare isTableCall nodesOf withCode
-    super-bare = raising-code 28 (findingsAt t ns ss source names n) ∙ rw (at28 t ns ss source names n) (go (eqb (kindOf ns n) k.Super) refl)
+    super-bare = sym (raisedAgain 28 (findingsAt t ns ss source names n)) ∙ rw (at28 t ns ss source names n) (go (eqb (kindOf ns n) k.Super) refl)
       where
         go : (b : Bool) → eqb (kindOf ns n) k.Super ≡ b
             → raised 28 (cond b (withCode 28 (listed (checkSuper ns ss n))) []) ≡ only ((b && isCall ns n) && (isConstructorMethod ns (isTableConstructor ns) (unitOf ns (begins ns) n) && not (hasHeritage ns (unitOf ns (begins ns) n)))) n
-        go true e = sym (raising-code 28 (listed (checkSuper ns ss n))) ∙ rw (checked (eqb-true (kindOf ns n) k.Super e)) (raised28 ns tree n (unitOf ns (begins ns) n))
+        go true e = raisedAgain 28 (listed (checkSuper ns ss n)) ∙ rw (checked (eqb-true (kindOf ns n) k.Super e)) (raised28 ns tree n (unitOf ns (begins ns) n))
         go false e = refl
 
     pub super-call : raised 29 (findingsAt t ns ss source names n) ≡ only (tableStray ns n) n
     unfolding isTableCall nodesOf withCode
-    super-call = raising-code 29 (findingsAt t ns ss source names n) ∙ rw (at29 t ns ss source names n) (go (eqb (kindOf ns n) k.Super) refl)
+    super-call = sym (raisedAgain 29 (findingsAt t ns ss source names n)) ∙ rw (at29 t ns ss source names n) (go (eqb (kindOf ns n) k.Super) refl)
       where
         go : (b : Bool) → eqb (kindOf ns n) k.Super ≡ b
             → raised 29 (cond b (withCode 29 (listed (checkSuper ns ss n))) []) ≡ only ((b && isCall ns n) && not (isConstructorMethod ns (isTableConstructor ns) (unitOf ns (begins ns) n))) n
-        go true e = sym (raising-code 29 (listed (checkSuper ns ss n))) ∙ rw (checked (eqb-true (kindOf ns n) k.Super e)) (raised29 ns tree n (unitOf ns (begins ns) n))
+        go true e = raisedAgain 29 (listed (checkSuper ns ss n)) ∙ rw (checked (eqb-true (kindOf ns n) k.Super e)) (raised29 ns tree n (unitOf ns (begins ns) n))
         go false e = refl
 
     pub super-property : raised 30 (findingsAt t ns ss source names n) ≡ only (tableProperty ns n) n
     unfolding isTableProperty nodesOf withCode
-    super-property = raising-code 30 (findingsAt t ns ss source names n) ∙ rw (at30 t ns ss source names n) (go (eqb (kindOf ns n) k.Super) refl)
+    super-property = sym (raisedAgain 30 (findingsAt t ns ss source names n)) ∙ rw (at30 t ns ss source names n) (go (eqb (kindOf ns n) k.Super) refl)
       where
         go : (b : Bool) → eqb (kindOf ns n) k.Super ≡ b
             → raised 30 (cond b (withCode 30 (listed (checkSuper ns ss n))) []) ≡ only ((b && not (isCall ns n)) && barsProperty ns (unitOf ns (begins ns) n)) n
-        go true e = sym (raising-code 30 (listed (checkSuper ns ss n))) ∙ rw (checked (eqb-true (kindOf ns n) k.Super e)) (raised30 ns tree n (unitOf ns (begins ns) n))
+        go true e = raisedAgain 30 (listed (checkSuper ns ss n)) ∙ rw (checked (eqb-true (kindOf ns n) k.Super e)) (raised30 ns tree n (unitOf ns (begins ns) n))
         go false e = refl
 
 pub method-kind : (ns : List ℕ) (u : ℕ) → isMethod ns u ≡ true → kindOf ns (parentOf ns u) ≡ k.MethodDefinition

@@ -26,8 +26,8 @@ use Rattle.input.specs.Input.{WellFormed}
 use Rattle.ecma_dispatch.specs.WithCode.{withCode}
 use Rattle.ecma_dispatch.specs.Dispatch.{wholeOne, wholeOther}
 use Rattle.ecma_dispatch.specs.NodesOf.{raised}
-use Rattle.ecma_dispatch.specs.NodesOfLaws.{raisedAppend, raisedFlat}
-use Rattle.ecma_classes.specs.RaisingLaws.{raising-code, flat-upto, flat-members, keep-upto, any-upto, any-kept, any-three}
+use Rattle.ecma_dispatch.specs.NodesOfLaws.{raisedAppend, raisedFlat, raisedAgain}
+use Rattle.ecma_classes.specs.RaisingLaws.{flat-upto, flat-members, keep-upto, any-upto, any-kept, any-three}
 use Rattle.ecma_classes.specs.ListLaws.{Rising, kept-in}
 use Rattle.ecma_classes.specs.ClassElements.{nameMissing, constructorTwice, isFirstConstructor, protoTwice}
 use Rattle.ecma_classes.specs.PrivateNames.{privateBound, entries, allowed, privateTwice, isClassBody, isUse, allPrivateIdentifiersValid, invalidIdentifiers}
@@ -54,10 +54,10 @@ module _ (t : ℕ) (ns ss source names : List ℕ) where
       → raised c (findingsOf t ns ss source names) ≡ keep rule (upto 0 (count ns))
   unfolding flatMap keep
   whole c e rule h =
-      raising-code c (findingsOf t ns ss source names)
+      sym (raisedAgain c (findingsOf t ns ss source names))
       ∙ ap (raised c) (wholeOther t ns ss source names c e)
       ∙ raisedFlat c (λ j. withCode c (findingsAt t ns ss source names j)) (upto 0 (count ns))
-      ∙ flat-upto (λ j. raised c (withCode c (findingsAt t ns ss source names j))) (λ j. only (rule j) j) 0 (count ns) (λ j a b. sym (raising-code c (findingsAt t ns ss source names j)) ∙ h j b)
+      ∙ flat-upto (λ j. raised c (withCode c (findingsAt t ns ss source names j))) (λ j. only (rule j) j) 0 (count ns) (λ j a b. raisedAgain c (findingsAt t ns ss source names j) ∙ h j b)
       ∙ flat-only rule (upto 0 (count ns))
     where
       put : (b : Bool) (x : ℕ) (l : List ℕ) → only b x ++ l ≡ cond b (x ∷ l) l
@@ -100,13 +100,13 @@ module _ (t : ℕ) (ns ss source names : List ℕ) (w : WellFormed t ns ss sourc
   pub code1 : raised 1 findings ≡ flatMap (λ b. times 0 (privateAgain ns names (privateEntered ns b))) (keep (isClassBody ns) nodes) ++ flatMap (λ n. times n (protoAgain ns names n)) nodes
   unfolding duplicateElements classesOf
   code1 =
-      raising-code 1 findings
+      sym (raisedAgain 1 findings)
       ∙ ap (raised 1) (wholeOne t ns ss source names)
       ∙ raisedAppend 1 (duplicateElements ns names) (flatMap (λ j. withCode 1 (findingsAt t ns ss source names j)) nodes)
       ∙ rw (raisedFlat 1 (duplicatesIn ns names) (keep (isClassBody ns) nodes), raisedFlat 1 (λ j. withCode 1 (findingsAt t ns ss source names j)) nodes)
       (rw (
         flat-alike (λ b. raised 1 (duplicatesIn ns names b)) (λ b. times 0 (privateAgain ns names (privateEntered ns b))) (λ b. private-again ns names b) (keep (isClassBody ns) nodes),
-        flat-alike (λ j. raised 1 (withCode 1 (findingsAt t ns ss source names j))) (λ n. times n (protoAgain ns names n)) (λ j. sym (raising-code 1 (findingsAt t ns ss source names j)) ∙ proto-again ns names (w .listed) t ss source j) nodes,
+        flat-alike (λ j. raised 1 (withCode 1 (findingsAt t ns ss source names j))) (λ n. times n (protoAgain ns names n)) (λ j. raisedAgain 1 (findingsAt t ns ss source names j) ∙ proto-again ns names (w .listed) t ss source j) nodes,
       ))
 
   -- in a class there are such just where the standard's rule is broken ..
@@ -200,7 +200,7 @@ module _ (t : ℕ) (ns ss source names : List ℕ) (w : WellFormed t ns ss sourc
   -- .. and just where there is no finding with code 7 or 8
   pub valid-clean : PrivatesPlain ns → UsedOutside ns → allPrivateIdentifiersValid ns names ≡ not (some (raised 7 findings) || some (raised 8 findings))
   valid-clean p u =
-      rw (code7-standard u, raising-code 8 findings, code8-standard p)
+      rw (code7-standard u, ← raisedAgain 8 findings, code8-standard p)
       (valid-lists ∙ ap not (all-raised ns (w .input .tree) (w .listed) (w .shaped) (invalidIdentifiers ns names) inside))
     where
       inside : (x : ℕ) → member x (invalidIdentifiers ns names) ≡ true → x < count ns

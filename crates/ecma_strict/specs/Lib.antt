@@ -24,4 +24,7 @@ pub mod LabelledLaws
 pub mod Theorems
 pub mod Standard
 pub mod Units
-pub mod Examples
+pub mod ExampleTrees
+pub mod ExamplesLiterals
+pub mod ExamplesNames
+pub mod ExamplesStatements
