@@ -6,8 +6,8 @@ use mathlib.Core.Bool.{Bool, true, false, cond, _&&_, _||_, true≢false}
 use native.Mathlib.Omega.{arith}
 use borrow.Author.Tests.{eqb-true, eqb-false, ne-eqb, le-leb, lt-leb}
 use lib.Dec.{eqb, leb}
-use Rattle.common.specs.Tests.{within}
-use Rattle.common.specs.Bools.{range-of}
+use Rattle.base_common.specs.Tests.{within}
+use Rattle.base_common.specs.Bools.{range-of}
 
 and-false : (b : Bool) → (b && false) ≡ false
 and-false true = refl

@@ -6,10 +6,10 @@ use mathlib.Core.Bool.{Bool, true, false, cond, true≢false}
 use mathlib.Core.List.{List, [], _∷_, foldr}
 use native.Mathlib.Nat.{eq-or-lt-of-le}
 use native.Mathlib.Omega.{arith}
-use Rattle.walk.specs.AboveLaws.{fold-up}
-use Rattle.tables.specs.Table.{parentOf, count, ancestors}
-use Rattle.tables.specs.Facts.{Tree}
-use Rattle.trees.specs.Unit.{homeOf, inUnit}
+use Rattle.base_walk.specs.AboveLaws.{fold-up}
+use Rattle.table_records.specs.Table.{parentOf, count, ancestors}
+use Rattle.table_records.specs.Facts.{Tree}
+use Rattle.ecma_trees.specs.Unit.{homeOf, inUnit}
 
 -- R j h r s: of the node j in the unit h, what it is handed, and what the walk up from it gives
 module _ {A C : Type 0} (ns : List ℕ) (t : Tree ns) (unit : ℕ → Bool) (root : unit 0 ≡ true) (start : A) (f : ℕ → A → A) (g : ℕ → C → C) (e : C)

@@ -8,24 +8,24 @@ use lib.Dec.{eqb, leb}
 use borrow.Author.Tests.{eqb-true, eqb-false, eq-eqb, ne-eqb, lt-leb, le-leb}
 use native.Mathlib.Nat.{eq-or-lt-of-le}
 use native.Mathlib.Omega.{arith}
-use Rattle.common.specs.Tests.{within}
-use Rattle.common.specs.Bools.{in-range, range-of}
-use Rattle.walk.specs.AboveLaws.{fold-root}
-use Rattle.tables.specs.Table.{kindOf, parentOf, count, ancestors}
-use Rattle.tables.specs.Facts.{Tree}
-use Rattle.tables.specs.declared.Found.{Found}
-use Rattle.tables.specs.declared.Found.the-variants.{At, Nothing}
-use Rattle.names.specs.Name.{same, nameOf, has}
-use Rattle.children.specs.Children.{labelOf}
-use Rattle.diagnostics.specs.declared.Raised.{Raised}
-use Rattle.diagnostics.specs.declared.Raised.the-variants.{Error, Clear}
-use Rattle.diagnostics.specs.Finding.{listed, errorAt, errorBetween}
-use Rattle.jumps.specs.Jumps.{whenFound, walkUp, sameLabel, noLabel, plainBreakAt, labelledBreakAt, labeledAt, checkBreakStatement, checkLabeledStatement}
+use Rattle.base_common.specs.Tests.{within}
+use Rattle.base_common.specs.Bools.{in-range, range-of}
+use Rattle.base_walk.specs.AboveLaws.{fold-root}
+use Rattle.table_records.specs.Table.{kindOf, parentOf, count, ancestors}
+use Rattle.table_records.specs.Facts.{Tree}
+use Rattle.table_records.specs.declared.Found.{Found}
+use Rattle.table_records.specs.declared.Found.the-variants.{At, Nothing}
+use Rattle.table_names.specs.Name.{same, nameOf, has}
+use Rattle.table_children.specs.Children.{labelOf}
+use Rattle.check_diagnostics.specs.declared.Raised.{Raised}
+use Rattle.check_diagnostics.specs.declared.Raised.the-variants.{Error, Clear}
+use Rattle.check_diagnostics.specs.Finding.{listed, errorAt, errorBetween}
+use Rattle.check_jumps.specs.Jumps.{whenFound, walkUp, sameLabel, noLabel, plainBreakAt, labelledBreakAt, labeledAt, checkBreakStatement, checkLabeledStatement}
 use Rattle.ecma_dispatch.specs.WithCode.{withCode}
 use Rattle.ecma_dispatch.specs.NodesOf.{nodesOf}
-use Rattle.trees.specs.Rose.{partsOf}
-use Rattle.trees.specs.Walk.{only}
-use Rattle.trees.specs.Unit.{homeOf, inUnit}
+use Rattle.ecma_trees.specs.Rose.{partsOf}
+use Rattle.ecma_trees.specs.Walk.{only}
+use Rattle.ecma_trees.specs.Unit.{homeOf, inUnit}
 use Rattle.ecma_labels.specs.Labels.{isIteration, isUnit, labelIn, unlabelled, contains, lacks, adding}
 use Rattle.ecma_labels.specs.Breaches.{labelAt, labelsDown, labelSetAt, breakableDown, inBreakable}
 use Rattle.ecma_labels.specs.Changed.{inProgram}

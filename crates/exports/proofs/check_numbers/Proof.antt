@@ -1,5 +1,5 @@
 use Rattle.exports.specs.Numbers.{checkNumbers}
-use Rattle.rules.specs.declared.Checked.{Checked}
+use Rattle.call_check.specs.declared.Checked.{Checked}
 use mathlib.Core.Path.{_≡_, ap, sym, _∙_}
 use borrow.Author.Needs.{needs}
 use Rattle.exports.proofs.check_numbers.Statement.{statement}

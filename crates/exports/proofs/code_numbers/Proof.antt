@@ -1,5 +1,5 @@
 use Rattle.exports.specs.Numbers.{codeNumbers}
-use Rattle.routes.specs.declared.Coded.{Coded}
+use Rattle.call_routes.specs.declared.Coded.{Coded}
 use mathlib.Core.Path.{_≡_, ap, sym, _∙_}
 use borrow.Author.Needs.{needs}
 use Rattle.exports.proofs.code_numbers.Statement.{statement}

@@ -1,5 +1,5 @@
 use Rattle.exports.specs.Numbers.{routeNumbers}
-use Rattle.viewer.specs.declared.Routed.{Routed}
+use Rattle.route_viewer.specs.declared.Routed.{Routed}
 use mathlib.Core.Path.{_≡_, ap, sym, _∙_}
 use borrow.Author.Needs.{needs}
 use Rattle.exports.proofs.route_numbers.Statement.{statement}

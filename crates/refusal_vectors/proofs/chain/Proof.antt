@@ -4,7 +4,7 @@ use Rattle.refusal_vectors.proofs.chain.Statement.{statement}
 use Rattle.refusal_vectors.proofs.chain.Tie as tie
 use Rattle.refusal_vectors.proofs.chain.Reads as reads
 use Rattle.refusal_vectors.proofs.chain.Lts as lts
-use Rattle.tables.proofs.wide.Reads as wide-reads
+use Rattle.table_records.proofs.wide.Reads as wide-reads
 
 abbrev Inv-loop : tie.InvT-loop
 Inv-loop nodes₀ i₀ nodes i = (1 ≤ i) × (i ≤ 514)

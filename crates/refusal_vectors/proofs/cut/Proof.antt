@@ -6,7 +6,7 @@ use Rattle.refusal_vectors.proofs.cut.Statement.{statement}
 use Rattle.refusal_vectors.proofs.cut.Tie as tie
 use Rattle.refusal_vectors.proofs.cut.Reads as reads
 use Rattle.refusal_vectors.proofs.cut.Lts as lts
-use Rattle.input.proofs.refusal.Reads as refusal-reads
+use Rattle.refusal_input.proofs.refusal.Reads as refusal-reads
 use Rattle.refusal_vectors.proofs.say.Reads as say-reads
 
 -- src/main.rt:26:9
