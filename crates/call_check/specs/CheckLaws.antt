@@ -1,11 +1,10 @@
 -- The report of findings, as the code comes to it.
 use Prim.Native.Nat.{ℕ, _+_, _*_, _≤_, _<_}
-use mathlib.Core.Path.{_≡_, refl, ap, sym, _∙_}
-use mathlib.Core.List.{List, _++_}
+use mathlib.Core.Path.{_≡_, sym, _∙_}
+use mathlib.Core.List.{List}
 use native.Mathlib.Omega.{arith}
 use borrow.Author.Tests.{le-leb, lt-leb}
-use lib.ListN.{length, drop}
-use Rattle.base_common.specs.Wrote.{put}
+use lib.ListN.{length}
 use Rattle.check_diagnostics.specs.declared.Finding.{Finding}
 use Rattle.check_diagnostics.specs.Finding.{flat, sink}
 use Rattle.check_diagnostics.specs.FindingLaws.{length-flat, sink-all}

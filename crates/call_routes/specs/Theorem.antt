@@ -14,14 +14,14 @@ use Rattle.route_completion.specs.Route.{route, parts, AllOnce}
 use Rattle.code_flat.specs.Code.{unit}
 use Rattle.code_flat.specs.Machine.{started, codeRoute}
 use Rattle.code_flat.specs.Own.{sUnit, total, shapesAll}
-use Rattle.code_flat.specs.Claims.{Claims, claims}
+use Rattle.code_flat.specs.Claims.{claims}
 use Rattle.code_unit.specs.Unit.{holderOf, unitOf}
 use Rattle.code_words.specs.Words.{on, off}
 use Rattle.code_words.specs.Made.{code-is, code-length}
 use Rattle.code_held.specs.Held.{good, unit-held, unit-once, unit-no-try}
 use Rattle.code_maker.specs.ReadyLaws as ready
 use Rattle.refusal_state.specs.Targets.{hasTarget, stateAnswer}
-use Rattle.refusal_state.specs.TargetsLaws.{Sound, state-passed, targets-found}
+use Rattle.refusal_state.specs.TargetsLaws.{state-passed, targets-found}
 use Rattle.code_scoped.specs.Passed.{passed-scoped}
 use Rattle.code_scoped.specs.NoTry.{no-try}
 use Rattle.refusal_wellformed.specs.WellFormedLaws.{input-well-formed}

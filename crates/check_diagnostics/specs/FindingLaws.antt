@@ -1,20 +1,17 @@
 -- Laws of findings in a slice: piece by piece, all of them where there is room, none in an empty slice.
-use Prim.Native.Nat.{ℕ, zero, suc, _+_, _*_, _≤_, _<_}
-use mathlib.Core.Path.{_≡_, refl, ap, sym, subst, _∙_}
+use Prim.Native.Nat.{ℕ, suc, _+_, _*_, _≤_, _<_}
+use mathlib.Core.Path.{_≡_, refl, ap, sym, _∙_}
 use mathlib.Core.List.{List, [], _∷_, _++_, append-assoc, append-nil}
 use mathlib.Core.Bool.{Bool, true, false, cond}
-use native.Mathlib.Nat.{add-zero}
 use native.Mathlib.Omega.{arith}
-use borrow.Author.Tests.{le-leb, lt-leb, leb-true, leb-false}
+use borrow.Author.Tests.{le-leb, lt-leb, leb-true}
 use lib.Dec.{leb}
-use lib.ListN.{length, take, drop, length-append, length-take, length-drop, take-append-drop}
+use lib.ListN.{length, take, drop, length-append, take-append-drop}
 use lib.Seq.{take-at, drop-at, drop-drop, length-take-le}
 use Rattle.base_common.specs.Wrote.{put}
 use Rattle.base_common.specs.WroteLaws.{length-put}
 use Rattle.check_diagnostics.specs.declared.Finding.{Finding}
-use Rattle.check_diagnostics.specs.declared.Raised.{Raised}
-use Rattle.check_diagnostics.specs.declared.Raised.the-variants.{Error, Clear}
-use Rattle.check_diagnostics.specs.Finding.{numbers, flat, listed, sink}
+use Rattle.check_diagnostics.specs.Finding.{numbers, flat, sink}
 
 pub length-flat : (fs : List Finding) → length (flat fs) ≡ 7 * length fs
 unfolding flat

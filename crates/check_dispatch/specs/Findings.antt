@@ -1,6 +1,6 @@
 -- The findings of a tree: checker/mod.rs. Those of a node by its kind, in the order of the Rust's checks.
 use Prim.Native.Nat.{ℕ}
-use mathlib.Core.List.{List, [], _∷_, _++_, flatMap}
+use mathlib.Core.List.{List, [], _++_, flatMap}
 use mathlib.Core.Bool.{true, false, cond}
 use lib.Dec.{eqb}
 use Rattle.base_common.specs.Upto.{upto}

@@ -10,8 +10,6 @@ use Rattle.table_records.specs.Kinds as k
 use Rattle.table_records.specs.Extras as extra
 use Rattle.table_records.specs.NodeFlag as flag
 use Rattle.table_records.specs.ScopeFlag as scope
-use Rattle.table_records.specs.declared.Found.{Found}
-use Rattle.table_records.specs.declared.Found.the-variants.{At, Nothing}
 use Rattle.table_names.specs.Name.{nameIs}
 use Rattle.table_names.specs.Words as word
 use Rattle.table_children.specs.Children.{valueOf, isNode}

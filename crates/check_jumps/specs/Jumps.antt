@@ -14,7 +14,7 @@ use Rattle.check_diagnostics.specs.Codes as code
 use Rattle.check_diagnostics.specs.Contexts as context
 use Rattle.check_diagnostics.specs.Finding.{errorAt, errorBetween}
 use Rattle.check_diagnostics.specs.declared.Raised.{Raised}
-use Rattle.check_diagnostics.specs.declared.Raised.the-variants.{Error, Clear}
+use Rattle.check_diagnostics.specs.declared.Raised.the-variants.{Clear}
 
 -- "function or static initialization block boundaries": Function, Arrow, StaticBlock
 abbrev pub isBoundary : ℕ → Bool

@@ -1,8 +1,8 @@
 -- Laws of the walks up, and of the way down through nested Labeled, as loops meet them.
 use Prim.Native.Nat.{ℕ, zero, suc, _+_, _≤_, _<_}
-use mathlib.Core.Path.{_≡_, refl, ap, sym, subst, _∙_}
+use mathlib.Core.Path.{_≡_, refl, _∙_}
 use mathlib.Core.List.{List}
-use mathlib.Core.Bool.{Bool, true, false, cond}
+use mathlib.Core.Bool.{cond}
 use native.Mathlib.Omega.{arith}
 use borrow.Author.Tests.{eq-eqb, ne-eqb}
 use lib.Dec.{eqb}
@@ -16,7 +16,7 @@ use Rattle.table_children.specs.Children.{heldOf}
 use Rattle.table_children.specs.ChildrenLaws.{found-child}
 use Rattle.table_ancestry.specs.AncestryLaws.{ancestors-up, ancestors-root}
 use Rattle.check_diagnostics.specs.declared.Raised.{Raised}
-use Rattle.check_diagnostics.specs.declared.Raised.the-variants.{Error, Clear}
+use Rattle.check_diagnostics.specs.declared.Raised.the-variants.{Clear}
 use Rattle.check_jumps.specs.Jumps.{whenFound, walkUp, under, labeledItem}
 
 -- one step: p is the parent of i

@@ -10,7 +10,7 @@ use Rattle.base_common.specs.Bools.{never}
 use Rattle.base_walk.specs.On.{on}
 use Rattle.base_walk.specs.OnLaws.{on-le, on-step, on-trans, on-self}
 use Rattle.base_walk.specs.PreorderLaws.{lt-or-ge}
-use Rattle.table_records.specs.Table.{kindOf, parentOf, scopeOf, count, ancestors, outer, countScopes, scopeParentOf, scopeNodeOf, hasFlag, flagsOf, extraOf, scopeFlagsOf}
+use Rattle.table_records.specs.Table.{kindOf, parentOf, scopeOf, count, outer, countScopes, scopeParentOf, scopeNodeOf, hasFlag, flagsOf, extraOf, scopeFlagsOf}
 use Rattle.table_records.specs.Facts.{Tree, Chained, Scoped}
 use Rattle.table_records.specs.Kinds as k
 use Rattle.table_records.specs.Extras as extra

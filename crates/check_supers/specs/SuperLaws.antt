@@ -1,20 +1,17 @@
 -- The searches of check_super, as loops meet them.
-use Prim.Native.Nat.{ℕ, _≤_, _<_}
-use mathlib.Core.Path.{_≡_, refl, ap, sym, _∙_}
-use mathlib.Core.List.{List, [], _∷_, foldr}
-use mathlib.Core.Bool.{Bool, true, false, cond, not, _&&_, _||_}
-use native.Mathlib.Omega.{arith}
-use borrow.Author.Tests.{eq-eqb, ne-eqb, le-leb, lt-leb, leb-true, leb-false}
-use lib.Dec.{eqb, leb}
+use Prim.Native.Nat.{ℕ, _<_}
+use mathlib.Core.Path.{_≡_, ap, _∙_}
+use mathlib.Core.List.{List, _∷_}
+use mathlib.Core.Bool.{Bool, true, false}
 use Rattle.base_common.specs.Tests.{within}
 use Rattle.base_walk.specs.AboveLaws.{above-up, above-root}
-use Rattle.table_records.specs.Table.{kindOf, parentOf, count, ancestors, outer, countScopes, scopeParentOf, scopeNodeOf}
+use Rattle.table_records.specs.Table.{kindOf, parentOf, count, outer, countScopes, scopeParentOf, scopeNodeOf}
 use Rattle.table_records.specs.Facts.{Tree, Chained}
 use Rattle.table_records.specs.Kinds as k
 use Rattle.table_records.specs.declared.Found.{Found}
 use Rattle.table_ancestry.specs.AncestryLaws.{ancestors-up, ancestors-root}
-use Rattle.check_supers.specs.Super.{isValueOf, partOf, placeOf, stepAt, classAfter, leaveClass, orRest, reachFrom}
-use Rattle.check_supers.specs.declared.ElementPart.the-variants.{Value, Key, NoElement}
+use Rattle.check_supers.specs.Super.{partOf, placeOf, stepAt, classAfter, leaveClass, orRest, reachFrom}
+use Rattle.check_supers.specs.declared.ElementPart.the-variants.{NoElement}
 use Rattle.check_supers.specs.declared.Reach.{Reach}
 use Rattle.check_supers.specs.declared.Reach.the-variants.{Illegal}
 use Rattle.check_supers.specs.declared.Step.{Step}

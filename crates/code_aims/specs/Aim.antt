@@ -1,17 +1,12 @@
 -- Where the completions of a node lead, in numbers: places of the code.
-use Prim.Native.Nat.{ℕ, zero, suc, _+_}
-use mathlib.Core.Path.{_≡_}
+use Prim.Native.Nat.{ℕ, _+_}
 use mathlib.Core.List.{List}
-use mathlib.Core.Bool.{Bool, true, false, cond, _&&_, _||_}
-use lib.Dec.{eqb}
-use Rattle.table_records.specs.Table.{parentOf, count}
-use Rattle.route_completion.specs.Tree.{near, named}
-use Rattle.route_completion.specs.Sem.{Comp, normal, breaks, continues, returns, throws, pick, elem}
-use Rattle.code_flat.specs.Code.{Stat, at, ended, top, placeOf}
-use Rattle.code_unit.specs.Unit.{shapeAt, idAt}
+use mathlib.Core.Bool.{Bool, true, false}
+use Rattle.route_completion.specs.Sem.{Comp}
+use Rattle.code_flat.specs.Code.{placeOf}
 use Rattle.code_unit.specs.declared.Shape.{Shape}
 use Rattle.code_unit.specs.declared.Shape.the-variants.{Simple, Break, Continue, Return, Throw, If, With, Block, Label, Loop, Switch, Case}
-use Rattle.code_words.specs.Words.{ifz, Att, off, after, downBy, attAt}
+use Rattle.code_words.specs.Words.{ifz, attAt}
 
 abbrev pub isLoop : Shape → Bool
 isLoop Simple = false

@@ -8,7 +8,7 @@ use Rattle.base_walk.specs.Above.{Falls}
 use Rattle.table_records.specs.Table.{parentOf, count}
 use Rattle.route_completion.specs.Tree.{near, named}
 use Rattle.route_completion.specs.Sem.{Comp, normal, breaks, continues, returns, throws, pick, elem}
-use Rattle.code_flat.specs.Code.{Stat, at, ended, top, placeOf}
+use Rattle.code_flat.specs.Code.{Stat, at, top, placeOf}
 use Rattle.code_unit.specs.Unit.{shapeAt, idAt}
 use Rattle.code_unit.specs.declared.Shape.{Shape}
 use Rattle.code_unit.specs.declared.Shape.the-variants.{Simple, Break, Continue, Return, Throw, If, With, Block, Label, Loop, Switch, Case}

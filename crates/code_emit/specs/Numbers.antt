@@ -15,7 +15,7 @@ use Rattle.code_flat.specs.Code.{Stat, at, placeOf, goto, caseTo, next, inLoop,
 use Rattle.code_unit.specs.Unit.{shapeAt, parts, beforeAt, testAt, labAt, idAt}
 use Rattle.code_unit.specs.declared.Shape.{Shape}
 use Rattle.code_unit.specs.declared.Shape.the-variants.{Simple, Break, Continue, Return, Throw, If, With, Block, Label, Loop, Switch, Case}
-use Rattle.code_words.specs.Words.{ifz, head0, second0, default0, Att, rootAtt, off, after, ifYes, ifNo, downBy, attAt, wordsBy, wordsAt}
+use Rattle.code_words.specs.Words.{ifz, head0, default0, Att, rootAtt, off, after, ifYes, ifNo, downBy, attAt, wordsBy, wordsAt}
 use Rattle.code_words.specs.WordsLaws.{att-up}
 use Rattle.code_aims.specs.Aim.{aim}
 

@@ -1,11 +1,9 @@
 -- The unit's code by what holds its statements.
 use Prim.Native.Nat.{ℕ}
-use mathlib.Core.Path.{_≡_, refl, ap, _∙_}
-use mathlib.Core.List.{List, []}
-use Rattle.table_records.specs.declared.Found.{Found}
+use mathlib.Core.Path.{_≡_, ap}
+use mathlib.Core.List.{List}
 use Rattle.table_records.specs.declared.Found.the-variants.{At, Nothing}
 use Rattle.code_flat.specs.Code.{unit, ends, codes}
-use Rattle.route_completion.specs.Tree.{nil}
 use Rattle.code_unit.specs.Unit.{holderOf, bodyOf, unitBy, unitOf}
 
 module _ (ns names : List ℕ) (u : ℕ) where

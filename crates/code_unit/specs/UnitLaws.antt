@@ -4,7 +4,6 @@ use mathlib.Core.Path.{_≡_, ap, _∙_}
 use mathlib.Core.List.{List, [], _∷_}
 use mathlib.Core.Bool.{true, false, _&&_}
 use lib.Dec.{eqb}
-use Rattle.base_common.specs.Upto.{upto}
 use Rattle.base_common.specs.UptoLaws.{upto-cons, upto-nil}
 use Rattle.table_records.specs.Table.{parentOf, count}
 use Rattle.table_children.specs.Children.{keep}

@@ -1,16 +1,15 @@
 -- What the loops over the table know, one law a turn.
-use Prim.Native.Nat.{ℕ, zero, suc, _+_, _*_, _-_, _≤_, _<_}
-use mathlib.Core.Path.{_≡_, refl, ap, sym, _∙_, subst}
-use mathlib.Core.Logic.{_⊎_, inl, inr, ⊎-elim}
-use mathlib.Core.List.{List, [], _∷_, _++_, foldr}
-use mathlib.Core.Bool.{Bool, true, false, cond, not, _&&_, _||_}
-use lib.ListN.{getD, length}
-use lib.Dec.{eqb, leb, ltb}
+use Prim.Native.Nat.{ℕ, zero, suc, _+_, _-_, _≤_, _<_}
+use mathlib.Core.Path.{_≡_, refl, ap, sym, _∙_}
+use mathlib.Core.Logic.{_⊎_, ⊎-elim}
+use mathlib.Core.List.{List, [], _∷_}
+use mathlib.Core.Bool.{Bool, true, false, _&&_}
+use lib.Dec.{eqb}
 use native.Mathlib.Decide.{decLt}
 use native.Mathlib.Omega.{arith}
-use borrow.Author.Tests.{lt-ltb, le-ltb, le-leb, lt-leb, eq-eqb, ne-eqb}
-use Rattle.table_records.specs.Table.{kindOf, parentOf, roleOf, count}
-use Rattle.code_unit.specs.Unit.{shapeAt, isPart, parts, defaultAt}
+use borrow.Author.Tests.{le-leb}
+use Rattle.table_records.specs.Table.{parentOf, count}
+use Rattle.code_unit.specs.Unit.{isPart, parts, defaultAt}
 use Rattle.code_unit.specs.UnitLaws.{parts-on, parts-hit, parts-end}
 use Rattle.code_words.specs.Words.{head0, second0, default0, live}
 use Rattle.code_words.specs.WordsLaws.{live-up}

@@ -1,25 +1,21 @@
 -- The nodes of a table in preorder: where a node's own end, and how a loop over the nodes goes through the parts of a node.
-use Prim.Native.Nat.{ℕ, zero, suc, _+_, _*_, _-_, _≤_, _<_}
+use Prim.Native.Nat.{ℕ, zero, suc, _+_, _-_, _≤_, _<_}
 use mathlib.Core.Path.{_≡_, refl, ap, sym, _∙_, subst}
 use mathlib.Core.Logic.{_⊎_, inl, inr, ⊎-elim}
-use mathlib.Core.List.{List, [], _∷_, _++_, foldr, append-assoc}
-use mathlib.Core.Bool.{Bool, true, false, cond, not, _&&_, _||_}
-use lib.ListN.{getD, length}
-use lib.Dec.{eqb, leb, ltb}
+use mathlib.Core.List.{List, [], _∷_}
+use mathlib.Core.Bool.{Bool, true, false, _&&_}
+use lib.Dec.{eqb}
 use native.Mathlib.Nat.{eq-or-lt-of-le}
 use native.Mathlib.Decide.{decLt}
-use native.Mathlib.Numerals.{add-one}
 use native.Mathlib.Omega.{arith}
-use borrow.Author.Tests.{lt-ltb, le-ltb, le-leb, lt-leb, eq-eqb, ne-eqb}
-use Rattle.base_walk.specs.Above.{Falls}
+use borrow.Author.Tests.{ne-eqb}
 use Rattle.base_walk.specs.OnLaws.{on-cases, on-le}
 use Rattle.base_walk.specs.PreorderLaws.{child-in}
-use Rattle.table_records.specs.Table.{kindOf, parentOf, roleOf, count}
+use Rattle.table_records.specs.Table.{parentOf, count}
 use Rattle.table_records.specs.Facts.{Tree}
-use Rattle.code_unit.specs.Unit.{shapeAt, isPart, parts}
+use Rattle.code_unit.specs.Unit.{isPart, parts}
 use Rattle.code_unit.specs.UnitLaws.{parts-on, parts-hit, parts-end}
-use Rattle.code_words.specs.Words.{live, on, own, off, rows}
-use Rattle.code_words.specs.WordsLaws.{rows-off, rows-end, off-off, on-low, on-live, on-up, live-up, live-low, live-root}
+use Rattle.code_words.specs.Words.{on, own}
 
 -- A table in preorder: once a later node's parent stands before j, no node names a parent from j on up to there again.
 pub record Nested (ns : List ℕ) : Type 0 where

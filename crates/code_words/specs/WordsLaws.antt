@@ -6,12 +6,11 @@ use mathlib.Core.Bool.{true, false, _&&_}
 use native.Mathlib.Numerals.{add-one}
 use native.Mathlib.Omega.{arith}
 use borrow.Author.Tests.{lt-ltb, le-ltb, le-leb, lt-leb, eq-eqb, ne-eqb}
-use Rattle.base_common.specs.Upto.{upto}
 use Rattle.base_common.specs.UptoLaws.{fold-turn, fold-end}
 use Rattle.base_walk.specs.Above.{Falls}
 use Rattle.base_walk.specs.AboveLaws.{fold-up}
 use Rattle.table_records.specs.Table.{parentOf, count}
-use Rattle.code_unit.specs.Unit.{shapeAt, isPart, parts}
+use Rattle.code_unit.specs.Unit.{shapeAt, isPart}
 use Rattle.code_words.specs.Words.{after, ownBy, live, on, own, off, downBy, rootAtt, attAt, wordsAt, rows}
 
 module _ (ns : List ℕ) (b : ℕ) where

@@ -1,7 +1,7 @@
 -- ECMA-262, 15.7 Class Definitions, 15.7.1 Static Semantics: Early Errors, and 13.2.5 Object Initializer, 13.2.5.1 Static Semantics: Early Errors: those on the elements of one class or one object.
 use Prim.Native.Nat.{ℕ}
 use mathlib.Core.List.{List, [], _∷_}
-use mathlib.Core.Bool.{Bool, true, false, cond, not, _&&_, _||_}
+use mathlib.Core.Bool.{Bool, false, cond, not, _&&_, _||_}
 use lib.Dec.{eqb, ltb}
 use lib.ListN.{length}
 use Rattle.base_common.specs.Tests.{within}

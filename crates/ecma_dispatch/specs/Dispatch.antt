@@ -1,10 +1,10 @@
 -- The findings of a node with each code: those of the one or two checks that can raise it, at the kinds that the checks are made at.
 use Prim.Native.Nat.{ℕ}
-use mathlib.Core.Path.{_≡_, refl, ap, sym, _∙_}
+use mathlib.Core.Path.{_≡_, refl, ap, _∙_}
 use mathlib.Core.List.{List, [], _∷_, _++_, flatMap}
-use mathlib.Core.Bool.{Bool, true, false, cond}
+use mathlib.Core.Bool.{true, false, cond}
 use lib.Dec.{eqb}
-use Rattle.base_common.specs.Upto.{all, upto}
+use Rattle.base_common.specs.Upto.{upto}
 use Rattle.base_common.specs.Tests.{within}
 use Rattle.base_walk.specs.On.{member}
 use Rattle.table_records.specs.Table.{kindOf, count}

@@ -2,10 +2,10 @@
 use Prim.Native.Nat.{ℕ}
 use mathlib.Core.Path.{_≡_, refl, ap, sym, subst, _∙_}
 use mathlib.Core.List.{List, [], _∷_, _++_, foldr, flatMap}
-use mathlib.Core.Bool.{Bool, true, false, cond, _&&_, _||_}
+use mathlib.Core.Bool.{Bool, true, false, cond, _||_}
 use borrow.Author.Tests.{eq-eqb, eqb-true}
 use lib.Dec.{eqb}
-use Rattle.base_common.specs.Upto.{all, any}
+use Rattle.base_common.specs.Upto.{all}
 use Rattle.base_common.specs.UptoLaws.{and-left, and-right}
 use Rattle.base_common.specs.Bools.{never}
 use Rattle.base_walk.specs.On.{member}

@@ -2,7 +2,7 @@
 -- the operations.
 use Prim.Native.Nat.{ℕ}
 use mathlib.Core.Bool.{Bool, true, false, cond, not, _&&_, _||_}
-use mathlib.Core.List.{List, [], _∷_, _++_, foldr}
+use mathlib.Core.List.{List, [], _++_, foldr}
 use lib.Dec.{eqb}
 use Rattle.table_records.specs.Table.{kindOf, ancestors}
 use Rattle.table_records.specs.Kinds as k

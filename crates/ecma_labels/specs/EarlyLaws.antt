@@ -1,7 +1,7 @@
 -- THE PROGRAM HAS AN EARLY ERROR BY 8.3, 14.8.1 OR 14.9.1 JUST WHERE SOME NODE HAS A FINDING 18 TO 23.
 use Prim.Native.Nat.{ℕ, _+_, _≤_, _<_}
 use mathlib.Core.Path.{_≡_, refl, sym, _∙_, ap, subst}
-use mathlib.Core.Bool.{Bool, true, false, cond, _&&_, _||_, true≢false}
+use mathlib.Core.Bool.{Bool, true, false, cond, _||_, true≢false}
 use mathlib.Core.List.{List, [], _∷_, _++_, flatMap}
 use mathlib.Core.Logic.{_↔_, ⊎-elim}
 use lib.Dec.{eqb}

@@ -13,7 +13,7 @@ use Rattle.table_records.specs.Kinds as k
 use Rattle.table_records.specs.Roles as role
 use Rattle.table_records.specs.declared.Found.{Found}
 use Rattle.table_records.specs.declared.Found.the-variants.{At, Nothing}
-use Rattle.table_names.specs.Name.{same, nameOf, has}
+use Rattle.table_names.specs.Name.{nameOf, has}
 use Rattle.ecma_trees.specs.Rose.{Rose, Roses, node, rnil, rcons, foldParts, treeOf}
 use Rattle.ecma_trees.specs.Unit.{broken}
 

@@ -1,27 +1,23 @@
 -- Where statements stand in well-formed tables, and what that gives to an operation that goes through statements.
 use Prim.Native.Nat.{ℕ, zero, suc, _+_, _-_, _≤_, _<_}
-use mathlib.Core.Path.{_≡_, refl, sym, _∙_, ap, subst}
-use mathlib.Core.Logic.{_⊎_, inl, inr, ⊎-elim}
-use mathlib.Core.Bool.{Bool, true, false, cond, not, _&&_, _||_, true≢false}
-use mathlib.Core.List.{List, [], _∷_, _++_, foldr}
+use mathlib.Core.Path.{_≡_, refl, sym, _∙_}
+use mathlib.Core.Logic.{_⊎_, ⊎-elim}
+use mathlib.Core.Bool.{Bool, true, false, cond, _&&_, _||_, true≢false}
+use mathlib.Core.List.{List, []}
 use lib.Dec.{eqb, leb}
 use borrow.Author.Tests.{eqb-true, eqb-false, eq-eqb, ne-eqb, leb-true, leb-false, le-leb, lt-leb}
 use native.Mathlib.Nat.{eq-or-lt-of-le}
 use native.Mathlib.Omega.{arith}
 use Rattle.base_common.specs.Tests.{within}
-use Rattle.base_common.specs.Upto.{upto}
-use Rattle.base_common.specs.UptoLaws.{and-left, and-right}
 use Rattle.base_common.specs.Bools.{either, in-range, range-of}
 use Rattle.table_records.specs.Table.{kindOf, parentOf, roleOf, count}
 use Rattle.table_records.specs.Facts.{Tree}
-use Rattle.table_records.specs.declared.Found.{Found}
 use Rattle.table_records.specs.declared.Found.the-variants.{At, Nothing}
 use Rattle.table_children.specs.Children.{isChild, fits, firstNode, nextChild, howMany, labelOf, heldOf}
-use Rattle.table_children.specs.ChildrenLaws.{tally, tally-all, tally-turn, tally-end, node-on, node-stop, child-other}
-use Rattle.refusal_standing.specs.Standing.{isStatement, isHolder, Placed}
-use Rattle.refusal_counts.specs.Counts.{Counted}
+use Rattle.table_children.specs.ChildrenLaws.{tally, tally-all, tally-turn, node-on, node-stop}
+use Rattle.refusal_standing.specs.Standing.{isStatement, isHolder}
 use Rattle.refusal_shape.specs.Shape.{Shaped}
-use Rattle.ecma_trees.specs.Rose.{Rose, Roses, node, rnil, rcons, idx, foldParts, partsOf}
+use Rattle.ecma_trees.specs.Rose.{Roses, node, rnil, rcons, idx, foldParts, partsOf}
 use Rattle.ecma_trees.specs.RoseLaws.{foldPartsIs, partsPlaced, PlacedAll}
 use Rattle.ecma_trees.specs.Walk.{only}
 use Rattle.ecma_trees.specs.Rule.{Going}

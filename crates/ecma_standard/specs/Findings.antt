@@ -8,10 +8,7 @@ use mathlib.Core.List.{List, _++_, flatMap}
 use mathlib.Core.Bool.{true, not, _&&_}
 use Rattle.base_common.specs.Upto.{upto}
 use Rattle.table_records.specs.Table.{count}
-use Rattle.table_records.specs.Kinds as k
 use Rattle.table_children.specs.Children.{keep}
-use Rattle.check_diagnostics.specs.Codes as code
-use Rattle.check_diagnostics.specs.Contexts as context
 use Rattle.refusal_verdict.specs.declared.Verdict.the-variants.{Passed}
 use Rattle.refusal_wellformed.specs.WellFormed.{inputRefusal}
 use Rattle.refusal_wellformed.specs.WellFormedLaws.{input-well-formed}

@@ -2,7 +2,7 @@
 -- node, by the way up from it, are that some operation comes to it. On the conditions of the codes.
 use Prim.Native.Nat.{ℕ, _+_, _<_}
 use mathlib.Core.Path.{_≡_}
-use mathlib.Core.List.{List, [], _∷_, _++_}
+use mathlib.Core.List.{List, [], _++_}
 use mathlib.Core.Logic.{_↔_}
 use mathlib.Core.Bool.{Bool, true, false, cond, not, _&&_, _||_}
 use lib.Dec.{eqb}
@@ -18,7 +18,7 @@ use Rattle.refusal_wellformed.specs.WellFormed.{inputRefusal}
 use Rattle.refusal_wellformed.specs.WellFormedLaws.{input-well-formed}
 use Rattle.check_dispatch.specs.Findings.{findingsAt, findingsOf}
 use Rattle.ecma_trees.specs.Rose.{partsOf, marksAll}
-use Rattle.ecma_trees.specs.Walk.{each, some, only, Says}
+use Rattle.ecma_trees.specs.Walk.{each, some, Says}
 use Rattle.ecma_trees.specs.Trail.{unitOf}
 use Rattle.ecma_dispatch.specs.WithCode.{withCode}
 use Rattle.ecma_dispatch.specs.NodesOf.{raised}

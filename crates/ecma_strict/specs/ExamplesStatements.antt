@@ -1,6 +1,6 @@
 -- Texts of which the rules are told apart, as the tree maker writes them: what the standard's rule says at a node, and what the Rust's. Statements and declarations.
 use mathlib.Core.Path.{_≡_, refl}
-use mathlib.Core.List.{[], _∷_, map, _++_}
+use mathlib.Core.List.{[], _∷_, map}
 use mathlib.Core.Bool.{true, false}
 use Rattle.table_names.specs.Name.{same, nameOf}
 use Rattle.base_walk.specs.Above.{above, climb}

@@ -17,7 +17,7 @@ use Rattle.ecma_trees.specs.WalkLaws.{eachSame}
 use Rattle.ecma_dispatch.specs.WithCode.{withCode}
 use Rattle.ecma_dispatch.specs.Dispatch.{wholeOther}
 use Rattle.ecma_dispatch.specs.NodesOf.{nodesOf, raised}
-use Rattle.ecma_dispatch.specs.NodesOfLaws.{nodesAppend, raisedNil, raisedAppend, raisedAgain}
+use Rattle.ecma_dispatch.specs.NodesOfLaws.{nodesAppend, raisedNil, raisedAgain}
 use Rattle.ecma_strict.specs.Nodes.{ofCheck}
 
 -- a check

@@ -1,18 +1,17 @@
 -- A rule that the standard states at each unit of a program, and the same rule node by node.
-use Prim.Native.Nat.{ℕ, zero, suc, _+_, _-_, _≤_, _<_}
-use mathlib.Core.Path.{_≡_, refl, sym, _∙_, ap, subst}
+use Prim.Native.Nat.{ℕ, _+_, _-_, _<_}
+use mathlib.Core.Path.{_≡_, refl, sym, _∙_, ap}
 use mathlib.Core.Logic.{_↔_}
-use mathlib.Core.Bool.{Bool, true, false, cond, not, _&&_, _||_, true≢false}
-use mathlib.Core.List.{List, [], _∷_, _++_, foldr}
+use mathlib.Core.Bool.{Bool, true, false, cond, _&&_, _||_, true≢false}
+use mathlib.Core.List.{List, []}
 use lib.Dec.{eqb}
-use borrow.Author.Tests.{eqb-true, eqb-false, eq-eqb, ne-eqb}
+use borrow.Author.Tests.{eq-eqb}
 use native.Mathlib.Omega.{arith}
-use Rattle.base_common.specs.Upto.{upto}
 use Rattle.base_common.specs.UptoLaws.{and-left, and-right}
-use Rattle.table_records.specs.Table.{parentOf, count}
+use Rattle.table_records.specs.Table.{count}
 use Rattle.table_records.specs.Facts.{Tree}
-use Rattle.ecma_trees.specs.Rose.{Rose, Roses, node, rnil, rcons, idx, marks, marksAll, partsOf, treeOf}
-use Rattle.ecma_trees.specs.RoseLaws.{Placed, PlacedAll, Under, Whole, WholeAll, partsPlaced, partsWhole, treeMarks}
+use Rattle.ecma_trees.specs.Rose.{Rose, Roses, node, rnil, rcons, marks, marksAll, partsOf, treeOf}
+use Rattle.ecma_trees.specs.RoseLaws.{Whole, WholeAll, partsWhole, treeMarks}
 use Rattle.ecma_trees.specs.Walk.{each, some, Says, only}
 use Rattle.ecma_trees.specs.WalkLaws.{eachAppend, someAppend, someEach, someOnly}
 use Rattle.ecma_trees.specs.Unit.{homeOf, broken, brokenAny}

@@ -1,6 +1,6 @@
 -- The tree of a table in preorder. A node of it is a number, its place in the table, and its parts, in the table's order.
 use Prim.Native.Nat.{ℕ, zero, suc, _+_, _-_}
-use mathlib.Core.Bool.{Bool, cond}
+use mathlib.Core.Bool.{cond}
 use mathlib.Core.List.{List, [], _∷_, _++_}
 use lib.Dec.{eqb}
 use Rattle.table_records.specs.Table.{parentOf, count}

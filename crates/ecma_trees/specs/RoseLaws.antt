@@ -14,7 +14,7 @@ use Rattle.base_walk.specs.On.{on}
 use Rattle.base_walk.specs.OnLaws.{on-cases, on-le}
 use Rattle.table_records.specs.Table.{parentOf, count}
 use Rattle.table_records.specs.Facts.{Tree}
-use Rattle.ecma_trees.specs.Rose.{Rose, Roses, node, rnil, rcons, idx, kids, others, forest, partsOf, restOf, treeAt, treeOf, marks, marksAll, foldParts}
+use Rattle.ecma_trees.specs.Rose.{Rose, Roses, node, rnil, rcons, idx, kids, others, forest, partsOf, restOf, treeOf, marks, marksAll, foldParts}
 
 splitMarks : (ns : List ℕ) (i : ℕ) (ts : Roses) → marksAll (kids ns i ts) ++ marksAll (others ns i ts) ≡ marksAll ts
 unfolding kids others marks

@@ -1,9 +1,9 @@
 -- A whole rule at once: from an operation of the standard on units, and the checker's answer at each node, to the two theorems, of a unit and of the program.
 use Prim.Native.Nat.{ℕ, _+_, _<_}
-use mathlib.Core.Path.{_≡_, refl, sym, _∙_, ap}
+use mathlib.Core.Path.{_≡_, _∙_, ap}
 use mathlib.Core.Logic.{_↔_}
 use mathlib.Core.Bool.{Bool, true, false, cond, _&&_, _||_}
-use mathlib.Core.List.{List, [], _∷_, foldr}
+use mathlib.Core.List.{List, [], foldr}
 use lib.Dec.{eqb}
 use Rattle.base_common.specs.Upto.{upto}
 use Rattle.table_records.specs.Table.{parentOf, count, ancestors}

@@ -8,7 +8,7 @@ use native.Mathlib.Omega.{arith}
 use Rattle.base_common.specs.Upto.{upto}
 use Rattle.table_records.specs.Table.{parentOf, count}
 use Rattle.table_records.specs.Facts.{Tree}
-use Rattle.ecma_trees.specs.Rose.{Rose, Roses, treeOf, partsOf}
+use Rattle.ecma_trees.specs.Rose.{treeOf, partsOf}
 use Rattle.ecma_trees.specs.RoseLaws.{Under}
 use Rattle.ecma_trees.specs.Walk.{each, walk}
 use Rattle.ecma_trees.specs.WalkLaws.{tableIs}

@@ -1,7 +1,7 @@
 -- An operation that starts afresh at the units (the program, each function, ..) and goes no further down than to the next.
 use Prim.Native.Nat.{ℕ}
 use mathlib.Core.Bool.{Bool, true, false, cond, _&&_, _||_}
-use mathlib.Core.List.{List, [], _∷_, _++_, foldr}
+use mathlib.Core.List.{List, [], _++_, foldr}
 use Rattle.table_records.specs.Table.{ancestors}
 use Rattle.ecma_trees.specs.Rose.{Rose, Roses, node, rnil, rcons, idx}
 

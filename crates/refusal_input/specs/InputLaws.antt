@@ -1,10 +1,9 @@
 -- What is known of tables that are not refused.
-use Prim.Native.Nat.{ℕ, _≤_}
+use Prim.Native.Nat.{ℕ}
 use mathlib.Core.Path.{_≡_}
 use mathlib.Core.List.{List}
 use native.Mathlib.Omega.{arith}
 use Rattle.table_records.specs.Table.{count, countScopes}
-use Rattle.table_records.specs.Facts.{Tree}
 use Rattle.refusal_verdict.specs.First.{first}
 use Rattle.refusal_verdict.specs.declared.Verdict.the-variants.{Passed}
 use Rattle.refusal_verdict.specs.VerdictLaws.{passed, passed-test}

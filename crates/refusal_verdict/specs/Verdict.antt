@@ -3,7 +3,7 @@ use Prim.Native.Nat.{ℕ}
 use Rattle.refusal_verdict.specs.declared.Place.{Place}
 use Rattle.refusal_verdict.specs.declared.Place.the-variants.{Here, Nowhere}
 use Rattle.refusal_verdict.specs.declared.Verdict.{Verdict}
-use Rattle.refusal_verdict.specs.declared.Verdict.the-variants.{Refused, Passed}
+use Rattle.refusal_verdict.specs.declared.Verdict.the-variants.{Refused}
 
 -- refused by this number where there is a place, and else as the later numbers say
 abbrev pub orNext : ℕ → Place → Verdict → Verdict

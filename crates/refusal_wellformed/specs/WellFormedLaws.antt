@@ -1,14 +1,12 @@
 -- What is known of well-formed tables.
 use Prim.Native.Nat.{ℕ}
-use mathlib.Core.Path.{_≡_, refl, sym, _∙_}
+use mathlib.Core.Path.{_≡_, refl}
 use mathlib.Core.List.{List}
-use native.Mathlib.Omega.{arith}
 use Rattle.table_records.specs.Table.{count}
 use Rattle.refusal_verdict.specs.First.{first}
 use Rattle.refusal_verdict.specs.declared.Place.{Place}
 use Rattle.refusal_verdict.specs.declared.Verdict.{Verdict}
 use Rattle.refusal_verdict.specs.declared.Verdict.the-variants.{Refused, Passed}
-use Rattle.refusal_verdict.specs.Verdict.{orNext}
 use Rattle.refusal_input.specs.Input.{refusalOf, WellFormed}
 use Rattle.refusal_input.specs.InputLaws.{well-formed}
 use Rattle.check_supers.specs.Super.{failsAt}

@@ -1,14 +1,13 @@
 -- Where a route fits and where it does not.
 use Prim.Native.Nat.{ℕ, _≤_, _<_}
-use mathlib.Core.Path.{_≡_, refl, ap, sym, _∙_}
+use mathlib.Core.Path.{_≡_, ap, sym}
 use mathlib.Core.List.{List, _++_}
 use native.Mathlib.Omega.{arith}
 use borrow.Author.Tests.{le-leb, lt-leb}
-use lib.ListN.{length, drop, take}
+use lib.ListN.{length, drop}
 use lib.Seq.{take-all}
 use Rattle.route_completion.specs.Route.{Route}
 use Rattle.code_machine.specs.Ran.{most, saturated, laid}
-use Rattle.route_viewer.specs.declared.Routed.{Routed}
 use Rattle.route_viewer.specs.declared.Routed.the-variants as routed
 use Rattle.route_viewer.specs.Shown.{shownAnswer, shownSlice}
 

@@ -1,5 +1,5 @@
 -- Laws of walks up: a fold over the ancestors of a node, or over the scopes around a scope, is one step and the fold from there.
-use Prim.Native.Nat.{ℕ, zero, suc, _≤_, _<_}
+use Prim.Native.Nat.{ℕ, _≤_, _<_}
 use mathlib.Core.Path.{_≡_, refl, sym, subst, _∙_}
 use mathlib.Core.List.{List, [], _∷_, foldr}
 use mathlib.Core.Bool.{Bool, true, false, cond, _||_}

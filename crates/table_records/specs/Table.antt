@@ -1,6 +1,5 @@
 -- The node table: ten numbers to a node, in the order kind, parent, role, span start, span end, scope, flags, extra, name start, name length.
 use Prim.Native.Nat.{ℕ, _+_, _*_, _/_, _≤_, _<_}
-use mathlib.Core.Path.{_≡_}
 use mathlib.Core.List.{List}
 use mathlib.Core.Bool.{Bool, not}
 use lib.Bits.{bitAnd}

@@ -1,6 +1,6 @@
 -- The search for a static block, as a walk outward meets it.
 use Prim.Native.Nat.{ℕ, _<_}
-use mathlib.Core.Path.{_≡_, _∙_}
+use mathlib.Core.Path.{_≡_}
 use mathlib.Core.List.{List}
 use mathlib.Core.Bool.{true, false}
 use Rattle.table_records.specs.Table.{scopeFlagsOf, scopeParentOf, countScopes, hasFlag}

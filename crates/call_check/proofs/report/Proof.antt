@@ -4,23 +4,17 @@ use Rattle.check_dispatch.specs.Findings.{findingsOf}
 use lib.ListN.{length}
 use native.Mathlib.Omega.{arith}
 use mathlib.Core.Path.{_≡_, ap, sym, _∙_}
-use Prim.Native.Nat.{ℕ, _+_, _*_, _/_, _≤_, _<_}
+use Prim.Native.Nat.{ℕ, _*_, _/_, _≤_, _<_}
 use borrow.Author.Needs.{needs}
 use Rattle.call_check.proofs.report.Statement.{statement}
 use Rattle.call_check.proofs.report.Tie as tie
-use Rattle.call_check.proofs.report.Reads as reads
-use Rattle.call_check.proofs.report.Lts as lts
-use Rattle.check_dispatch.proofs.check_tree.Reads as check-tree-reads
 
--- src/lib.rt:33:81
 slice-aggregate-check-tree : tie.Need-slice-aggregate-check-tree
 slice-aggregate-check-tree c = search needs
 
--- src/lib.rt:33:9
 check-tree-requires : tie.Need-check-tree-requires
 check-tree-requires c κs = search needs
 
--- src/lib.rt:35:9
 returns : tie.Need-returns
 returns c = let a = c .before .before .before .before .before .before .before .before .before .args in
     let f = findingsOf (a .source-type) (a .nodes .now) (a .scopes .now) (a .source .now) (a .names .now) in
@@ -28,15 +22,12 @@ returns c = let a = c .before .before .before .before .before .before .before .b
     let h : length (a .findings .now) < 7 * length f = omega (arith, c .if1 .taken, q) in
     (ap (λ (n : ℕ). Short n) q ∙ sym (answer-short f (a .findings .now) h), sym (slice-short f (a .findings .now) h))
 
--- src/lib.rt:37:9
 check-tree-requires-2 : tie.Need-check-tree-requires-2
 check-tree-requires-2 c κs = search needs
 
--- src/lib.rt:19:1
 same-length : tie.Need-same-length
 same-length c = search needs
 
--- src/lib.rt:19:1
 returns-2 : tie.Need-returns-2
 returns-2 c = let a = c .before .before .before .before .before .before .before .before .before .before .before .before .before .args in
     let f = findingsOf (a .source-type) (a .nodes .now) (a .scopes .now) (a .source .now) (a .names .now) in

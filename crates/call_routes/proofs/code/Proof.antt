@@ -6,33 +6,23 @@ use Rattle.code_unit.specs.Unit.{unitOf}
 use Rattle.code_stores.specs.Over.{over}
 use Rattle.code_flat.specs.Code.{unit}
 use Rattle.refusal_verdict.specs.declared.Verdict.{Verdict}
-use Rattle.table_records.specs.Table.{count}
 use lib.ListN.{length}
 use native.Mathlib.Omega.{arith}
-use Prim.Native.Nat.{_+_, _*_, _≤_, _<_}
-use mathlib.Core.Path.{_≡_, ap, sym, _∙_}
+use mathlib.Core.Path.{ap, sym, _∙_}
 use Rattle.call_routes.specs.Calls.{codeAnswer, codeSlice}
 use borrow.Author.Needs.{needs}
 use Rattle.call_routes.proofs.code.Statement.{statement}
 use Rattle.call_routes.proofs.code.Tie as tie
-use Rattle.call_routes.proofs.code.Reads as reads
-use Rattle.call_routes.proofs.code.Lts as lts
-use Rattle.code_maker.proofs.code_unit.Reads as code-unit-reads
-use Rattle.call_routes.proofs.refusal.Reads as refusal-reads
 
--- src/lib.rt:89:11
 refusal-requires : tie.Need-refusal-requires
 refusal-requires c κs = search needs
 
--- src/lib.rt:90:26
 enum-known-number : tie.Need-enum-known-number
 enum-known-number c = search needs
 
--- src/lib.rt:91:71
 enum-told : tie.Need-enum-told
 enum-told c = search needs
 
--- src/lib.rt:91:40
 code-unit-requires : tie.Need-code-unit-requires
 code-unit-requires c κs = let a = c .before .before .before .before .before .before .before .before .before .args in
     let t = a .source-type in
@@ -46,7 +36,6 @@ code-unit-requires c κs = let a = c .before .before .before .before .before .be
     let r = room t ns ss sr nm u (length k) e in
     (ready t ns ss sr nm u (length k) e, omega (arith, r))
 
--- src/lib.rt:77:1
 returns : tie.Need-returns
 unfolding codeAnswer codeSlice
 returns c = let a = c .before .before .before .before .before .before .before .before .before .args in
@@ -60,11 +49,9 @@ returns c = let a = c .before .before .before .before .before .before .before .b
     let e = sym (c .before .before .before .refusal .ensures) ∙ c .before .number .given .1 in
     (sym (ap (λ (v : Verdict). unless {A = Coded} v coded.Refused (coded.Code (length (unit (unitOf ns nm u))))) e), sym (ap (λ (v : Verdict). unless v (λ number place. k) (over (unit (unitOf ns nm u)) k)) e))
 
--- src/lib.rt:77:1
 same-length : tie.Need-same-length
 same-length c = search needs
 
--- src/lib.rt:77:1
 returns-2 : tie.Need-returns-2
 unfolding codeAnswer codeSlice
 returns-2 c = let a = c .before .before .before .before .before .before .before .before .before .before .before .before .args in

@@ -3,14 +3,10 @@ use lib.Seq.{length-take-le}
 use borrow.Author.Needs.{needs}
 use Rattle.call_routes.proofs.front.Statement.{statement}
 use Rattle.call_routes.proofs.front.Tie as tie
-use Rattle.call_routes.proofs.front.Reads as reads
-use Rattle.call_routes.proofs.front.Lts as lts
 
--- src/lib.rt:100:5
 slice-aggregate-result : tie.Need-slice-aggregate-result
 slice-aggregate-result c = sym (length-take-le (c .before .args .n) (c .before .args .s .now) (c .before .pre))
 
--- src/lib.rt:96:1
 returns : tie.Need-returns
 returns c = search needs
 

@@ -1,48 +1,34 @@
 use Rattle.call_routes.specs.CallsLaws.{code-route, front-code, over-length}
 use Rattle.route_viewer.specs.Shown.{shownAnswer, shownSlice}
 use Rattle.code_unit.specs.Unit.{unitOf}
-use Rattle.route_completion.specs.Route.{route}
 use Rattle.code_flat.specs.Machine.{codeRoute}
 use Rattle.code_flat.specs.Code.{unit}
 use lib.ListN.{take}
-use Rattle.table_records.specs.Table.{count}
 use lib.ListN.{length}
 use native.Mathlib.Omega.{arith}
-use Prim.Native.Nat.{_+_, _*_, _≤_, _<_}
-use mathlib.Core.Path.{_≡_, ap, sym, _∙_}
+use mathlib.Core.Path.{ap, _∙_}
 use borrow.Author.Needs.{needs}
 use Rattle.call_routes.proofs.made.Statement.{statement}
 use Rattle.call_routes.proofs.made.Tie as tie
-use Rattle.call_routes.proofs.made.Reads as reads
-use Rattle.call_routes.proofs.made.Lts as lts
-use Rattle.code_maker.proofs.code_unit.Reads as code-unit-reads
-use Rattle.call_routes.proofs.front.Reads as front-reads
-use Rattle.route_viewer.proofs.show.Reads as show-reads
 
--- src/lib.rt:118:9
 code-unit-requires : tie.Need-code-unit-requires
 code-unit-requires c κs = (c .before .before .before .before .before .before .pre .0, c .before .before .before .before .before .before .pre .1)
 
--- src/lib.rt:119:18
 front-requires : tie.Need-front-requires
 front-requires c κs = let a = c .before .before .before .before .before .before .before .before .before .before .args in
     let l = unit (unitOf (a .nodes .now) (a .names .now) (a .u .0)) in
     let q = ap length (c .before .before .before .code-unit .ensures .0) in
     omega (arith, c .before .before .before .code-unit .ensures .1, q, over-length l (a .code .now))
 
--- src/lib.rt:119:5
 show-requires : tie.Need-show-requires
 show-requires c κs = search needs
 
--- src/lib.rt:104:1
 same-length : tie.Need-same-length
 same-length c = search needs
 
--- src/lib.rt:104:1
 same-length-2 : tie.Need-same-length-2
 same-length-2 c = search needs
 
--- src/lib.rt:104:1
 returns : tie.Need-returns
 returns c = let a = c .before .before .before .before .before .before .before .before .before .before .before .before .before .before .before .args in
     let l = unit (unitOf (a .nodes .now) (a .names .now) (a .u .0)) in

@@ -2,33 +2,21 @@ use Rattle.refusal_wellformed.specs.WellFormedLaws.{input-well-formed}
 use Rattle.call_routes.specs.Calls.{roomRefusal}
 use Rattle.refusal_state.specs.Targets.{refusedOr, stateAnswer}
 use Rattle.refusal_verdict.specs.declared.Verdict.{Verdict}
-use Rattle.table_records.specs.Table.{count}
-use lib.ListN.{length}
-use native.Mathlib.Omega.{arith}
-use Prim.Native.Nat.{_+_, _*_, _≤_, _<_}
-use mathlib.Core.Path.{_≡_, ap, sym, _∙_}
+use mathlib.Core.Path.{ap, sym, _∙_}
 use Rattle.call_routes.specs.Calls.{codeRefusal}
 use borrow.Author.Needs.{needs}
 use Rattle.call_routes.proofs.refusal.Statement.{statement}
 use Rattle.call_routes.proofs.refusal.Tie as tie
-use Rattle.call_routes.proofs.refusal.Reads as reads
-use Rattle.call_routes.proofs.refusal.Lts as lts
-use Rattle.call_routes.proofs.later_refusal.Reads as later-refusal-reads
-use Rattle.refusal_wellformed.proofs.refusal.Reads as refusal-reads
 
--- src/lib.rt:69:9
 refusal-requires : tie.Need-refusal-requires
 refusal-requires c κs = search needs
 
--- src/lib.rt:71:35
 enum-told : tie.Need-enum-told
 enum-told c = search needs
 
--- src/lib.rt:72:28
 enum-told-2 : tie.Need-enum-told-2
 enum-told-2 c = search needs
 
--- src/lib.rt:72:28
 later-refusal-requires : tie.Need-later-refusal-requires
 later-refusal-requires c κs = let a = c .before .before .before .before .before .before .before .args in
     let t = a .source-type in
@@ -38,7 +26,6 @@ later-refusal-requires c κs = let a = c .before .before .before .before .before
     let nm = a .names .now in
     input-well-formed t ns ss sr nm (sym (c .before .before .refusal .ensures) ∙ c .enum-told2 .given .1)
 
--- src/lib.rt:58:1
 returns : tie.Need-returns
 unfolding codeRefusal
 returns c = let a = c .before .before .before .before .before .before .before .args in
@@ -49,7 +36,6 @@ returns c = let a = c .before .before .before .before .before .before .before .a
     let nm = a .names .now in
     c .enum-told .given .1 ∙ ap (λ (v : Verdict). refusedOr v (refusedOr (stateAnswer t ns ss sr nm (a .unit)) (roomRefusal ns (a .len)))) (sym (c .enum-told .given .1) ∙ c .before .before .refusal .ensures)
 
--- src/lib.rt:58:1
 returns-2 : tie.Need-returns-2
 unfolding codeRefusal
 returns-2 c = let a = c .before .before .before .before .before .before .before .before .args in

@@ -8,33 +8,23 @@ use Rattle.code_unit.specs.Unit.{unitOf}
 use Rattle.code_stores.specs.Over.{over}
 use Rattle.code_flat.specs.Code.{unit}
 use Rattle.refusal_verdict.specs.declared.Verdict.{Verdict}
-use Rattle.table_records.specs.Table.{count}
 use lib.ListN.{length}
 use native.Mathlib.Omega.{arith}
-use Prim.Native.Nat.{_+_, _*_, _≤_, _<_}
-use mathlib.Core.Path.{_≡_, ap, sym, _∙_}
+use mathlib.Core.Path.{ap, sym, _∙_}
 use Rattle.call_routes.specs.Calls.{routeAnswer, codeSlice, routeSlice}
 use borrow.Author.Needs.{needs}
 use Rattle.call_routes.proofs.route.Statement.{statement}
 use Rattle.call_routes.proofs.route.Tie as tie
-use Rattle.call_routes.proofs.route.Reads as reads
-use Rattle.call_routes.proofs.route.Lts as lts
-use Rattle.call_routes.proofs.made.Reads as made-reads
-use Rattle.call_routes.proofs.refusal.Reads as refusal-reads
 
--- src/lib.rt:138:11
 refusal-requires : tie.Need-refusal-requires
 refusal-requires c κs = search needs
 
--- src/lib.rt:139:26
 enum-known-number : tie.Need-enum-known-number
 enum-known-number c = search needs
 
--- src/lib.rt:140:47
 enum-told : tie.Need-enum-told
 enum-told c = search needs
 
--- src/lib.rt:140:28
 made-requires : tie.Need-made-requires
 made-requires c κs = let a = c .before .before .before .before .before .before .before .before .before .before .before .before .args in
     let t = a .source-type in
@@ -48,7 +38,6 @@ made-requires c κs = let a = c .before .before .before .before .before .before 
     let r = room t ns ss sr nm u (length k) e in
     (ready t ns ss sr nm u (length k) e, omega (arith, r))
 
--- src/lib.rt:123:1
 returns : tie.Need-returns
 unfolding routeAnswer codeSlice routeSlice
 returns c = let a = c .before .before .before .before .before .before .before .before .before .before .before .args in
@@ -64,15 +53,12 @@ returns c = let a = c .before .before .before .before .before .before .before .b
     let e = sym (c .before .before .before .refusal .ensures) ∙ c .before .number .given .1 in
     (sym (ap (λ (v : Verdict). unless {A = Routed} v routed.Refused (shownAnswer (route (unitOf ns nm u) q) (length o))) e), (sym (ap (λ (v : Verdict). unless v (λ number place. k) (over (unit (unitOf ns nm u)) k)) e), sym (ap (λ (v : Verdict). unless v (λ number place. o) (shownSlice (route (unitOf ns nm u) q) o)) e)))
 
--- src/lib.rt:123:1
 same-length : tie.Need-same-length
 same-length c = search needs
 
--- src/lib.rt:123:1
 same-length-2 : tie.Need-same-length-2
 same-length-2 c = search needs
 
--- src/lib.rt:123:1
 returns-2 : tie.Need-returns-2
 unfolding routeAnswer codeSlice routeSlice
 returns-2 c = let a = c .before .before .before .before .before .before .before .before .before .before .before .before .before .before .before .before .before .args in

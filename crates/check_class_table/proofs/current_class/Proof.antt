@@ -6,46 +6,32 @@ use Rattle.check_class_table.specs.ClassesLaws.{in-table}
 use borrow.Author.Needs.{needs}
 use Rattle.check_class_table.proofs.current_class.Statement.{statement}
 use Rattle.check_class_table.proofs.current_class.Tie as tie
-use Rattle.check_class_table.proofs.current_class.Reads as reads
-use Rattle.check_class_table.proofs.current_class.Lts as lts
-use Rattle.table_ancestry.proofs.nearest.Reads as nearest-reads
-use Rattle.table_children.proofs.class_body_of.Reads as class-body-of-reads
-use Rattle.check_class_table.proofs.class_at.Reads as class-at-reads
-use Rattle.table_records.proofs.kind.Reads as kind-reads
 
--- src/lib.rt:51:9
 kind-requires : tie.Need-kind-requires
 kind-requires c κs = search needs
 
--- src/lib.rt:53:25
 class-body-of-requires : tie.Need-class-body-of-requires
 class-body-of-requires c κs = search needs
 
--- src/lib.rt:53:9
 class-at-requires : tie.Need-class-at-requires
 class-at-requires c κs = search needs
 
--- src/lib.rt:53:9
 returns : tie.Need-returns
 unfolding currentClass
 returns c = let a = c .before .before .before .before .before .args in
     (rw (← c .before .before .before .kind .ensures, c .before .before .if1 .taken, ← c .before .class-body-of .ensures .0) (c .class-at .ensures), subst (λ (r : Current). inTable (a .nodes .now) r) (sym (c .class-at .ensures)) (in-table (a .nodes .now) (c .before .class-body-of .result) (c .before .class-body-of .ensures .1)))
 
--- src/lib.rt:56:9
 returns-2 : tie.Need-returns-2
 unfolding currentClass
 returns-2 c = let a = c .before .before .before .before .args in
     (rw (← c .before .before .kind .ensures, c .if2 .taken), search needs)
 
--- src/lib.rt:58:14
 nearest-requires : tie.Need-nearest-requires
 nearest-requires c κs = search needs
 
--- src/lib.rt:58:5
 class-at-requires-2 : tie.Need-class-at-requires-2
 class-at-requires-2 c κs = search needs
 
--- src/lib.rt:45:1
 returns-3 : tie.Need-returns-3
 unfolding currentClass
 returns-3 c = let a = c .before .before .before .before .before .before .args in

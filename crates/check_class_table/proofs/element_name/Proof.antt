@@ -5,45 +5,32 @@ use Rattle.check_class_table.specs.Elements.{elementName, nameAt}
 use borrow.Author.Needs.{needs}
 use Rattle.check_class_table.proofs.element_name.Statement.{statement}
 use Rattle.check_class_table.proofs.element_name.Tie as tie
-use Rattle.check_class_table.proofs.element_name.Reads as reads
-use Rattle.check_class_table.proofs.element_name.Lts as lts
-use Rattle.table_children.proofs.key_of.Reads as key-of-reads
-use Rattle.table_names.proofs.name.Reads as name-reads
 
--- src/lib.rt:163:24
 key-of-requires : tie.Need-key-of-requires
 key-of-requires c κs = search needs
 
--- src/lib.rt:163:19
 enum-known-m : tie.Need-enum-known-m
 enum-known-m c = search needs
 
--- src/lib.rt:164:16
 enum-told : tie.Need-enum-told
 enum-told c = search needs
 
--- src/lib.rt:164:16
 sub-result : tie.Need-sub-result
 sub-result c = search needs
 
--- src/lib.rt:164:16
 part-result-start : tie.Need-part-result-start
 part-result-start c = search needs
 
--- src/lib.rt:164:16
 part-result-end : tie.Need-part-result-end
 part-result-end c = search needs
 
--- src/lib.rt:164:9
 returns : tie.Need-returns
 unfolding elementName
 returns c = let a = c .before .before .before .before .before .before .args in sym (ap (nameAt (a .nodes .now) (a .names .now)) (sym (c .before .before .before .key-of .ensures .0) ∙ c .before .enum-told .given .1))
 
--- src/lib.rt:166:5
 name-requires : tie.Need-name-requires
 name-requires c κs = let a = c .before .before .before .before .before .before .args in (c .before .before .before .before .before .before .pre .1 .0, subst (λ (f : Found). below (a .nodes .now) f) (c .before .m .given .1) (c .before .before .before .key-of .ensures .1))
 
--- src/lib.rt:157:1
 returns-2 : tie.Need-returns-2
 unfolding elementName
 returns-2 c = let a = c .before .before .before .before .before .before .before .args in c .name .ensures ∙ sym (ap (nameAt (a .nodes .now) (a .names .now)) (sym (c .before .before .before .before .key-of .ensures .0) ∙ c .before .before .m .given .1))

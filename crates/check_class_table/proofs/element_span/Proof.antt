@@ -3,20 +3,13 @@ use Rattle.check_class_table.specs.Elements.{spanAt, elementSpan}
 use borrow.Author.Needs.{needs}
 use Rattle.check_class_table.proofs.element_span.Statement.{statement}
 use Rattle.check_class_table.proofs.element_span.Tie as tie
-use Rattle.check_class_table.proofs.element_span.Reads as reads
-use Rattle.check_class_table.proofs.element_span.Lts as lts
-use Rattle.table_children.proofs.key_of.Reads as key-of-reads
-use Rattle.check_class_table.proofs.span_at.Reads as span-at-reads
 
--- src/lib.rt:153:20
 key-of-requires : tie.Need-key-of-requires
 key-of-requires c κs = search needs
 
--- src/lib.rt:153:5
 span-at-requires : tie.Need-span-at-requires
 span-at-requires c κs = search needs
 
--- src/lib.rt:148:1
 returns : tie.Need-returns
 unfolding elementSpan
 returns c = let a = c .before .before .before .args in c .span-at .ensures ∙ ap (spanAt (a .nodes .now)) (c .before .key-of .ensures .0)

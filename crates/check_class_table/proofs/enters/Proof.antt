@@ -3,49 +3,34 @@ use borrow.Author.Tests.{eq-eqb, ne-eqb}
 use borrow.Author.Needs.{needs}
 use Rattle.check_class_table.proofs.enters.Statement.{statement}
 use Rattle.check_class_table.proofs.enters.Tie as tie
-use Rattle.check_class_table.proofs.enters.Reads as reads
-use Rattle.check_class_table.proofs.enters.Lts as lts
-use Rattle.check_class_table.proofs.has_body.Reads as has-body-reads
-use Rattle.check_class_table.proofs.has_name.Reads as has-name-reads
-use Rattle.check_class_table.proofs.is_constructor.Reads as is-constructor-reads
-use Rattle.table_records.proofs.kind.Reads as kind-reads
 
--- src/lib.rt:202:8
 is-constructor-requires : tie.Need-is-constructor-requires
 is-constructor-requires c κs = search needs
 
--- src/lib.rt:203:9
 returns : tie.Need-returns
 unfolding enters
 returns c = rw (← c .before .is-constructor .ensures, c .if1 .taken)
 
--- src/lib.rt:205:9
 kind-requires : tie.Need-kind-requires
 kind-requires c κs = search needs
 
--- src/lib.rt:207:13
 has-body-requires : tie.Need-has-body-requires
 has-body-requires c κs = search needs
 
--- src/lib.rt:208:13
 returns-2 : tie.Need-returns-2
 unfolding enters
 returns-2 c = rw (← c .before .before .before .before .before .is-constructor .ensures, c .before .before .before .before .if1 .left, ← c .before .before .before .kind .ensures, eq-eqb _ _ (c .before .before .if2 .taken), ← c .before .has-body .ensures, c .if3 .taken)
 
--- src/lib.rt:210:9
 has-name-requires : tie.Need-has-name-requires
 has-name-requires c κs = search needs
 
--- src/lib.rt:210:9
 returns-3 : tie.Need-returns-3
 unfolding enters
 returns-3 c = rw (← c .before .before .before .before .before .before .is-constructor .ensures, c .before .before .before .before .before .if1 .left, ← c .before .before .before .before .kind .ensures, eq-eqb _ _ (c .before .before .before .if2 .taken), ← c .before .before .has-body .ensures, c .before .if3 .left, ← c .has-name .ensures)
 
--- src/lib.rt:212:5
 has-name-requires-2 : tie.Need-has-name-requires-2
 has-name-requires-2 c κs = search needs
 
--- src/lib.rt:197:1
 returns-4 : tie.Need-returns-4
 unfolding enters
 returns-4 c = rw (← c .before .before .before .before .is-constructor .ensures, c .before .before .before .if1 .left, ← c .before .before .kind .ensures, ne-eqb _ _ (c .before .if2 .left), ← c .has-name2 .ensures)

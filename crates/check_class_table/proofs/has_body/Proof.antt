@@ -6,45 +6,33 @@ use Rattle.check_class_table.specs.Elements.{hasBody, hasBodyAt}
 use borrow.Author.Needs.{needs}
 use Rattle.check_class_table.proofs.has_body.Statement.{statement}
 use Rattle.check_class_table.proofs.has_body.Tie as tie
-use Rattle.check_class_table.proofs.has_body.Reads as reads
-use Rattle.check_class_table.proofs.has_body.Lts as lts
-use Rattle.table_children.proofs.function_body_of.Reads as function-body-of-reads
-use Rattle.table_children.proofs.value_of.Reads as value-of-reads
 
--- src/lib.rt:187:24
 value-of-requires : tie.Need-value-of-requires
 value-of-requires c κs = search needs
 
--- src/lib.rt:187:19
 enum-known-f : tie.Need-enum-known-f
 enum-known-f c = search needs
 
--- src/lib.rt:188:9
 enum-told : tie.Need-enum-told
 enum-told c = search needs
 
--- src/lib.rt:188:9
 returns : tie.Need-returns
 unfolding hasBody
 returns c = let a = c .before .before .before .before .args in sym (ap (hasBodyAt (a .nodes .now)) (sym (c .before .before .value-of .ensures .0) ∙ c .enum-told .given .1))
 
--- src/lib.rt:190:24
 function-body-of-requires : tie.Need-function-body-of-requires
 function-body-of-requires c κs = let a = c .before .before .before .before .before .args in (c .before .before .before .before .before .pre .0, subst (λ (f : Found). below (a .nodes .now) f) (c .before .f .given .1) (c .before .before .before .value-of .ensures .1))
 
 enum-told-2 : tie.Need-enum-told-2
 enum-told-2 c = search needs
 
--- src/lib.rt:191:9
 enum-told-3 : tie.Need-enum-told-3
 enum-told-3 c = search needs
 
--- src/lib.rt:191:9
 returns-2 : tie.Need-returns-2
 unfolding hasBody
 returns-2 c = let a = c .before .before .before .before .before .before .before .before .args in sym (ap (hasBodyAt (a .nodes .now)) (sym (c .before .before .before .before .before .before .value-of .ensures .0) ∙ c .before .before .before .before .f .given .1) ∙ ap isAt (sym (c .before .before .function-body-of .ensures .0) ∙ c .enum-told3 .given .1))
 
--- src/lib.rt:182:1
 returns-3 : tie.Need-returns-3
 unfolding hasBody
 returns-3 c = let a = c .before .before .before .before .before .before .before .before .args in sym (ap (hasBodyAt (a .nodes .now)) (sym (c .before .before .before .before .before .before .value-of .ensures .0) ∙ c .before .before .before .before .f .given .1) ∙ ap isAt (sym (c .before .before .function-body-of .ensures .0) ∙ c .enum-told2 .given .1))

@@ -5,32 +5,22 @@ use Rattle.check_class_table.specs.Elements.{hasNameAt}
 use borrow.Author.Needs.{needs}
 use Rattle.check_class_table.proofs.has_name.Statement.{statement}
 use Rattle.check_class_table.proofs.has_name.Tie as tie
-use Rattle.check_class_table.proofs.has_name.Reads as reads
-use Rattle.check_class_table.proofs.has_name.Lts as lts
-use Rattle.table_children.proofs.key_of.Reads as key-of-reads
-use Rattle.table_records.proofs.name_len.Reads as name-len-reads
 
--- src/lib.rt:175:24
 key-of-requires : tie.Need-key-of-requires
 key-of-requires c κs = search needs
 
--- src/lib.rt:175:19
 enum-known-m : tie.Need-enum-known-m
 enum-known-m c = search needs
 
--- src/lib.rt:176:9
 enum-told : tie.Need-enum-told
 enum-told c = search needs
 
--- src/lib.rt:176:9
 returns : tie.Need-returns
 returns c = let a = c .before .before .before .before .args in sym (ap (hasNameAt (a .nodes .now)) (sym (c .before .before .key-of .ensures .0) ∙ c .enum-told .given .1))
 
--- src/lib.rt:178:5
 name-len-requires : tie.Need-name-len-requires
 name-len-requires c κs = let a = c .before .before .before .before .before .args in subst (λ (f : Found). below (a .nodes .now) f) (c .before .m .given .1) (c .before .before .before .key-of .ensures .1)
 
--- src/lib.rt:170:1
 returns-2 : tie.Need-returns-2
 returns-2 c = let a = c .before .before .before .before .before .before .args in cc (ap (hasNameAt (a .nodes .now)) (sym (c .before .before .before .before .key-of .ensures .0) ∙ c .before .before .m .given .1))
 

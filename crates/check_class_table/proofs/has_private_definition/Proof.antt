@@ -8,11 +8,6 @@ use Rattle.check_class_table.specs.ElementsLaws.{hasPrivateFrom, has-sta
 use borrow.Author.Needs.{needs}
 use Rattle.check_class_table.proofs.has_private_definition.Statement.{statement}
 use Rattle.check_class_table.proofs.has_private_definition.Tie as tie
-use Rattle.check_class_table.proofs.has_private_definition.Reads as reads
-use Rattle.check_class_table.proofs.has_private_definition.Lts as lts
-use Rattle.check_class_table.proofs.is_private_named.Reads as is-private-named-reads
-use Rattle.table_records.proofs.is_node.Reads as is-node-reads
-use Rattle.table_records.proofs.parent.Reads as parent-reads
 
 abbrev Inv-loop : tie.InvT-loop
 Inv-loop nodes names c name i₀ i = (c .0 < i) × (i ≤ count nodes) × (hasPrivateFrom nodes names (c .0) name i ≡ hasPrivate nodes names (c .0) name)
@@ -20,53 +15,42 @@ Inv-loop nodes names c name i₀ i = (c .0 < i) × (i ≤ count nodes) × (hasPr
 abbrev μ-loop : tie.MeasureT-loop
 μ-loop nodes names c name i₀ i = count nodes - i
 
--- src/lib.rt:264:17
 add-i : tie.Need-add-i Inv-loop μ-loop
 add-i c = let s = c .before .before .before .before .pre .0 .small in omega arith
 
--- src/lib.rt:265:5
 loop-holds : tie.Need-loop-holds Inv-loop μ-loop
 loop-holds c = let a = c .before .before .before .before .args in (search needs, search needs, has-start (a .nodes .now) (a .names .now) (a .c .0) (a .name .now))
 
--- src/lib.rt:265:11
 is-node-requires : tie.Need-is-node-requires Inv-loop μ-loop
 is-node-requires c κs = search needs
 
--- src/lib.rt:266:13
 parent-requires : tie.Need-parent-requires Inv-loop μ-loop
 parent-requires c κs = ltb-true (c .before .before .loop .i) (count (c .before .before .before .before .before .before .before .args .nodes .now)) (sym (c .before .is-node .ensures) ∙ c .if1 .taken)
 
--- src/lib.rt:268:13
 returns : tie.Need-returns Inv-loop μ-loop
 returns c = let a = c .before .before .before .before .before .before .before .before .before .before .before .args in
     let h = ltb-true (c .before .before .before .before .before .before .loop .i) (count (a .nodes .now)) (sym (c .before .before .before .before .before .is-node .ensures) ∙ c .before .before .before .before .if1 .taken) in
     cc (has-out (a .nodes .now) (a .names .now) (a .c .0) (a .name .now) (c .before .before .before .before .before .before .before .before .before .before .before .pre .0) (c .before .before .before .before .before .before .loop .i) (omega arith) h (omega arith))
 
--- src/lib.rt:270:12
 is-private-named-requires : tie.Need-is-private-named-requires Inv-loop μ-loop
 is-private-named-requires c κs = (c .before .before .before .before .before .before .before .before .before .before .before .pre .0, (c .before .before .before .before .before .before .before .before .before .before .before .pre .1 .0, ltb-true (c .before .before .before .before .before .before .loop .i) (count (c .before .before .before .before .before .before .before .before .before .before .before .args .nodes .now)) (sym (c .before .before .before .before .before .is-node .ensures) ∙ c .before .before .before .before .if1 .taken)))
 
--- src/lib.rt:271:13
 returns-2 : tie.Need-returns-2 Inv-loop μ-loop
 returns-2 c = let a = c .before .before .before .before .before .before .before .before .before .before .before .before .before .args in
     let h = ltb-true (c .before .before .before .before .before .before .before .before .loop .i) (count (a .nodes .now)) (sym (c .before .before .before .before .before .before .before .is-node .ensures) ∙ c .before .before .before .before .before .before .if1 .taken) in
     cc (has-stop (a .nodes .now) (a .names .now) (a .c .0) (a .name .now) (c .before .before .before .before .before .before .before .before .loop .i) h (sym (c .before .is-private-named .ensures) ∙ c .if3 .taken))
 
--- src/lib.rt:273:9
 add-i-2 : tie.Need-add-i-2 Inv-loop μ-loop
 add-i-2 c = let s = c .before .before .before .before .before .before .before .before .before .before .before .before .before .pre .0 .small in omega arith
 
--- src/lib.rt:265:5
 loop-less : tie.Need-loop-less Inv-loop μ-loop
 loop-less c = let h = ltb-true (c .before .before .before .before .before .before .before .before .loop .i) (count (c .before .before .before .before .before .before .before .before .before .before .before .before .before .args .nodes .now)) (sym (c .before .before .before .before .before .before .before .is-node .ensures) ∙ c .before .before .before .before .before .before .if1 .taken) in omega arith
 
--- src/lib.rt:265:5
 loop-again : tie.Need-loop-again Inv-loop μ-loop
 loop-again c = let a = c .before .before .before .before .before .before .before .before .before .before .before .before .before .args in
     let h = ltb-true (c .before .before .before .before .before .before .before .before .loop .i) (count (a .nodes .now)) (sym (c .before .before .before .before .before .before .before .is-node .ensures) ∙ c .before .before .before .before .before .before .if1 .taken) in
     (omega arith, omega arith, cc (has-on (a .nodes .now) (a .names .now) (a .c .0) (a .name .now) (c .before .before .before .before .before .before .before .before .loop .i) h (sym (c .before .is-private-named .ensures) ∙ c .if3 .left)))
 
--- src/lib.rt:258:1
 returns-3 : tie.Need-returns-3 Inv-loop μ-loop
 returns-3 c = let a = c .before .before .before .before .before .before .before .args in
     let h = ltb-false (c .before .before .loop .i) (count (a .nodes .now)) (sym (c .before .is-node .ensures) ∙ c .if1 .left) in

@@ -10,10 +10,6 @@ use Rattle.check_class_table.specs.ElementsLaws.{declared-here, declared
 use borrow.Author.Needs.{needs}
 use Rattle.check_class_table.proofs.is_declared.Statement.{statement}
 use Rattle.check_class_table.proofs.is_declared.Tie as tie
-use Rattle.check_class_table.proofs.is_declared.Reads as reads
-use Rattle.check_class_table.proofs.is_declared.Lts as lts
-use Rattle.check_class_table.proofs.has_private_definition.Reads as has-private-definition-reads
-use Rattle.check_class_table.proofs.parent_class.Reads as parent-class-reads
 
 abbrev Inv-loop : tie.InvT-loop
 Inv-loop nodes names name at₀ at = (at .0 < count nodes) × (isDeclared nodes names (at .0) name ≡ isDeclared nodes names (at₀ .0) name)
@@ -21,41 +17,32 @@ Inv-loop nodes names name at₀ at = (at .0 < count nodes) × (isDeclared nodes 
 abbrev μ-loop : tie.MeasureT-loop
 μ-loop nodes names name at₀ at = at .0
 
--- src/lib.rt:286:5
 loop-holds : tie.Need-loop-holds Inv-loop μ-loop
 loop-holds c = search needs
 
--- src/lib.rt:287:12
 has-private-definition-requires : tie.Need-has-private-definition-requires Inv-loop μ-loop
 has-private-definition-requires c κs = search needs
 
--- src/lib.rt:288:13
 returns : tie.Need-returns Inv-loop μ-loop
 returns c = let a = c .before .before .before .before .before .before .args in
     cc (declared-here (a .nodes .now) (a .names .now) (c .before .before .before .before .before .before .pre .0) (a .name .now) (c .before .before .loop .at .0) (c .before .before .loop .inv .0) (sym (c .before .has-private-definition .ensures) ∙ c .if1 .taken))
 
--- src/lib.rt:290:37
 parent-class-requires : tie.Need-parent-class-requires Inv-loop μ-loop
 parent-class-requires c κs = search needs
 
--- src/lib.rt:290:28
 enum-known-outer : tie.Need-enum-known-outer Inv-loop μ-loop
 enum-known-outer c = search needs
 
--- src/lib.rt:291:13
 enum-told : tie.Need-enum-told Inv-loop μ-loop
 enum-told c = search needs
 
--- src/lib.rt:291:13
 returns-2 : tie.Need-returns-2 Inv-loop μ-loop
 returns-2 c = let a = c .before .before .before .before .before .before .before .before .before .args in
     cc (declared-none (a .nodes .now) (a .names .now) (c .before .before .before .before .before .before .before .before .before .pre .0) (a .name .now) (c .before .before .before .before .before .loop .at .0) (c .before .before .before .before .before .loop .inv .0) (sym (c .before .before .before .before .has-private-definition .ensures) ∙ c .before .before .before .if1 .left) (class-none (bodyAbove (a .nodes .now) (c .before .before .before .before .before .loop .at .0)) (sym (c .before .before .parent-class .ensures .0) ∙ c .enum-told .given .1)))
 
--- src/lib.rt:286:5
 loop-less : tie.Need-loop-less Inv-loop μ-loop
 loop-less c = subst (λ (r : Current). before (c .before .before .before .before .before .before .loop .at .0) r) (c .before .outer .given .1) (c .before .before .before .parent-class .ensures .1)
 
--- src/lib.rt:286:5
 loop-again : tie.Need-loop-again Inv-loop μ-loop
 loop-again c = let a = c .before .before .before .before .before .before .before .before .before .before .args in
     let l : c .before .outer .given .0 .0 .0 < c .before .before .before .before .before .before .loop .at .0 = subst (λ (r : Current). before (c .before .before .before .before .before .before .loop .at .0) r) (c .before .outer .given .1) (c .before .before .before .parent-class .ensures .1) in

@@ -2,25 +2,17 @@ use Rattle.check_class_table.specs.Elements.{isPrivateElement}
 use borrow.Author.Needs.{needs}
 use Rattle.check_class_table.proofs.is_private_element.Statement.{statement}
 use Rattle.check_class_table.proofs.is_private_element.Tie as tie
-use Rattle.check_class_table.proofs.is_private_element.Reads as reads
-use Rattle.check_class_table.proofs.is_private_element.Lts as lts
-use Rattle.check_class_table.proofs.enters.Reads as enters-reads
-use Rattle.check_class_table.proofs.is_private_definition.Reads as is-private-definition-reads
 
--- src/lib.rt:237:8
 is-private-definition-requires : tie.Need-is-private-definition-requires
 is-private-definition-requires c κs = search needs
 
--- src/lib.rt:238:9
 enters-requires : tie.Need-enters-requires
 enters-requires c κs = search needs
 
--- src/lib.rt:238:9
 returns : tie.Need-returns
 unfolding isPrivateElement
 returns c = rw (← c .before .before .is-private-definition .ensures, c .before .if1 .taken) (c .enters .ensures)
 
--- src/lib.rt:232:1
 returns-2 : tie.Need-returns-2
 unfolding isPrivateElement
 returns-2 c = rw (← c .before .is-private-definition .ensures, c .if1 .left)

@@ -5,20 +5,13 @@ use Rattle.check_class_table.specs.ClassesLaws.{above-before}
 use borrow.Author.Needs.{needs}
 use Rattle.check_class_table.proofs.parent_class.Statement.{statement}
 use Rattle.check_class_table.proofs.parent_class.Tie as tie
-use Rattle.check_class_table.proofs.parent_class.Reads as reads
-use Rattle.check_class_table.proofs.parent_class.Lts as lts
-use Rattle.table_ancestry.proofs.nearest.Reads as nearest-reads
-use Rattle.check_class_table.proofs.class_at.Reads as class-at-reads
 
--- src/lib.rt:68:14
 nearest-requires : tie.Need-nearest-requires
 nearest-requires c κs = search needs
 
--- src/lib.rt:68:5
 class-at-requires : tie.Need-class-at-requires
 class-at-requires c κs = search needs
 
--- src/lib.rt:62:1
 returns : tie.Need-returns
 returns c = let a = c .before .before .before .args in
     (c .class-at .ensures ∙ ap classAt (c .before .nearest .ensures .0), subst (λ (r : Current). before (a .c .0) r) (sym (c .class-at .ensures)) (above-before (a .nodes .now) (c .before .before .before .pre .0) (a .c .0) (c .before .before .before .pre .1) (c .before .nearest .result) (sym (c .before .nearest .ensures .0))))

@@ -10,30 +10,19 @@ use Rattle.check_classes.specs.ClassChecks.{requireClassName, secondCons
 use borrow.Author.Needs.{needs}
 use Rattle.check_classes.proofs.check_class.Statement.{statement}
 use Rattle.check_classes.proofs.check_class.Tie as tie
-use Rattle.check_classes.proofs.check_class.Reads as reads
-use Rattle.check_classes.proofs.check_class.Lts as lts
-use Rattle.check_classes.proofs.check_private_identifier.Reads as check-private-identifier-reads
-use Rattle.check_classes.proofs.require_class_name.Reads as require-class-name-reads
-use Rattle.check_classes.proofs.second_constructor.Reads as second-constructor-reads
-use Rattle.check_diagnostics.proofs.raise.Reads as raise-reads
 
--- src/lib.rt:271:9
 check-private-identifier-requires : tie.Need-check-private-identifier-requires
 check-private-identifier-requires c κs = search needs
 
--- src/lib.rt:272:54
 require-class-name-requires : tie.Need-require-class-name-requires
 require-class-name-requires c κs = search needs
 
--- src/lib.rt:272:9
 raise-requires : tie.Need-raise-requires
 raise-requires c κs = search needs
 
--- src/lib.rt:273:42
 second-constructor-requires : tie.Need-second-constructor-requires
 second-constructor-requires c κs = search needs
 
--- src/lib.rt:273:5
 raise-requires-2 : tie.Need-raise-requires-2
 raise-requires-2 c κs = let o = listed-one (c .before .before .before .before .before .require-class-name .result) in
     let q = c .before .before .before .before .raise .ensures .0 in
@@ -41,11 +30,9 @@ raise-requires-2 c κs = let o = listed-one (c .before .before .before .before .
     let p = c .before .before .before .before .before .before .before .before .before .before .before .before .before .before .pre .1 .1 .1 .1 in
     omega arith
 
--- src/lib.rt:261:1
 same-length : tie.Need-same-length
 same-length c = search needs
 
--- src/lib.rt:261:1
 returns : tie.Need-returns
 returns c = let a = c .before .before .before .before .before .before .before .before .before .before .before .before .before .before .before .before .before .args in
     let q2 : c .before .before .before .before .before .before .before .raise .result ≡ c .before .before .before .before .before .before .before .before .before .before .before .before .check-private-identifier .result + 7 * length (listed (requireClassName (a .nodes .now) (a .n .0))) = c .before .before .before .before .before .before .before .raise .ensures .0 ∙ ap (λ (r : Raised). c .before .before .before .before .before .before .before .before .before .before .before .before .check-private-identifier .result + 7 * length (listed r)) (c .before .before .before .before .before .before .before .before .require-class-name .ensures) in

@@ -12,40 +12,29 @@ use Rattle.check_classes.specs.ClassChecks.{undeclaredBy, undeclaredIn, 
 use borrow.Author.Needs.{needs}
 use Rattle.check_classes.proofs.check_private_identifier.Statement.{statement}
 use Rattle.check_classes.proofs.check_private_identifier.Tie as tie
-use Rattle.check_classes.proofs.check_private_identifier.Reads as reads
-use Rattle.check_classes.proofs.check_private_identifier.Lts as lts
-use Rattle.check_classes.proofs.undeclared_in.Reads as undeclared-in-reads
-use Rattle.check_class_table.proofs.current_class.Reads as current-class-reads
 
--- src/lib.rt:127:29
 current-class-requires : tie.Need-current-class-requires
 current-class-requires c κs = search needs
 
--- src/lib.rt:127:24
 enum-known-c : tie.Need-enum-known-c
 enum-known-c c = search needs
 
--- src/lib.rt:128:9
 enum-told : tie.Need-enum-told
 enum-told c = search needs
 
--- src/lib.rt:128:9
 returns : tie.Need-returns
 returns c = let a = c .before .before .before .before .before .before .args in
     let o : privateUndeclared (a .nodes .now) (a .names .now) (a .n .0) ≡ [] = ap (undeclaredBy (a .nodes .now) (a .names .now) (a .n .0)) (sym (c .before .before .current-class .ensures .0) ∙ c .enum-told .given .1) in
     let l : length (privateUndeclared (a .nodes .now) (a .names .now) (a .n .0)) ≡ 0 = ap length o in
     (omega arith, (sym (sink-nil (a .findings .now) (a .at)) ∙ ap (sink (a .findings .now) (a .at)) (sym o), omega arith))
 
--- src/lib.rt:130:5
 undeclared-in-requires : tie.Need-undeclared-in-requires
 undeclared-in-requires c κs = let a = c .before .before .before .before .before .before .before .before .args in
     (c .before .before .before .before .before .before .before .before .pre .0, (c .before .before .before .before .before .before .before .before .pre .1 .0, (subst (λ (r : Current). inTable (a .nodes .now) r) (c .before .before .c .given .1) (c .before .before .before .before .current-class .ensures .1), c .before .before .before .before .before .before .before .before .pre .1 .1 .1)))
 
--- src/lib.rt:118:1
 same-length : tie.Need-same-length
 same-length c = search needs
 
--- src/lib.rt:118:1
 returns-2 : tie.Need-returns-2
 returns-2 c = let a = c .before .before .before .before .before .before .before .before .before .before .before .args in
     let o : privateUndeclared (a .nodes .now) (a .names .now) (a .n .0) ≡ undeclaredIn (a .nodes .now) (a .names .now) (a .n .0) (c .before .before .before .before .before .c .given .0 .0 .0) = ap (undeclaredBy (a .nodes .now) (a .names .now) (a .n .0)) (sym (c .before .before .before .before .before .before .before .current-class .ensures .0) ∙ c .before .before .before .before .before .c .given .1) in

@@ -3,31 +3,22 @@ use Rattle.check_classes.specs.ClassChecks.{outsideBy}
 use borrow.Author.Needs.{needs}
 use Rattle.check_classes.proofs.check_private_identifier_outside_class.Statement.{statement}
 use Rattle.check_classes.proofs.check_private_identifier_outside_class.Tie as tie
-use Rattle.check_classes.proofs.check_private_identifier_outside_class.Reads as reads
-use Rattle.check_classes.proofs.check_private_identifier_outside_class.Lts as lts
-use Rattle.check_class_table.proofs.current_class.Reads as current-class-reads
-use Rattle.check_diagnostics.proofs.error_at.Reads as error-at-reads
 
--- src/lib.rt:32:28
 current-class-requires : tie.Need-current-class-requires
 current-class-requires c κs = search needs
 
 enum-told : tie.Need-enum-told
 enum-told c = search needs
 
--- src/lib.rt:33:9
 enum-told-2 : tie.Need-enum-told-2
 enum-told-2 c = search needs
 
--- src/lib.rt:33:9
 returns : tie.Need-returns
 returns c = let a = c .before .before .before .before .args in sym (ap (outsideBy (a .nodes .now) (a .n .0)) (sym (c .before .before .current-class .ensures .0) ∙ c .enum-told2 .given .1))
 
--- src/lib.rt:35:5
 error-at-requires : tie.Need-error-at-requires
 error-at-requires c κs = search needs
 
--- src/lib.rt:27:1
 returns-2 : tie.Need-returns-2
 returns-2 c = let a = c .before .before .before .before .before .args in c .error-at .ensures ∙ sym (ap (outsideBy (a .nodes .now) (a .n .0)) (sym (c .before .before .before .current-class .ensures .0) ∙ c .before .enum-told .given .1))
 

@@ -1,19 +1,13 @@
 use borrow.Author.Needs.{needs}
 use Rattle.check_classes.proofs.duplicate_constructor.Statement.{statement}
 use Rattle.check_classes.proofs.duplicate_constructor.Tie as tie
-use Rattle.check_classes.proofs.duplicate_constructor.Reads as reads
-use Rattle.check_classes.proofs.duplicate_constructor.Lts as lts
-use Rattle.check_classes.proofs.constructor_span.Reads as constructor-span-reads
 
--- src/lib.rt:229:9
 constructor-span-requires : tie.Need-constructor-span-requires
 constructor-span-requires c κs = search needs
 
--- src/lib.rt:230:9
 constructor-span-requires-2 : tie.Need-constructor-span-requires-2
 constructor-span-requires-2 c κs = search needs
 
--- src/lib.rt:223:1
 returns : tie.Need-returns
 returns c = cc
 

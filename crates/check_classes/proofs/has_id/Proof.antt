@@ -3,26 +3,19 @@ use Rattle.table_ancestry.specs.Ancestry.{isAt}
 use borrow.Author.Needs.{needs}
 use Rattle.check_classes.proofs.has_id.Statement.{statement}
 use Rattle.check_classes.proofs.has_id.Tie as tie
-use Rattle.check_classes.proofs.has_id.Reads as reads
-use Rattle.check_classes.proofs.has_id.Lts as lts
-use Rattle.table_children.proofs.first_child.Reads as first-child-reads
 
--- src/lib.rt:138:24
 first-child-requires : tie.Need-first-child-requires
 first-child-requires c κs = search needs
 
 enum-told : tie.Need-enum-told
 enum-told c = search needs
 
--- src/lib.rt:146:9
 enum-told-2 : tie.Need-enum-told-2
 enum-told-2 c = search needs
 
--- src/lib.rt:146:9
 returns : tie.Need-returns
 returns c = sym (ap isAt (sym (c .before .before .first-child .ensures .0) ∙ c .enum-told2 .given .1))
 
--- src/lib.rt:133:1
 returns-2 : tie.Need-returns-2
 returns-2 c = sym (ap isAt (sym (c .before .before .first-child .ensures .0) ∙ c .enum-told .given .1))
 

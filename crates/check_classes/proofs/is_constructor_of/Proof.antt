@@ -3,35 +3,24 @@ use Rattle.check_classes.specs.ClassChecksLaws.{isConstructorOf}
 use borrow.Author.Needs.{needs}
 use Rattle.check_classes.proofs.is_constructor_of.Statement.{statement}
 use Rattle.check_classes.proofs.is_constructor_of.Tie as tie
-use Rattle.check_classes.proofs.is_constructor_of.Reads as reads
-use Rattle.check_classes.proofs.is_constructor_of.Lts as lts
-use Rattle.check_class_table.proofs.has_body.Reads as has-body-reads
-use Rattle.check_class_table.proofs.is_constructor.Reads as is-constructor-reads
-use Rattle.table_records.proofs.parent.Reads as parent-reads
 
--- src/lib.rt:178:9
 parent-requires : tie.Need-parent-requires
 parent-requires c κs = search needs
 
--- src/lib.rt:180:12
 is-constructor-requires : tie.Need-is-constructor-requires
 is-constructor-requires c κs = search needs
 
--- src/lib.rt:181:13
 has-body-requires : tie.Need-has-body-requires
 has-body-requires c κs = search needs
 
--- src/lib.rt:181:13
 returns : tie.Need-returns
 unfolding isConstructorOf
 returns c = rw (← c .before .before .before .before .before .before .parent .ensures, eq-eqb _ _ (c .before .before .before .if1 .taken), ← c .before .before .is-constructor .ensures, c .before .if2 .taken) (c .has-body .ensures)
 
--- src/lib.rt:183:9
 returns-2 : tie.Need-returns-2
 unfolding isConstructorOf
 returns-2 c = rw (← c .before .before .before .before .before .parent .ensures, eq-eqb _ _ (c .before .before .if1 .taken), ← c .before .is-constructor .ensures, c .if2 .left)
 
--- src/lib.rt:173:1
 returns-3 : tie.Need-returns-3
 unfolding isConstructorOf
 returns-3 c = rw (← c .before .before .before .parent .ensures, ne-eqb _ _ (c .if1 .left))

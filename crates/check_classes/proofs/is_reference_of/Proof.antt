@@ -4,38 +4,27 @@ use Rattle.check_classes.specs.ClassChecks.{isClass}
 use borrow.Author.Needs.{needs}
 use Rattle.check_classes.proofs.is_reference_of.Statement.{statement}
 use Rattle.check_classes.proofs.is_reference_of.Tie as tie
-use Rattle.check_classes.proofs.is_reference_of.Reads as reads
-use Rattle.check_classes.proofs.is_reference_of.Lts as lts
-use Rattle.check_classes.proofs.is_reference.Reads as is-reference-reads
-use Rattle.check_class_table.proofs.current_class.Reads as current-class-reads
 
--- src/lib.rt:57:8
 is-reference-requires : tie.Need-is-reference-requires
 is-reference-requires c κs = search needs
 
--- src/lib.rt:58:33
 current-class-requires : tie.Need-current-class-requires
 current-class-requires c κs = search needs
 
--- src/lib.rt:58:28
 enum-known-d : tie.Need-enum-known-d
 enum-known-d c = search needs
 
--- src/lib.rt:59:13
 enum-told : tie.Need-enum-told
 enum-told c = search needs
 
--- src/lib.rt:59:13
 returns : tie.Need-returns
 unfolding isReferenceOf
 returns c = let a = c .before .before .before .before .before .before .args in rw (← c .before .before .before .before .is-reference .ensures, c .before .before .before .if1 .taken) (sym (ap (isClass (a .c .0)) (sym (c .before .before .current-class .ensures .0) ∙ c .enum-told .given .1)))
 
--- src/lib.rt:61:9
 returns-2 : tie.Need-returns-2
 unfolding isReferenceOf
 returns-2 c = let a = c .before .before .before .before .before .before .before .before .before .args in rw (← c .before .before .before .before .before .before .before .is-reference .ensures, c .before .before .before .before .before .before .if1 .taken) (sym (ap (isClass (a .c .0)) (sym (c .before .before .before .before .before .current-class .ensures .0) ∙ c .before .before .before .d .given .1)))
 
--- src/lib.rt:52:1
 returns-3 : tie.Need-returns-3
 unfolding isReferenceOf
 returns-3 c = rw (← c .before .is-reference .ensures, c .if1 .left)

@@ -8,11 +8,6 @@ use Rattle.table_children.specs.ChildrenLaws.{node-on, node-stop, node-end}
 use borrow.Author.Needs.{needs}
 use Rattle.check_classes.proofs.next_constructor.Statement.{statement}
 use Rattle.check_classes.proofs.next_constructor.Tie as tie
-use Rattle.check_classes.proofs.next_constructor.Reads as reads
-use Rattle.check_classes.proofs.next_constructor.Lts as lts
-use Rattle.check_classes.proofs.is_constructor_of.Reads as is-constructor-of-reads
-use Rattle.table_records.proofs.is_node.Reads as is-node-reads
-use Rattle.table_records.proofs.parent.Reads as parent-reads
 
 abbrev Inv-loop : tie.InvT-loop
 Inv-loop nodes c from i₀ i = (from ≤ i) × (i ≤ count nodes) × (nextConstructor nodes (c .0) i ≡ nextConstructor nodes (c .0) from)
@@ -20,49 +15,39 @@ Inv-loop nodes c from i₀ i = (from ≤ i) × (i ≤ count nodes) × (nextConst
 abbrev μ-loop : tie.MeasureT-loop
 μ-loop nodes c from i₀ i = count nodes - i
 
--- src/lib.rt:197:5
 loop-holds : tie.Need-loop-holds Inv-loop μ-loop
 loop-holds c = search needs
 
--- src/lib.rt:197:11
 is-node-requires : tie.Need-is-node-requires Inv-loop μ-loop
 is-node-requires c κs = search needs
 
--- src/lib.rt:198:13
 parent-requires : tie.Need-parent-requires Inv-loop μ-loop
 parent-requires c κs = ltb-true (c .before .before .loop .i) (count (c .before .before .before .before .args .nodes .now)) (sym (c .before .is-node .ensures) ∙ c .if1 .taken)
 
--- src/lib.rt:200:13
 returns : tie.Need-returns Inv-loop μ-loop
 returns c = let a = c .before .before .before .before .before .before .before .before .args in
     let h = ltb-true (c .before .before .before .before .before .before .loop .i) (count (a .nodes .now)) (sym (c .before .before .before .before .before .is-node .ensures) ∙ c .before .before .before .before .if1 .taken) in
     (cc (constructor-out (a .nodes .now) (a .c .0) (c .before .before .before .before .before .before .before .before .pre .0) (c .before .before .before .before .before .before .loop .i) (omega arith) h (omega arith)), search needs)
 
--- src/lib.rt:202:12
 is-constructor-of-requires : tie.Need-is-constructor-of-requires Inv-loop μ-loop
 is-constructor-of-requires c κs = (c .before .before .before .before .before .before .before .before .pre .0, ltb-true (c .before .before .before .before .before .before .loop .i) (count (c .before .before .before .before .before .before .before .before .args .nodes .now)) (sym (c .before .before .before .before .before .is-node .ensures) ∙ c .before .before .before .before .if1 .taken))
 
--- src/lib.rt:203:13
 returns-2 : tie.Need-returns-2 Inv-loop μ-loop
 returns-2 c = let a = c .before .before .before .before .before .before .before .before .before .before .args in
     let h = ltb-true (c .before .before .before .before .before .before .before .before .loop .i) (count (a .nodes .now)) (sym (c .before .before .before .before .before .before .before .is-node .ensures) ∙ c .before .before .before .before .before .before .if1 .taken) in
     (cc (node-stop (isConstructorOf (a .nodes .now) (a .c .0)) (c .before .before .before .before .before .before .before .before .loop .i) (count (a .nodes .now)) h (sym (c .before .is-constructor-of .ensures) ∙ c .if3 .taken)), h)
 
--- src/lib.rt:205:9
 add-i : tie.Need-add-i Inv-loop μ-loop
 add-i c = let s = c .before .before .before .before .before .before .before .before .before .before .pre .0 .small in omega arith
 
--- src/lib.rt:197:5
 loop-less : tie.Need-loop-less Inv-loop μ-loop
 loop-less c = let h = ltb-true (c .before .before .before .before .before .before .before .before .loop .i) (count (c .before .before .before .before .before .before .before .before .before .before .args .nodes .now)) (sym (c .before .before .before .before .before .before .before .is-node .ensures) ∙ c .before .before .before .before .before .before .if1 .taken) in omega arith
 
--- src/lib.rt:197:5
 loop-again : tie.Need-loop-again Inv-loop μ-loop
 loop-again c = let a = c .before .before .before .before .before .before .before .before .before .before .args in
     let h = ltb-true (c .before .before .before .before .before .before .before .before .loop .i) (count (a .nodes .now)) (sym (c .before .before .before .before .before .before .before .is-node .ensures) ∙ c .before .before .before .before .before .before .if1 .taken) in
     (omega arith, omega arith, cc (node-on (isConstructorOf (a .nodes .now) (a .c .0)) (c .before .before .before .before .before .before .before .before .loop .i) (count (a .nodes .now)) h (sym (c .before .is-constructor-of .ensures) ∙ c .if3 .left)))
 
--- src/lib.rt:189:1
 returns-3 : tie.Need-returns-3 Inv-loop μ-loop
 returns-3 c = let a = c .before .before .before .before .args in
     let h = ltb-false (c .before .before .loop .i) (count (a .nodes .now)) (sym (c .before .is-node .ensures) ∙ c .if1 .left) in

@@ -3,59 +3,40 @@ use Rattle.check_classes.specs.ClassChecks.{requireClassName}
 use borrow.Author.Needs.{needs}
 use Rattle.check_classes.proofs.require_class_name.Statement.{statement}
 use Rattle.check_classes.proofs.require_class_name.Tie as tie
-use Rattle.check_classes.proofs.require_class_name.Reads as reads
-use Rattle.check_classes.proofs.require_class_name.Lts as lts
-use Rattle.table_ancestry.proofs.parent_kind.Reads as parent-kind-reads
-use Rattle.check_classes.proofs.has_id.Reads as has-id-reads
-use Rattle.check_diagnostics.proofs.error.Reads as error-reads
-use Rattle.table_records.proofs.flags.Reads as flags-reads
-use Rattle.table_records.proofs.has_flag.Reads as has-flag-reads
-use Rattle.table_records.proofs.span_start.Reads as span-start-reads
 
--- src/lib.rt:158:25
 flags-requires : tie.Need-flags-requires
 flags-requires c κs = search needs
 
--- src/lib.rt:158:8
 has-flag-requires : tie.Need-has-flag-requires
 has-flag-requires c κs = search needs
 
--- src/lib.rt:159:12
 has-id-requires : tie.Need-has-id-requires
 has-id-requires c κs = search needs
 
--- src/lib.rt:160:13
 returns : tie.Need-returns
 unfolding requireClassName
 returns c = rw (← c .before .before .before .before .flags .ensures, ← c .before .before .before .has-flag .ensures, c .before .before .if1 .taken, ← c .before .has-id .ensures, c .if2 .taken)
 
--- src/lib.rt:162:13
 parent-kind-requires : tie.Need-parent-kind-requires
 parent-kind-requires c κs = search needs
 
--- src/lib.rt:164:13
 returns-2 : tie.Need-returns-2
 unfolding requireClassName
 returns-2 c = rw (← c .before .before .before .before .before .before .flags .ensures, ← c .before .before .before .before .before .has-flag .ensures, c .before .before .before .before .if1 .taken, ← c .before .before .before .has-id .ensures, c .before .before .if2 .left, ← c .before .parent-kind .ensures, eq-eqb _ _ (c .if3 .taken))
 
--- src/lib.rt:166:13
 span-start-requires : tie.Need-span-start-requires
 span-start-requires c κs = search needs
 
--- src/lib.rt:167:72
 add-error : tie.Need-add-error
 add-error c = search needs
 
--- src/lib.rt:167:9
 error-requires : tie.Need-error-requires
 error-requires c κs = search needs
 
--- src/lib.rt:167:9
 returns-3 : tie.Need-returns-3
 unfolding requireClassName
 returns-3 c = rw (← c .before .before .before .before .before .before .before .before .flags .ensures, ← c .before .before .before .before .before .before .before .has-flag .ensures, c .before .before .before .before .before .before .if1 .taken, ← c .before .before .before .before .before .has-id .ensures, c .before .before .before .before .if2 .left, ← c .before .before .before .parent-kind .ensures, ne-eqb _ _ (c .before .before .if3 .left), ← c .before .span-start .ensures) (c .error .ensures)
 
--- src/lib.rt:152:1
 returns-4 : tie.Need-returns-4
 unfolding requireClassName
 returns-4 c = rw (← c .before .before .flags .ensures, ← c .before .has-flag .ensures, c .if1 .left)

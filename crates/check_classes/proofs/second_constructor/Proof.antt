@@ -10,89 +10,68 @@ use Rattle.check_classes.specs.ClassChecks.{secondBy}
 use borrow.Author.Needs.{needs}
 use Rattle.check_classes.proofs.second_constructor.Statement.{statement}
 use Rattle.check_classes.proofs.second_constructor.Tie as tie
-use Rattle.check_classes.proofs.second_constructor.Reads as reads
-use Rattle.check_classes.proofs.second_constructor.Lts as lts
-use Rattle.table_children.proofs.class_body_of.Reads as class-body-of-reads
-use Rattle.check_classes.proofs.duplicate_constructor.Reads as duplicate-constructor-reads
-use Rattle.check_classes.proofs.next_constructor.Reads as next-constructor-reads
 
--- src/lib.rt:248:27
 class-body-of-requires : tie.Need-class-body-of-requires
 class-body-of-requires c κs = search needs
 
--- src/lib.rt:248:19
 enum-known-body : tie.Need-enum-known-body
 enum-known-body c = search needs
 
--- src/lib.rt:249:9
 enum-told : tie.Need-enum-told
 enum-told c = search needs
 
--- src/lib.rt:249:9
 returns : tie.Need-returns
 returns c = let a = c .before .before .before .before .args in sym (ap (secondBy (a .nodes .now) (a .n .0)) (sym (c .before .before .class-body-of .ensures .0) ∙ c .enum-told .given .1))
 
--- src/lib.rt:252:51
 add-next-constructor : tie.Need-add-next-constructor
 add-next-constructor c = let a = c .before .before .before .before .before .before .args in
     let s = c .before .before .before .before .before .before .pre .0 .small in
     let h : c .before .before .body .given .0 .0 .0 < count (a .nodes .now) = subst (λ (f : Found). below (a .nodes .now) f) (c .before .before .body .given .1) (c .before .before .before .before .class-body-of .ensures .1) in
     omega arith
 
--- src/lib.rt:252:24
 next-constructor-requires : tie.Need-next-constructor-requires
 next-constructor-requires c κs = let a = c .before .before .before .before .before .before .args in
     let h : c .before .before .body .given .0 .0 .0 < count (a .nodes .now) = subst (λ (f : Found). below (a .nodes .now) f) (c .before .before .body .given .1) (c .before .before .before .before .class-body-of .ensures .1) in
     (c .before .before .before .before .before .before .pre .0, (omega arith, omega arith))
 
--- src/lib.rt:252:19
 enum-known-a : tie.Need-enum-known-a
 enum-known-a c = search needs
 
--- src/lib.rt:253:9
 enum-told-2 : tie.Need-enum-told-2
 enum-told-2 c = search needs
 
--- src/lib.rt:253:9
 returns-2 : tie.Need-returns-2
 returns-2 c = let a = c .before .before .before .before .before .before .before .before .before .args in
     sym (ap (secondBy (a .nodes .now) (a .n .0)) (sym (c .before .before .before .before .before .before .before .class-body-of .ensures .0) ∙ c .before .before .before .before .before .body .given .1) ∙ none-found (a .nodes .now) (c .before .before .before .before .before .body .given .0 .0 .0) (a .n .0) (sym (c .before .before .next-constructor .ensures .0) ∙ c .enum-told2 .given .1))
 
--- src/lib.rt:255:51
 add-next-constructor-2 : tie.Need-add-next-constructor-2
 add-next-constructor-2 c = let a = c .before .before .before .before .before .before .before .before .before .before .before .args in
     let s = c .before .before .before .before .before .before .before .before .before .before .before .pre .0 .small in
     let h : c .before .before .a .given .0 .0 .0 < count (a .nodes .now) = subst (λ (f : Found). below (a .nodes .now) f) (c .before .before .a .given .1) (c .before .before .before .before .next-constructor .ensures .1) in
     omega arith
 
--- src/lib.rt:255:24
 next-constructor-requires-2 : tie.Need-next-constructor-requires-2
 next-constructor-requires-2 c κs = let a = c .before .before .before .before .before .before .before .before .before .before .before .args in
     let h : c .before .before .a .given .0 .0 .0 < count (a .nodes .now) = subst (λ (f : Found). below (a .nodes .now) f) (c .before .before .a .given .1) (c .before .before .before .before .next-constructor .ensures .1) in
     let l : c .before .before .before .before .before .before .before .body .given .0 .0 .0 + 1 ≤ c .before .before .a .given .0 .0 .0 = found-from (isConstructorOf (a .nodes .now) (c .before .before .before .before .before .before .before .body .given .0 .0 .0)) (count (a .nodes .now)) (c .before .before .before .before .before .before .before .body .given .0 .0 .0 + 1) (c .before .before .a .given .0 .0 .0) (sym (c .before .before .before .before .next-constructor .ensures .0) ∙ c .before .before .a .given .1) in
     (c .before .before .before .before .before .before .before .before .before .before .before .pre .0, (omega arith, omega arith))
 
--- src/lib.rt:255:19
 enum-known-b : tie.Need-enum-known-b
 enum-known-b c = search needs
 
--- src/lib.rt:256:9
 enum-told-3 : tie.Need-enum-told-3
 enum-told-3 c = search needs
 
--- src/lib.rt:256:9
 returns-3 : tie.Need-returns-3
 returns-3 c = let a = c .before .before .before .before .before .before .before .before .before .before .before .before .before .before .args in
     sym (ap (secondBy (a .nodes .now) (a .n .0)) (sym (c .before .before .before .before .before .before .before .before .before .before .before .before .class-body-of .ensures .0) ∙ c .before .before .before .before .before .before .before .before .before .before .body .given .1) ∙ one-found (a .nodes .now) (c .before .before .before .before .before .before .before .before .before .before .body .given .0 .0 .0) (a .n .0) (c .before .before .before .before .before .a .given .0 .0 .0) (sym (c .before .before .before .before .before .before .before .next-constructor .ensures .0) ∙ c .before .before .before .before .before .a .given .1) (sym (c .before .before .next-constructor2 .ensures .0) ∙ c .enum-told3 .given .1))
 
--- src/lib.rt:258:5
 duplicate-constructor-requires : tie.Need-duplicate-constructor-requires
 duplicate-constructor-requires c κs = let a = c .before .before .before .before .before .before .before .before .before .before .before .before .before .before .before .args in
     let h : c .before .before .before .before .before .before .a .given .0 .0 .0 < count (a .nodes .now) = subst (λ (f : Found). below (a .nodes .now) f) (c .before .before .before .before .before .before .a .given .1) (c .before .before .before .before .before .before .before .before .next-constructor .ensures .1) in
     let g : c .before .b .given .0 .0 .0 < count (a .nodes .now) = subst (λ (f : Found). below (a .nodes .now) f) (c .before .b .given .1) (c .before .before .before .next-constructor2 .ensures .1) in
     (c .before .before .before .before .before .before .before .before .before .before .before .before .before .before .before .pre .0, (h, g))
 
--- src/lib.rt:243:1
 returns-4 : tie.Need-returns-4
 returns-4 c = let a = c .before .before .before .before .before .before .before .before .before .before .before .before .before .before .before .before .args in
     c .duplicate-constructor .ensures ∙ sym (ap (secondBy (a .nodes .now) (a .n .0)) (sym (c .before .before .before .before .before .before .before .before .before .before .before .before .before .before .class-body-of .ensures .0) ∙ c .before .before .before .before .before .before .before .before .before .before .before .before .body .given .1) ∙ two-found (a .nodes .now) (c .before .before .before .before .before .before .before .before .before .before .before .before .body .given .0 .0 .0) (a .n .0) (c .before .before .before .before .before .before .before .a .given .0 .0 .0) (c .before .before .b .given .0 .0 .0) (sym (c .before .before .before .before .before .before .before .before .before .next-constructor .ensures .0) ∙ c .before .before .before .before .before .before .before .a .given .1) (sym (c .before .before .before .before .next-constructor2 .ensures .0) ∙ c .before .before .b .given .1))

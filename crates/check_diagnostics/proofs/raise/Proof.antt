@@ -1,50 +1,38 @@
 use Rattle.check_diagnostics.specs.FindingLaws.{sink-nil, one-room, one-full}
-use Rattle.check_diagnostics.specs.Finding.{listed, sink, numbers}
+use Rattle.check_diagnostics.specs.Finding.{listed, sink}
 use Rattle.check_diagnostics.specs.declared.Raised.{Raised}
 use lib.ListN.{length}
 use native.Mathlib.Omega.{arith}
 use mathlib.Core.Path.{_≡_, ap, sym, _∙_}
-use Prim.Native.Nat.{ℕ}
 use borrow.Author.Needs.{needs}
 use Rattle.check_diagnostics.proofs.raise.Statement.{statement}
 use Rattle.check_diagnostics.proofs.raise.Tie as tie
-use Rattle.check_diagnostics.proofs.raise.Reads as reads
-use Rattle.check_diagnostics.proofs.raise.Lts as lts
-use Rattle.check_diagnostics.proofs.put.Reads as put-reads
 
--- src/lib.rt:97:23
 enum-known-r : tie.Need-enum-known-r
 enum-known-r c = search needs
 
--- src/lib.rt:98:9
 enum-told : tie.Need-enum-told
 enum-told c = search needs
 
--- src/lib.rt:98:9
 returns : tie.Need-returns
 returns c = let a = c .before .before .before .args in
     let l : length (listed (a .r)) ≡ 0 = ap (λ (x : Raised). length (listed x)) (c .enum-told .given .1) in
     (omega arith, sym (ap (λ (x : Raised). sink (a .findings .now) (a .at) (listed x)) (c .enum-told .given .1) ∙ sink-nil (a .findings .now) (a .at)))
 
--- src/lib.rt:100:16
 add-next : tie.Need-add-next
 add-next c = search needs
 
--- src/lib.rt:102:9
 put-requires : tie.Need-put-requires
 put-requires c κs = search needs
 
--- src/lib.rt:103:9
 same-length : tie.Need-same-length
 same-length c = search needs
 
--- src/lib.rt:103:9
 returns-2 : tie.Need-returns-2
 returns-2 c = let a = c .before .before .before .before .before .before .before .before .before .args in
     let l : length (listed (a .r)) ≡ 1 = ap (λ (x : Raised). length (listed x)) (c .before .before .before .before .before .before .r .given .1) in
     (omega arith, c .before .before .put .ensures ∙ sym (ap (λ (x : Raised). sink (a .findings .now) (a .at) (listed x)) (c .before .before .before .before .before .before .r .given .1) ∙ one-room (a .findings .now) (a .at) _ (c .before .before .before .before .if1 .taken)))
 
--- src/lib.rt:92:1
 returns-3 : tie.Need-returns-3
 returns-3 c = let a = c .before .before .before .before .before .args in
     let l : length (listed (a .r)) ≡ 1 = ap (λ (x : Raised). length (listed x)) (c .before .before .r .given .1) in

@@ -3,19 +3,13 @@ use native.Mathlib.Omega.{arith}
 use borrow.Author.Needs.{needs}
 use Rattle.check_diagnostics.proofs.raise_one.Statement.{statement}
 use Rattle.check_diagnostics.proofs.raise_one.Tie as tie
-use Rattle.check_diagnostics.proofs.raise_one.Reads as reads
-use Rattle.check_diagnostics.proofs.raise_one.Lts as lts
-use Rattle.check_diagnostics.proofs.raise.Reads as raise-reads
 
--- src/lib.rt:14:5
 raise-requires : tie.Need-raise-requires
 raise-requires c κs = search needs
 
--- src/lib.rt:9:1
 same-length : tie.Need-same-length
 same-length c = search needs
 
--- src/lib.rt:9:1
 returns : tie.Need-returns
 returns c = (record { place = c .before .before .raise .ensures .0; slice = c .before .before .raise .ensures .1 }, omega (arith, listed-small (c .before .before .before .before .before .args .a), c .before .before .raise .ensures .0))
 

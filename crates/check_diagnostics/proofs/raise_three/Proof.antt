@@ -5,24 +5,16 @@ use native.Mathlib.Omega.{arith}
 use borrow.Author.Needs.{needs}
 use Rattle.check_diagnostics.proofs.raise_three.Statement.{statement}
 use Rattle.check_diagnostics.proofs.raise_three.Tie as tie
-use Rattle.check_diagnostics.proofs.raise_three.Reads as reads
-use Rattle.check_diagnostics.proofs.raise_three.Lts as lts
-use Rattle.check_diagnostics.proofs.raise.Reads as raise-reads
-use Rattle.check_diagnostics.proofs.raise_two.Reads as raise-two-reads
 
--- src/lib.rt:31:9
 raise-requires : tie.Need-raise-requires
 raise-requires c κs = search needs
 
--- src/lib.rt:32:5
 raise-two-requires : tie.Need-raise-two-requires
 raise-two-requires c κs = omega (arith, listed-small (c .before .before .before .before .before .before .args .a), c .before .before .before .raise .ensures .0)
 
--- src/lib.rt:26:1
 same-length : tie.Need-same-length
 same-length c = search needs
 
--- src/lib.rt:26:1
 returns : tie.Need-returns
 returns c = (raises-then _ _ _ _ _ _ (listed (c .before .before .before .before .before .before .before .before .before .args .a)) (listed (c .before .before .before .before .before .before .before .before .before .args .b) ++ listed (c .before .before .before .before .before .before .before .before .before .args .c)) (record { place = c .before .before .before .before .before .before .raise .ensures .0; slice = c .before .before .before .before .before .before .raise .ensures .1 }) (c .before .before .raise-two .ensures .0), omega (arith, listed-small (c .before .before .before .before .before .before .before .before .before .args .a), c .before .before .before .before .before .before .raise .ensures .0, c .before .before .raise-two .ensures .1))
 

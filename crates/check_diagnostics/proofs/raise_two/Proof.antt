@@ -4,23 +4,16 @@ use native.Mathlib.Omega.{arith}
 use borrow.Author.Needs.{needs}
 use Rattle.check_diagnostics.proofs.raise_two.Statement.{statement}
 use Rattle.check_diagnostics.proofs.raise_two.Tie as tie
-use Rattle.check_diagnostics.proofs.raise_two.Reads as reads
-use Rattle.check_diagnostics.proofs.raise_two.Lts as lts
-use Rattle.check_diagnostics.proofs.raise.Reads as raise-reads
 
--- src/lib.rt:22:9
 raise-requires : tie.Need-raise-requires
 raise-requires c κs = search needs
 
--- src/lib.rt:23:5
 raise-requires-2 : tie.Need-raise-requires-2
 raise-requires-2 c κs = omega (arith, listed-small (c .before .before .before .before .before .before .args .a), c .before .before .before .raise .ensures .0)
 
--- src/lib.rt:17:1
 same-length : tie.Need-same-length
 same-length c = search needs
 
--- src/lib.rt:17:1
 returns : tie.Need-returns
 returns c = (raises-then _ _ _ _ _ _ (listed (c .before .before .before .before .before .before .before .before .before .args .a)) (listed (c .before .before .before .before .before .before .before .before .before .args .b)) (record { place = c .before .before .before .before .before .before .raise .ensures .0; slice = c .before .before .before .before .before .before .raise .ensures .1 }) (record { place = c .before .before .raise2 .ensures .0; slice = c .before .before .raise2 .ensures .1 }), omega (arith, listed-small (c .before .before .before .before .before .before .before .before .before .args .a), listed-small (c .before .before .before .before .before .before .before .before .before .args .b), c .before .before .before .before .before .before .raise .ensures .0, c .before .before .raise2 .ensures .0))
 

@@ -5,100 +5,69 @@ use native.Mathlib.Omega.{arith}
 use borrow.Author.Needs.{needs}
 use Rattle.check_dispatch.proofs.check_jumps.Statement.{statement}
 use Rattle.check_dispatch.proofs.check_jumps.Tie as tie
-use Rattle.check_dispatch.proofs.check_jumps.Reads as reads
-use Rattle.check_dispatch.proofs.check_jumps.Lts as lts
-use Rattle.check_jumps.proofs.check_break_statement.Reads as check-break-statement-reads
-use Rattle.check_jumps.proofs.check_continue_statement.Reads as check-continue-statement-reads
-use Rattle.check_jumps.proofs.check_labeled_statement.Reads as check-labeled-statement-reads
-use Rattle.check_diagnostics.proofs.raise_one.Reads as raise-one-reads
-use Rattle.check_diagnostics.proofs.raise_two.Reads as raise-two-reads
-use Rattle.check_statements.proofs.check_await_using.Reads as check-await-using-reads
-use Rattle.check_statements.proofs.check_function_declaration_in_labeled_statement.Reads as check-function-declaration-in-labeled-statement-reads
-use Rattle.check_statements.proofs.check_using.Reads as check-using-reads
-use Rattle.table_records.proofs.kind.Reads as kind-reads
 
--- src/lib.rt:98:9
 kind-requires : tie.Need-kind-requires
 kind-requires c κs = search needs
 
--- src/lib.rt:100:13
 check-labeled-statement-requires : tie.Need-check-labeled-statement-requires
 check-labeled-statement-requires c κs = search needs
 
--- src/lib.rt:101:13
 check-function-declaration-in-labeled-statement-requires :
     tie.Need-check-function-declaration-in-labeled-statement-requires
 check-function-declaration-in-labeled-statement-requires c κs = search needs
 
--- src/lib.rt:102:9
 raise-two-requires : tie.Need-raise-two-requires
 raise-two-requires c κs = search needs
 
--- src/lib.rt:102:9
 same-length : tie.Need-same-length
 same-length c = search needs
 
--- src/lib.rt:102:9
 returns : tie.Need-returns
 unfolding jumpFindings
 returns c = (rw (← c .before .before .before .before .before .before .before .kind .ensures, eq-eqb _ _ (c .before .before .before .before .before .before .if1 .taken), ← c .before .before .before .before .before .check-labeled-statement .ensures, ← c .before .before .before .before .check-function-declaration-in-labeled-statement .ensures) (c .before .before .raise-two .ensures .0), omega (arith, c .before .before .raise-two .ensures .1))
 
--- src/lib.rt:105:40
 check-break-statement-requires : tie.Need-check-break-statement-requires
 check-break-statement-requires c κs = search needs
 
--- src/lib.rt:105:9
 raise-one-requires : tie.Need-raise-one-requires
 raise-one-requires c κs = search needs
 
--- src/lib.rt:105:9
 same-length-2 : tie.Need-same-length-2
 same-length-2 c = search needs
 
--- src/lib.rt:105:9
 returns-2 : tie.Need-returns-2
 unfolding jumpFindings
 returns-2 c = (rw (← c .before .before .before .before .before .before .before .kind .ensures, ne-eqb _ _ (c .before .before .before .before .before .before .if1 .left), eq-eqb _ _ (c .before .before .before .before .before .if2 .taken), ← c .before .before .before .check-break-statement .ensures) (c .before .before .raise-one .ensures .0), omega (arith, c .before .before .raise-one .ensures .1))
 
--- src/lib.rt:108:40
 check-continue-statement-requires : tie.Need-check-continue-statement-requires
 check-continue-statement-requires c κs = search needs
 
--- src/lib.rt:108:9
 raise-one-requires-2 : tie.Need-raise-one-requires-2
 raise-one-requires-2 c κs = search needs
 
--- src/lib.rt:108:9
 same-length-3 : tie.Need-same-length-3
 same-length-3 c = search needs
 
--- src/lib.rt:108:9
 returns-3 : tie.Need-returns-3
 unfolding jumpFindings
 returns-3 c = (rw (← c .before .before .before .before .before .before .before .before .kind .ensures, ne-eqb _ _ (c .before .before .before .before .before .before .before .if1 .left), ne-eqb _ _ (c .before .before .before .before .before .before .if2 .left), eq-eqb _ _ (c .before .before .before .before .before .if3 .taken), ← c .before .before .before .check-continue-statement .ensures) (c .before .before .raise-one2 .ensures .0), omega (arith, c .before .before .raise-one2 .ensures .1))
 
--- src/lib.rt:111:13
 check-using-requires : tie.Need-check-using-requires
 check-using-requires c κs = search needs
 
--- src/lib.rt:112:13
 check-await-using-requires : tie.Need-check-await-using-requires
 check-await-using-requires c κs = search needs
 
--- src/lib.rt:113:9
 raise-two-requires-2 : tie.Need-raise-two-requires-2
 raise-two-requires-2 c κs = search needs
 
--- src/lib.rt:113:9
 same-length-4 : tie.Need-same-length-4
 same-length-4 c = search needs
 
--- src/lib.rt:113:9
 returns-4 : tie.Need-returns-4
 unfolding jumpFindings
 returns-4 c = (rw (← c .before .before .before .before .before .before .before .before .before .before .kind .ensures, ne-eqb _ _ (c .before .before .before .before .before .before .before .before .before .if1 .left), ne-eqb _ _ (c .before .before .before .before .before .before .before .before .if2 .left), ne-eqb _ _ (c .before .before .before .before .before .before .before .if3 .left), eq-eqb _ _ (c .before .before .before .before .before .before .if4 .taken), ← c .before .before .before .before .before .check-using .ensures, ← c .before .before .before .before .check-await-using .ensures) (c .before .before .raise-two2 .ensures .0), omega (arith, c .before .before .raise-two2 .ensures .1))
 
--- src/lib.rt:83:1
 returns-5 : tie.Need-returns-5
 unfolding jumpFindings
 returns-5 c = (rw (← c .before .before .before .before .kind .ensures, ne-eqb _ _ (c .before .before .before .if1 .left), ne-eqb _ _ (c .before .before .if2 .left), ne-eqb _ _ (c .before .if3 .left), ne-eqb _ _ (c .if4 .left)) (raises-none (c .before .before .before .before .before .before .before .before .before .args .findings .now) (c .before .before .before .before .before .before .before .before .before .args .at)), omega arith)

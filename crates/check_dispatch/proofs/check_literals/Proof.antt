@@ -5,88 +5,62 @@ use native.Mathlib.Omega.{arith}
 use borrow.Author.Needs.{needs}
 use Rattle.check_dispatch.proofs.check_literals.Statement.{statement}
 use Rattle.check_dispatch.proofs.check_literals.Tie as tie
-use Rattle.check_dispatch.proofs.check_literals.Reads as reads
-use Rattle.check_dispatch.proofs.check_literals.Lts as lts
-use Rattle.check_identifiers.proofs.check_directive.Reads as check-directive-reads
-use Rattle.check_literals.proofs.check_number_literal.Reads as check-number-literal-reads
-use Rattle.check_literals.proofs.check_string_literal.Reads as check-string-literal-reads
-use Rattle.check_diagnostics.proofs.raise_one.Reads as raise-one-reads
-use Rattle.check_super_search.proofs.check_super.Reads as check-super-reads
-use Rattle.table_records.proofs.kind.Reads as kind-reads
 
--- src/lib.rt:135:9
 kind-requires : tie.Need-kind-requires
 kind-requires c κs = search needs
 
--- src/lib.rt:137:40
 check-number-literal-requires : tie.Need-check-number-literal-requires
 check-number-literal-requires c κs = search needs
 
--- src/lib.rt:137:9
 raise-one-requires : tie.Need-raise-one-requires
 raise-one-requires c κs = search needs
 
--- src/lib.rt:137:9
 same-length : tie.Need-same-length
 same-length c = search needs
 
--- src/lib.rt:137:9
 returns : tie.Need-returns
 unfolding literalFindings
 returns c = (rw (← c .before .before .before .before .before .before .kind .ensures, eq-eqb _ _ (c .before .before .before .before .before .if1 .taken), ← c .before .before .before .check-number-literal .ensures) (c .before .before .raise-one .ensures .0), omega (arith, c .before .before .raise-one .ensures .1))
 
--- src/lib.rt:140:40
 check-string-literal-requires : tie.Need-check-string-literal-requires
 check-string-literal-requires c κs = search needs
 
--- src/lib.rt:140:9
 raise-one-requires-2 : tie.Need-raise-one-requires-2
 raise-one-requires-2 c κs = search needs
 
--- src/lib.rt:140:9
 same-length-2 : tie.Need-same-length-2
 same-length-2 c = search needs
 
--- src/lib.rt:140:9
 returns-2 : tie.Need-returns-2
 unfolding literalFindings
 returns-2 c = (rw (← c .before .before .before .before .before .before .before .kind .ensures, ne-eqb _ _ (c .before .before .before .before .before .before .if1 .left), eq-eqb _ _ (c .before .before .before .before .before .if2 .taken), ← c .before .before .before .check-string-literal .ensures) (c .before .before .raise-one2 .ensures .0), omega (arith, c .before .before .raise-one2 .ensures .1))
 
--- src/lib.rt:143:40
 check-directive-requires : tie.Need-check-directive-requires
 check-directive-requires c κs = search needs
 
--- src/lib.rt:143:9
 raise-one-requires-3 : tie.Need-raise-one-requires-3
 raise-one-requires-3 c κs = search needs
 
--- src/lib.rt:143:9
 same-length-3 : tie.Need-same-length-3
 same-length-3 c = search needs
 
--- src/lib.rt:143:9
 returns-3 : tie.Need-returns-3
 unfolding literalFindings
 returns-3 c = (rw (← c .before .before .before .before .before .before .before .before .kind .ensures, ne-eqb _ _ (c .before .before .before .before .before .before .before .if1 .left), ne-eqb _ _ (c .before .before .before .before .before .before .if2 .left), eq-eqb _ _ (c .before .before .before .before .before .if3 .taken), ← c .before .before .before .check-directive .ensures) (c .before .before .raise-one3 .ensures .0), omega (arith, c .before .before .raise-one3 .ensures .1))
 
--- src/lib.rt:146:40
 check-super-requires : tie.Need-check-super-requires
 check-super-requires c κs = search needs
 
--- src/lib.rt:146:9
 raise-one-requires-4 : tie.Need-raise-one-requires-4
 raise-one-requires-4 c κs = search needs
 
--- src/lib.rt:146:9
 same-length-4 : tie.Need-same-length-4
 same-length-4 c = search needs
 
--- src/lib.rt:146:9
 returns-4 : tie.Need-returns-4
 unfolding literalFindings
 returns-4 c = (rw (← c .before .before .before .before .before .before .before .before .before .kind .ensures, ne-eqb _ _ (c .before .before .before .before .before .before .before .before .if1 .left), ne-eqb _ _ (c .before .before .before .before .before .before .before .if2 .left), ne-eqb _ _ (c .before .before .before .before .before .before .if3 .left), eq-eqb _ _ (c .before .before .before .before .before .if4 .taken), ← c .before .before .before .check-super .ensures) (c .before .before .raise-one4 .ensures .0), omega (arith, c .before .before .raise-one4 .ensures .1))
 
--- src/lib.rt:119:1
 returns-5 : tie.Need-returns-5
 unfolding literalFindings
 returns-5 c = (rw (← c .before .before .before .before .kind .ensures, ne-eqb _ _ (c .before .before .before .if1 .left), ne-eqb _ _ (c .before .before .if2 .left), ne-eqb _ _ (c .before .if3 .left), ne-eqb _ _ (c .if4 .left)) (raises-none (c .before .before .before .before .before .before .before .before .before .before .args .findings .now) (c .before .before .before .before .before .before .before .before .before .before .args .at)), omega arith)

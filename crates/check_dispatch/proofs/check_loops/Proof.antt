@@ -4,124 +4,86 @@ use native.Mathlib.Omega.{arith}
 use borrow.Author.Needs.{needs}
 use Rattle.check_dispatch.proofs.check_loops.Statement.{statement}
 use Rattle.check_dispatch.proofs.check_loops.Tie as tie
-use Rattle.check_dispatch.proofs.check_loops.Reads as reads
-use Rattle.check_dispatch.proofs.check_loops.Lts as lts
-use Rattle.check_diagnostics.proofs.raise_one.Reads as raise-one-reads
-use Rattle.check_diagnostics.proofs.raise_three.Reads as raise-three-reads
-use Rattle.check_diagnostics.proofs.raise_two.Reads as raise-two-reads
-use Rattle.check_statements.proofs.check_alternate.Reads as check-alternate-reads
-use Rattle.check_statements.proofs.check_body.Reads as check-body-reads
-use Rattle.check_statements.proofs.check_consequent.Reads as check-consequent-reads
-use Rattle.check_statements.proofs.check_for_of_statement.Reads as check-for-of-statement-reads
-use Rattle.check_statements.proofs.check_for_statement_left.Reads as check-for-statement-left-reads
-use Rattle.check_statements.proofs.check_with_statement.Reads as check-with-statement-reads
-use Rattle.table_records.proofs.kind.Reads as kind-reads
 
--- src/lib.rt:57:9
 kind-requires : tie.Need-kind-requires
 kind-requires c κs = search needs
 
--- src/lib.rt:59:13
 check-body-requires : tie.Need-check-body-requires
 check-body-requires c κs = search needs
 
--- src/lib.rt:60:13
 check-with-statement-requires : tie.Need-check-with-statement-requires
 check-with-statement-requires c κs = search needs
 
--- src/lib.rt:61:9
 raise-two-requires : tie.Need-raise-two-requires
 raise-two-requires c κs = search needs
 
--- src/lib.rt:61:9
 same-length : tie.Need-same-length
 same-length c = search needs
 
--- src/lib.rt:61:9
 returns : tie.Need-returns
 unfolding loopFindings
 returns c = (rw (← c .before .before .before .before .before .before .before .kind .ensures, eq-eqb _ _ (c .before .before .before .before .before .before .if1 .taken), ← c .before .before .before .before .before .check-body .ensures, ← c .before .before .before .before .check-with-statement .ensures) (c .before .before .raise-two .ensures .0), omega (arith, c .before .before .raise-two .ensures .1))
 
--- src/lib.rt:64:13
 check-consequent-requires : tie.Need-check-consequent-requires
 check-consequent-requires c κs = search needs
 
--- src/lib.rt:65:13
 check-alternate-requires : tie.Need-check-alternate-requires
 check-alternate-requires c κs = search needs
 
--- src/lib.rt:66:9
 raise-two-requires-2 : tie.Need-raise-two-requires-2
 raise-two-requires-2 c κs = search needs
 
--- src/lib.rt:66:9
 same-length-2 : tie.Need-same-length-2
 same-length-2 c = search needs
 
--- src/lib.rt:66:9
 returns-2 : tie.Need-returns-2
 unfolding loopFindings
 returns-2 c = (rw (← c .before .before .before .before .before .before .before .before .kind .ensures, ne-eqb _ _ (c .before .before .before .before .before .before .before .if1 .left), eq-eqb _ _ (c .before .before .before .before .before .before .if2 .taken), ← c .before .before .before .before .before .check-consequent .ensures, ← c .before .before .before .before .check-alternate .ensures) (c .before .before .raise-two2 .ensures .0), omega (arith, c .before .before .raise-two2 .ensures .1))
 
--- src/lib.rt:69:13
 check-body-requires-2 : tie.Need-check-body-requires-2
 check-body-requires-2 c κs = search needs
 
--- src/lib.rt:70:13
 check-for-statement-left-requires : tie.Need-check-for-statement-left-requires
 check-for-statement-left-requires c κs = search needs
 
--- src/lib.rt:71:9
 raise-two-requires-3 : tie.Need-raise-two-requires-3
 raise-two-requires-3 c κs = search needs
 
--- src/lib.rt:71:9
 same-length-3 : tie.Need-same-length-3
 same-length-3 c = search needs
 
--- src/lib.rt:71:9
 returns-3 : tie.Need-returns-3
 unfolding loopFindings
 returns-3 c = (rw (← c .before .before .before .before .before .before .before .before .before .kind .ensures, ne-eqb _ _ (c .before .before .before .before .before .before .before .before .if1 .left), ne-eqb _ _ (c .before .before .before .before .before .before .before .if2 .left), eq-eqb _ _ (c .before .before .before .before .before .before .if3 .taken), ← c .before .before .before .before .before .check-body2 .ensures, ← c .before .before .before .before .check-for-statement-left .ensures) (c .before .before .raise-two3 .ensures .0), omega (arith, c .before .before .raise-two3 .ensures .1))
 
--- src/lib.rt:74:13
 check-body-requires-3 : tie.Need-check-body-requires-3
 check-body-requires-3 c κs = search needs
 
--- src/lib.rt:75:13
 check-for-of-statement-requires : tie.Need-check-for-of-statement-requires
 check-for-of-statement-requires c κs = search needs
 
--- src/lib.rt:76:13
 check-for-statement-left-requires-2 : tie.Need-check-for-statement-left-requires-2
 check-for-statement-left-requires-2 c κs = search needs
 
--- src/lib.rt:77:9
 raise-three-requires : tie.Need-raise-three-requires
 raise-three-requires c κs = search needs
 
--- src/lib.rt:77:9
 same-length-4 : tie.Need-same-length-4
 same-length-4 c = search needs
 
--- src/lib.rt:77:9
 returns-4 : tie.Need-returns-4
 unfolding loopFindings
 returns-4 c = (rw (← c .before .before .before .before .before .before .before .before .before .before .before .kind .ensures, ne-eqb _ _ (c .before .before .before .before .before .before .before .before .before .before .if1 .left), ne-eqb _ _ (c .before .before .before .before .before .before .before .before .before .if2 .left), ne-eqb _ _ (c .before .before .before .before .before .before .before .before .if3 .left), eq-eqb _ _ (c .before .before .before .before .before .before .before .if4 .taken), ← c .before .before .before .before .before .before .check-body3 .ensures, ← c .before .before .before .before .before .check-for-of-statement .ensures, ← c .before .before .before .before .check-for-statement-left2 .ensures) (c .before .before .raise-three .ensures .0), omega (arith, c .before .before .raise-three .ensures .1))
 
--- src/lib.rt:79:29
 check-body-requires-4 : tie.Need-check-body-requires-4
 check-body-requires-4 c κs = search needs
 
--- src/lib.rt:79:5
 raise-one-requires : tie.Need-raise-one-requires
 raise-one-requires c κs = search needs
 
--- src/lib.rt:50:1
 same-length-5 : tie.Need-same-length-5
 same-length-5 c = search needs
 
--- src/lib.rt:50:1
 returns-5 : tie.Need-returns-5
 unfolding loopFindings
 returns-5 c = (rw (← c .before .before .before .before .before .before .before .before .before .kind .ensures, ne-eqb _ _ (c .before .before .before .before .before .before .before .before .if1 .left), ne-eqb _ _ (c .before .before .before .before .before .before .before .if2 .left), ne-eqb _ _ (c .before .before .before .before .before .before .if3 .left), ne-eqb _ _ (c .before .before .before .before .before .if4 .left), ← c .before .before .before .check-body4 .ensures) (c .before .before .raise-one .ensures .0), omega (arith, c .before .before .raise-one .ensures .1))

@@ -4,93 +4,65 @@ use native.Mathlib.Omega.{arith}
 use borrow.Author.Needs.{needs}
 use Rattle.check_dispatch.proofs.check_names.Statement.{statement}
 use Rattle.check_dispatch.proofs.check_names.Tie as tie
-use Rattle.check_dispatch.proofs.check_names.Reads as reads
-use Rattle.check_dispatch.proofs.check_names.Lts as lts
-use Rattle.check_classes.proofs.check_private_identifier_outside_class.Reads as check-private-identifier-outside-class-reads
-use Rattle.check_identifiers.proofs.check_binding_identifier.Reads as check-binding-identifier-reads
-use Rattle.check_identifiers.proofs.check_identifier.Reads as check-identifier-reads
-use Rattle.check_identifiers.proofs.check_identifier_reference.Reads as check-identifier-reference-reads
-use Rattle.check_diagnostics.proofs.raise_one.Reads as raise-one-reads
-use Rattle.check_diagnostics.proofs.raise_two.Reads as raise-two-reads
-use Rattle.table_records.proofs.kind.Reads as kind-reads
 
--- src/lib.rt:31:9
 kind-requires : tie.Need-kind-requires
 kind-requires c κs = search needs
 
--- src/lib.rt:33:13
 check-identifier-requires : tie.Need-check-identifier-requires
 check-identifier-requires c κs = search needs
 
--- src/lib.rt:34:13
 check-binding-identifier-requires : tie.Need-check-binding-identifier-requires
 check-binding-identifier-requires c κs = search needs
 
--- src/lib.rt:35:9
 raise-two-requires : tie.Need-raise-two-requires
 raise-two-requires c κs = search needs
 
--- src/lib.rt:35:9
 same-length : tie.Need-same-length
 same-length c = search needs
 
--- src/lib.rt:35:9
 returns : tie.Need-returns
 unfolding nameFindings
 returns c = (rw (← c .before .before .before .before .before .before .before .kind .ensures, eq-eqb _ _ (c .before .before .before .before .before .before .if1 .taken), ← c .before .before .before .before .before .check-identifier .ensures, ← c .before .before .before .before .check-binding-identifier .ensures) (c .before .before .raise-two .ensures .0), omega (arith, c .before .before .raise-two .ensures .1))
 
--- src/lib.rt:38:13
 check-identifier-requires-2 : tie.Need-check-identifier-requires-2
 check-identifier-requires-2 c κs = search needs
 
--- src/lib.rt:39:13
 check-identifier-reference-requires : tie.Need-check-identifier-reference-requires
 check-identifier-reference-requires c κs = search needs
 
--- src/lib.rt:40:9
 raise-two-requires-2 : tie.Need-raise-two-requires-2
 raise-two-requires-2 c κs = search needs
 
--- src/lib.rt:40:9
 same-length-2 : tie.Need-same-length-2
 same-length-2 c = search needs
 
--- src/lib.rt:40:9
 returns-2 : tie.Need-returns-2
 unfolding nameFindings
 returns-2 c = (rw (← c .before .before .before .before .before .before .before .before .kind .ensures, ne-eqb _ _ (c .before .before .before .before .before .before .before .if1 .left), eq-eqb _ _ (c .before .before .before .before .before .before .if2 .taken), ← c .before .before .before .before .before .check-identifier2 .ensures, ← c .before .before .before .before .check-identifier-reference .ensures) (c .before .before .raise-two2 .ensures .0), omega (arith, c .before .before .raise-two2 .ensures .1))
 
--- src/lib.rt:43:13
 check-identifier-requires-3 : tie.Need-check-identifier-requires-3
 check-identifier-requires-3 c κs = search needs
 
--- src/lib.rt:44:9
 raise-one-requires : tie.Need-raise-one-requires
 raise-one-requires c κs = search needs
 
--- src/lib.rt:44:9
 same-length-3 : tie.Need-same-length-3
 same-length-3 c = search needs
 
--- src/lib.rt:44:9
 returns-3 : tie.Need-returns-3
 unfolding nameFindings
 returns-3 c = (rw (← c .before .before .before .before .before .before .before .before .kind .ensures, ne-eqb _ _ (c .before .before .before .before .before .before .before .if1 .left), ne-eqb _ _ (c .before .before .before .before .before .before .if2 .left), eq-eqb _ _ (c .before .before .before .before .before .if3 .taken), ← c .before .before .before .before .check-identifier3 .ensures) (c .before .before .raise-one .ensures .0), omega (arith, c .before .before .raise-one .ensures .1))
 
--- src/lib.rt:46:29
 check-private-identifier-outside-class-requires :
     tie.Need-check-private-identifier-outside-class-requires
 check-private-identifier-outside-class-requires c κs = search needs
 
--- src/lib.rt:46:5
 raise-one-requires-2 : tie.Need-raise-one-requires-2
 raise-one-requires-2 c κs = search needs
 
--- src/lib.rt:16:1
 same-length-4 : tie.Need-same-length-4
 same-length-4 c = search needs
 
--- src/lib.rt:16:1
 returns-4 : tie.Need-returns-4
 unfolding nameFindings
 returns-4 c = (rw (← c .before .before .before .before .before .before .before .before .kind .ensures, ne-eqb _ _ (c .before .before .before .before .before .before .before .if1 .left), ne-eqb _ _ (c .before .before .before .before .before .before .if2 .left), ne-eqb _ _ (c .before .before .before .before .before .if3 .left), ← c .before .before .before .check-private-identifier-outside-class .ensures) (c .before .before .raise-one2 .ensures .0), omega (arith, c .before .before .raise-one2 .ensures .1))

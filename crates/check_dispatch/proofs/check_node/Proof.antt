@@ -10,74 +10,51 @@ use native.Mathlib.Omega.{arith}
 use borrow.Author.Needs.{needs}
 use Rattle.check_dispatch.proofs.check_node.Statement.{statement}
 use Rattle.check_dispatch.proofs.check_node.Tie as tie
-use Rattle.check_dispatch.proofs.check_node.Reads as reads
-use Rattle.check_dispatch.proofs.check_node.Lts as lts
-use Rattle.check_dispatch.proofs.check_expressions.Reads as check-expressions-reads
-use Rattle.check_dispatch.proofs.check_jumps.Reads as check-jumps-reads
-use Rattle.check_dispatch.proofs.check_literals.Reads as check-literals-reads
-use Rattle.check_dispatch.proofs.check_loops.Reads as check-loops-reads
-use Rattle.check_dispatch.proofs.check_names.Reads as check-names-reads
-use Rattle.base_common.proofs.within.Reads as within-reads
-use Rattle.table_records.proofs.kind.Reads as kind-reads
 
--- src/lib.rt:196:9
 kind-requires : tie.Need-kind-requires
 kind-requires c κs = search needs
 
--- src/lib.rt:197:8
 within-requires : tie.Need-within-requires
 within-requires c κs = search needs
 
--- src/lib.rt:198:9
 check-names-requires : tie.Need-check-names-requires
 check-names-requires c κs = search needs
 
--- src/lib.rt:198:9
 same-length : tie.Need-same-length
 same-length c = search needs
 
--- src/lib.rt:198:9
 returns : tie.Need-returns
 unfolding findingsAt
 returns c = let w1 : within (kindOf (c .before .before .before .before .before .before .before .before .before .before .before .before .args .nodes .now) (c .before .before .before .before .before .before .before .before .before .before .before .before .args .n .0)) k.BindingIdentifier k.PrivateIdentifier ≡ true = ap (λ m. within m k.BindingIdentifier k.PrivateIdentifier) (sym (c .before .before .before .before .before .before .kind .ensures)) ∙ sym (c .before .before .before .before .before .within .ensures) ∙ c .before .before .before .before .if1 .taken in
     (rw w1 (c .before .before .check-names .ensures .0), omega (arith, c .before .before .check-names .ensures .1))
 
--- src/lib.rt:200:8
 within-requires-2 : tie.Need-within-requires-2
 within-requires-2 c κs = search needs
 
--- src/lib.rt:201:9
 check-loops-requires : tie.Need-check-loops-requires
 check-loops-requires c κs = search needs
 
--- src/lib.rt:201:9
 same-length-2 : tie.Need-same-length-2
 same-length-2 c = search needs
 
--- src/lib.rt:201:9
 returns-2 : tie.Need-returns-2
 unfolding findingsAt
 returns-2 c = let w1 : within (kindOf (c .before .before .before .before .before .before .before .before .before .before .before .before .before .before .args .nodes .now) (c .before .before .before .before .before .before .before .before .before .before .before .before .before .before .args .n .0)) k.BindingIdentifier k.PrivateIdentifier ≡ false = ap (λ m. within m k.BindingIdentifier k.PrivateIdentifier) (sym (c .before .before .before .before .before .before .before .before .kind .ensures)) ∙ sym (c .before .before .before .before .before .before .before .within .ensures) ∙ c .before .before .before .before .before .before .if1 .left in
     let w2 : within (kindOf (c .before .before .before .before .before .before .before .before .before .before .before .before .before .before .args .nodes .now) (c .before .before .before .before .before .before .before .before .before .before .before .before .before .before .args .n .0)) k.For k.With ≡ true = ap (λ m. within m k.For k.With) (sym (c .before .before .before .before .before .before .before .before .kind .ensures)) ∙ sym (c .before .before .before .before .before .within2 .ensures) ∙ c .before .before .before .before .if2 .taken in
     (rw (w1, w2) (c .before .before .check-loops .ensures .0), omega (arith, c .before .before .check-loops .ensures .1))
 
--- src/lib.rt:203:9
 check-jumps-requires : tie.Need-check-jumps-requires
 check-jumps-requires c κs = search needs
 
--- src/lib.rt:204:9
 check-literals-requires : tie.Need-check-literals-requires
 check-literals-requires c κs = (c .before .before .before .before .before .before .before .before .before .before .before .before .before .before .before .pre .0, (c .before .before .before .before .before .before .before .before .before .before .before .before .before .before .before .pre .1 .0, (c .before .before .before .before .before .before .before .before .before .before .before .before .before .before .before .pre .1 .1 .0, omega (arith, c .before .before .before .check-jumps .ensures .1))))
 
--- src/lib.rt:205:5
 check-expressions-requires : tie.Need-check-expressions-requires
 check-expressions-requires c κs = (c .before .before .before .before .before .before .before .before .before .before .before .before .before .before .before .before .before .before .before .pre .0, (c .before .before .before .before .before .before .before .before .before .before .before .before .before .before .before .before .before .before .before .pre .1 .1 .0, omega (arith, c .before .before .before .before .before .before .before .before .before .before .before .before .before .before .before .before .before .before .before .pre .1 .1 .1, c .before .before .before .before .before .before .before .check-jumps .ensures .1, c .before .before .before .check-literals .ensures .1)))
 
--- src/lib.rt:179:1
 same-length-3 : tie.Need-same-length-3
 same-length-3 c = search needs
 
--- src/lib.rt:179:1
 returns-3 : tie.Need-returns-3
 unfolding findingsAt
 returns-3 c = let w1 : within (kindOf (c .before .before .before .before .before .before .before .before .before .before .before .before .before .before .before .before .before .before .before .before .before .before .args .nodes .now) (c .before .before .before .before .before .before .before .before .before .before .before .before .before .before .before .before .before .before .before .before .before .before .args .n .0)) k.BindingIdentifier k.PrivateIdentifier ≡ false = ap (λ m. within m k.BindingIdentifier k.PrivateIdentifier) (sym (c .before .before .before .before .before .before .before .before .before .before .before .before .before .before .before .before .kind .ensures)) ∙ sym (c .before .before .before .before .before .before .before .before .before .before .before .before .before .before .before .within .ensures) ∙ c .before .before .before .before .before .before .before .before .before .before .before .before .before .before .if1 .left in

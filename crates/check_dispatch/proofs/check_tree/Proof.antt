@@ -12,15 +12,10 @@ use borrow.Author.Tests.{ltb-true, ltb-false}
 use native.Mathlib.Omega.{arith}
 use mathlib.Core.List.{List, flatMap}
 use mathlib.Core.Path.{_≡_, ap, sym, _∙_}
-use Prim.Native.Nat.{ℕ, _+_, _*_, _-_, _≤_}
+use Prim.Native.Nat.{_+_, _*_, _-_, _≤_}
 use borrow.Author.Needs.{needs}
 use Rattle.check_dispatch.proofs.check_tree.Statement.{statement}
 use Rattle.check_dispatch.proofs.check_tree.Tie as tie
-use Rattle.check_dispatch.proofs.check_tree.Reads as reads
-use Rattle.check_dispatch.proofs.check_tree.Lts as lts
-use Rattle.check_dispatch.proofs.check_node.Reads as check-node-reads
-use Rattle.check_duplicates.proofs.check_duplicate_class_elements.Reads as check-duplicate-class-elements-reads
-use Rattle.table_records.proofs.is_node.Reads as is-node-reads
 
 abbrev Inv-loop : tie.InvT-loop
 Inv-loop source-type nodes scopes source names findings₀ at₀ i₀ findings at i = (i ≤ count nodes) × (length findings ≡ length findings₀) × (at ≤ at₀ + 458780 * i) × (at + 7 * length (flatMap (findingsAt source-type nodes scopes source names) (upto i (count nodes))) ≡ at₀ + 7 * length (flatMap (findingsAt source-type nodes scopes source names) (upto 0 (count nodes)))) × (sink findings at (flatMap (findingsAt source-type nodes scopes source names) (upto i (count nodes))) ≡ sink findings₀ at₀ (flatMap (findingsAt source-type nodes scopes source names) (upto 0 (count nodes))))
@@ -28,36 +23,29 @@ Inv-loop source-type nodes scopes source names findings₀ at₀ i₀ findings a
 abbrev μ-loop : tie.MeasureT-loop
 μ-loop source-type nodes scopes source names findings₀ at₀ i₀ findings at i = count nodes - i
 
--- src/lib.rt:221:9
 check-duplicate-class-elements-requires :
     tie.Need-check-duplicate-class-elements-requires Inv-loop μ-loop
 check-duplicate-class-elements-requires c κs = search needs
 
--- src/lib.rt:223:5
 loop-holds : tie.Need-loop-holds Inv-loop μ-loop
 loop-holds c = (omega arith, search needs, omega arith, search needs, search needs)
 
--- src/lib.rt:223:11
 is-node-requires : tie.Need-is-node-requires Inv-loop μ-loop
 is-node-requires c κs = search needs
 
--- src/lib.rt:224:9
 check-node-requires : tie.Need-check-node-requires Inv-loop μ-loop
 check-node-requires c κs = let h = ltb-true (c .before .before .before .loop .i) (count (c .before .before .before .before .before .before .before .before .before .before .before .before .before .args .nodes .now)) (sym (c .before .before .is-node .ensures) ∙ c .before .if1 .taken) in
     let z = c .before .before .before .before .before .before .before .before .before .before .before .before .before .pre .0 .tree .small in
     (c .before .before .before .before .before .before .before .before .before .before .before .before .before .pre .0, (c .before .before .before .before .before .before .before .before .before .before .before .before .before .pre .1, (h, omega (arith, c .before .before .before .loop .inv .2, c .before .before .before .before .before .before .check-duplicate-class-elements .ensures .1 .1))))
 
--- src/lib.rt:225:9
 add-i : tie.Need-add-i Inv-loop μ-loop
 add-i c = let h = ltb-true (c .before .before .before .before .before .before .loop .i) (count (c .before .before .before .before .before .before .before .before .before .before .before .before .before .before .before .before .args .nodes .now)) (sym (c .before .before .before .before .before .is-node .ensures) ∙ c .before .before .before .before .if1 .taken) in
     let z = c .before .before .before .before .before .before .before .before .before .before .before .before .before .before .before .before .pre .0 .tree .small in
     omega arith
 
--- src/lib.rt:223:5
 loop-less : tie.Need-loop-less Inv-loop μ-loop
 loop-less c = let h = ltb-true (c .before .before .before .before .before .before .loop .i) (count (c .before .before .before .before .before .before .before .before .before .before .before .before .before .before .before .before .args .nodes .now)) (sym (c .before .before .before .before .before .is-node .ensures) ∙ c .before .before .before .before .if1 .taken) in omega arith
 
--- src/lib.rt:223:5
 loop-again : tie.Need-loop-again Inv-loop μ-loop
 loop-again c = let a = c .before .before .before .before .before .before .before .before .before .before .before .before .before .before .before .before .args in
     let h = ltb-true (c .before .before .before .before .before .before .loop .i) (count (a .nodes .now)) (sym (c .before .before .before .before .before .is-node .ensures) ∙ c .before .before .before .before .if1 .taken) in
@@ -66,11 +54,9 @@ loop-again c = let a = c .before .before .before .before .before .before .before
     let r = c .before .before .check-node .ensures .0 in
     (omega arith, search needs, omega (arith, c .before .before .before .before .before .before .loop .inv .2, c .before .before .check-node .ensures .1), piece-place (c .before .before .before .before .before .before .loop .findings) (c .before .before .before .before .before .before .loop .findings) (c .before .before .before .before .before .before .loop .at) _ _ (f (c .before .before .before .before .before .before .loop .i)) _ e (r .place) ∙ c .before .before .before .before .before .before .loop .inv .3, piece-sink (c .before .before .before .before .before .before .loop .findings) _ (c .before .before .before .before .before .before .loop .at) _ _ (f (c .before .before .before .before .before .before .loop .i)) _ e (r .place) (r .slice) ∙ c .before .before .before .before .before .before .loop .inv .4)
 
--- src/lib.rt:209:1
 same-length : tie.Need-same-length Inv-loop μ-loop
 same-length c = search needs
 
--- src/lib.rt:209:1
 returns : tie.Need-returns Inv-loop μ-loop
 unfolding findingsOf
 returns c = let a = c .before .before .before .before .before .before .before .before .before .before .before .before .args in

@@ -1,14 +1,10 @@
 use Rattle.check_duplicates.specs.DuplicatesLaws.{differ-true, differ-false}
 use Rattle.check_duplicates.proofs.differ.Statement.{statement}
 use Rattle.check_duplicates.proofs.differ.Tie as tie
-use Rattle.check_duplicates.proofs.differ.Reads as reads
-use Rattle.check_duplicates.proofs.differ.Lts as lts
 
--- src/lib.rt:107:9
 returns : tie.Need-returns
 returns c = rw (c .if1 .taken) (differ-true (c .before .args .b))
 
--- src/lib.rt:103:1
 returns-2 : tie.Need-returns-2
 returns-2 c = rw (c .if1 .left) (differ-false (c .before .args .b))
 

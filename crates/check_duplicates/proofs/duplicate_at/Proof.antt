@@ -9,22 +9,13 @@ use Rattle.check_duplicates.specs.Duplicates.{sideOf, previousOf, duplic
 use borrow.Author.Needs.{needs}
 use Rattle.check_duplicates.proofs.duplicate_at.Statement.{statement}
 use Rattle.check_duplicates.proofs.duplicate_at.Tie as tie
-use Rattle.check_duplicates.proofs.duplicate_at.Reads as reads
-use Rattle.check_duplicates.proofs.duplicate_at.Lts as lts
-use Rattle.check_duplicates.proofs.is_duplicate.Reads as is-duplicate-reads
-use Rattle.check_duplicates.proofs.prev_element.Reads as prev-element-reads
-use Rattle.check_duplicates.proofs.previous_of.Reads as previous-of-reads
-use Rattle.check_duplicates.proofs.redeclaration.Reads as redeclaration-reads
 
--- src/lib.rt:158:9
 previous-of-requires : tie.Need-previous-of-requires
 previous-of-requires c κs = search needs
 
--- src/lib.rt:159:9
 prev-element-requires : tie.Need-prev-element-requires
 prev-element-requires c κs = search needs
 
--- src/lib.rt:162:12
 is-duplicate-requires : tie.Need-is-duplicate-requires
 is-duplicate-requires c κs = let a = c .before .before .before .before .before .before .args in
     let q : c .before .before .prev-element .result ≡ previousOf (a .nodes .now) (a .names .now) (a .c .0) (a .e .0) = c .before .before .prev-element .ensures ∙ ap (λ (l : List Place). prevOf l (sideOf (a .nodes .now) (a .e .0))) (c .before .before .before .previous-of .ensures) ∙ prev-two (a .nodes .now) (a .names .now) (a .c .0) (a .e .0) in
@@ -32,7 +23,6 @@ is-duplicate-requires c κs = let a = c .before .before .before .before .before 
     let b : c .before .before .prev-element .result .element .0 < a .e .0 = subst (λ (p : Place). p .there ≡ true → p .element .0 < a .e .0) (sym q) (prev-before (a .nodes .now) (a .names .now) (a .c .0) (a .e .0) (omega arith)) (c .before .if1 .taken) in
     (omega arith, omega arith)
 
--- src/lib.rt:163:13
 redeclaration-requires : tie.Need-redeclaration-requires
 redeclaration-requires c κs = let a = c .before .before .before .before .before .before .before .before .args in
     let q : c .before .before .before .before .prev-element .result ≡ previousOf (a .nodes .now) (a .names .now) (a .c .0) (a .e .0) = c .before .before .before .before .prev-element .ensures ∙ ap (λ (l : List Place). prevOf l (sideOf (a .nodes .now) (a .e .0))) (c .before .before .before .before .before .previous-of .ensures) ∙ prev-two (a .nodes .now) (a .names .now) (a .c .0) (a .e .0) in
@@ -40,19 +30,16 @@ redeclaration-requires c κs = let a = c .before .before .before .before .before
     let b : c .before .before .before .before .prev-element .result .element .0 < a .e .0 = subst (λ (p : Place). p .there ≡ true → p .element .0 < a .e .0) (sym q) (prev-before (a .nodes .now) (a .names .now) (a .c .0) (a .e .0) (omega arith)) (c .before .before .before .if1 .taken) in
     (c .before .before .before .before .before .before .before .before .pre .0, (omega arith, omega arith))
 
--- src/lib.rt:163:13
 returns : tie.Need-returns
 returns c = let a = c .before .before .before .before .before .before .before .before .before .args in
     let q : c .before .before .before .before .before .prev-element .result ≡ previousOf (a .nodes .now) (a .names .now) (a .c .0) (a .e .0) = c .before .before .before .before .before .prev-element .ensures ∙ ap (λ (l : List Place). prevOf l (sideOf (a .nodes .now) (a .e .0))) (c .before .before .before .before .before .before .previous-of .ensures) ∙ prev-two (a .nodes .now) (a .names .now) (a .c .0) (a .e .0) in
     c .redeclaration .ensures ∙ sym (by-hit (a .nodes .now) (a .e .0) (c .before .before .before .before .before .prev-element .result) (c .before .before .before .before .if1 .taken) (sym (c .before .before .is-duplicate .ensures) ∙ c .before .if2 .taken)) ∙ ap (duplicateBy (a .nodes .now) (a .e .0)) q
 
--- src/lib.rt:165:9
 returns-2 : tie.Need-returns-2
 returns-2 c = let a = c .before .before .before .before .before .before .before .before .args in
     let q : c .before .before .before .before .prev-element .result ≡ previousOf (a .nodes .now) (a .names .now) (a .c .0) (a .e .0) = c .before .before .before .before .prev-element .ensures ∙ ap (λ (l : List Place). prevOf l (sideOf (a .nodes .now) (a .e .0))) (c .before .before .before .before .before .previous-of .ensures) ∙ prev-two (a .nodes .now) (a .names .now) (a .c .0) (a .e .0) in
     sym (by-fine (a .nodes .now) (a .e .0) (c .before .before .before .before .prev-element .result) (c .before .before .before .if1 .taken) (sym (c .before .is-duplicate .ensures) ∙ c .if2 .left)) ∙ ap (duplicateBy (a .nodes .now) (a .e .0)) q
 
--- src/lib.rt:151:1
 returns-3 : tie.Need-returns-3
 returns-3 c = let a = c .before .before .before .before .before .args in
     let q : c .before .prev-element .result ≡ previousOf (a .nodes .now) (a .names .now) (a .c .0) (a .e .0) = c .before .prev-element .ensures ∙ ap (λ (l : List Place). prevOf l (sideOf (a .nodes .now) (a .e .0))) (c .before .before .previous-of .ensures) ∙ prev-two (a .nodes .now) (a .names .now) (a .c .0) (a .e .0) in

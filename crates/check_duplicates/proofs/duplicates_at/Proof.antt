@@ -14,16 +14,10 @@ use Rattle.check_duplicates.specs.DuplicatesLaws.{classAt, class-here, c
 use borrow.Author.Needs.{needs}
 use Rattle.check_duplicates.proofs.duplicates_at.Statement.{statement}
 use Rattle.check_duplicates.proofs.duplicates_at.Tie as tie
-use Rattle.check_duplicates.proofs.duplicates_at.Reads as reads
-use Rattle.check_duplicates.proofs.duplicates_at.Lts as lts
-use Rattle.check_duplicates.proofs.duplicates_in.Reads as duplicates-in-reads
-use Rattle.table_records.proofs.kind.Reads as kind-reads
 
--- src/lib.rt:217:9
 kind-requires : tie.Need-kind-requires
 kind-requires c κs = search needs
 
--- src/lib.rt:219:9
 returns : tie.Need-returns
 returns c = let a = c .before .before .before .before .before .args in
     let b : isClassBody (a .nodes .now) (a .i .0) ≡ false = ap (λ (x : ℕ). eqb x 27) (sym (c .before .kind .ensures)) ∙ ne-eqb (c .before .kind .result) 27 (c .if1 .taken) in
@@ -31,15 +25,12 @@ returns c = let a = c .before .before .before .before .before .args in
     let l : length (classAt (a .nodes .now) (a .names .now) (a .i .0)) ≡ 0 = ap length o in
     (omega arith, (sym (sink-nil (a .findings .now) (a .at)) ∙ ap (sink (a .findings .now) (a .at)) (sym o), omega arith))
 
--- src/lib.rt:221:5
 duplicates-in-requires : tie.Need-duplicates-in-requires
 duplicates-in-requires c κs = search needs
 
--- src/lib.rt:208:1
 same-length : tie.Need-same-length
 same-length c = search needs
 
--- src/lib.rt:208:1
 returns-2 : tie.Need-returns-2
 returns-2 c = let a = c .before .before .before .before .before .before .before .before .before .args in
     let b : isClassBody (a .nodes .now) (a .i .0) ≡ true = ap (λ (x : ℕ). eqb x 27) (sym (c .before .before .before .before .before .kind .ensures)) ∙ eq-eqb (c .before .before .before .before .before .kind .result) 27 (c .before .before .before .before .if1 .left) in

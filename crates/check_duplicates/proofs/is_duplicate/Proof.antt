@@ -2,57 +2,39 @@ use Rattle.check_duplicates.specs.Duplicates.{isDuplicate}
 use borrow.Author.Needs.{needs}
 use Rattle.check_duplicates.proofs.is_duplicate.Statement.{statement}
 use Rattle.check_duplicates.proofs.is_duplicate.Tie as tie
-use Rattle.check_duplicates.proofs.is_duplicate.Reads as reads
-use Rattle.check_duplicates.proofs.is_duplicate.Lts as lts
-use Rattle.check_class_table.proofs.is_static.Reads as is-static-reads
-use Rattle.base_common.proofs.or.Reads as or-reads
-use Rattle.check_duplicates.proofs.differ.Reads as differ-reads
-use Rattle.check_duplicates.proofs.is_setter_or_getter.Reads as is-setter-or-getter-reads
-use Rattle.table_records.proofs.extra.Reads as extra-reads
 
--- src/lib.rt:118:8
 is-setter-or-getter-requires : tie.Need-is-setter-or-getter-requires
 is-setter-or-getter-requires c κs = search needs
 
--- src/lib.rt:119:12
 is-setter-or-getter-requires-2 : tie.Need-is-setter-or-getter-requires-2
 is-setter-or-getter-requires-2 c κs = search needs
 
--- src/lib.rt:120:17
 extra-requires : tie.Need-extra-requires
 extra-requires c κs = search needs
 
--- src/lib.rt:121:17
 extra-requires-2 : tie.Need-extra-requires-2
 extra-requires-2 c κs = search needs
 
--- src/lib.rt:122:38
 is-static-requires : tie.Need-is-static-requires
 is-static-requires c κs = search needs
 
--- src/lib.rt:122:68
 is-static-requires-2 : tie.Need-is-static-requires-2
 is-static-requires-2 c κs = search needs
 
--- src/lib.rt:122:31
 differ-requires : tie.Need-differ-requires
 differ-requires c κs = search needs
 
--- src/lib.rt:122:13
 or-requires : tie.Need-or-requires
 or-requires c κs = search needs
 
--- src/lib.rt:122:13
 returns : tie.Need-returns
 unfolding isDuplicate
 returns c = rw (← c .before .before .before .before .before .before .before .before .before .is-setter-or-getter .ensures, c .before .before .before .before .before .before .before .before .if1 .taken, ← c .before .before .before .before .before .before .before .is-setter-or-getter2 .ensures, c .before .before .before .before .before .before .if2 .taken) (cc)
 
--- src/lib.rt:124:9
 returns-2 : tie.Need-returns-2
 unfolding isDuplicate
 returns-2 c = rw (← c .before .before .before .is-setter-or-getter .ensures, c .before .before .if1 .taken, ← c .before .is-setter-or-getter2 .ensures, c .if2 .left)
 
--- src/lib.rt:113:1
 returns-3 : tie.Need-returns-3
 unfolding isDuplicate
 returns-3 c = rw (← c .before .is-setter-or-getter .ensures, c .if1 .left)

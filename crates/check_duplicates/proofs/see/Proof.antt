@@ -2,33 +2,23 @@ use Rattle.check_duplicates.specs.DuplicatesLaws.{see}
 use borrow.Author.Needs.{needs}
 use Rattle.check_duplicates.proofs.see.Statement.{statement}
 use Rattle.check_duplicates.proofs.see.Tie as tie
-use Rattle.check_duplicates.proofs.see.Reads as reads
-use Rattle.check_duplicates.proofs.see.Lts as lts
-use Rattle.check_class_table.proofs.is_private_named.Reads as is-private-named-reads
-use Rattle.check_duplicates.proofs.side.Reads as side-reads
 
--- src/lib.rt:50:8
 is-private-named-requires : tie.Need-is-private-named-requires
 is-private-named-requires c κs = search needs
 
--- src/lib.rt:51:13
 side-requires : tie.Need-side-requires
 side-requires c κs = search needs
 
--- src/lib.rt:53:9
 mul-seen : tie.Need-mul-seen
 mul-seen c = search needs
 
--- src/lib.rt:53:9
 array-set-from-seen : tie.Need-array-set-from-seen
 array-set-from-seen c = search needs
 
--- src/lib.rt:57:9
 returns : tie.Need-returns
 unfolding see
 returns c = rw (← c .before .before .is-private-named .ensures, c .before .if1 .taken, ← c .side .ensures .0)
 
--- src/lib.rt:44:1
 returns-2 : tie.Need-returns-2
 unfolding see
 returns-2 c = rw (← c .before .is-private-named .ensures, c .if1 .left)

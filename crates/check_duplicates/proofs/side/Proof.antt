@@ -2,20 +2,14 @@ use Rattle.check_duplicates.specs.Duplicates.{sideOf}
 use borrow.Author.Needs.{needs}
 use Rattle.check_duplicates.proofs.side.Statement.{statement}
 use Rattle.check_duplicates.proofs.side.Tie as tie
-use Rattle.check_duplicates.proofs.side.Reads as reads
-use Rattle.check_duplicates.proofs.side.Lts as lts
-use Rattle.check_class_table.proofs.is_setter.Reads as is-setter-reads
 
--- src/lib.rt:37:8
 is-setter-requires : tie.Need-is-setter-requires
 is-setter-requires c κs = search needs
 
--- src/lib.rt:38:9
 returns : tie.Need-returns
 unfolding sideOf
 returns c = (rw (← c .before .is-setter .ensures, c .if1 .taken), search needs)
 
--- src/lib.rt:32:1
 returns-2 : tie.Need-returns-2
 unfolding sideOf
 returns-2 c = (rw (← c .before .is-setter .ensures, c .if1 .left), search needs)

@@ -8,33 +8,22 @@ use Rattle.check_diagnostics.specs.Gather.{listed-one}
 use borrow.Author.Needs.{needs}
 use Rattle.check_expressions.proofs.check_await_expression.Statement.{statement}
 use Rattle.check_expressions.proofs.check_await_expression.Tie as tie
-use Rattle.check_expressions.proofs.check_await_expression.Reads as reads
-use Rattle.check_expressions.proofs.check_await_expression.Lts as lts
-use Rattle.check_diagnostics.proofs.raise.Reads as raise-reads
-use Rattle.check_expressions.proofs.in_block.Reads as in-block-reads
-use Rattle.check_expressions.proofs.in_parameter.Reads as in-parameter-reads
 
--- src/lib.rt:284:36
 in-parameter-requires : tie.Need-in-parameter-requires
 in-parameter-requires c κs = search needs
 
--- src/lib.rt:284:9
 raise-requires : tie.Need-raise-requires
 raise-requires c κs = search needs
 
--- src/lib.rt:285:27
 in-block-requires : tie.Need-in-block-requires
 in-block-requires c κs = search needs
 
--- src/lib.rt:285:5
 raise-requires-2 : tie.Need-raise-requires-2
 raise-requires-2 c κs = let o = listed-one (c .before .before .before .before .before .in-parameter .result) in omega arith
 
--- src/lib.rt:273:1
 same-length : tie.Need-same-length
 same-length c = search needs
 
--- src/lib.rt:273:1
 returns : tie.Need-returns
 returns c = let a = c .before .before .before .before .before .before .before .before .before .before .before .before .before .args in
     let t : checkAwaitExpression (a .nodes .now) (a .scopes .now) (a .n .0) ≡ listed (c .before .before .before .before .before .before .before .before .in-parameter .result) ++ listed (c .before .before .before .in-block .result) = rw (← c .before .before .before .before .before .before .before .before .in-parameter .ensures, ← c .before .before .before .in-block .ensures) in

@@ -18,13 +18,6 @@ use Rattle.check_expressions.specs.ExpressionLaws.{repeatsFrom, keysFrom
 use borrow.Author.Needs.{needs}
 use Rattle.check_expressions.proofs.check_object_expression.Statement.{statement}
 use Rattle.check_expressions.proofs.check_object_expression.Tie as tie
-use Rattle.check_expressions.proofs.check_object_expression.Reads as reads
-use Rattle.check_expressions.proofs.check_object_expression.Lts as lts
-use Rattle.table_children.proofs.next_child.Reads as next-child-reads
-use Rattle.check_diagnostics.proofs.raise.Reads as raise-reads
-use Rattle.check_expressions.proofs.later.Reads as later-reads
-use Rattle.check_expressions.proofs.proto_key.Reads as proto-key-reads
-use Rattle.check_expressions.proofs.repeated.Reads as repeated-reads
 
 abbrev Inv-loop : tie.InvT-loop
 Inv-loop nodes names n findings₀ at w₀ from₀ previous₀ findings w from previous = (n .0 < from) × (from ≤ count nodes) × (w ≤ at + 7 * from) × below nodes previous × (w + 7 * length (repeatsFrom nodes (n .0) previous (keysFrom nodes names (n .0) from)) ≡ at + 7 * length (checkObjectExpression nodes names (n .0))) × (sink findings w (repeatsFrom nodes (n .0) previous (keysFrom nodes names (n .0) from)) ≡ sink findings₀ at (checkObjectExpression nodes names (n .0)))
@@ -32,53 +25,41 @@ Inv-loop nodes names n findings₀ at w₀ from₀ previous₀ findings w from p
 abbrev μ-loop : tie.MeasureT-loop
 μ-loop nodes names n findings₀ at w₀ from₀ previous₀ findings w from previous = count nodes - from
 
--- src/lib.rt:85:20
 add-from : tie.Need-add-from Inv-loop μ-loop
 add-from c = search needs
 
--- src/lib.rt:87:5
 loop-holds : tie.Need-loop-holds Inv-loop μ-loop
 loop-holds c = let a = c .before .before .before .before .args in
     let e = keys-start (a .nodes .now) (a .names .now) (a .n .0) in
     (omega arith, omega arith, omega arith, search needs, rw e, rw e)
 
--- src/lib.rt:88:28
 next-child-requires : tie.Need-next-child-requires Inv-loop μ-loop
 next-child-requires c κs = (c .before .before .before .before .before .pre .0, (omega arith, omega arith))
 
--- src/lib.rt:88:23
 enum-known-p : tie.Need-enum-known-p Inv-loop μ-loop
 enum-known-p c = search needs
 
--- src/lib.rt:97:19
 enum-told : tie.Need-enum-told Inv-loop μ-loop
 enum-told c = search needs
 
--- src/lib.rt:99:13
 proto-key-requires : tie.Need-proto-key-requires Inv-loop μ-loop
 proto-key-requires c κs = (c .before .before .before .before .before .before .before .before .before .pre .0, (c .before .before .before .before .before .before .before .before .before .pre .1 .0, subst (λ (x : Found). below (c .before .before .before .before .before .before .before .before .before .args .nodes .now) x) (c .before .p .given .1) (c .before .before .before .next-child .ensures .1)))
 
--- src/lib.rt:100:32
 repeated-requires : tie.Need-repeated-requires Inv-loop μ-loop
 repeated-requires c κs = (c .before .before .before .before .before .before .loop .inv .3, c .before .proto-key .ensures .1)
 
--- src/lib.rt:100:9
 raise-requires : tie.Need-raise-requires Inv-loop μ-loop
 raise-requires c κs = let s = c .before .before .before .before .before .before .before .before .before .before .before .before .pre .0 .small in omega arith
 
--- src/lib.rt:101:9
 later-requires : tie.Need-later-requires Inv-loop μ-loop
 later-requires c κs = search needs
 
--- src/lib.rt:102:16
 add-from-2 : tie.Need-add-from-2 Inv-loop μ-loop
 add-from-2 c = let s = c .before .before .before .before .before .before .before .before .before .before .before .before .before .before .before .before .before .pre .0 .small in let q : c .before .before .before .before .before .before .before .before .before .p .given .0 .0 .0 < count (c .before .before .before .before .before .before .before .before .before .before .before .before .before .before .before .before .before .args .nodes .now) = subst (λ (x : Found). below (c .before .before .before .before .before .before .before .before .before .before .before .before .before .before .before .before .before .args .nodes .now) x) (c .before .before .before .before .before .before .before .before .before .p .given .1) (c .before .before .before .before .before .before .before .before .before .before .before .next-child .ensures .1) in omega arith
 
--- src/lib.rt:87:5
 loop-less : tie.Need-loop-less Inv-loop μ-loop
 loop-less c = let g = found-child (c .before .before .before .before .before .before .before .before .before .before .before .before .before .before .before .before .before .args .nodes .now) (c .before .before .before .before .before .before .before .before .before .before .before .before .before .before .before .before .before .args .n .0) k.ObjectProperty k.ObjectProperty 0 7 (c .before .before .before .before .before .before .before .before .before .before .before .before .loop .from) (c .before .before .before .before .before .before .before .before .before .p .given .0 .0 .0) (sym (c .before .before .before .before .before .before .before .before .before .before .before .next-child .ensures .0) ∙ c .before .before .before .before .before .before .before .before .before .p .given .1) in let x = g .from in let y = g .below in omega arith
 
--- src/lib.rt:87:5
 loop-again : tie.Need-loop-again Inv-loop μ-loop
 loop-again c = let a = c .before .before .before .before .before .before .before .before .before .before .before .before .before .before .before .before .before .args in
     let g = found-child (a .nodes .now) (a .n .0) k.ObjectProperty k.ObjectProperty 0 7 (c .before .before .before .before .before .before .before .before .before .before .before .before .loop .from) (c .before .before .before .before .before .before .before .before .before .p .given .0 .0 .0) (sym (c .before .before .before .before .before .before .before .before .before .before .before .next-child .ensures .0) ∙ c .before .before .before .before .before .before .before .before .before .p .given .1) in
@@ -95,13 +76,11 @@ loop-again c = let a = c .before .before .before .before .before .before .before
       piece-sink (c .before .before .before .before .before .before .before .before .before .before .before .before .loop .findings) (c .before .before .before .before .raise .last .0) (c .before .before .before .before .before .before .before .before .before .before .before .before .loop .w) (c .before .before .before .before .raise .result) _ (listed (c .before .before .before .before .before .repeated .result)) _ t (c .before .before .before .before .raise .ensures .0) (c .before .before .before .before .raise .ensures .1) ∙ c .before .before .before .before .before .before .before .before .before .before .before .before .loop .inv .5,
     )
 
--- src/lib.rt:75:1
 same-length : tie.Need-same-length Inv-loop μ-loop
 same-length c = let a = c .before .before .before .before .before .before .before .before .args in
     let e : repeatsFrom (a .nodes .now) (a .n .0) (c .before .before .before .loop .previous) (keysFrom (a .nodes .now) (a .names .now) (a .n .0) (c .before .before .before .loop .from)) ≡ [] = object-end (a .nodes .now) (a .names .now) (a .n .0) (c .before .before .before .loop .from) (c .before .before .before .loop .previous) (sym (c .before .before .next-child .ensures .0) ∙ c .enum-told .given .1) in
     ap (λ (x : List ℕ). length x) (sym (sink-nil (c .before .before .before .loop .findings) (c .before .before .before .loop .w)) ∙ ap (sink (c .before .before .before .loop .findings) (c .before .before .before .loop .w)) (sym e) ∙ c .before .before .before .loop .inv .5) ∙ sink-length (a .findings .now) (a .at) (checkObjectExpression (a .nodes .now) (a .names .now) (a .n .0))
 
--- src/lib.rt:75:1
 returns : tie.Need-returns Inv-loop μ-loop
 returns c = let a = c .before .before .before .before .before .before .before .before .args in
     let s = c .before .before .before .before .before .before .before .before .pre .0 .small in

@@ -6,53 +6,36 @@ use borrow.Author.Tests.{not-true, not-false}
 use borrow.Author.Needs.{needs}
 use Rattle.check_expressions.proofs.check_unary_expression.Statement.{statement}
 use Rattle.check_expressions.proofs.check_unary_expression.Tie as tie
-use Rattle.check_expressions.proofs.check_unary_expression.Reads as reads
-use Rattle.check_expressions.proofs.check_unary_expression.Lts as lts
-use Rattle.table_children.proofs.value_of.Reads as value-of-reads
-use Rattle.check_expressions.proofs.delete_of.Reads as delete-of-reads
-use Rattle.check_expressions.proofs.get_inner_expression.Reads as get-inner-expression-reads
-use Rattle.table_records.proofs.flags.Reads as flags-reads
-use Rattle.table_records.proofs.has_flag.Reads as has-flag-reads
 
--- src/lib.rt:189:26
 flags-requires : tie.Need-flags-requires
 flags-requires c κs = search needs
 
--- src/lib.rt:189:9
 has-flag-requires : tie.Need-has-flag-requires
 has-flag-requires c κs = search needs
 
--- src/lib.rt:190:9
 returns : tie.Need-returns
 unfolding checkUnaryExpression
 returns c = rw (← c .before .before .flags .ensures, ← c .before .has-flag .ensures, not-true (c .before .has-flag .result) (c .if1 .taken))
 
--- src/lib.rt:192:31
 value-of-requires : tie.Need-value-of-requires
 value-of-requires c κs = search needs
 
--- src/lib.rt:192:19
 enum-known-argument : tie.Need-enum-known-argument
 enum-known-argument c = search needs
 
--- src/lib.rt:193:9
 enum-told : tie.Need-enum-told
 enum-told c = search needs
 
--- src/lib.rt:193:9
 returns-2 : tie.Need-returns-2
 unfolding checkUnaryExpression
 returns-2 c = rw (← c .before .before .before .before .before .flags .ensures, ← c .before .before .before .before .has-flag .ensures, not-false (c .before .before .before .before .has-flag .result) (c .before .before .before .if1 .left), ← c .before .before .value-of .ensures .0, c .enum-told .given .1)
 
--- src/lib.rt:195:9
 get-inner-expression-requires : tie.Need-get-inner-expression-requires
 get-inner-expression-requires c κs = (c .before .before .before .before .before .before .before .before .before .pre .0, subst (λ (x : Found). below (c .before .before .before .before .before .before .before .before .before .args .nodes .now) x) (c .before .argument .given .1) (c .before .before .before .value-of .ensures .1))
 
--- src/lib.rt:196:5
 delete-of-requires : tie.Need-delete-of-requires
 delete-of-requires c κs = search needs
 
--- src/lib.rt:183:1
 returns-3 : tie.Need-returns-3
 unfolding checkUnaryExpression
 returns-3 c = rw (← c .before .before .before .before .before .before .before .before .flags .ensures, ← c .before .before .before .before .before .before .before .has-flag .ensures, not-false (c .before .before .before .before .before .before .before .has-flag .result) (c .before .before .before .before .before .before .if1 .left), ← c .before .before .before .before .before .value-of .ensures .0, c .before .before .before .argument .given .1, ← c .before .get-inner-expression .ensures .0, ← c .delete-of .ensures)

@@ -5,63 +5,43 @@ use borrow.Author.Tests.{eq-eqb, ne-eqb}
 use borrow.Author.Needs.{needs}
 use Rattle.check_expressions.proofs.delete_of_chain.Statement.{statement}
 use Rattle.check_expressions.proofs.delete_of_chain.Tie as tie
-use Rattle.check_expressions.proofs.delete_of_chain.Reads as reads
-use Rattle.check_expressions.proofs.delete_of_chain.Lts as lts
-use Rattle.table_children.proofs.first_child.Reads as first-child-reads
-use Rattle.table_children.proofs.inner_of.Reads as inner-of-reads
-use Rattle.check_diagnostics.proofs.error.Reads as error-reads
-use Rattle.check_diagnostics.proofs.error_at.Reads as error-at-reads
-use Rattle.table_records.proofs.kind.Reads as kind-reads
 
--- src/lib.rt:139:29
 inner-of-requires : tie.Need-inner-of-requires
 inner-of-requires c κs = search needs
 
--- src/lib.rt:139:19
 enum-known-member : tie.Need-enum-known-member
 enum-known-member c = search needs
 
--- src/lib.rt:140:9
 enum-told : tie.Need-enum-told
 enum-told c = search needs
 
--- src/lib.rt:140:9
 returns : tie.Need-returns
 returns c = rw (← c .before .before .inner-of .ensures .0, c .enum-told .given .1)
 
--- src/lib.rt:142:8
 kind-requires : tie.Need-kind-requires
 kind-requires c κs = subst (λ (x : Found). below (c .before .before .before .before .before .args .nodes .now) x) (c .before .member .given .1) (c .before .before .before .inner-of .ensures .1)
 
--- src/lib.rt:143:9
 returns-2 : tie.Need-returns-2
 returns-2 c = rw (← c .before .before .before .before .before .inner-of .ensures .0, c .before .before .before .member .given .1, ← c .before .kind .ensures, ne-eqb _ _ (c .if1 .taken))
 
--- src/lib.rt:145:28
 first-child-requires : tie.Need-first-child-requires
 first-child-requires c κs = (c .before .before .before .before .before .before .before .pre .0, subst (λ (x : Found). below (c .before .before .before .before .before .before .before .args .nodes .now) x) (c .before .before .before .member .given .1) (c .before .before .before .before .before .inner-of .ensures .1))
 
--- src/lib.rt:145:19
 enum-known-field : tie.Need-enum-known-field
 enum-known-field c = search needs
 
--- src/lib.rt:153:9
 enum-told-2 : tie.Need-enum-told-2
 enum-told-2 c = search needs
 
--- src/lib.rt:153:9
 error-requires : tie.Need-error-requires
 error-requires c κs = search needs
 
--- src/lib.rt:153:9
 returns-3 : tie.Need-returns-3
 returns-3 c = rw (← c .before .before .before .before .before .before .before .before .before .inner-of .ensures .0, c .before .before .before .before .before .before .before .member .given .1, ← c .before .before .before .before .before .kind .ensures, eq-eqb _ _ (c .before .before .before .before .if1 .left), ← c .before .before .before .first-child .ensures .0, c .before .enum-told2 .given .1, ← c .error .ensures)
 
--- src/lib.rt:155:5
 error-at-requires : tie.Need-error-at-requires
 error-at-requires c κs = subst (λ (x : Found). below (c .before .before .before .before .before .before .before .before .before .before .before .args .nodes .now) x) (c .before .field .given .1) (c .before .before .before .first-child .ensures .1)
 
--- src/lib.rt:134:1
 returns-4 : tie.Need-returns-4
 returns-4 c = rw (← c .before .before .before .before .before .before .before .before .before .before .inner-of .ensures .0, c .before .before .before .before .before .before .before .before .member .given .1, ← c .before .before .before .before .before .before .kind .ensures, eq-eqb _ _ (c .before .before .before .before .before .if1 .left), ← c .before .before .before .before .first-child .ensures .0, c .before .before .field .given .1, ← c .error-at .ensures)
 

@@ -10,10 +10,6 @@ use Rattle.check_expressions.specs.ExpressionLaws.{inner-bare, inner-emp
 use borrow.Author.Needs.{needs}
 use Rattle.check_expressions.proofs.get_inner_expression.Statement.{statement}
 use Rattle.check_expressions.proofs.get_inner_expression.Tie as tie
-use Rattle.check_expressions.proofs.get_inner_expression.Reads as reads
-use Rattle.check_expressions.proofs.get_inner_expression.Lts as lts
-use Rattle.table_children.proofs.inner_of.Reads as inner-of-reads
-use Rattle.check_expressions.proofs.is_parenthesis.Reads as is-parenthesis-reads
 
 abbrev Inv-loop : tie.InvT-loop
 Inv-loop nodes at₀ at = (at .0 < count nodes) × (innerExpression nodes (at .0) ≡ innerExpression nodes (at₀ .0))
@@ -21,39 +17,30 @@ Inv-loop nodes at₀ at = (at .0 < count nodes) × (innerExpression nodes (at .0
 abbrev μ-loop : tie.MeasureT-loop
 μ-loop nodes at₀ at = count nodes - at .0
 
--- src/lib.rt:124:5
 loop-holds : tie.Need-loop-holds Inv-loop μ-loop
 loop-holds c = search needs
 
--- src/lib.rt:124:11
 is-parenthesis-requires : tie.Need-is-parenthesis-requires Inv-loop μ-loop
 is-parenthesis-requires c κs = search needs
 
--- src/lib.rt:125:28
 inner-of-requires : tie.Need-inner-of-requires Inv-loop μ-loop
 inner-of-requires c κs = search needs
 
--- src/lib.rt:125:23
 enum-known-m : tie.Need-enum-known-m Inv-loop μ-loop
 enum-known-m c = search needs
 
--- src/lib.rt:126:13
 enum-told : tie.Need-enum-told Inv-loop μ-loop
 enum-told c = search needs
 
--- src/lib.rt:126:13
 returns : tie.Need-returns Inv-loop μ-loop
 returns c = (cc (inner-empty (c .before .before .before .before .before .before .before .args .nodes .now) (c .before .before .before .before .before .loop .at .0) (sym (c .before .before .before .before .is-parenthesis .ensures) ∙ c .before .before .before .if1 .taken) (sym (c .before .before .inner-of .ensures .0) ∙ c .enum-told .given .1)), omega arith)
 
--- src/lib.rt:124:5
 loop-less : tie.Need-loop-less Inv-loop μ-loop
 loop-less c = let a = c .before .before .before .before .before .before .before .before .args in let g = found-child (a .nodes .now) (c .before .before .before .before .before .before .loop .at .0) 0 55 0 7 (c .before .before .before .before .before .before .loop .at .0 + 1) (c .before .m .given .0 .0 .0) (sym (c .before .before .before .inner-of .ensures .0) ∙ c .before .m .given .1) in let x = g .from in let y = g .below in omega arith
 
--- src/lib.rt:124:5
 loop-again : tie.Need-loop-again Inv-loop μ-loop
 loop-again c = let a = c .before .before .before .before .before .before .before .before .args in (subst (λ (x : Found). below (a .nodes .now) x) (c .before .m .given .1) (c .before .before .before .inner-of .ensures .1), cc (inner-on (a .nodes .now) (c .before .before .before .before .before .before .loop .at .0) (c .before .m .given .0 .0 .0) (omega arith) (sym (c .before .before .before .before .before .is-parenthesis .ensures) ∙ c .before .before .before .before .if1 .taken) (sym (c .before .before .before .inner-of .ensures .0) ∙ c .before .m .given .1)))
 
--- src/lib.rt:117:1
 returns-2 : tie.Need-returns-2 Inv-loop μ-loop
 returns-2 c = (cc (inner-bare (c .before .before .before .before .args .nodes .now) (c .before .before .loop .at .0) (sym (c .before .is-parenthesis .ensures) ∙ c .if1 .left)), omega arith)
 

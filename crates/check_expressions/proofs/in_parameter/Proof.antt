@@ -2,25 +2,17 @@ use Rattle.check_expressions.specs.Expressions.{inParameter}
 use borrow.Author.Needs.{needs}
 use Rattle.check_expressions.proofs.in_parameter.Statement.{statement}
 use Rattle.check_expressions.proofs.in_parameter.Tie as tie
-use Rattle.check_expressions.proofs.in_parameter.Reads as reads
-use Rattle.check_expressions.proofs.in_parameter.Lts as lts
-use Rattle.check_diagnostics.proofs.error_at.Reads as error-at-reads
-use Rattle.check_expressions.proofs.is_in_formal_parameters.Reads as is-in-formal-parameters-reads
 
--- src/lib.rt:245:8
 is-in-formal-parameters-requires : tie.Need-is-in-formal-parameters-requires
 is-in-formal-parameters-requires c κs = search needs
 
--- src/lib.rt:246:9
 error-at-requires : tie.Need-error-at-requires
 error-at-requires c κs = search needs
 
--- src/lib.rt:246:9
 returns : tie.Need-returns
 unfolding inParameter
 returns c = rw (← c .before .before .is-in-formal-parameters .ensures, c .before .if1 .taken, ← c .error-at .ensures)
 
--- src/lib.rt:240:1
 returns-2 : tie.Need-returns-2
 unfolding inParameter
 returns-2 c = rw (← c .before .is-in-formal-parameters .ensures, c .if1 .left)

@@ -6,67 +6,47 @@ use borrow.Author.Tests.{eq-eqb, ne-eqb}
 use borrow.Author.Needs.{needs}
 use Rattle.check_expressions.proofs.proto_key.Statement.{statement}
 use Rattle.check_expressions.proofs.proto_key.Tie as tie
-use Rattle.check_expressions.proofs.proto_key.Reads as reads
-use Rattle.check_expressions.proofs.proto_key.Lts as lts
-use Rattle.table_children.proofs.key_of.Reads as key-of-reads
-use Rattle.table_names.proofs.name_is.Reads as name-is-reads
-use Rattle.table_records.proofs.extra.Reads as extra-reads
-use Rattle.table_records.proofs.flags.Reads as flags-reads
-use Rattle.table_records.proofs.has_flag.Reads as has-flag-reads
 
--- src/lib.rt:34:8
 extra-requires : tie.Need-extra-requires
 extra-requires c κs = search needs
 
--- src/lib.rt:35:9
 returns : tie.Need-returns
 unfolding protoKey
 returns c = (rw (← c .before .extra .ensures, ne-eqb _ _ (c .if1 .taken)), search needs)
 
--- src/lib.rt:37:25
 flags-requires : tie.Need-flags-requires
 flags-requires c κs = search needs
 
--- src/lib.rt:37:8
 has-flag-requires : tie.Need-has-flag-requires
 has-flag-requires c κs = search needs
 
--- src/lib.rt:38:9
 returns-2 : tie.Need-returns-2
 unfolding protoKey
 returns-2 c = (rw (← c .before .before .before .before .extra .ensures, eq-eqb _ _ (c .before .before .before .if1 .left), ← c .before .before .flags .ensures, ← c .before .has-flag .ensures, c .if2 .taken), search needs)
 
--- src/lib.rt:40:26
 key-of-requires : tie.Need-key-of-requires
 key-of-requires c κs = search needs
 
--- src/lib.rt:40:19
 enum-known-key : tie.Need-enum-known-key
 enum-known-key c = search needs
 
--- src/lib.rt:41:9
 enum-told : tie.Need-enum-told
 enum-told c = search needs
 
--- src/lib.rt:41:9
 returns-3 : tie.Need-returns-3
 unfolding protoKey
 returns-3 c = (rw (← c .before .before .before .before .before .before .before .extra .ensures, eq-eqb _ _ (c .before .before .before .before .before .before .if1 .left), ← c .before .before .before .before .before .flags .ensures, ← c .before .before .before .before .has-flag .ensures, c .before .before .before .if2 .left, ← c .before .before .key-of .ensures .0, c .enum-told .given .1), search needs)
 
--- src/lib.rt:43:42
 slice-aggregate-name-is : tie.Need-slice-aggregate-name-is
 slice-aggregate-name-is c = search needs
 
--- src/lib.rt:43:8
 name-is-requires : tie.Need-name-is-requires
 name-is-requires c κs = (c .before .before .before .before .before .before .before .before .before .before .before .before .pre .1 .0, subst (λ (x : Found). below (c .before .before .before .before .before .before .before .before .before .before .before .before .args .nodes .now) x) (c .before .before .key .given .1) (c .before .before .before .before .key-of .ensures .1))
 
--- src/lib.rt:44:9
 returns-4 : tie.Need-returns-4
 unfolding protoKey
 returns-4 c = (rw (← c .before .before .before .before .before .before .before .before .before .before .before .extra .ensures, eq-eqb _ _ (c .before .before .before .before .before .before .before .before .before .before .if1 .left), ← c .before .before .before .before .before .before .before .before .before .flags .ensures, ← c .before .before .before .before .before .before .before .before .has-flag .ensures, c .before .before .before .before .before .before .before .if2 .left, ← c .before .before .before .before .before .before .key-of .ensures .0, c .before .before .before .before .key .given .1, c .before .before .name-is-arg .given .1, ← c .before .name-is .ensures, c .if3 .taken), subst (λ (x : Found). below (c .before .before .before .before .before .before .before .before .before .before .before .before .before .before .args .nodes .now) x) (c .before .before .before .before .key .given .1) (c .before .before .before .before .before .before .key-of .ensures .1))
 
--- src/lib.rt:27:1
 returns-5 : tie.Need-returns-5
 unfolding protoKey
 returns-5 c = (rw (← c .before .before .before .before .before .before .before .before .before .before .before .extra .ensures, eq-eqb _ _ (c .before .before .before .before .before .before .before .before .before .before .if1 .left), ← c .before .before .before .before .before .before .before .before .before .flags .ensures, ← c .before .before .before .before .before .before .before .before .has-flag .ensures, c .before .before .before .before .before .before .before .if2 .left, ← c .before .before .before .before .before .before .key-of .ensures .0, c .before .before .before .before .key .given .1, c .before .before .name-is-arg .given .1, ← c .before .name-is .ensures, c .if3 .left), search needs)

@@ -7,41 +7,30 @@ use mathlib.Core.Path.{subst}
 use borrow.Author.Needs.{needs}
 use Rattle.check_expressions.proofs.repeated.Statement.{statement}
 use Rattle.check_expressions.proofs.repeated.Tie as tie
-use Rattle.check_expressions.proofs.repeated.Reads as reads
-use Rattle.check_expressions.proofs.repeated.Lts as lts
-use Rattle.check_diagnostics.proofs.error_between.Reads as error-between-reads
 
--- src/lib.rt:55:19
 enum-known-a : tie.Need-enum-known-a
 enum-known-a c = search needs
 
--- src/lib.rt:56:9
 enum-told : tie.Need-enum-told
 enum-told c = search needs
 
--- src/lib.rt:56:9
 returns : tie.Need-returns
 returns c = search needs
 
--- src/lib.rt:58:19
 enum-known-b : tie.Need-enum-known-b
 enum-known-b c = search needs
 
--- src/lib.rt:59:9
 enum-told-2 : tie.Need-enum-told-2
 enum-told-2 c = search needs
 
--- src/lib.rt:59:9
 returns-2 : tie.Need-returns-2
 returns-2 c = search needs
 
--- src/lib.rt:61:5
 error-between-requires : tie.Need-error-between-requires
 error-between-requires c κs = let x : c .before .before .before .before .a .given .0 .0 .0 < count (c .before .before .before .before .before .before .before .args .nodes .now) = subst (λ (x : Found). below (c .before .before .before .before .before .before .before .args .nodes .now) x) (c .before .before .before .before .a .given .1) (c .before .before .before .before .before .before .before .pre .0) in
     let y : c .before .b .given .0 .0 .0 < count (c .before .before .before .before .before .before .before .args .nodes .now) = subst (λ (x : Found). below (c .before .before .before .before .before .before .before .args .nodes .now) x) (c .before .b .given .1) (c .before .before .before .before .before .before .before .pre .1) in
     (omega arith, omega arith)
 
--- src/lib.rt:50:1
 returns-3 : tie.Need-returns-3
 returns-3 c = rw (c .before .before .before .before .before .a .given .1, c .before .before .b .given .1, ← c .error-between .ensures)
 

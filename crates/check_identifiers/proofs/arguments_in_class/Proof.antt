@@ -10,13 +10,6 @@ use Rattle.check_identifiers.specs.IdentifierLaws.{arguments-function, a
 use borrow.Author.Needs.{needs}
 use Rattle.check_identifiers.proofs.arguments_in_class.Statement.{statement}
 use Rattle.check_identifiers.proofs.arguments_in_class.Tie as tie
-use Rattle.check_identifiers.proofs.arguments_in_class.Reads as reads
-use Rattle.check_identifiers.proofs.arguments_in_class.Lts as lts
-use Rattle.table_ancestry.proofs.up.Reads as up-reads
-use Rattle.base_common.proofs.or.Reads as or-reads
-use Rattle.check_diagnostics.proofs.error_at.Reads as error-at-reads
-use Rattle.check_identifiers.proofs.is_field_value.Reads as is-field-value-reads
-use Rattle.table_records.proofs.kind.Reads as kind-reads
 
 abbrev Inv-loop : tie.InvT-loop
 Inv-loop nodes n previous₀ previous = (previous .0 < count nodes) × (argumentsFrom nodes (n .0) (previous .0) ≡ argumentsFrom nodes (n .0) (previous₀ .0))
@@ -24,50 +17,39 @@ Inv-loop nodes n previous₀ previous = (previous .0 < count nodes) × (argument
 abbrev μ-loop : tie.MeasureT-loop
 μ-loop nodes n previous₀ previous = previous .0
 
--- src/lib.rt:206:5
 loop-holds : tie.Need-loop-holds Inv-loop μ-loop
 loop-holds c = search needs
 
--- src/lib.rt:210:13
 up-requires : tie.Need-up-requires Inv-loop μ-loop
 up-requires c κs = search needs
 
--- src/lib.rt:211:13
 kind-requires : tie.Need-kind-requires Inv-loop μ-loop
 kind-requires c κs = search needs
 
--- src/lib.rt:216:13
 is-field-value-requires : tie.Need-is-field-value-requires Inv-loop μ-loop
 is-field-value-requires c κs = search needs
 
--- src/lib.rt:215:12
 or-requires : tie.Need-or-requires Inv-loop μ-loop
 or-requires c κs = search needs
 
--- src/lib.rt:219:19
 error-at-requires : tie.Need-error-at-requires Inv-loop μ-loop
 error-at-requires c κs = search needs
 
--- src/lib.rt:206:5
 loop-less : tie.Need-loop-less Inv-loop μ-loop
 loop-less c = search needs
 
--- src/lib.rt:206:5
 loop-again : tie.Need-loop-again Inv-loop μ-loop
 loop-again c = let a = c .before .before .before .before .before .before .before .before .before .before .args in
     let q : kindOf (a .nodes .now) (c .before .before .before .before .before .up .result .0) ≡ k.Function → ⊥ = λ e. c .before .before .before .if2 .left (c .before .before .before .before .kind .ensures ∙ e) in
     let w : (isFieldValue (a .nodes .now) (c .before .before .before .before .before .up .result .0) (c .before .before .before .before .before .before .before .before .loop .previous .0) || eqb (kindOf (a .nodes .now) (c .before .before .before .before .before .up .result .0)) k.StaticBlock) ≡ false = cc in
     (omega arith, cc (arguments-on (a .nodes .now) (c .before .before .before .before .before .before .before .before .before .before .pre .0) (a .n .0) (c .before .before .before .before .before .before .before .before .loop .previous .0) (c .before .before .before .before .before .up .result .0) (omega arith) (omega arith) (c .before .before .before .before .before .up .ensures .0) q w))
 
--- src/lib.rt:200:1
 returns : tie.Need-returns Inv-loop μ-loop
 returns c = let z : c .before .before .loop .previous .0 ≡ 0 = omega arith in cc (arguments-root (c .before .before .before .before .args .nodes .now) (c .before .before .before .before .pre .0) (c .before .before .before .before .args .n .0), z)
 
--- src/lib.rt:200:1
 returns-2 : tie.Need-returns-2 Inv-loop μ-loop
 returns-2 c = let a = c .before .before .before .before .before .before .before .args in cc (arguments-function (a .nodes .now) (c .before .before .before .before .before .before .before .pre .0) (a .n .0) (c .before .before .before .before .before .loop .previous .0) (c .before .before .up .result .0) (omega arith) (omega arith) (c .before .before .up .ensures .0) (sym (c .before .kind .ensures) ∙ c .if2 .taken))
 
--- src/lib.rt:200:1
 returns-3 : tie.Need-returns-3 Inv-loop μ-loop
 returns-3 c = let a = c .before .before .before .before .before .before .before .before .before .before .before .args in
     let q : kindOf (a .nodes .now) (c .before .before .before .before .before .before .up .result .0) ≡ k.Function → ⊥ = λ e. c .before .before .before .before .if2 .left (c .before .before .before .before .before .kind .ensures ∙ e) in

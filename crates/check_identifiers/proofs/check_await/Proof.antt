@@ -2,44 +2,30 @@ use Rattle.check_identifiers.specs.Identifiers.{awaitFinding}
 use borrow.Author.Needs.{needs}
 use Rattle.check_identifiers.proofs.check_await.Statement.{statement}
 use Rattle.check_identifiers.proofs.check_await.Tie as tie
-use Rattle.check_identifiers.proofs.check_await.Reads as reads
-use Rattle.check_identifiers.proofs.check_await.Lts as lts
-use Rattle.check_diagnostics.proofs.error_at.Reads as error-at-reads
-use Rattle.check_identifiers.proofs.is_module.Reads as is-module-reads
-use Rattle.table_scoping.proofs.current_scope_flags.Reads as current-scope-flags-reads
-use Rattle.table_records.proofs.has_flag.Reads as has-flag-reads
 
--- src/lib.rt:56:8
 is-module-requires : tie.Need-is-module-requires
 is-module-requires c κs = search needs
 
--- src/lib.rt:57:9
 error-at-requires : tie.Need-error-at-requires
 error-at-requires c κs = search needs
 
--- src/lib.rt:57:9
 returns : tie.Need-returns
 unfolding awaitFinding
 returns c = rw (← c .before .before .is-module .ensures, c .before .if1 .taken, ← c .error-at .ensures)
 
--- src/lib.rt:60:9
 current-scope-flags-requires : tie.Need-current-scope-flags-requires
 current-scope-flags-requires c κs = search needs
 
--- src/lib.rt:59:8
 has-flag-requires : tie.Need-has-flag-requires
 has-flag-requires c κs = search needs
 
--- src/lib.rt:63:9
 error-at-requires-2 : tie.Need-error-at-requires-2
 error-at-requires-2 c κs = search needs
 
--- src/lib.rt:63:9
 returns-2 : tie.Need-returns-2
 unfolding awaitFinding
 returns-2 c = rw (← c .before .before .before .before .before .is-module .ensures, c .before .before .before .before .if1 .left, ← c .before .before .before .current-scope-flags .ensures, ← c .before .before .has-flag .ensures, c .before .if2 .taken, ← c .error-at2 .ensures)
 
--- src/lib.rt:51:1
 returns-3 : tie.Need-returns-3
 unfolding awaitFinding
 returns-3 c = rw (← c .before .before .before .before .is-module .ensures, c .before .before .before .if1 .left, ← c .before .before .current-scope-flags .ensures, ← c .before .has-flag .ensures, c .if2 .left)

@@ -3,59 +3,40 @@ use borrow.Author.Tests.{not-true, not-false}
 use borrow.Author.Needs.{needs}
 use Rattle.check_identifiers.proofs.check_directive.Statement.{statement}
 use Rattle.check_identifiers.proofs.check_directive.Tie as tie
-use Rattle.check_identifiers.proofs.check_directive.Reads as reads
-use Rattle.check_identifiers.proofs.check_directive.Lts as lts
-use Rattle.check_diagnostics.proofs.error_at.Reads as error-at-reads
-use Rattle.check_identifiers.proofs.current_scope_node.Reads as current-scope-node-reads
-use Rattle.check_identifiers.proofs.is_not_simple.Reads as is-not-simple-reads
-use Rattle.table_names.proofs.name_is.Reads as name-is-reads
-use Rattle.table_scoping.proofs.current_scope_flags.Reads as current-scope-flags-reads
-use Rattle.table_records.proofs.has_flag.Reads as has-flag-reads
 
--- src/lib.rt:289:34
 slice-aggregate-name-is : tie.Need-slice-aggregate-name-is
 slice-aggregate-name-is c = search needs
 
--- src/lib.rt:289:9
 name-is-requires : tie.Need-name-is-requires
 name-is-requires c κs = search needs
 
--- src/lib.rt:290:9
 returns : tie.Need-returns
 unfolding checkDirective
 returns c = rw (c .before .before .name-is-arg .given .1, ← c .before .name-is .ensures, not-true (c .before .name-is .result) (c .if1 .taken))
 
--- src/lib.rt:293:9
 current-scope-flags-requires : tie.Need-current-scope-flags-requires
 current-scope-flags-requires c κs = search needs
 
--- src/lib.rt:292:9
 has-flag-requires : tie.Need-has-flag-requires
 has-flag-requires c κs = search needs
 
--- src/lib.rt:296:9
 returns-2 : tie.Need-returns-2
 unfolding checkDirective
 returns-2 c = rw (c .before .before .before .before .before .name-is-arg .given .1, ← c .before .before .before .before .name-is .ensures, not-false (c .before .before .before .before .name-is .result) (c .before .before .before .if1 .left), ← c .before .before .current-scope-flags .ensures, ← c .before .has-flag .ensures, not-true (c .before .has-flag .result) (c .if2 .taken))
 
--- src/lib.rt:298:30
 current-scope-node-requires : tie.Need-current-scope-node-requires
 current-scope-node-requires c κs = search needs
 
--- src/lib.rt:298:9
 is-not-simple-requires : tie.Need-is-not-simple-requires
 is-not-simple-requires c κs = search needs
 
--- src/lib.rt:299:9
 returns-3 : tie.Need-returns-3
 unfolding checkDirective
 returns-3 c = rw (c .before .before .before .before .before .before .before .before .name-is-arg .given .1, ← c .before .before .before .before .before .before .before .name-is .ensures, not-false (c .before .before .before .before .before .before .before .name-is .result) (c .before .before .before .before .before .before .if1 .left), ← c .before .before .before .before .before .current-scope-flags .ensures, ← c .before .before .before .before .has-flag .ensures, not-false (c .before .before .before .before .has-flag .result) (c .before .before .before .if2 .left), ← c .before .before .current-scope-node .ensures .0, ← c .before .is-not-simple .ensures, not-true (c .before .is-not-simple .result) (c .if3 .taken))
 
--- src/lib.rt:301:5
 error-at-requires : tie.Need-error-at-requires
 error-at-requires c κs = search needs
 
--- src/lib.rt:284:1
 returns-4 : tie.Need-returns-4
 unfolding checkDirective
 returns-4 c = rw (c .before .before .before .before .before .before .before .before .before .name-is-arg .given .1, ← c .before .before .before .before .before .before .before .before .name-is .ensures, not-false (c .before .before .before .before .before .before .before .before .name-is .result) (c .before .before .before .before .before .before .before .if1 .left), ← c .before .before .before .before .before .before .current-scope-flags .ensures, ← c .before .before .before .before .before .has-flag .ensures, not-false (c .before .before .before .before .before .has-flag .result) (c .before .before .before .before .if2 .left), ← c .before .before .before .current-scope-node .ensures .0, ← c .before .before .is-not-simple .ensures, not-false (c .before .before .is-not-simple .result) (c .before .if3 .left), ← c .error-at .ensures)

@@ -3,59 +3,40 @@ use borrow.Author.Tests.{not-true, not-false}
 use borrow.Author.Needs.{needs}
 use Rattle.check_identifiers.proofs.check_identifier.Statement.{statement}
 use Rattle.check_identifiers.proofs.check_identifier.Tie as tie
-use Rattle.check_identifiers.proofs.check_identifier.Reads as reads
-use Rattle.check_identifiers.proofs.check_identifier.Lts as lts
-use Rattle.check_diagnostics.proofs.error_at.Reads as error-at-reads
-use Rattle.check_identifiers.proofs.check_await.Reads as check-await-reads
-use Rattle.check_identifiers.proofs.is_strict_word.Reads as is-strict-word-reads
-use Rattle.check_identifiers.proofs.strict_context.Reads as strict-context-reads
-use Rattle.table_names.proofs.name_is.Reads as name-is-reads
-use Rattle.table_scoping.proofs.strict_mode.Reads as strict-mode-reads
 
--- src/lib.rt:107:33
 slice-aggregate-name-is : tie.Need-slice-aggregate-name-is
 slice-aggregate-name-is c = search needs
 
--- src/lib.rt:107:8
 name-is-requires : tie.Need-name-is-requires
 name-is-requires c κs = search needs
 
--- src/lib.rt:108:9
 check-await-requires : tie.Need-check-await-requires
 check-await-requires c κs = search needs
 
--- src/lib.rt:108:9
 returns : tie.Need-returns
 unfolding checkIdentifier
 returns c = rw (c .before .before .before .name-is-arg .given .1, ← c .before .before .name-is .ensures, c .before .if1 .taken, ← c .check-await .ensures)
 
--- src/lib.rt:110:9
 is-strict-word-requires : tie.Need-is-strict-word-requires
 is-strict-word-requires c κs = search needs
 
--- src/lib.rt:111:9
 returns-2 : tie.Need-returns-2
 unfolding checkIdentifier
 returns-2 c = rw (c .before .before .before .before .name-is-arg .given .1, ← c .before .before .before .name-is .ensures, c .before .before .if1 .left, ← c .before .is-strict-word .ensures, not-true (c .before .is-strict-word .result) (c .if2 .taken))
 
--- src/lib.rt:113:9
 strict-mode-requires : tie.Need-strict-mode-requires
 strict-mode-requires c κs = search needs
 
--- src/lib.rt:114:9
 returns-3 : tie.Need-returns-3
 unfolding checkIdentifier
 returns-3 c = rw (c .before .before .before .before .before .before .name-is-arg .given .1, ← c .before .before .before .before .before .name-is .ensures, c .before .before .before .before .if1 .left, ← c .before .before .before .is-strict-word .ensures, not-false (c .before .before .before .is-strict-word .result) (c .before .before .if2 .left), ← c .before .strict-mode .ensures, not-true (c .before .strict-mode .result) (c .if3 .taken))
 
--- src/lib.rt:116:9
 strict-context-requires : tie.Need-strict-context-requires
 strict-context-requires c κs = search needs
 
--- src/lib.rt:117:5
 error-at-requires : tie.Need-error-at-requires
 error-at-requires c κs = search needs
 
--- src/lib.rt:102:1
 returns-4 : tie.Need-returns-4
 unfolding checkIdentifier
 returns-4 c = rw (c .before .before .before .before .before .before .before .before .name-is-arg .given .1, ← c .before .before .before .before .before .before .before .name-is .ensures, c .before .before .before .before .before .before .if1 .left, ← c .before .before .before .before .before .is-strict-word .ensures, not-false (c .before .before .before .before .before .is-strict-word .result) (c .before .before .before .before .if2 .left), ← c .before .before .before .strict-mode .ensures, not-false (c .before .before .before .strict-mode .result) (c .before .before .if3 .left), ← c .before .strict-context .ensures, ← c .error-at .ensures)

@@ -3,59 +3,40 @@ use borrow.Author.Tests.{not-true, not-false}
 use borrow.Author.Needs.{needs}
 use Rattle.check_identifiers.proofs.check_identifier_reference.Statement.{statement}
 use Rattle.check_identifiers.proofs.check_identifier_reference.Tie as tie
-use Rattle.check_identifiers.proofs.check_identifier_reference.Reads as reads
-use Rattle.check_identifiers.proofs.check_identifier_reference.Lts as lts
-use Rattle.table_ancestry.proofs.has_ancestor.Reads as has-ancestor-reads
-use Rattle.check_diagnostics.proofs.error_at.Reads as error-at-reads
-use Rattle.check_identifiers.proofs.arguments_in_class.Reads as arguments-in-class-reads
-use Rattle.check_identifiers.proofs.is_invalid_target.Reads as is-invalid-target-reads
-use Rattle.check_identifiers.proofs.strict_context.Reads as strict-context-reads
-use Rattle.table_names.proofs.name_is.Reads as name-is-reads
 
--- src/lib.rt:247:8
 is-invalid-target-requires : tie.Need-is-invalid-target-requires
 is-invalid-target-requires c κs = search needs
 
--- src/lib.rt:248:13
 strict-context-requires : tie.Need-strict-context-requires
 strict-context-requires c κs = search needs
 
--- src/lib.rt:249:9
 error-at-requires : tie.Need-error-at-requires
 error-at-requires c κs = search needs
 
--- src/lib.rt:249:9
 returns : tie.Need-returns
 unfolding checkIdentifierReference
 returns c = rw (← c .before .before .before .is-invalid-target .ensures, c .before .before .if1 .taken, ← c .before .strict-context .ensures, ← c .error-at .ensures)
 
--- src/lib.rt:251:34
 slice-aggregate-name-is : tie.Need-slice-aggregate-name-is
 slice-aggregate-name-is c = search needs
 
--- src/lib.rt:251:9
 name-is-requires : tie.Need-name-is-requires
 name-is-requires c κs = search needs
 
--- src/lib.rt:252:9
 returns-2 : tie.Need-returns-2
 unfolding checkIdentifierReference
 returns-2 c = rw (← c .before .before .before .before .is-invalid-target .ensures, c .before .before .before .if1 .left, c .before .before .name-is-arg .given .1, ← c .before .name-is .ensures, not-true (c .before .name-is .result) (c .if2 .taken))
 
--- src/lib.rt:254:9
 has-ancestor-requires : tie.Need-has-ancestor-requires
 has-ancestor-requires c κs = search needs
 
--- src/lib.rt:255:9
 returns-3 : tie.Need-returns-3
 unfolding checkIdentifierReference
 returns-3 c = rw (← c .before .before .before .before .before .before .is-invalid-target .ensures, c .before .before .before .before .before .if1 .left, c .before .before .before .before .name-is-arg .given .1, ← c .before .before .before .name-is .ensures, not-false (c .before .before .before .name-is .result) (c .before .before .if2 .left), ← c .before .has-ancestor .ensures, not-true (c .before .has-ancestor .result) (c .if3 .taken))
 
--- src/lib.rt:257:5
 arguments-in-class-requires : tie.Need-arguments-in-class-requires
 arguments-in-class-requires c κs = search needs
 
--- src/lib.rt:242:1
 returns-4 : tie.Need-returns-4
 unfolding checkIdentifierReference
 returns-4 c = rw (← c .before .before .before .before .before .before .before .is-invalid-target .ensures, c .before .before .before .before .before .before .if1 .left, c .before .before .before .before .before .name-is-arg .given .1, ← c .before .before .before .before .name-is .ensures, not-false (c .before .before .before .before .name-is .result) (c .before .before .before .if2 .left), ← c .before .before .has-ancestor .ensures, not-false (c .before .before .has-ancestor .result) (c .before .if3 .left), ← c .arguments-in-class .ensures)

@@ -5,20 +5,13 @@ use Rattle.check_identifiers.specs.IdentifierLaws.{scope-node-below}
 use borrow.Author.Needs.{needs}
 use Rattle.check_identifiers.proofs.current_scope_node.Statement.{statement}
 use Rattle.check_identifiers.proofs.current_scope_node.Tie as tie
-use Rattle.check_identifiers.proofs.current_scope_node.Reads as reads
-use Rattle.check_identifiers.proofs.current_scope_node.Lts as lts
-use Rattle.table_records.proofs.scope.Reads as scope-reads
-use Rattle.table_records.proofs.scope_node.Reads as scope-node-reads
 
--- src/lib.rt:265:32
 scope-requires : tie.Need-scope-requires
 scope-requires c κs = search needs
 
--- src/lib.rt:265:5
 scope-node-requires : tie.Need-scope-node-requires
 scope-node-requires c κs = omega (arith, c .before .before .before .pre .1 .0 .scope (c .before .before .before .args .n .0) (c .before .before .before .pre .1 .1))
 
--- src/lib.rt:258:1
 returns : tie.Need-returns
 returns c = (cc, let w = scope-node-below (c .before .before .before .before .args .nodes .now) (c .before .before .before .before .args .scopes .now) (c .before .before .before .before .pre .0) (c .before .before .before .before .pre .1 .0) (c .before .before .before .before .args .n .0) (c .before .before .before .before .pre .1 .1) in let e : c .scope-node .result .0 ≡ scopeNodeOf (c .before .before .before .before .args .scopes .now) (scopeOf (c .before .before .before .before .args .nodes .now) (c .before .before .before .before .args .n .0)) = cc in omega arith)
 

@@ -1,32 +1,22 @@
 use borrow.Author.Needs.{needs}
 use Rattle.check_identifiers.proofs.is_eval_or_arguments.Statement.{statement}
 use Rattle.check_identifiers.proofs.is_eval_or_arguments.Tie as tie
-use Rattle.check_identifiers.proofs.is_eval_or_arguments.Reads as reads
-use Rattle.check_identifiers.proofs.is_eval_or_arguments.Lts as lts
-use Rattle.base_common.proofs.or.Reads as or-reads
-use Rattle.table_names.proofs.name_is.Reads as name-is-reads
 
--- src/lib.rt:126:34
 slice-aggregate-name-is : tie.Need-slice-aggregate-name-is
 slice-aggregate-name-is c = search needs
 
--- src/lib.rt:126:9
 name-is-requires : tie.Need-name-is-requires
 name-is-requires c κs = search needs
 
--- src/lib.rt:127:34
 slice-aggregate-name-is-2 : tie.Need-slice-aggregate-name-is-2
 slice-aggregate-name-is-2 c = search needs
 
--- src/lib.rt:127:9
 name-is-requires-2 : tie.Need-name-is-requires-2
 name-is-requires-2 c κs = search needs
 
--- src/lib.rt:125:5
 or-requires : tie.Need-or-requires
 or-requires c κs = search needs
 
--- src/lib.rt:120:1
 returns : tie.Need-returns
 returns c = rw (c .before .before .before .before .name-is-arg .given .1, ← c .before .before .before .name-is .ensures, c .before .before .name-is-arg2 .given .1, ← c .before .name-is2 .ensures, ← c .or .ensures)
 

@@ -3,38 +3,27 @@ use borrow.Author.Tests.{eq-eqb, ne-eqb}
 use borrow.Author.Needs.{needs}
 use Rattle.check_identifiers.proofs.is_field_value.Statement.{statement}
 use Rattle.check_identifiers.proofs.is_field_value.Tie as tie
-use Rattle.check_identifiers.proofs.is_field_value.Reads as reads
-use Rattle.check_identifiers.proofs.is_field_value.Lts as lts
-use Rattle.table_children.proofs.value_of.Reads as value-of-reads
-use Rattle.table_records.proofs.kind.Reads as kind-reads
 
--- src/lib.rt:190:8
 kind-requires : tie.Need-kind-requires
 kind-requires c κs = search needs
 
--- src/lib.rt:191:9
 returns : tie.Need-returns
 unfolding isFieldValue
 returns c = rw (← c .before .kind .ensures, ne-eqb _ _ (c .if1 .taken))
 
--- src/lib.rt:193:24
 value-of-requires : tie.Need-value-of-requires
 value-of-requires c κs = search needs
 
--- src/lib.rt:193:19
 enum-known-m : tie.Need-enum-known-m
 enum-known-m c = search needs
 
--- src/lib.rt:194:9
 enum-told : tie.Need-enum-told
 enum-told c = search needs
 
--- src/lib.rt:194:9
 returns-2 : tie.Need-returns-2
 unfolding isFieldValue
 returns-2 c = rw (← c .before .before .before .before .kind .ensures, eq-eqb _ _ (c .before .before .before .if1 .left), ← c .before .before .value-of .ensures .0, c .enum-told .given .1)
 
--- src/lib.rt:185:1
 returns-3 : tie.Need-returns-3
 unfolding isFieldValue
 returns-3 c = rw (← c .before .before .before .before .before .before .before .kind .ensures, eq-eqb _ _ (c .before .before .before .before .before .before .if1 .left), ← c .before .before .before .before .before .value-of .ensures .0, c .before .before .before .m .given .1)

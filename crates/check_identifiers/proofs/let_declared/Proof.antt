@@ -10,12 +10,6 @@ use Rattle.check_identifiers.specs.IdentifierLaws.{let-found, let-functi
 use borrow.Author.Needs.{needs}
 use Rattle.check_identifiers.proofs.let_declared.Statement.{statement}
 use Rattle.check_identifiers.proofs.let_declared.Tie as tie
-use Rattle.check_identifiers.proofs.let_declared.Reads as reads
-use Rattle.check_identifiers.proofs.let_declared.Lts as lts
-use Rattle.table_ancestry.proofs.up.Reads as up-reads
-use Rattle.base_common.proofs.within.Reads as within-reads
-use Rattle.check_identifiers.proofs.let_bound.Reads as let-bound-reads
-use Rattle.table_records.proofs.kind.Reads as kind-reads
 
 abbrev Inv-loop : tie.InvT-loop
 Inv-loop nodes n at₀ at = (at .0 < count nodes) × (letFrom nodes (n .0) (at .0) ≡ letFrom nodes (n .0) (at₀ .0))
@@ -23,46 +17,36 @@ Inv-loop nodes n at₀ at = (at .0 < count nodes) × (letFrom nodes (n .0) (at .
 abbrev μ-loop : tie.MeasureT-loop
 μ-loop nodes n at₀ at = at .0
 
--- src/lib.rt:150:5
 loop-holds : tie.Need-loop-holds Inv-loop μ-loop
 loop-holds c = search needs
 
--- src/lib.rt:154:9
 up-requires : tie.Need-up-requires Inv-loop μ-loop
 up-requires c κs = search needs
 
--- src/lib.rt:155:13
 kind-requires : tie.Need-kind-requires Inv-loop μ-loop
 kind-requires c κs = search needs
 
--- src/lib.rt:157:19
 let-bound-requires : tie.Need-let-bound-requires Inv-loop μ-loop
 let-bound-requires c κs = search needs
 
--- src/lib.rt:159:12
 within-requires : tie.Need-within-requires Inv-loop μ-loop
 within-requires c κs = search needs
 
--- src/lib.rt:150:5
 loop-less : tie.Need-loop-less Inv-loop μ-loop
 loop-less c = search needs
 
--- src/lib.rt:150:5
 loop-again : tie.Need-loop-again Inv-loop μ-loop
 loop-again c = let a = c .before .before .before .before .before .before .before .before .before .args in
     let q : kindOf (a .nodes .now) (c .before .before .before .before .up .result .0) ≡ k.VariableDeclaration → ⊥ = λ e. c .before .before .if2 .left (c .before .before .before .kind .ensures ∙ e) in
     let w : within (kindOf (a .nodes .now) (c .before .before .before .before .up .result .0)) k.Function k.Arrow ≡ false = ap (λ x. within x k.Function k.Arrow) (sym (c .before .before .before .kind .ensures)) ∙ sym (c .before .within .ensures) ∙ c .if3 .left in
     (omega arith, cc (let-on (a .nodes .now) (c .before .before .before .before .before .before .before .before .before .pre .0) (a .n .0) (c .before .before .before .before .before .before .before .loop .at .0) (c .before .before .before .before .up .result .0) (omega arith) (omega arith) (c .before .before .before .before .up .ensures .0) q w))
 
--- src/lib.rt:144:1
 returns : tie.Need-returns Inv-loop μ-loop
 returns c = let z : c .before .before .loop .at .0 ≡ 0 = omega arith in cc (let-root (c .before .before .before .before .args .nodes .now) (c .before .before .before .before .args .n .0), z)
 
--- src/lib.rt:144:1
 returns-2 : tie.Need-returns-2 Inv-loop μ-loop
 returns-2 c = let a = c .before .before .before .before .before .before .before .before .args in cc (let-found (a .nodes .now) (c .before .before .before .before .before .before .before .before .pre .0) (a .n .0) (c .before .before .before .before .before .before .loop .at .0) (c .before .before .before .up .result .0) (omega arith) (omega arith) (c .before .before .before .up .ensures .0) (sym (c .before .before .kind .ensures) ∙ c .before .if2 .taken))
 
--- src/lib.rt:144:1
 returns-3 : tie.Need-returns-3 Inv-loop μ-loop
 returns-3 c = let a = c .before .before .before .before .before .before .before .before .before .args in
     let q : kindOf (a .nodes .now) (c .before .before .before .before .up .result .0) ≡ k.VariableDeclaration → ⊥ = λ e. c .before .before .if2 .left (c .before .before .before .kind .ensures ∙ e) in

@@ -1,37 +1,25 @@
 use borrow.Author.Needs.{needs}
 use Rattle.check_jumps.proofs.check_break_statement.Statement.{statement}
 use Rattle.check_jumps.proofs.check_break_statement.Tie as tie
-use Rattle.check_jumps.proofs.check_break_statement.Reads as reads
-use Rattle.check_jumps.proofs.check_break_statement.Lts as lts
-use Rattle.table_children.proofs.label_of.Reads as label-of-reads
-use Rattle.check_jumps.proofs.labelled_break.Reads as labelled-break-reads
-use Rattle.check_jumps.proofs.plain_break.Reads as plain-break-reads
 
--- src/lib.rt:137:28
 label-of-requires : tie.Need-label-of-requires
 label-of-requires c κs = search needs
 
--- src/lib.rt:137:19
 enum-known-label : tie.Need-enum-known-label
 enum-known-label c = search needs
 
--- src/lib.rt:138:9
 enum-told : tie.Need-enum-told
 enum-told c = search needs
 
--- src/lib.rt:138:9
 plain-break-requires : tie.Need-plain-break-requires
 plain-break-requires c κs = search needs
 
--- src/lib.rt:138:9
 returns : tie.Need-returns
 returns c = rw (← c .before .before .before .label-of .ensures .0, c .before .enum-told .given .1) (c .plain-break .ensures)
 
--- src/lib.rt:140:5
 labelled-break-requires : tie.Need-labelled-break-requires
 labelled-break-requires c κs = (c .before .before .before .before .before .before .pre .0, (c .before .before .before .before .before .before .pre .1 .0, (c .before .before .before .before .before .before .pre .1 .1, rw (c .before .label .given .1) at (c .before .before .before .label-of .ensures .1))))
 
--- src/lib.rt:131:1
 returns-2 : tie.Need-returns-2
 returns-2 c = rw (← c .before .before .before .before .label-of .ensures .0, c .before .before .label .given .1) (c .labelled-break .ensures)
 

@@ -1,37 +1,25 @@
 use borrow.Author.Needs.{needs}
 use Rattle.check_jumps.proofs.check_continue_statement.Statement.{statement}
 use Rattle.check_jumps.proofs.check_continue_statement.Tie as tie
-use Rattle.check_jumps.proofs.check_continue_statement.Reads as reads
-use Rattle.check_jumps.proofs.check_continue_statement.Lts as lts
-use Rattle.table_children.proofs.label_of.Reads as label-of-reads
-use Rattle.check_jumps.proofs.labelled_continue.Reads as labelled-continue-reads
-use Rattle.check_jumps.proofs.plain_continue.Reads as plain-continue-reads
 
--- src/lib.rt:216:28
 label-of-requires : tie.Need-label-of-requires
 label-of-requires c κs = search needs
 
--- src/lib.rt:216:19
 enum-known-label : tie.Need-enum-known-label
 enum-known-label c = search needs
 
--- src/lib.rt:217:9
 enum-told : tie.Need-enum-told
 enum-told c = search needs
 
--- src/lib.rt:217:9
 plain-continue-requires : tie.Need-plain-continue-requires
 plain-continue-requires c κs = search needs
 
--- src/lib.rt:217:9
 returns : tie.Need-returns
 returns c = rw (← c .before .before .before .label-of .ensures .0, c .before .enum-told .given .1) (c .plain-continue .ensures)
 
--- src/lib.rt:219:5
 labelled-continue-requires : tie.Need-labelled-continue-requires
 labelled-continue-requires c κs = (c .before .before .before .before .before .before .pre .0, (c .before .before .before .before .before .before .pre .1 .0, (c .before .before .before .before .before .before .pre .1 .1, rw (c .before .label .given .1) at (c .before .before .before .label-of .ensures .1))))
 
--- src/lib.rt:210:1
 returns-2 : tie.Need-returns-2
 returns-2 c = rw (← c .before .before .before .before .label-of .ensures .0, c .before .before .label .given .1) (c .labelled-continue .ensures)
 

@@ -1,32 +1,22 @@
 use borrow.Author.Needs.{needs}
 use Rattle.check_jumps.proofs.check_labeled_statement.Statement.{statement}
 use Rattle.check_jumps.proofs.check_labeled_statement.Tie as tie
-use Rattle.check_jumps.proofs.check_labeled_statement.Reads as reads
-use Rattle.check_jumps.proofs.check_labeled_statement.Lts as lts
-use Rattle.table_children.proofs.label_of.Reads as label-of-reads
-use Rattle.check_jumps.proofs.redeclared_label.Reads as redeclared-label-reads
 
--- src/lib.rt:252:28
 label-of-requires : tie.Need-label-of-requires
 label-of-requires c κs = search needs
 
--- src/lib.rt:252:19
 enum-known-label : tie.Need-enum-known-label
 enum-known-label c = search needs
 
--- src/lib.rt:253:9
 enum-told : tie.Need-enum-told
 enum-told c = search needs
 
--- src/lib.rt:253:9
 returns : tie.Need-returns
 returns c = rw (← c .before .before .label-of .ensures .0, c .enum-told .given .1)
 
--- src/lib.rt:255:5
 redeclared-label-requires : tie.Need-redeclared-label-requires
 redeclared-label-requires c κs = (c .before .before .before .before .before .before .pre .0, (c .before .before .before .before .before .before .pre .1 .0, (c .before .before .before .before .before .before .pre .1 .1, rw (c .before .label .given .1) at (c .before .before .before .label-of .ensures .1))))
 
--- src/lib.rt:246:1
 returns-2 : tie.Need-returns-2
 returns-2 c = rw (← c .before .before .before .before .label-of .ensures .0, c .before .before .label .given .1) (c .redeclared-label .ensures)
 

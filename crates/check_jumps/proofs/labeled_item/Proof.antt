@@ -7,10 +7,6 @@ use native.Mathlib.Omega.{arith}
 use borrow.Author.Needs.{needs}
 use Rattle.check_jumps.proofs.labeled_item.Statement.{statement}
 use Rattle.check_jumps.proofs.labeled_item.Tie as tie
-use Rattle.check_jumps.proofs.labeled_item.Reads as reads
-use Rattle.check_jumps.proofs.labeled_item.Lts as lts
-use Rattle.table_children.proofs.held_of.Reads as held-of-reads
-use Rattle.table_records.proofs.kind.Reads as kind-reads
 
 abbrev Inv-loop : tie.InvT-loop
 Inv-loop nodes target₀ target = (target .0 < count nodes) × (labeledItem nodes (target .0) ≡ labeledItem nodes (target₀ .0))
@@ -18,41 +14,32 @@ Inv-loop nodes target₀ target = (target .0 < count nodes) × (labeledItem node
 abbrev μ-loop : tie.MeasureT-loop
 μ-loop nodes target₀ target = count nodes - target .0
 
--- src/lib.rt:67:5
 loop-holds : tie.Need-loop-holds Inv-loop μ-loop
 loop-holds c = search needs
 
--- src/lib.rt:68:13
 kind-requires : tie.Need-kind-requires Inv-loop μ-loop
 kind-requires c κs = search needs
 
--- src/lib.rt:72:33
 held-of-requires : tie.Need-held-of-requires Inv-loop μ-loop
 held-of-requires c κs = search needs
 
--- src/lib.rt:72:23
 enum-known-nested : tie.Need-enum-known-nested Inv-loop μ-loop
 enum-known-nested c = search needs
 
--- src/lib.rt:73:19
 enum-told : tie.Need-enum-told Inv-loop μ-loop
 enum-told c = search needs
 
--- src/lib.rt:67:5
 loop-less : tie.Need-loop-less Inv-loop μ-loop
 loop-less c = let w = held-after (c .before .before .before .before .before .before .before .before .args .nodes .now) (c .before .before .before .before .before .before .loop .target .0) (c .before .nested .given .0 .0 .0) (sym (c .before .before .before .held-of .ensures .0) ∙ c .before .nested .given .1) in omega arith
 
--- src/lib.rt:67:5
 loop-again : tie.Need-loop-again Inv-loop μ-loop
 loop-again c = let e = sym (c .before .before .before .held-of .ensures .0) ∙ c .before .nested .given .1 in
     let w = held-after (c .before .before .before .before .before .before .before .before .args .nodes .now) (c .before .before .before .before .before .before .loop .target .0) (c .before .nested .given .0 .0 .0) e in
     (omega arith, sym (item-down (c .before .before .before .before .before .before .before .before .args .nodes .now) (c .before .before .before .before .before .before .loop .target .0) (c .before .before .before .before .before .before .loop .inv .0) (c .before .nested .given .0 .0 .0) (sym (c .before .before .before .before .before .kind .ensures) ∙ c .before .before .before .before .if1 .left) e) ∙ c .before .before .before .before .before .before .loop .inv .1)
 
--- src/lib.rt:60:1
 returns : tie.Need-returns Inv-loop μ-loop
 returns c = (cc (item-here (c .before .before .before .before .args .nodes .now) (c .before .before .loop .target .0) (c .before .before .loop .inv .0) (λ q. c .if1 .taken (c .before .kind .ensures ∙ q))), c .before .before .loop .inv .0)
 
--- src/lib.rt:60:1
 returns-2 : tie.Need-returns-2 Inv-loop μ-loop
 returns-2 c = (cc (item-none (c .before .before .before .before .before .before .before .args .nodes .now) (c .before .before .before .before .before .loop .target .0) (c .before .before .before .before .before .loop .inv .0) (sym (c .before .before .before .before .kind .ensures) ∙ c .before .before .before .if1 .left) (sym (c .before .before .held-of .ensures .0) ∙ c .enum-told .given .1)), c .before .before .before .before .before .loop .inv .0)
 

@@ -1,21 +1,12 @@
 use native.Mathlib.Omega.{arith}
 use mathlib.Core.Path.{_≡_, sym, _∙_}
 use Prim.Native.Nat.{_<_}
-use borrow.Author.Tests.{eq-eqb, ne-eqb}
 use Rattle.table_records.specs.Table.{count}
 use Rattle.check_jumps.specs.Jumps.{walkUp, labelledContinueAt}
 use Rattle.check_jumps.specs.JumpsLaws.{walk-up, walk-root}
 use borrow.Author.Needs.{needs}
 use Rattle.check_jumps.proofs.labelled_continue.Statement.{statement}
 use Rattle.check_jumps.proofs.labelled_continue.Tie as tie
-use Rattle.check_jumps.proofs.labelled_continue.Reads as reads
-use Rattle.check_jumps.proofs.labelled_continue.Lts as lts
-use Rattle.table_ancestry.proofs.up.Reads as up-reads
-use Rattle.check_jumps.proofs.continue_to.Reads as continue-to-reads
-use Rattle.check_jumps.proofs.is_unit.Reads as is-unit-reads
-use Rattle.check_jumps.proofs.no_label.Reads as no-label-reads
-use Rattle.check_jumps.proofs.same_label.Reads as same-label-reads
-use Rattle.table_records.proofs.kind.Reads as kind-reads
 
 abbrev Inv-loop : tie.InvT-loop
 Inv-loop nodes names n label at₀ at = (at .0 < count nodes) × (walkUp nodes (labelledContinueAt nodes names (n .0) (label .0)) (at .0) ≡ walkUp nodes (labelledContinueAt nodes names (n .0) (label .0)) (at₀ .0))
@@ -23,43 +14,33 @@ Inv-loop nodes names n label at₀ at = (at .0 < count nodes) × (walkUp nodes (
 abbrev μ-loop : tie.MeasureT-loop
 μ-loop nodes names n label at₀ at = at .0
 
--- src/lib.rt:198:5
 loop-holds : tie.Need-loop-holds Inv-loop μ-loop
 loop-holds c = search needs
 
--- src/lib.rt:202:9
 up-requires : tie.Need-up-requires Inv-loop μ-loop
 up-requires c κs = search needs
 
--- src/lib.rt:203:13
 kind-requires : tie.Need-kind-requires Inv-loop μ-loop
 kind-requires c κs = search needs
 
--- src/lib.rt:204:12
 is-unit-requires : tie.Need-is-unit-requires Inv-loop μ-loop
 is-unit-requires c κs = search needs
 
--- src/lib.rt:205:19
 no-label-requires : tie.Need-no-label-requires Inv-loop μ-loop
 no-label-requires c κs = search needs
 
--- src/lib.rt:207:32
 same-label-requires : tie.Need-same-label-requires Inv-loop μ-loop
 same-label-requires c κs = (c .before .before .before .before .before .before .before .before .before .pre .0, (c .before .before .before .before .before .before .before .before .before .pre .1 .0, (c .before .before .before .before .before .before .before .before .before .pre .1 .1 .1, omega arith)))
 
--- src/lib.rt:207:23
 enum-known-outer : tie.Need-enum-known-outer Inv-loop μ-loop
 enum-known-outer c = search needs
 
--- src/lib.rt:208:13
 enum-told : tie.Need-enum-told Inv-loop μ-loop
 enum-told c = search needs
 
--- src/lib.rt:198:5
 loop-less : tie.Need-loop-less Inv-loop μ-loop
 loop-less c = search needs
 
--- src/lib.rt:198:5
 loop-again : tie.Need-loop-again Inv-loop μ-loop
 unfolding labelledContinueAt
 loop-again c =
@@ -70,11 +51,9 @@ loop-again c =
           ∙ rw (← c .before .before .before .before .before .kind .ensures, ← c .before .before .before .before .is-unit .ensures, c .before .before .before .if2 .left, ← c .before .before .same-label .ensures .0, c .enum-told .given .1)) ∙ o .inv .1,
     )
 
--- src/lib.rt:210:15
 continue-to-requires : tie.Need-continue-to-requires Inv-loop μ-loop
 continue-to-requires c κs = (c .before .before .before .before .before .before .before .before .before .before .before .before .before .pre .0, (c .before .before .before .before .before .before .before .before .before .before .before .before .before .pre .1 .1 .1, (omega arith, rw (c .before .outer .given .1) at (c .before .before .before .same-label .ensures .1))))
 
--- src/lib.rt:190:1
 returns : tie.Need-returns Inv-loop μ-loop
 returns c =
     let a = c .before .before .before .before .before .args in
@@ -82,7 +61,6 @@ returns c =
     let z : o .at .0 ≡ 0 = c .if1 .taken in
     sym (sym (o .inv .1) ∙ cc (walk-root (a .nodes .now) (labelledContinueAt (a .nodes .now) (a .names .now) (a .n .0) (a .label .0)), z))
 
--- src/lib.rt:190:1
 returns-2 : tie.Need-returns-2 Inv-loop μ-loop
 unfolding labelledContinueAt
 returns-2 c =
@@ -91,7 +69,6 @@ returns-2 c =
     c .no-label .ensures ∙ sym (sym (o .inv .1) ∙ walk-up (a .nodes .now) (labelledContinueAt (a .nodes .now) (a .names .now) (a .n .0) (a .label .0)) (c .before .before .before .before .before .before .before .before .before .before .pre .0) (o .at .0) (c .before .before .before .before .up .result .0) (omega arith) (omega arith) (c .before .before .before .before .up .ensures .0)
     ∙ rw (← c .before .before .before .kind .ensures, ← c .before .before .is-unit .ensures, c .before .if2 .taken))
 
--- src/lib.rt:190:1
 returns-3 : tie.Need-returns-3 Inv-loop μ-loop
 unfolding labelledContinueAt
 returns-3 c =

@@ -3,24 +3,17 @@ use Rattle.check_jumps.specs.Jumps.{noLabel}
 use borrow.Author.Needs.{needs}
 use Rattle.check_jumps.proofs.no_label.Statement.{statement}
 use Rattle.check_jumps.proofs.no_label.Tie as tie
-use Rattle.check_jumps.proofs.no_label.Reads as reads
-use Rattle.check_jumps.proofs.no_label.Lts as lts
-use Rattle.check_diagnostics.proofs.error_at.Reads as error-at-reads
 
--- src/lib.rt:112:9
 error-at-requires : tie.Need-error-at-requires
 error-at-requires c κs = search needs
 
--- src/lib.rt:112:9
 returns : tie.Need-returns
 unfolding noLabel
 returns c = rw (eq-eqb _ _ (c .before .if1 .taken)) (c .error-at .ensures)
 
--- src/lib.rt:114:5
 error-at-requires-2 : tie.Need-error-at-requires-2
 error-at-requires-2 c κs = search needs
 
--- src/lib.rt:107:1
 returns-2 : tie.Need-returns-2
 unfolding noLabel
 returns-2 c = rw (ne-eqb _ _ (c .before .if1 .left)) (c .error-at2 .ensures)

@@ -1,20 +1,12 @@
 use native.Mathlib.Omega.{arith}
 use mathlib.Core.Path.{_≡_, sym, _∙_}
 use Prim.Native.Nat.{_<_}
-use borrow.Author.Tests.{eq-eqb, ne-eqb}
 use Rattle.table_records.specs.Table.{count}
 use Rattle.check_jumps.specs.Jumps.{walkUp, plainBreakAt}
 use Rattle.check_jumps.specs.JumpsLaws.{walk-up, walk-root}
 use borrow.Author.Needs.{needs}
 use Rattle.check_jumps.proofs.plain_break.Statement.{statement}
 use Rattle.check_jumps.proofs.plain_break.Tie as tie
-use Rattle.check_jumps.proofs.plain_break.Reads as reads
-use Rattle.check_jumps.proofs.plain_break.Lts as lts
-use Rattle.table_ancestry.proofs.up.Reads as up-reads
-use Rattle.check_diagnostics.proofs.error_at.Reads as error-at-reads
-use Rattle.check_jumps.proofs.is_breakable.Reads as is-breakable-reads
-use Rattle.check_jumps.proofs.is_unit.Reads as is-unit-reads
-use Rattle.table_records.proofs.kind.Reads as kind-reads
 
 abbrev Inv-loop : tie.InvT-loop
 Inv-loop nodes n at₀ at = (at .0 < count nodes) × (walkUp nodes (plainBreakAt nodes (n .0)) (at .0) ≡ walkUp nodes (plainBreakAt nodes (n .0)) (at₀ .0))
@@ -22,35 +14,27 @@ Inv-loop nodes n at₀ at = (at .0 < count nodes) × (walkUp nodes (plainBreakAt
 abbrev μ-loop : tie.MeasureT-loop
 μ-loop nodes n at₀ at = at .0
 
--- src/lib.rt:91:5
 loop-holds : tie.Need-loop-holds Inv-loop μ-loop
 loop-holds c = search needs
 
--- src/lib.rt:95:9
 up-requires : tie.Need-up-requires Inv-loop μ-loop
 up-requires c κs = search needs
 
--- src/lib.rt:96:13
 kind-requires : tie.Need-kind-requires Inv-loop μ-loop
 kind-requires c κs = search needs
 
--- src/lib.rt:97:12
 is-unit-requires : tie.Need-is-unit-requires Inv-loop μ-loop
 is-unit-requires c κs = search needs
 
--- src/lib.rt:98:19
 error-at-requires : tie.Need-error-at-requires Inv-loop μ-loop
 error-at-requires c κs = search needs
 
--- src/lib.rt:100:12
 is-breakable-requires : tie.Need-is-breakable-requires Inv-loop μ-loop
 is-breakable-requires c κs = search needs
 
--- src/lib.rt:91:5
 loop-less : tie.Need-loop-less Inv-loop μ-loop
 loop-less c = search needs
 
--- src/lib.rt:91:5
 loop-again : tie.Need-loop-again Inv-loop μ-loop
 unfolding plainBreakAt
 loop-again c =
@@ -61,7 +45,6 @@ loop-again c =
           ∙ rw (← c .before .before .before .before .kind .ensures, ← c .before .before .before .is-unit .ensures, c .before .before .if2 .left, ← c .before .is-breakable .ensures, c .if3 .left)) ∙ o .inv .1,
     )
 
--- src/lib.rt:85:1
 returns : tie.Need-returns Inv-loop μ-loop
 returns c =
     let a = c .before .before .before .before .args in
@@ -69,7 +52,6 @@ returns c =
     let z : o .at .0 ≡ 0 = c .if1 .taken in
     sym (sym (o .inv .1) ∙ cc (walk-root (a .nodes .now) (plainBreakAt (a .nodes .now) (a .n .0)), z))
 
--- src/lib.rt:85:1
 returns-2 : tie.Need-returns-2 Inv-loop μ-loop
 unfolding plainBreakAt
 returns-2 c =
@@ -78,7 +60,6 @@ returns-2 c =
     c .error-at .ensures ∙ sym (sym (o .inv .1) ∙ walk-up (a .nodes .now) (plainBreakAt (a .nodes .now) (a .n .0)) (c .before .before .before .before .before .before .before .before .before .pre .0) (o .at .0) (c .before .before .before .before .up .result .0) (omega arith) (omega arith) (c .before .before .before .before .up .ensures .0)
     ∙ rw (← c .before .before .before .kind .ensures, ← c .before .before .is-unit .ensures, c .before .if2 .taken))
 
--- src/lib.rt:85:1
 returns-3 : tie.Need-returns-3 Inv-loop μ-loop
 unfolding plainBreakAt
 returns-3 c =

@@ -1,20 +1,12 @@
 use native.Mathlib.Omega.{arith}
 use mathlib.Core.Path.{_≡_, sym, _∙_}
 use Prim.Native.Nat.{_<_}
-use borrow.Author.Tests.{eq-eqb, ne-eqb}
 use Rattle.table_records.specs.Table.{count}
 use Rattle.check_jumps.specs.Jumps.{walkUp, labeledAt}
 use Rattle.check_jumps.specs.JumpsLaws.{walk-up, walk-root}
 use borrow.Author.Needs.{needs}
 use Rattle.check_jumps.proofs.redeclared_label.Statement.{statement}
 use Rattle.check_jumps.proofs.redeclared_label.Tie as tie
-use Rattle.check_jumps.proofs.redeclared_label.Reads as reads
-use Rattle.check_jumps.proofs.redeclared_label.Lts as lts
-use Rattle.table_ancestry.proofs.up.Reads as up-reads
-use Rattle.check_diagnostics.proofs.error_between.Reads as error-between-reads
-use Rattle.check_jumps.proofs.is_boundary.Reads as is-boundary-reads
-use Rattle.check_jumps.proofs.same_label.Reads as same-label-reads
-use Rattle.table_records.proofs.kind.Reads as kind-reads
 
 abbrev Inv-loop : tie.InvT-loop
 Inv-loop nodes names n label at₀ at = (at .0 < count nodes) × (walkUp nodes (labeledAt nodes names (n .0) (label .0)) (at .0) ≡ walkUp nodes (labeledAt nodes names (n .0) (label .0)) (at₀ .0))
@@ -22,39 +14,30 @@ Inv-loop nodes names n label at₀ at = (at .0 < count nodes) × (walkUp nodes (
 abbrev μ-loop : tie.MeasureT-loop
 μ-loop nodes names n label at₀ at = at .0
 
--- src/lib.rt:235:5
 loop-holds : tie.Need-loop-holds Inv-loop μ-loop
 loop-holds c = search needs
 
--- src/lib.rt:239:9
 up-requires : tie.Need-up-requires Inv-loop μ-loop
 up-requires c κs = search needs
 
--- src/lib.rt:240:24
 kind-requires : tie.Need-kind-requires Inv-loop μ-loop
 kind-requires c κs = search needs
 
--- src/lib.rt:240:12
 is-boundary-requires : tie.Need-is-boundary-requires Inv-loop μ-loop
 is-boundary-requires c κs = search needs
 
--- src/lib.rt:243:32
 same-label-requires : tie.Need-same-label-requires Inv-loop μ-loop
 same-label-requires c κs = (c .before .before .before .before .before .before .before .before .before .pre .0, (c .before .before .before .before .before .before .before .before .before .pre .1 .0, (c .before .before .before .before .before .before .before .before .before .pre .1 .1 .1, omega arith)))
 
--- src/lib.rt:243:23
 enum-known-outer : tie.Need-enum-known-outer Inv-loop μ-loop
 enum-known-outer c = search needs
 
--- src/lib.rt:244:13
 enum-told : tie.Need-enum-told Inv-loop μ-loop
 enum-told c = search needs
 
--- src/lib.rt:235:5
 loop-less : tie.Need-loop-less Inv-loop μ-loop
 loop-less c = search needs
 
--- src/lib.rt:235:5
 loop-again : tie.Need-loop-again Inv-loop μ-loop
 unfolding labeledAt
 loop-again c =
@@ -65,11 +48,9 @@ loop-again c =
           ∙ rw (← c .before .before .before .before .before .kind .ensures, ← c .before .before .before .before .is-boundary .ensures, c .before .before .before .if2 .left, ← c .before .before .same-label .ensures .0, c .enum-told .given .1)) ∙ o .inv .1,
     )
 
--- src/lib.rt:246:15
 error-between-requires : tie.Need-error-between-requires Inv-loop μ-loop
 error-between-requires c κs = (rw (c .before .outer .given .1) at (c .before .before .before .same-label .ensures .1), c .before .before .before .before .before .before .before .before .before .before .before .before .before .pre .1 .1 .1)
 
--- src/lib.rt:227:1
 returns : tie.Need-returns Inv-loop μ-loop
 returns c =
     let a = c .before .before .before .before .before .args in
@@ -77,7 +58,6 @@ returns c =
     let z : o .at .0 ≡ 0 = c .if1 .taken in
     sym (sym (o .inv .1) ∙ cc (walk-root (a .nodes .now) (labeledAt (a .nodes .now) (a .names .now) (a .n .0) (a .label .0)), z))
 
--- src/lib.rt:227:1
 returns-2 : tie.Need-returns-2 Inv-loop μ-loop
 unfolding labeledAt
 returns-2 c =
@@ -86,7 +66,6 @@ returns-2 c =
     sym (sym (o .inv .1) ∙ walk-up (a .nodes .now) (labeledAt (a .nodes .now) (a .names .now) (a .n .0) (a .label .0)) (c .before .before .before .before .before .before .before .before .before .pre .0) (o .at .0) (c .before .before .before .up .result .0) (omega arith) (omega arith) (c .before .before .before .up .ensures .0)
     ∙ rw (← c .before .before .kind .ensures, ← c .before .is-boundary .ensures, c .if2 .taken))
 
--- src/lib.rt:227:1
 returns-3 : tie.Need-returns-3 Inv-loop μ-loop
 unfolding labeledAt
 returns-3 c =

@@ -3,48 +3,34 @@ use borrow.Author.Tests.{eq-eqb, ne-eqb}
 use borrow.Author.Needs.{needs}
 use Rattle.check_jumps.proofs.same_label.Statement.{statement}
 use Rattle.check_jumps.proofs.same_label.Tie as tie
-use Rattle.check_jumps.proofs.same_label.Reads as reads
-use Rattle.check_jumps.proofs.same_label.Lts as lts
-use Rattle.table_children.proofs.label_of.Reads as label-of-reads
-use Rattle.table_names.proofs.same_name.Reads as same-name-reads
-use Rattle.table_records.proofs.kind.Reads as kind-reads
 
--- src/lib.rt:46:9
 kind-requires : tie.Need-kind-requires
 kind-requires c κs = search needs
 
--- src/lib.rt:48:9
 returns : tie.Need-returns
 unfolding sameLabel
 returns c = (rw (← c .before .kind .ensures, ne-eqb _ _ (c .if1 .taken)), tt)
 
--- src/lib.rt:50:26
 label-of-requires : tie.Need-label-of-requires
 label-of-requires c κs = search needs
 
--- src/lib.rt:50:19
 enum-known-own : tie.Need-enum-known-own
 enum-known-own c = search needs
 
--- src/lib.rt:51:9
 enum-told : tie.Need-enum-told
 enum-told c = search needs
 
--- src/lib.rt:51:9
 returns-2 : tie.Need-returns-2
 unfolding sameLabel
 returns-2 c = (rw (← c .before .before .before .before .kind .ensures, eq-eqb _ _ (c .before .before .before .if1 .left), ← c .before .before .label-of .ensures .0, c .enum-told .given .1), tt)
 
--- src/lib.rt:53:8
 same-name-requires : tie.Need-same-name-requires
 same-name-requires c κs = (c .before .before .before .before .before .before .before .before .pre .1 .0, (rw (c .before .own .given .1) at (c .before .before .before .label-of .ensures .1), c .before .before .before .before .before .before .before .before .pre .1 .1 .0))
 
--- src/lib.rt:54:9
 returns-3 : tie.Need-returns-3
 unfolding sameLabel
 returns-3 c = (rw (← c .before .before .before .before .before .before .before .kind .ensures, eq-eqb _ _ (c .before .before .before .before .before .before .if1 .left), ← c .before .before .before .before .before .label-of .ensures .0, c .before .before .before .own .given .1, ← c .before .same-name .ensures, c .if2 .taken), rw (c .before .before .before .own .given .1) at (c .before .before .before .before .before .label-of .ensures .1))
 
--- src/lib.rt:38:1
 returns-4 : tie.Need-returns-4
 unfolding sameLabel
 returns-4 c = (rw (← c .before .before .before .before .before .before .before .kind .ensures, eq-eqb _ _ (c .before .before .before .before .before .before .if1 .left), ← c .before .before .before .before .before .label-of .ensures .0, c .before .before .before .own .given .1, ← c .before .same-name .ensures, c .if2 .left), tt)

@@ -3,90 +3,63 @@ use borrow.Author.Tests.{eq-eqb, ne-eqb, not-true, not-false}
 use borrow.Author.Needs.{needs}
 use Rattle.check_literals.proofs.check_string_literal.Statement.{statement}
 use Rattle.check_literals.proofs.check_string_literal.Tie as tie
-use Rattle.check_literals.proofs.check_string_literal.Reads as reads
-use Rattle.check_literals.proofs.check_string_literal.Lts as lts
-use Rattle.table_ancestry.proofs.parent_kind.Reads as parent-kind-reads
-use Rattle.check_diagnostics.proofs.error_at.Reads as error-at-reads
-use Rattle.check_literals.proofs.first_bad_escape.Reads as first-bad-escape-reads
-use Rattle.check_literals.proofs.source_text.Reads as source-text-reads
-use Rattle.table_scoping.proofs.strict_mode.Reads as strict-mode-reads
-use Rattle.table_records.proofs.extra.Reads as extra-reads
-use Rattle.table_records.proofs.wide.Reads as wide-reads
 
--- src/lib.rt:111:9
 strict-mode-requires : tie.Need-strict-mode-requires
 strict-mode-requires c κs = search needs
 
--- src/lib.rt:112:9
 returns : tie.Need-returns
 unfolding checkStringLiteral
 returns c = rw (← c .before .strict-mode .ensures, not-true (c .before .strict-mode .result) (c .if1 .taken))
 
--- src/lib.rt:114:8
 parent-kind-requires : tie.Need-parent-kind-requires
 parent-kind-requires c κs = search needs
 
--- src/lib.rt:115:9
 returns-2 : tie.Need-returns-2
 unfolding checkStringLiteral
 returns-2 c = rw (← c .before .before .before .strict-mode .ensures, not-false (c .before .before .before .strict-mode .result) (c .before .before .if1 .left), ← c .before .parent-kind .ensures, eq-eqb _ _ (c .if2 .taken))
 
--- src/lib.rt:117:9
 source-text-requires : tie.Need-source-text-requires
 source-text-requires c κs = search needs
 
--- src/lib.rt:119:34
 extra-requires : tie.Need-extra-requires
 extra-requires c κs = search needs
 
--- src/lib.rt:119:21
 wide-requires : tie.Need-wide-requires
 wide-requires c κs = search needs
 
--- src/lib.rt:119:21
 add-if3 : tie.Need-add-if3
 add-if3 c = search needs
 
--- src/lib.rt:120:9
 returns-3 : tie.Need-returns-3
 unfolding checkStringLiteral
 returns-3 c = rw (← c .before .before .before .before .before .before .before .strict-mode .ensures, not-false (c .before .before .before .before .before .before .before .strict-mode .result) (c .before .before .before .before .before .before .if1 .left), ← c .before .before .before .before .before .parent-kind .ensures, ne-eqb _ _ (c .before .before .before .before .if2 .left), ← c .before .before .before .source-text .ensures, ← c .before .before .extra .ensures, ← c .before .wide .ensures, eq-eqb _ _ (c .if3 .taken))
 
--- src/lib.rt:122:9
 first-bad-escape-requires : tie.Need-first-bad-escape-requires
 first-bad-escape-requires c κs = search needs
 
--- src/lib.rt:124:35
 enum-told : tie.Need-enum-told
 enum-told c = search needs
 
--- src/lib.rt:124:35
 error-at-requires : tie.Need-error-at-requires
 error-at-requires c κs = search needs
 
--- src/lib.rt:125:39
 enum-told-2 : tie.Need-enum-told-2
 enum-told-2 c = search needs
 
--- src/lib.rt:125:39
 error-at-requires-2 : tie.Need-error-at-requires-2
 error-at-requires-2 c κs = search needs
 
--- src/lib.rt:132:25
 enum-told-3 : tie.Need-enum-told-3
 enum-told-3 c = search needs
 
--- src/lib.rt:104:1
 returns-4 : tie.Need-returns-4
 unfolding checkStringLiteral
 returns-4 c = rw (← c .before .before .before .before .before .before .before .before .before .before .before .strict-mode .ensures, not-false (c .before .before .before .before .before .before .before .before .before .before .before .strict-mode .result) (c .before .before .before .before .before .before .before .before .before .before .if1 .left), ← c .before .before .before .before .before .before .before .before .before .parent-kind .ensures, ne-eqb _ _ (c .before .before .before .before .before .before .before .before .if2 .left), ← c .before .before .before .before .before .before .before .source-text .ensures, ← c .before .before .before .before .before .before .extra .ensures, ← c .before .before .before .before .before .wide .ensures, ne-eqb _ _ (c .before .before .before .before .if3 .left), ← c .before .before .before .first-bad-escape .ensures, c .before .enum-told .given .1, ← c .error-at .ensures)
 
--- src/lib.rt:104:1
 returns-5 : tie.Need-returns-5
 unfolding checkStringLiteral
 returns-5 c = rw (← c .before .before .before .before .before .before .before .before .before .before .before .strict-mode .ensures, not-false (c .before .before .before .before .before .before .before .before .before .before .before .strict-mode .result) (c .before .before .before .before .before .before .before .before .before .before .if1 .left), ← c .before .before .before .before .before .before .before .before .before .parent-kind .ensures, ne-eqb _ _ (c .before .before .before .before .before .before .before .before .if2 .left), ← c .before .before .before .before .before .before .before .source-text .ensures, ← c .before .before .before .before .before .before .extra .ensures, ← c .before .before .before .before .before .wide .ensures, ne-eqb _ _ (c .before .before .before .before .if3 .left), ← c .before .before .before .first-bad-escape .ensures, c .before .enum-told2 .given .1, ← c .error-at2 .ensures)
 
--- src/lib.rt:104:1
 returns-6 : tie.Need-returns-6
 unfolding checkStringLiteral
 returns-6 c = rw (← c .before .before .before .before .before .before .before .before .before .before .strict-mode .ensures, not-false (c .before .before .before .before .before .before .before .before .before .before .strict-mode .result) (c .before .before .before .before .before .before .before .before .before .if1 .left), ← c .before .before .before .before .before .before .before .before .parent-kind .ensures, ne-eqb _ _ (c .before .before .before .before .before .before .before .if2 .left), ← c .before .before .before .before .before .before .source-text .ensures, ← c .before .before .before .before .before .extra .ensures, ← c .before .before .before .before .wide .ensures, ne-eqb _ _ (c .before .before .before .if3 .left), ← c .before .before .first-bad-escape .ensures, c .enum-told3 .given .1)

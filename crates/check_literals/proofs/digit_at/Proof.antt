@@ -3,23 +3,16 @@ use Rattle.check_literals.specs.EscapeLaws.{digit-here, digit-none}
 use borrow.Author.Needs.{needs}
 use Rattle.check_literals.proofs.digit_at.Statement.{statement}
 use Rattle.check_literals.proofs.digit_at.Tie as tie
-use Rattle.check_literals.proofs.digit_at.Reads as reads
-use Rattle.check_literals.proofs.digit_at.Lts as lts
-use Rattle.check_literals.proofs.byte_within.Reads as byte-within-reads
 
--- src/lib.rt:38:28
 shared-slice-read-byte-within : tie.Need-shared-slice-read-byte-within
 shared-slice-read-byte-within c = search needs
 
--- src/lib.rt:38:9
 byte-within-requires : tie.Need-byte-within-requires
 byte-within-requires c κs = search needs
 
--- src/lib.rt:38:9
 returns : tie.Need-returns
 returns c = cc (digit-here (c .before .before .before .before .args .raw .now) (c .before .before .before .before .args .i) (c .before .before .if1 .taken))
 
--- src/lib.rt:34:1
 returns-2 : tie.Need-returns-2
 returns-2 c = sym (digit-none (c .before .before .args .raw .now) (c .before .before .args .i) (c .if1 .left))
 

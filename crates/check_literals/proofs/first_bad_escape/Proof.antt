@@ -7,10 +7,6 @@ use Rattle.check_literals.specs.EscapeLaws.{scan-plain, scan-stop, scan-
 use borrow.Author.Needs.{needs}
 use Rattle.check_literals.proofs.first_bad_escape.Statement.{statement}
 use Rattle.check_literals.proofs.first_bad_escape.Tie as tie
-use Rattle.check_literals.proofs.first_bad_escape.Reads as reads
-use Rattle.check_literals.proofs.first_bad_escape.Lts as lts
-use Rattle.check_literals.proofs.escape_at.Reads as escape-at-reads
-use Rattle.check_literals.proofs.is_fine.Reads as is-fine-reads
 
 abbrev Inv-loop : tie.InvT-loop
 Inv-loop raw len i₀ i = (i ≤ len) × (len ≡ length raw) × (badEscape i (drop i raw) ≡ badEscape 0 raw)
@@ -18,55 +14,42 @@ Inv-loop raw len i₀ i = (i ≤ len) × (len ≡ length raw) × (badEscape i (d
 abbrev μ-loop : tie.MeasureT-loop
 μ-loop raw len i₀ i = len - i
 
--- src/lib.rt:77:5
 loop-holds : tie.Need-loop-holds Inv-loop μ-loop
 loop-holds c = search needs
 
--- src/lib.rt:77:11
 add-loop : tie.Need-add-loop Inv-loop μ-loop
 add-loop c = search needs
 
--- src/lib.rt:78:12
 shared-slice-read-if1 : tie.Need-shared-slice-read-if1 Inv-loop μ-loop
 shared-slice-read-if1 c = search needs
 
--- src/lib.rt:79:13
 add-i : tie.Need-add-i Inv-loop μ-loop
 add-i c = search needs
 
--- src/lib.rt:77:5
 loop-less : tie.Need-loop-less Inv-loop μ-loop
 loop-less c = search needs
 
--- src/lib.rt:77:5
 loop-again : tie.Need-loop-again Inv-loop μ-loop
 loop-again c = (omega arith, search needs, cc (scan-plain (c .before .before .before .before .before .args .raw .now) (c .before .before .before .loop .i) (omega arith) (c .if1 .taken)))
 
--- src/lib.rt:82:13
 escape-at-requires : tie.Need-escape-at-requires Inv-loop μ-loop
 escape-at-requires c κs = search needs
 
--- src/lib.rt:83:12
 is-fine-requires : tie.Need-is-fine-requires Inv-loop μ-loop
 is-fine-requires c κs = search needs
 
--- src/lib.rt:84:13
 add-i-2 : tie.Need-add-i-2 Inv-loop μ-loop
 add-i-2 c = search needs
 
--- src/lib.rt:77:5
 loop-less-2 : tie.Need-loop-less-2 Inv-loop μ-loop
 loop-less-2 c = search needs
 
--- src/lib.rt:77:5
 loop-again-2 : tie.Need-loop-again-2 Inv-loop μ-loop
 loop-again-2 c = (omega arith, search needs, cc (scan-on (c .before .before .before .before .before .before .before .before .args .raw .now) (c .before .before .before .before .before .before .loop .i) (omega arith) (c .before .before .before .if1 .left) (c .before .before .escape-at .result) (c .before .before .escape-at .ensures) (sym (c .before .is-fine .ensures) ∙ c .if2 .taken)))
 
--- src/lib.rt:87:9
 returns : tie.Need-returns Inv-loop μ-loop
 returns c = cc (scan-stop (c .before .before .before .before .before .before .before .before .args .raw .now) (c .before .before .before .before .before .before .loop .i) (omega arith) (c .before .before .before .if1 .left) (c .before .before .escape-at .result) (c .before .before .escape-at .ensures) (sym (c .before .is-fine .ensures) ∙ c .if2 .left))
 
--- src/lib.rt:72:1
 returns-2 : tie.Need-returns-2 Inv-loop μ-loop
 returns-2 c = cc (scan-end (c .before .before .before .args .raw .now) (c .before .loop .i) (omega arith))
 

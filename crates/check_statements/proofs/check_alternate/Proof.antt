@@ -1,32 +1,22 @@
 use borrow.Author.Needs.{needs}
 use Rattle.check_statements.proofs.check_alternate.Statement.{statement}
 use Rattle.check_statements.proofs.check_alternate.Tie as tie
-use Rattle.check_statements.proofs.check_alternate.Reads as reads
-use Rattle.check_statements.proofs.check_alternate.Lts as lts
-use Rattle.table_children.proofs.alternate_of.Reads as alternate-of-reads
-use Rattle.check_statements.proofs.check_function_declaration.Reads as check-function-declaration-reads
 
--- src/lib.rt:77:32
 alternate-of-requires : tie.Need-alternate-of-requires
 alternate-of-requires c κs = search needs
 
--- src/lib.rt:77:19
 enum-known-alternate : tie.Need-enum-known-alternate
 enum-known-alternate c = search needs
 
--- src/lib.rt:78:9
 enum-told : tie.Need-enum-told
 enum-told c = search needs
 
--- src/lib.rt:78:9
 returns : tie.Need-returns
 returns c = rw (← c .before .before .alternate-of .ensures .0, c .enum-told .given .1)
 
--- src/lib.rt:80:5
 check-function-declaration-requires : tie.Need-check-function-declaration-requires
 check-function-declaration-requires c κs = (c .before .before .before .before .before .before .pre .1 .0, (c .before .before .before .before .before .before .pre .1 .1, rw (c .before .alternate .given .1) at (c .before .before .before .alternate-of .ensures .1)))
 
--- src/lib.rt:71:1
 returns-2 : tie.Need-returns-2
 returns-2 c = rw (← c .before .before .before .before .alternate-of .ensures .0, c .before .before .alternate .given .1) (c .check-function-declaration .ensures)
 

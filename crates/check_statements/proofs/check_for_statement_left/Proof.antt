@@ -1,32 +1,22 @@
 use borrow.Author.Needs.{needs}
 use Rattle.check_statements.proofs.check_for_statement_left.Statement.{statement}
 use Rattle.check_statements.proofs.check_for_statement_left.Tie as tie
-use Rattle.check_statements.proofs.check_for_statement_left.Reads as reads
-use Rattle.check_statements.proofs.check_for_statement_left.Lts as lts
-use Rattle.table_children.proofs.first_child.Reads as first-child-reads
-use Rattle.check_statements.proofs.check_left.Reads as check-left-reads
 
--- src/lib.rt:203:27
 first-child-requires : tie.Need-first-child-requires
 first-child-requires c κs = search needs
 
--- src/lib.rt:203:19
 enum-known-decl : tie.Need-enum-known-decl
 enum-known-decl c = search needs
 
--- src/lib.rt:204:9
 enum-told : tie.Need-enum-told
 enum-told c = search needs
 
--- src/lib.rt:204:9
 returns : tie.Need-returns
 returns c = rw (← c .before .before .first-child .ensures .0, c .enum-told .given .1)
 
--- src/lib.rt:206:5
 check-left-requires : tie.Need-check-left-requires
 check-left-requires c κs = (c .before .before .before .before .before .before .pre .0, (c .before .before .before .before .before .before .pre .1 .0, (c .before .before .before .before .before .before .pre .1 .1, rw (c .before .decl .given .1) at (c .before .before .before .first-child .ensures .1))))
 
--- src/lib.rt:197:1
 returns-2 : tie.Need-returns-2
 returns-2 c = rw (← c .before .before .before .before .first-child .ensures .0, c .before .before .decl .given .1) (c .check-left .ensures)
 

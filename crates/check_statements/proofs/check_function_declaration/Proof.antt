@@ -3,44 +3,31 @@ use Rattle.check_statements.specs.Statements.{checkFunctionDeclaration}
 use borrow.Author.Needs.{needs}
 use Rattle.check_statements.proofs.check_function_declaration.Statement.{statement}
 use Rattle.check_statements.proofs.check_function_declaration.Tie as tie
-use Rattle.check_statements.proofs.check_function_declaration.Reads as reads
-use Rattle.check_statements.proofs.check_function_declaration.Lts as lts
-use Rattle.check_diagnostics.proofs.error_at.Reads as error-at-reads
-use Rattle.table_scoping.proofs.strict_mode.Reads as strict-mode-reads
-use Rattle.table_records.proofs.kind.Reads as kind-reads
 
--- src/lib.rt:31:9
 kind-requires : tie.Need-kind-requires
 kind-requires c κs = search needs
 
--- src/lib.rt:33:9
 returns : tie.Need-returns
 unfolding checkFunctionDeclaration
 returns c = rw (← c .before .kind .ensures, ne-eqb _ _ (c .if1 .taken))
 
--- src/lib.rt:35:8
 strict-mode-requires : tie.Need-strict-mode-requires
 strict-mode-requires c κs = search needs
 
--- src/lib.rt:36:9
 error-at-requires : tie.Need-error-at-requires
 error-at-requires c κs = search needs
 
--- src/lib.rt:36:9
 returns-2 : tie.Need-returns-2
 unfolding checkFunctionDeclaration
 returns-2 c = rw (← c .before .before .before .before .kind .ensures, eq-eqb _ _ (c .before .before .before .if1 .left), ← c .before .before .strict-mode .ensures, c .before .if2 .taken) (c .error-at .ensures)
 
--- src/lib.rt:39:9
 returns-3 : tie.Need-returns-3
 unfolding checkFunctionDeclaration
 returns-3 c = rw (← c .before .before .before .before .kind .ensures, eq-eqb _ _ (c .before .before .before .if1 .left), ← c .before .before .strict-mode .ensures, c .before .if2 .left, c .if3 .taken)
 
--- src/lib.rt:41:5
 error-at-requires-2 : tie.Need-error-at-requires-2
 error-at-requires-2 c κs = search needs
 
--- src/lib.rt:25:1
 returns-4 : tie.Need-returns-4
 unfolding checkFunctionDeclaration
 returns-4 c = rw (← c .before .before .before .before .before .kind .ensures, eq-eqb _ _ (c .before .before .before .before .if1 .left), ← c .before .before .before .strict-mode .ensures, c .before .before .if2 .left, c .before .if3 .left) (c .error-at2 .ensures)

@@ -3,32 +3,22 @@ use Rattle.check_statements.proofs.check_function_declaration_in_labele
   statement,
 }
 use Rattle.check_statements.proofs.check_function_declaration_in_labeled_statement.Tie as tie
-use Rattle.check_statements.proofs.check_function_declaration_in_labeled_statement.Reads as reads
-use Rattle.check_statements.proofs.check_function_declaration_in_labeled_statement.Lts as lts
-use Rattle.table_children.proofs.held_of.Reads as held-of-reads
-use Rattle.check_statements.proofs.check_labeled_item.Reads as check-labeled-item-reads
 
--- src/lib.rt:131:27
 held-of-requires : tie.Need-held-of-requires
 held-of-requires c κs = search needs
 
--- src/lib.rt:131:19
 enum-known-item : tie.Need-enum-known-item
 enum-known-item c = search needs
 
--- src/lib.rt:132:9
 enum-told : tie.Need-enum-told
 enum-told c = search needs
 
--- src/lib.rt:132:9
 returns : tie.Need-returns
 returns c = rw (← c .before .before .held-of .ensures .0, c .enum-told .given .1)
 
--- src/lib.rt:134:5
 check-labeled-item-requires : tie.Need-check-labeled-item-requires
 check-labeled-item-requires c κs = (c .before .before .before .before .before .before .pre .0, (c .before .before .before .before .before .before .pre .1 .0, (c .before .before .before .before .before .before .pre .1 .1, rw (c .before .item .given .1) at (c .before .before .before .held-of .ensures .1))))
 
--- src/lib.rt:125:1
 returns-2 : tie.Need-returns-2
 returns-2 c = rw (← c .before .before .before .before .held-of .ensures .0, c .before .before .item .given .1) (c .check-labeled-item .ensures)
 

@@ -2,49 +2,32 @@ use Rattle.check_statements.specs.Statements.{checkUsing}
 use borrow.Author.Needs.{needs}
 use Rattle.check_statements.proofs.check_using.Statement.{statement}
 use Rattle.check_statements.proofs.check_using.Tie as tie
-use Rattle.check_statements.proofs.check_using.Reads as reads
-use Rattle.check_statements.proofs.check_using.Lts as lts
-use Rattle.base_common.proofs.and.Reads as and-reads
-use Rattle.base_common.proofs.within.Reads as within-reads
-use Rattle.check_diagnostics.proofs.error_at.Reads as error-at-reads
-use Rattle.table_scoping.proofs.current_scope_flags.Reads as current-scope-flags-reads
-use Rattle.table_records.proofs.extra.Reads as extra-reads
-use Rattle.table_records.proofs.has_flag.Reads as has-flag-reads
 
--- src/lib.rt:229:24
 extra-requires : tie.Need-extra-requires
 extra-requires c κs = search needs
 
--- src/lib.rt:229:9
 within-requires : tie.Need-within-requires
 within-requires c κs = search needs
 
--- src/lib.rt:230:32
 current-scope-flags-requires : tie.Need-current-scope-flags-requires
 current-scope-flags-requires c κs = search needs
 
--- src/lib.rt:230:9
 has-flag-requires : tie.Need-has-flag-requires
 has-flag-requires c κs = search needs
 
--- src/lib.rt:231:19
 and-requires : tie.Need-and-requires
 and-requires c κs = search needs
 
--- src/lib.rt:231:8
 and-requires-2 : tie.Need-and-requires-2
 and-requires-2 c κs = search needs
 
--- src/lib.rt:232:9
 error-at-requires : tie.Need-error-at-requires
 error-at-requires c κs = search needs
 
--- src/lib.rt:232:9
 returns : tie.Need-returns
 unfolding checkUsing
 returns c = rw (← c .before .before .before .before .before .before .before .extra .ensures, ← c .before .before .before .before .before .before .within .ensures, ← c .before .before .before .before .before .current-scope-flags .ensures, ← c .before .before .before .before .has-flag .ensures, ← c .before .before .before .and .ensures, ← c .before .before .and2 .ensures, c .before .if1 .taken) (c .error-at .ensures)
 
--- src/lib.rt:224:1
 returns-2 : tie.Need-returns-2
 unfolding checkUsing
 returns-2 c = rw (← c .before .before .before .before .before .before .extra .ensures, ← c .before .before .before .before .before .within .ensures, ← c .before .before .before .before .current-scope-flags .ensures, ← c .before .before .before .has-flag .ensures, ← c .before .before .and .ensures, ← c .before .and2 .ensures, c .if1 .left)

@@ -1,8 +1,7 @@
 use native.Mathlib.Omega.{arith}
 use mathlib.Core.Path.{_≡_, ap, sym, _∙_}
-use mathlib.Core.Bool.{Bool, true, false}
 use Prim.Native.Nat.{ℕ, _<_}
-use Rattle.table_records.specs.Table.{count, kindOf}
+use Rattle.table_records.specs.Table.{count}
 use Rattle.table_records.specs.Kinds as k
 use Rattle.base_common.specs.Tests.{within}
 use Rattle.check_statements.specs.Statements.{labelledFunction}
@@ -10,12 +9,6 @@ use Rattle.check_statements.specs.StatementsLaws.{function-on, function-
 use borrow.Author.Needs.{needs}
 use Rattle.check_statements.proofs.labelled_function.Statement.{statement}
 use Rattle.check_statements.proofs.labelled_function.Tie as tie
-use Rattle.check_statements.proofs.labelled_function.Reads as reads
-use Rattle.check_statements.proofs.labelled_function.Lts as lts
-use Rattle.table_ancestry.proofs.up.Reads as up-reads
-use Rattle.base_common.proofs.within.Reads as within-reads
-use Rattle.check_diagnostics.proofs.error_at.Reads as error-at-reads
-use Rattle.table_records.proofs.kind.Reads as kind-reads
 
 abbrev Inv-loop : tie.InvT-loop
 Inv-loop nodes n function at₀ at = (at .0 < count nodes) × (labelledFunction nodes (n .0) (function .0) (at .0) ≡ labelledFunction nodes (n .0) (function .0) (at₀ .0))
@@ -23,38 +16,30 @@ Inv-loop nodes n function at₀ at = (at .0 < count nodes) × (labelledFunction 
 abbrev μ-loop : tie.MeasureT-loop
 μ-loop nodes n function at₀ at = at .0
 
--- src/lib.rt:91:5
 loop-holds : tie.Need-loop-holds Inv-loop μ-loop
 loop-holds c = search needs
 
--- src/lib.rt:95:9
 up-requires : tie.Need-up-requires Inv-loop μ-loop
 up-requires c κs = search needs
 
--- src/lib.rt:96:13
 kind-requires : tie.Need-kind-requires Inv-loop μ-loop
 kind-requires c κs = search needs
 
--- src/lib.rt:91:5
 loop-less : tie.Need-loop-less Inv-loop μ-loop
 loop-less c = search needs
 
--- src/lib.rt:91:5
 loop-again : tie.Need-loop-again Inv-loop μ-loop
 loop-again c =
     let a = c .before .before .before .before .before .before .before .args in
     let o = c .before .before .before .before .before .loop in
     (omega arith, sym (function-on (a .nodes .now) (c .before .before .before .before .before .before .before .pre .0) (a .n .0) (a .function .0) (o .at .0) (c .before .before .up .result .0) (omega arith) (omega arith) (c .before .before .up .ensures .0) (sym (c .before .kind .ensures) ∙ c .if2 .taken)) ∙ o .inv .1)
 
--- src/lib.rt:100:12
 within-requires : tie.Need-within-requires Inv-loop μ-loop
 within-requires c κs = search needs
 
--- src/lib.rt:101:19
 error-at-requires : tie.Need-error-at-requires Inv-loop μ-loop
 error-at-requires c κs = search needs
 
--- src/lib.rt:84:1
 returns : tie.Need-returns Inv-loop μ-loop
 returns c =
     let a = c .before .before .before .before .args in
@@ -62,14 +47,12 @@ returns c =
     let z : o .at .0 ≡ 0 = c .if1 .taken in
     sym (sym (o .inv .1) ∙ cc (function-root (a .nodes .now) (a .n .0) (a .function .0), z))
 
--- src/lib.rt:84:1
 returns-2 : tie.Need-returns-2 Inv-loop μ-loop
 returns-2 c =
     let a = c .before .before .before .before .before .before .before .before .before .before .args in
     let o = c .before .before .before .before .before .before .before .before .loop in
     c .error-at .ensures ∙ sym (sym (o .inv .1) ∙ function-held (a .nodes .now) (c .before .before .before .before .before .before .before .before .before .before .pre .0) (a .n .0) (a .function .0) (o .at .0) (c .before .before .before .before .before .up .result .0) (omega arith) (omega arith) (c .before .before .before .before .before .up .ensures .0) (λ q. c .before .before .before .if2 .left (c .before .before .before .before .kind .ensures ∙ q)) (ap (λ (x : ℕ). within x k.For k.With) (sym (c .before .before .before .before .kind .ensures)) ∙ sym (c .before .before .within .ensures) ∙ c .before .if3 .taken))
 
--- src/lib.rt:84:1
 returns-3 : tie.Need-returns-3 Inv-loop μ-loop
 returns-3 c =
     let a = c .before .before .before .before .before .before .before .before .before .args in

@@ -4,48 +4,34 @@ use mathlib.Core.Path.{ap, sym, _∙_}
 use borrow.Author.Needs.{needs}
 use Rattle.check_super_search.proofs.by_reach.Statement.{statement}
 use Rattle.check_super_search.proofs.by_reach.Tie as tie
-use Rattle.check_super_search.proofs.by_reach.Reads as reads
-use Rattle.check_super_search.proofs.by_reach.Lts as lts
-use Rattle.check_diagnostics.proofs.error_between.Reads as error-between-reads
-use Rattle.check_super_search.proofs.illegal.Reads as illegal-reads
 
--- src/lib.rt:112:25
 enum-told : tie.Need-enum-told
 enum-told c = search needs
 
--- src/lib.rt:113:27
 enum-told-2 : tie.Need-enum-told-2
 enum-told-2 c = search needs
 
--- src/lib.rt:113:27
 illegal-requires : tie.Need-illegal-requires
 illegal-requires c κs = search needs
 
--- src/lib.rt:114:26
 enum-known-r : tie.Need-enum-known-r
 enum-known-r c = search needs
 
--- src/lib.rt:114:32
 error-between-requires : tie.Need-error-between-requires
 error-between-requires c κs = let f = rw (c .before .r .given .1) at (c .before .before .before .before .pre .1 .1) in (c .before .before .before .before .pre .1 .0, f)
 
--- src/lib.rt:115:25
 enum-told-3 : tie.Need-enum-told-3
 enum-told-3 c = search needs
 
--- src/lib.rt:105:1
 returns : tie.Need-returns
 returns c = search needs
 
--- src/lib.rt:105:1
 returns-2 : tie.Need-returns-2
 returns-2 c = c .illegal .ensures ∙ sym (ap (λ (x : Reach). byReach (c .before .before .before .before .args .nodes .now) (c .before .before .before .before .args .n .0) x) (c .before .enum-told2 .given .1))
 
--- src/lib.rt:105:1
 returns-3 : tie.Need-returns-3
 returns-3 c = c .error-between .ensures ∙ sym (ap (λ (x : Reach). byReach (c .before .before .before .before .before .args .nodes .now) (c .before .before .before .before .before .args .n .0) x) (c .before .before .r .given .1))
 
--- src/lib.rt:105:1
 returns-4 : tie.Need-returns-4
 returns-4 c = search needs
 

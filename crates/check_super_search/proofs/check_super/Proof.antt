@@ -4,20 +4,13 @@ use mathlib.Core.Path.{ap, _∙_}
 use borrow.Author.Needs.{needs}
 use Rattle.check_super_search.proofs.check_super.Statement.{statement}
 use Rattle.check_super_search.proofs.check_super.Tie as tie
-use Rattle.check_super_search.proofs.check_super.Reads as reads
-use Rattle.check_super_search.proofs.check_super.Lts as lts
-use Rattle.check_super_search.proofs.by_reach.Reads as by-reach-reads
-use Rattle.check_super_search.proofs.reach.Reads as reach-reads
 
--- src/lib.rt:126:24
 reach-requires : tie.Need-reach-requires
 reach-requires c κs = search needs
 
--- src/lib.rt:126:5
 by-reach-requires : tie.Need-by-reach-requires
 by-reach-requires c κs = search needs
 
--- src/lib.rt:119:1
 returns : tie.Need-returns
 unfolding checkSuper
 returns c = c .by-reach .ensures ∙ ap (λ (x : Reach). byReach (c .before .before .before .before .args .nodes .now) (c .before .before .before .before .args .n .0) x) (c .before .reach .ensures .0)

@@ -3,33 +3,22 @@ use native.Mathlib.Omega.{arith}
 use borrow.Author.Needs.{needs}
 use Rattle.check_super_search.proofs.illegal.Statement.{statement}
 use Rattle.check_super_search.proofs.illegal.Tie as tie
-use Rattle.check_super_search.proofs.illegal.Reads as reads
-use Rattle.check_super_search.proofs.illegal.Lts as lts
-use Rattle.check_diagnostics.proofs.error_at.Reads as error-at-reads
-use Rattle.check_supers.proofs.is_call.Reads as is-call-reads
-use Rattle.table_records.proofs.parent.Reads as parent-reads
 
--- src/lib.rt:97:8
 is-call-requires : tie.Need-is-call-requires
 is-call-requires c κs = search needs
 
--- src/lib.rt:98:13
 parent-requires : tie.Need-parent-requires
 parent-requires c κs = search needs
 
--- src/lib.rt:99:9
 error-at-requires : tie.Need-error-at-requires
 error-at-requires c κs = omega (arith, parent-in (c .before .before .before .before .args .nodes .now) (c .before .before .before .before .pre .0) (c .before .before .before .before .args .n .0) (c .before .before .before .before .pre .1), c .parent .ensures)
 
--- src/lib.rt:99:9
 returns : tie.Need-returns
 returns c = rw (← c .before .before .before .is-call .ensures, c .before .before .if1 .taken, ← c .before .parent .ensures) (c .error-at .ensures)
 
--- src/lib.rt:101:5
 error-at-requires-2 : tie.Need-error-at-requires-2
 error-at-requires-2 c κs = search needs
 
--- src/lib.rt:92:1
 returns-2 : tie.Need-returns-2
 returns-2 c = rw (← c .before .before .is-call .ensures, c .before .if1 .left) (c .error-at2 .ensures)
 

@@ -1,35 +1,25 @@
 use Rattle.check_supers.specs.Super.{derivedUse}
 use Rattle.table_records.specs.declared.Found.{Found}
-use mathlib.Core.Path.{_≡_, ap, sym, _∙_}
+use mathlib.Core.Path.{ap, sym, _∙_}
 use borrow.Author.Needs.{needs}
 use Rattle.check_supers.proofs.derived_use.Statement.{statement}
 use Rattle.check_supers.proofs.derived_use.Tie as tie
-use Rattle.check_supers.proofs.derived_use.Reads as reads
-use Rattle.check_supers.proofs.derived_use.Lts as lts
-use Rattle.check_supers.proofs.dummy_use.Reads as dummy-use-reads
-use Rattle.check_supers.proofs.heritage_use.Reads as heritage-use-reads
 
--- src/lib.rt:159:19
 enum-known-class : tie.Need-enum-known-class
 enum-known-class c = search needs
 
--- src/lib.rt:160:9
 enum-told : tie.Need-enum-told
 enum-told c = search needs
 
--- src/lib.rt:160:9
 dummy-use-requires : tie.Need-dummy-use-requires
 dummy-use-requires c κs = search needs
 
--- src/lib.rt:160:9
 returns : tie.Need-returns
 returns c = c .dummy-use .ensures ∙ sym (ap (λ (x : Found). derivedUse (c .before .before .before .before .args .nodes .now) (c .before .before .before .before .args .n .0) x) (c .before .enum-told .given .1))
 
--- src/lib.rt:162:5
 heritage-use-requires : tie.Need-heritage-use-requires
 heritage-use-requires c κs = let f = rw (c .before .class .given .1) at (c .before .before .before .before .pre .1 .1) in (c .before .before .before .before .pre .0, f)
 
--- src/lib.rt:153:1
 returns-2 : tie.Need-returns-2
 returns-2 c = c .heritage-use .ensures ∙ sym (ap (λ (x : Found). derivedUse (c .before .before .before .before .before .args .nodes .now) (c .before .before .before .before .before .args .n .0) x) (c .before .before .class .given .1))
 

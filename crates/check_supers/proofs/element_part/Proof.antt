@@ -10,12 +10,6 @@ use Prim.Native.Nat.{_<_}
 use borrow.Author.Needs.{needs}
 use Rattle.check_supers.proofs.element_part.Statement.{statement}
 use Rattle.check_supers.proofs.element_part.Tie as tie
-use Rattle.check_supers.proofs.element_part.Reads as reads
-use Rattle.check_supers.proofs.element_part.Lts as lts
-use Rattle.table_ancestry.proofs.up.Reads as up-reads
-use Rattle.base_common.proofs.within.Reads as within-reads
-use Rattle.check_supers.proofs.part_of.Reads as part-of-reads
-use Rattle.table_records.proofs.kind.Reads as kind-reads
 
 abbrev Inv-loop : tie.InvT-loop
 Inv-loop nodes x₀ x = (x .0 < count nodes) × (placeOf nodes (x .0) ≡ placeOf nodes (x₀ .0))
@@ -23,41 +17,32 @@ Inv-loop nodes x₀ x = (x .0 < count nodes) × (placeOf nodes (x .0) ≡ placeO
 abbrev μ-loop : tie.MeasureT-loop
 μ-loop nodes x₀ x = x .0
 
--- src/lib.rt:97:5
 loop-holds : tie.Need-loop-holds Inv-loop μ-loop
 loop-holds c = search needs
 
--- src/lib.rt:101:13
 up-requires : tie.Need-up-requires Inv-loop μ-loop
 up-requires c κs = search needs
 
--- src/lib.rt:102:27
 kind-requires : tie.Need-kind-requires Inv-loop μ-loop
 kind-requires c κs = search needs
 
--- src/lib.rt:102:12
 within-requires : tie.Need-within-requires Inv-loop μ-loop
 within-requires c κs = search needs
 
--- src/lib.rt:103:19
 part-of-requires : tie.Need-part-of-requires Inv-loop μ-loop
 part-of-requires c κs = search needs
 
--- src/lib.rt:97:5
 loop-less : tie.Need-loop-less Inv-loop μ-loop
 loop-less c = search needs
 
--- src/lib.rt:97:5
 loop-again : tie.Need-loop-again Inv-loop μ-loop
 loop-again c = let a = c .before .before .before .before .before .before .before .before .args in
     let w : within (kindOf (a .nodes .now) (c .before .before .before .up .result .0)) k.MethodDefinition k.AccessorProperty ≡ false = ap (λ m. within m k.MethodDefinition k.AccessorProperty) (sym (c .before .before .kind .ensures)) ∙ sym (c .before .within .ensures) ∙ c .if2 .left in
     (omega arith, cc (place-on (a .nodes .now) (c .before .before .before .before .before .before .before .before .pre .0) (c .before .before .before .before .before .before .loop .x .0) (c .before .before .before .up .result .0) (c .before .before .before .up .ensures .0) (omega arith) (omega arith) w))
 
--- src/lib.rt:91:1
 returns : tie.Need-returns Inv-loop μ-loop
 returns c = let z : c .before .before .loop .x .0 ≡ 0 = c .if1 .taken in cc (place-root (c .before .before .before .before .args .nodes .now) (c .before .before .before .before .pre .0), z)
 
--- src/lib.rt:91:1
 returns-2 : tie.Need-returns-2 Inv-loop μ-loop
 returns-2 c = let a = c .before .before .before .before .before .before .before .before .before .args in
     let w : within (kindOf (a .nodes .now) (c .before .before .before .before .up .result .0)) k.MethodDefinition k.AccessorProperty ≡ true = ap (λ m. within m k.MethodDefinition k.AccessorProperty) (sym (c .before .before .before .kind .ensures)) ∙ sym (c .before .before .within .ensures) ∙ c .before .if2 .taken in

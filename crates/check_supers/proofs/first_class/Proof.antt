@@ -10,10 +10,6 @@ use Prim.Native.Nat.{_≤_, _-_}
 use borrow.Author.Needs.{needs}
 use Rattle.check_supers.proofs.first_class.Statement.{statement}
 use Rattle.check_supers.proofs.first_class.Tie as tie
-use Rattle.check_supers.proofs.first_class.Reads as reads
-use Rattle.check_supers.proofs.first_class.Lts as lts
-use Rattle.table_records.proofs.is_node.Reads as is-node-reads
-use Rattle.table_records.proofs.kind.Reads as kind-reads
 
 abbrev Inv-loop : tie.InvT-loop
 Inv-loop nodes i₀ i = (i ≤ count nodes) × (firstNode (λ j. eqb (kindOf nodes j) k.ClassBody) i (count nodes) ≡ firstNode (λ j. eqb (kindOf nodes j) k.ClassBody) 0 (count nodes))
@@ -21,39 +17,31 @@ Inv-loop nodes i₀ i = (i ≤ count nodes) × (firstNode (λ j. eqb (kindOf nod
 abbrev μ-loop : tie.MeasureT-loop
 μ-loop nodes i₀ i = count nodes - i
 
--- src/lib.rt:129:5
 loop-holds : tie.Need-loop-holds Inv-loop μ-loop
 loop-holds c = search needs
 
--- src/lib.rt:129:11
 is-node-requires : tie.Need-is-node-requires Inv-loop μ-loop
 is-node-requires c κs = search needs
 
--- src/lib.rt:130:12
 kind-requires : tie.Need-kind-requires Inv-loop μ-loop
 kind-requires c κs = ltb-true (c .before .before .loop .i) (count (c .before .before .before .before .args .nodes .now)) (sym (c .before .is-node .ensures) ∙ c .if1 .taken)
 
--- src/lib.rt:131:13
 returns : tie.Need-returns Inv-loop μ-loop
 returns c = let a = c .before .before .before .before .before .before .args in
     let h = ltb-true (c .before .before .before .before .loop .i) (count (a .nodes .now)) (sym (c .before .before .before .is-node .ensures) ∙ c .before .before .if1 .taken) in
     (cc (node-stop (λ j. eqb (kindOf (a .nodes .now) j) k.ClassBody) (c .before .before .before .before .loop .i) (count (a .nodes .now)) h (eq-eqb _ _ (sym (c .before .kind .ensures) ∙ c .if2 .taken))), h)
 
--- src/lib.rt:133:9
 add-i : tie.Need-add-i Inv-loop μ-loop
 add-i c = search needs
 
--- src/lib.rt:129:5
 loop-less : tie.Need-loop-less Inv-loop μ-loop
 loop-less c = let h = ltb-true (c .before .before .before .before .loop .i) (count (c .before .before .before .before .before .before .args .nodes .now)) (sym (c .before .before .before .is-node .ensures) ∙ c .before .before .if1 .taken) in omega arith
 
--- src/lib.rt:129:5
 loop-again : tie.Need-loop-again Inv-loop μ-loop
 loop-again c = let a = c .before .before .before .before .before .before .args in
     let h = ltb-true (c .before .before .before .before .loop .i) (count (a .nodes .now)) (sym (c .before .before .before .is-node .ensures) ∙ c .before .before .if1 .taken) in
     (omega arith, cc (node-on (λ j. eqb (kindOf (a .nodes .now) j) k.ClassBody) (c .before .before .before .before .loop .i) (count (a .nodes .now)) h (ne-eqb _ _ (λ q. c .if2 .left (c .before .kind .ensures ∙ q)))))
 
--- src/lib.rt:123:1
 returns-2 : tie.Need-returns-2 Inv-loop μ-loop
 returns-2 c = let a = c .before .before .before .before .args in
     let h = ltb-false (c .before .before .loop .i) (count (a .nodes .now)) (sym (c .before .is-node .ensures) ∙ c .if1 .left) in

@@ -4,45 +4,31 @@ use native.Mathlib.Omega.{arith}
 use borrow.Author.Needs.{needs}
 use Rattle.check_supers.proofs.function_use.Statement.{statement}
 use Rattle.check_supers.proofs.function_use.Tie as tie
-use Rattle.check_supers.proofs.function_use.Reads as reads
-use Rattle.check_supers.proofs.function_use.Lts as lts
-use Rattle.table_ancestry.proofs.up.Reads as up-reads
-use Rattle.check_supers.proofs.method_use.Reads as method-use-reads
-use Rattle.check_supers.proofs.object_use.Reads as object-use-reads
-use Rattle.table_records.proofs.kind.Reads as kind-reads
 
--- src/lib.rt:220:9
 returns : tie.Need-returns
 unfolding functionUse
 returns c = rw (eq-eqb _ _ (c .if1 .taken))
 
--- src/lib.rt:222:9
 up-requires : tie.Need-up-requires
 up-requires c κs = search needs
 
--- src/lib.rt:223:9
 kind-requires : tie.Need-kind-requires
 kind-requires c κs = search needs
 
--- src/lib.rt:225:9
 object-use-requires : tie.Need-object-use-requires
 object-use-requires c κs = search needs
 
--- src/lib.rt:225:9
 returns-2 : tie.Need-returns-2
 unfolding functionUse
 returns-2 c = rw (ne-eqb _ _ (c .before .before .before .before .if1 .left), ← c .before .before .before .up .ensures .0, ← c .before .before .kind .ensures, eq-eqb _ _ (c .before .if2 .taken)) (c .object-use .ensures)
 
--- src/lib.rt:228:9
 method-use-requires : tie.Need-method-use-requires
 method-use-requires c κs = (c .before .before .before .before .before .before .before .pre .0, (c .before .before .before .before .before .before .before .pre .1 .0, (c .before .before .before .before .before .before .before .pre .1 .1 .0, omega arith)))
 
--- src/lib.rt:228:9
 returns-3 : tie.Need-returns-3
 unfolding functionUse
 returns-3 c = rw (ne-eqb _ _ (c .before .before .before .before .before .if1 .left), ← c .before .before .before .before .up .ensures .0, ← c .before .before .before .kind .ensures, ne-eqb _ _ (c .before .before .if2 .left), eq-eqb _ _ (c .before .if3 .taken)) (c .method-use .ensures)
 
--- src/lib.rt:212:1
 returns-4 : tie.Need-returns-4
 unfolding functionUse
 returns-4 c = rw (ne-eqb _ _ (c .before .before .before .before .if1 .left), ← c .before .before .before .up .ensures .0, ← c .before .before .kind .ensures, ne-eqb _ _ (c .before .if2 .left), ne-eqb _ _ (c .if3 .left))

@@ -3,30 +3,21 @@ use Rattle.check_supers.specs.Super.{partOf}
 use borrow.Author.Needs.{needs}
 use Rattle.check_supers.proofs.part_of.Statement.{statement}
 use Rattle.check_supers.proofs.part_of.Tie as tie
-use Rattle.check_supers.proofs.part_of.Reads as reads
-use Rattle.check_supers.proofs.part_of.Lts as lts
-use Rattle.check_supers.proofs.is_value_of.Reads as is-value-of-reads
-use Rattle.table_records.proofs.kind.Reads as kind-reads
 
--- src/lib.rt:81:8
 kind-requires : tie.Need-kind-requires
 kind-requires c κs = search needs
 
--- src/lib.rt:82:9
 returns : tie.Need-returns
 unfolding partOf
 returns c = rw (← c .before .kind .ensures, eq-eqb _ _ (c .if1 .taken))
 
--- src/lib.rt:84:8
 is-value-of-requires : tie.Need-is-value-of-requires
 is-value-of-requires c κs = search needs
 
--- src/lib.rt:85:9
 returns-2 : tie.Need-returns-2
 unfolding partOf
 returns-2 c = rw (← c .before .before .before .kind .ensures, ne-eqb _ _ (c .before .before .if1 .left), ← c .before .is-value-of .ensures, c .if2 .taken)
 
--- src/lib.rt:76:1
 returns-3 : tie.Need-returns-3
 unfolding partOf
 returns-3 c = rw (← c .before .before .before .kind .ensures, ne-eqb _ _ (c .before .before .if1 .left), ← c .before .is-value-of .ensures, c .if2 .left)

@@ -6,73 +6,50 @@ use mathlib.Core.Path.{ap}
 use borrow.Author.Needs.{needs}
 use Rattle.check_supers.proofs.step_at.Statement.{statement}
 use Rattle.check_supers.proofs.step_at.Tie as tie
-use Rattle.check_supers.proofs.step_at.Reads as reads
-use Rattle.check_supers.proofs.step_at.Lts as lts
-use Rattle.check_supers.proofs.at_class.Reads as at-class-reads
-use Rattle.check_supers.proofs.function_use.Reads as function-use-reads
-use Rattle.check_supers.proofs.if_call.Reads as if-call-reads
-use Rattle.check_supers.proofs.is_class_scope.Reads as is-class-scope-reads
-use Rattle.table_records.proofs.has_flag.Reads as has-flag-reads
-use Rattle.table_records.proofs.scope_flags.Reads as scope-flags-reads
-use Rattle.table_records.proofs.scope_node.Reads as scope-node-reads
 
--- src/lib.rt:278:8
 is-class-scope-requires : tie.Need-is-class-scope-requires
 is-class-scope-requires c κs = search needs
 
--- src/lib.rt:279:9
 at-class-requires : tie.Need-at-class-requires
 at-class-requires c κs = search needs
 
--- src/lib.rt:279:9
 returns : tie.Need-returns
 unfolding stepAt
 returns c = rw (← c .before .before .is-class-scope .ensures, c .before .if1 .taken) (c .at-class .ensures)
 
--- src/lib.rt:281:9
 scope-flags-requires : tie.Need-scope-flags-requires
 scope-flags-requires c κs = search needs
 
--- src/lib.rt:282:8
 has-flag-requires : tie.Need-has-flag-requires
 has-flag-requires c κs = search needs
 
--- src/lib.rt:283:27
 if-call-requires : tie.Need-if-call-requires
 if-call-requires c κs = search needs
 
--- src/lib.rt:283:9
 returns-2 : tie.Need-returns-2
 unfolding stepAt
 returns-2 c = rw (← c .before .before .before .before .before .is-class-scope .ensures, c .before .before .before .before .if1 .left, ← c .before .before .before .scope-flags .ensures, ← c .before .before .has-flag .ensures, c .before .if2 .taken) (ap (λ (x : Reach). Stop x) (c .if-call .ensures))
 
--- src/lib.rt:285:9
 has-flag-requires-2 : tie.Need-has-flag-requires-2
 has-flag-requires-2 c κs = search needs
 
--- src/lib.rt:286:9
 returns-3 : tie.Need-returns-3
 unfolding stepAt
 returns-3 c = rw (← c .before .before .before .before .before .before .is-class-scope .ensures, c .before .before .before .before .before .if1 .left, ← c .before .before .before .before .scope-flags .ensures, ← c .before .before .before .has-flag .ensures, c .before .before .if2 .left, ← c .before .has-flag2 .ensures, c .if3 .taken)
 
--- src/lib.rt:288:8
 has-flag-requires-3 : tie.Need-has-flag-requires-3
 has-flag-requires-3 c κs = search needs
 
--- src/lib.rt:289:9
 returns-4 : tie.Need-returns-4
 unfolding stepAt
 returns-4 c = rw (← c .before .before .before .before .before .before .before .before .is-class-scope .ensures, c .before .before .before .before .before .before .before .if1 .left, ← c .before .before .before .before .before .before .scope-flags .ensures, ← c .before .before .before .before .before .has-flag .ensures, c .before .before .before .before .if2 .left, ← c .before .before .before .has-flag2 .ensures, c .before .before .if3 .left, ← c .before .has-flag3 .ensures, c .if4 .taken)
 
--- src/lib.rt:291:9
 scope-node-requires : tie.Need-scope-node-requires
 scope-node-requires c κs = search needs
 
--- src/lib.rt:292:16
 function-use-requires : tie.Need-function-use-requires
 function-use-requires c κs = let h = c .before .before .before .before .before .before .before .before .before .before .before .before .pre .1 .1 .1 .1 .1 in (c .before .before .before .before .before .before .before .before .before .before .before .before .pre .0, (c .before .before .before .before .before .before .before .before .before .before .before .before .pre .1 .0, (c .before .before .before .before .before .before .before .before .before .before .before .before .pre .1 .1 .0, omega (arith, h, c .scope-node .ensures))))
 
--- src/lib.rt:261:1
 returns-5 : tie.Need-returns-5
 unfolding stepAt
 returns-5 c = rw (← c .before .before .before .before .before .before .before .before .before .before .is-class-scope .ensures, c .before .before .before .before .before .before .before .before .before .if1 .left, ← c .before .before .before .before .before .before .before .before .scope-flags .ensures, ← c .before .before .before .before .before .before .before .has-flag .ensures, c .before .before .before .before .before .before .if2 .left, ← c .before .before .before .before .before .has-flag2 .ensures, c .before .before .before .before .if3 .left, ← c .before .before .before .has-flag3 .ensures, c .before .before .if4 .left, ← c .before .scope-node .ensures) (ap (λ (x : Reach). Stop x) (c .function-use .ensures))

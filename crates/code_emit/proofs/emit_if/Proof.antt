@@ -15,86 +15,60 @@ use mathlib.Core.Path.{_≡_, ap, sym, _∙_}
 use borrow.Author.Needs.{needs}
 use Rattle.code_emit.proofs.emit_if.Statement.{statement}
 use Rattle.code_emit.proofs.emit_if.Tie as tie
-use Rattle.code_emit.proofs.emit_if.Reads as reads
-use Rattle.code_emit.proofs.emit_if.Lts as lts
-use Rattle.code_parts.proofs.next_part.Reads as next-part-reads
-use Rattle.code_parts.proofs.second_part.Reads as second-part-reads
-use Rattle.code_stores.proofs.put7.Reads as put7-reads
-use Rattle.table_records.proofs.role.Reads as role-reads
-use Rattle.table_records.proofs.wide.Reads as wide-reads
-use Rattle.code_jumps.proofs.if_zero.Reads as if-zero-reads
-use Rattle.code_emit.proofs.choose.Reads as choose-reads
 
--- src/lib.rt:81:40
 add-next-part : tie.Need-add-next-part
 add-next-part c = search needs
 
--- src/lib.rt:81:9
 next-part-requires : tie.Need-next-part-requires
 next-part-requires c κs = search needs
 
--- src/lib.rt:82:9
 second-part-requires : tie.Need-second-part-requires
 second-part-requires c κs = search needs
 
--- src/lib.rt:83:18
 wide-requires : tie.Need-wide-requires
 wide-requires c κs = search needs
 
--- src/lib.rt:83:13
 mul-v : tie.Need-mul-v
 mul-v c = search needs
 
--- src/lib.rt:83:13
 shared-slice-read-v : tie.Need-shared-slice-read-v
 shared-slice-read-v c = let a = c .before .before .before .before .before .before .before .before .args in
     let l = c .before .before .before .before .before .before .before .before .pre .1 .1 .0 in
     let h = second-lt (a .nodes .now) (c .before .before .before .before .before .before .before .before .pre .0 .tree) (a .n .0) in
     omega (arith, h, l, c .before .before .second-part .ensures, c .before .wide .ensures)
 
--- src/lib.rt:84:19
 role-requires : tie.Need-role-requires
 role-requires c κs = let a = c .before .before .before .before .before .before .before .before .args in
     let h = head-lt (a .nodes .now) (c .before .before .before .before .before .before .before .before .pre .0 .tree) (a .n .0) (a .n .0 + 1) (omega arith) in
     omega (arith, h, c .before .before .before .next-part .ensures)
 
--- src/lib.rt:85:34
 add-choose : tie.Need-add-choose
 add-choose c = search needs
 
--- src/lib.rt:85:9
 choose-requires : tie.Need-choose-requires
 choose-requires c κs = search needs
 
--- src/lib.rt:86:33
 add-choose-2 : tie.Need-add-choose-2
 add-choose-2 c = search needs
 
--- src/lib.rt:86:9
 choose-requires-2 : tie.Need-choose-requires-2
 choose-requires-2 c κs = search needs
 
--- src/lib.rt:87:30
 add-if-zero : tie.Need-add-if-zero
 add-if-zero c = search needs
 
--- src/lib.rt:87:9
 if-zero-requires : tie.Need-if-zero-requires
 if-zero-requires c κs = search needs
 
--- src/lib.rt:88:24
 wide-requires-2 : tie.Need-wide-requires-2
 wide-requires-2 c κs = search needs
 
--- src/lib.rt:88:5
 put7-requires : tie.Need-put7-requires
 put7-requires c κs = search needs
 
--- src/lib.rt:72:1
 same-length : tie.Need-same-length
 same-length c = search needs
 
--- src/lib.rt:72:1
 returns : tie.Need-returns
 returns c = let a = c .before .before .before .before .before .before .before .before .before .before .before .before .before .before .before .before .before .args in
     let h = second-lt (a .nodes .now) (c .before .before .before .before .before .before .before .before .before .before .before .before .before .before .before .before .before .pre .0 .tree) (a .n .0) in

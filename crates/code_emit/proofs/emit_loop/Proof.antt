@@ -6,63 +6,43 @@ use mathlib.Core.Path.{ap, _∙_}
 use borrow.Author.Needs.{needs}
 use Rattle.code_emit.proofs.emit_loop.Statement.{statement}
 use Rattle.code_emit.proofs.emit_loop.Tie as tie
-use Rattle.code_emit.proofs.emit_loop.Reads as reads
-use Rattle.code_emit.proofs.emit_loop.Lts as lts
-use Rattle.code_stores.proofs.put10.Reads as put10-reads
-use Rattle.table_records.proofs.wide.Reads as wide-reads
-use Rattle.code_emit.proofs.choose.Reads as choose-reads
-use Rattle.code_emit.proofs.has_test.Reads as has-test-reads
-use Rattle.code_emit.proofs.is_before.Reads as is-before-reads
 
--- src/lib.rt:66:20
 is-before-requires : tie.Need-is-before-requires
 is-before-requires c κs = search needs
 
--- src/lib.rt:66:41
 add-choose : tie.Need-add-choose
 add-choose c = search needs
 
--- src/lib.rt:66:48
 add-choose-2 : tie.Need-add-choose-2
 add-choose-2 c = search needs
 
--- src/lib.rt:66:9
 choose-requires : tie.Need-choose-requires
 choose-requires c κs = search needs
 
--- src/lib.rt:67:20
 has-test-requires : tie.Need-has-test-requires
 has-test-requires c κs = search needs
 
--- src/lib.rt:67:40
 add-choose-3 : tie.Need-add-choose-3
 add-choose-3 c = search needs
 
--- src/lib.rt:67:47
 add-choose-4 : tie.Need-add-choose-4
 add-choose-4 c = search needs
 
--- src/lib.rt:67:9
 choose-requires-2 : tie.Need-choose-requires-2
 choose-requires-2 c κs = search needs
 
--- src/lib.rt:68:25
 wide-requires : tie.Need-wide-requires
 wide-requires c κs = search needs
 
--- src/lib.rt:68:59
 add-put10 : tie.Need-add-put10
 add-put10 c = search needs
 
--- src/lib.rt:68:5
 put10-requires : tie.Need-put10-requires
 put10-requires c κs = search needs
 
--- src/lib.rt:60:1
 same-length : tie.Need-same-length
 same-length c = search needs
 
--- src/lib.rt:60:1
 returns : tie.Need-returns
 returns c = let a = c .before .before .before .before .before .before .before .before .before .before .before .args in
     c .before .before .put10 .ensures ∙ (λ i. put (a .code .now) (c .before .before .before .wide .ensures i) (2 ∷ (c .before .before .before .before .before .before .before .choose .ensures ∙ ap (λ t. pick t (a .o + 3) (a .o + 10)) (c .before .before .before .before .before .before .before .before .is-before .ensures)) i

@@ -9,70 +9,49 @@ use mathlib.Core.Path.{_≡_, ap, _∙_}
 use borrow.Author.Needs.{needs}
 use Rattle.code_emit.proofs.emit_switch.Statement.{statement}
 use Rattle.code_emit.proofs.emit_switch.Tie as tie
-use Rattle.code_emit.proofs.emit_switch.Reads as reads
-use Rattle.code_emit.proofs.emit_switch.Lts as lts
-use Rattle.code_parts.proofs.default_part.Reads as default-part-reads
-use Rattle.code_parts.proofs.next_part.Reads as next-part-reads
-use Rattle.code_stores.proofs.put7.Reads as put7-reads
-use Rattle.table_records.proofs.wide.Reads as wide-reads
-use Rattle.code_jumps.proofs.if_zero.Reads as if-zero-reads
 
--- src/lib.rt:108:40
 add-next-part : tie.Need-add-next-part
 add-next-part c = search needs
 
--- src/lib.rt:108:9
 next-part-requires : tie.Need-next-part-requires
 next-part-requires c κs = search needs
 
--- src/lib.rt:109:33
 add-if-zero : tie.Need-add-if-zero
 add-if-zero c = search needs
 
--- src/lib.rt:109:9
 if-zero-requires : tie.Need-if-zero-requires
 if-zero-requires c κs = search needs
 
--- src/lib.rt:110:9
 default-part-requires : tie.Need-default-part-requires
 default-part-requires c κs = search needs
 
--- src/lib.rt:111:18
 wide-requires : tie.Need-wide-requires
 wide-requires c κs = search needs
 
--- src/lib.rt:111:13
 mul-v : tie.Need-mul-v
 mul-v c = search needs
 
--- src/lib.rt:111:13
 shared-slice-read-v : tie.Need-shared-slice-read-v
 shared-slice-read-v c = let a = c .before .before .before .before .before .before .before .before .before .args in
     let l = c .before .before .before .before .before .before .before .before .before .pre .1 .1 .0 in
     let h = default-lt (a .nodes .now) (c .before .before .before .before .before .before .before .before .before .pre .0 .tree) (a .n .0) in
     omega (arith, h, l, c .before .before .default-part .ensures, c .before .wide .ensures)
 
--- src/lib.rt:112:30
 add-if-zero-2 : tie.Need-add-if-zero-2
 add-if-zero-2 c = search needs
 
--- src/lib.rt:112:9
 if-zero-requires-2 : tie.Need-if-zero-requires-2
 if-zero-requires-2 c κs = search needs
 
--- src/lib.rt:113:24
 wide-requires-2 : tie.Need-wide-requires-2
 wide-requires-2 c κs = search needs
 
--- src/lib.rt:113:5
 put7-requires : tie.Need-put7-requires
 put7-requires c κs = search needs
 
--- src/lib.rt:91:1
 same-length : tie.Need-same-length
 same-length c = search needs
 
--- src/lib.rt:91:1
 returns : tie.Need-returns
 returns c = let a = c .before .before .before .before .before .before .before .before .before .before .before .before .before .before .before .args in
     let h = default-lt (a .nodes .now) (c .before .before .before .before .before .before .before .before .before .before .before .before .before .before .before .pre .0 .tree) (a .n .0) in

@@ -14,12 +14,6 @@ use native.Mathlib.Omega.{arith}
 use borrow.Author.Needs.{needs}
 use Rattle.code_jumps.proofs.break_named.Statement.{statement}
 use Rattle.code_jumps.proofs.break_named.Tie as tie
-use Rattle.code_jumps.proofs.break_named.Reads as reads
-use Rattle.code_jumps.proofs.break_named.Lts as lts
-use Rattle.table_ancestry.proofs.up.Reads as up-reads
-use Rattle.table_records.proofs.wide.Reads as wide-reads
-use Rattle.code_jumps.proofs.is_labeled_as.Reads as is-labeled-as-reads
-use Rattle.code_jumps.proofs.no_target.Reads as no-target-reads
 
 abbrev Inv-loop : tie.InvT-loop
 Inv-loop nodes names b offs nors l at₀ at = (at < count nodes) × (live nodes (b .0) at ≡ true) × (aim nodes names (b .0) at (breaks (named (nameId nodes names (l .0)))) ≡ aim nodes names (b .0) at₀ (breaks (named (nameId nodes names (l .0)))))
@@ -27,31 +21,24 @@ Inv-loop nodes names b offs nors l at₀ at = (at < count nodes) × (live nodes 
 abbrev μ-loop : tie.MeasureT-loop
 μ-loop nodes names b offs nors l at₀ at = at
 
--- src/lib.rt:314:5
 loop-holds : tie.Need-loop-holds Inv-loop μ-loop
 loop-holds c = (c .before .before .before .before .pre .1 .0, c .before .before .before .before .pre .1 .1 .0, refl)
 
--- src/lib.rt:315:13
 up-requires : tie.Need-up-requires Inv-loop μ-loop
 up-requires c κs = search needs
 
--- src/lib.rt:316:12
 is-labeled-as-requires : tie.Need-is-labeled-as-requires Inv-loop μ-loop
 is-labeled-as-requires c κs = (c .before .before .before .before .before .before .before .before .pre .0 .good .tree, (c .before .before .before .before .before .before .before .before .pre .0 .named, (omega arith, c .before .before .before .before .before .before .before .before .pre .1 .1 .1 .1 .1 .1 .1)))
 
--- src/lib.rt:317:25
 wide-requires : tie.Need-wide-requires Inv-loop μ-loop
 wide-requires c κs = search needs
 
--- src/lib.rt:317:20
 mul-result : tie.Need-mul-result Inv-loop μ-loop
 mul-result c = search needs
 
--- src/lib.rt:317:20
 shared-slice-read-result : tie.Need-shared-slice-read-result Inv-loop μ-loop
 shared-slice-read-result c = search needs
 
--- src/lib.rt:317:13
 returns : tie.Need-returns Inv-loop μ-loop
 returns c =
     let a = c .before .before .before .before .before .before .before .before .before .before .before .before .args in
@@ -66,11 +53,9 @@ returns c =
     let e : (isLabeled (shapeAt ns (parentOf ns at)) && eqb (nameId ns nm (a .l .0)) (idAt ns nm (parentOf ns at))) ≡ true = sym (c .before .before .before .is-labeled-as .ensures ∙ ap (λ k. (isLabeled (shapeAt ns k) && eqb (nameId ns nm (a .l .0)) (idAt ns nm k))) (c .before .before .before .before .up .ensures .0)) ∙ c .before .before .if2 .taken in
     cc (breN-hit ns nm b (t .falls) at (omega arith) (omega arith) (nameId ns nm (a .l .0)) e, c .before .before .before .before .before .before .before .before .before .before .before .before .pre .1 .1 .1 .1 .1 .0 .is (parentOf ns at) q (omega arith) v, c .before .before .before .before .up .ensures .0)
 
--- src/lib.rt:314:5
 loop-less : tie.Need-loop-less Inv-loop μ-loop
 loop-less c = search needs
 
--- src/lib.rt:314:5
 loop-again : tie.Need-loop-again Inv-loop μ-loop
 loop-again c =
     let a = c .before .before .before .before .before .before .before .before .before .before .args in
@@ -84,11 +69,9 @@ loop-again c =
     let e : (isLabeled (shapeAt ns (parentOf ns at)) && eqb (nameId ns nm (a .l .0)) (idAt ns nm (parentOf ns at))) ≡ false = sym (c .before .is-labeled-as .ensures ∙ ap (λ k. (isLabeled (shapeAt ns k) && eqb (nameId ns nm (a .l .0)) (idAt ns nm k))) (c .before .before .up .ensures .0)) ∙ c .if2 .left in
     (omega arith, cc v, ap (λ k. aim ns nm b k (breaks (named (nameId ns nm (a .l .0))))) (c .before .before .up .ensures .0) ∙ sym (breN-on ns nm b (t .falls) at (omega arith) (omega arith) (nameId ns nm (a .l .0)) e) ∙ c .before .before .before .before .before .loop .inv .2)
 
--- src/lib.rt:321:5
 no-target-requires : tie.Need-no-target-requires Inv-loop μ-loop
 no-target-requires c κs = (c .before .before .before .before .before .before .before .pre .0 .good .tree, (c .before .before .before .before .before .before .before .pre .1 .1 .1 .0, c .before .before .before .before .before .before .before .pre .1 .1 .1 .1 .0))
 
--- src/lib.rt:294:1
 returns-2 : tie.Need-returns-2 Inv-loop μ-loop
 returns-2 c =
     let a = c .before .before .before .before .before .before .before .before .args in

@@ -13,13 +13,6 @@ use native.Mathlib.Omega.{arith}
 use borrow.Author.Needs.{needs}
 use Rattle.code_jumps.proofs.break_near.Statement.{statement}
 use Rattle.code_jumps.proofs.break_near.Tie as tie
-use Rattle.code_jumps.proofs.break_near.Reads as reads
-use Rattle.code_jumps.proofs.break_near.Lts as lts
-use Rattle.table_ancestry.proofs.up.Reads as up-reads
-use Rattle.code_parts.proofs.shape_of.Reads as shape-of-reads
-use Rattle.table_records.proofs.wide.Reads as wide-reads
-use Rattle.code_jumps.proofs.is_breakable.Reads as is-breakable-reads
-use Rattle.code_jumps.proofs.no_target.Reads as no-target-reads
 
 abbrev Inv-loop : tie.InvT-loop
 Inv-loop nodes names b offs nors at₀ at = (at < count nodes) × (live nodes (b .0) at ≡ true) × (aim nodes names (b .0) at (breaks near) ≡ aim nodes names (b .0) at₀ (breaks near))
@@ -27,35 +20,27 @@ Inv-loop nodes names b offs nors at₀ at = (at < count nodes) × (live nodes (b
 abbrev μ-loop : tie.MeasureT-loop
 μ-loop nodes names b offs nors at₀ at = at
 
--- src/lib.rt:199:5
 loop-holds : tie.Need-loop-holds Inv-loop μ-loop
 loop-holds c = (c .before .before .before .before .pre .1 .0, c .before .before .before .before .pre .1 .1 .0, refl)
 
--- src/lib.rt:200:13
 up-requires : tie.Need-up-requires Inv-loop μ-loop
 up-requires c κs = search needs
 
--- src/lib.rt:201:25
 shape-of-requires : tie.Need-shape-of-requires Inv-loop μ-loop
 shape-of-requires c κs = search needs
 
--- src/lib.rt:201:12
 is-breakable-requires : tie.Need-is-breakable-requires Inv-loop μ-loop
 is-breakable-requires c κs = search needs
 
--- src/lib.rt:202:25
 wide-requires : tie.Need-wide-requires Inv-loop μ-loop
 wide-requires c κs = search needs
 
--- src/lib.rt:202:20
 mul-result : tie.Need-mul-result Inv-loop μ-loop
 mul-result c = search needs
 
--- src/lib.rt:202:20
 shared-slice-read-result : tie.Need-shared-slice-read-result Inv-loop μ-loop
 shared-slice-read-result c = search needs
 
--- src/lib.rt:202:13
 returns : tie.Need-returns Inv-loop μ-loop
 returns c =
     let a = c .before .before .before .before .before .before .before .before .before .before .before .before .before .args in
@@ -70,11 +55,9 @@ returns c =
     let e : isBreakable (shapeAt ns (parentOf ns at)) ≡ true = sym (c .before .before .before .is-breakable .ensures ∙ ap isBreakable (c .before .before .before .before .shape-of .ensures) ∙ ap (λ k. isBreakable (shapeAt ns k)) (c .before .before .before .before .before .up .ensures .0)) ∙ c .before .before .if2 .taken in
     cc (bre-hit ns nm b (t .falls) at (omega arith) (omega arith) e, c .before .before .before .before .before .before .before .before .before .before .before .before .before .pre .1 .1 .1 .1 .1 .0 .is (parentOf ns at) q (omega arith) v, c .before .before .before .before .before .up .ensures .0)
 
--- src/lib.rt:199:5
 loop-less : tie.Need-loop-less Inv-loop μ-loop
 loop-less c = search needs
 
--- src/lib.rt:199:5
 loop-again : tie.Need-loop-again Inv-loop μ-loop
 loop-again c =
     let a = c .before .before .before .before .before .before .before .before .before .before .before .args in
@@ -88,11 +71,9 @@ loop-again c =
     let e : isBreakable (shapeAt ns (parentOf ns at)) ≡ false = sym (c .before .is-breakable .ensures ∙ ap isBreakable (c .before .before .shape-of .ensures) ∙ ap (λ k. isBreakable (shapeAt ns k)) (c .before .before .before .up .ensures .0)) ∙ c .if2 .left in
     (omega arith, cc v, ap (λ k. aim ns nm b k (breaks near)) (c .before .before .before .up .ensures .0) ∙ sym (bre-on ns nm b (t .falls) at (omega arith) (omega arith) e) ∙ c .before .before .before .before .before .before .loop .inv .2)
 
--- src/lib.rt:206:5
 no-target-requires : tie.Need-no-target-requires Inv-loop μ-loop
 no-target-requires c κs = (c .before .before .before .before .before .before .before .pre .0 .good .tree, (c .before .before .before .before .before .before .before .pre .1 .1 .1 .0, c .before .before .before .before .before .before .before .pre .1 .1 .1 .1 .0))
 
--- src/lib.rt:181:1
 returns-2 : tie.Need-returns-2 Inv-loop μ-loop
 returns-2 c =
     let a = c .before .before .before .before .before .before .before .before .args in

@@ -5,29 +5,19 @@ use mathlib.Core.Path.{sym, ap, _∙_}
 use borrow.Author.Needs.{needs}
 use Rattle.code_jumps.proofs.break_target.Statement.{statement}
 use Rattle.code_jumps.proofs.break_target.Tie as tie
-use Rattle.code_jumps.proofs.break_target.Reads as reads
-use Rattle.code_jumps.proofs.break_target.Lts as lts
-use Rattle.table_children.proofs.label_of.Reads as label-of-reads
-use Rattle.code_jumps.proofs.break_named.Reads as break-named-reads
-use Rattle.code_jumps.proofs.break_near.Reads as break-near-reads
 
--- src/lib.rt:370:24
 label-of-requires : tie.Need-label-of-requires
 label-of-requires c κs = search needs
 
--- src/lib.rt:370:19
 enum-known-l : tie.Need-enum-known-l
 enum-known-l c = search needs
 
--- src/lib.rt:371:9
 enum-told : tie.Need-enum-told
 enum-told c = search needs
 
--- src/lib.rt:371:9
 break-near-requires : tie.Need-break-near-requires
 break-near-requires c κs = c .before .before .before .before .before .before .before .pre
 
--- src/lib.rt:371:9
 returns : tie.Need-returns
 returns c =
     let a = c .before .before .before .before .before .before .before .before .args in
@@ -38,11 +28,9 @@ returns c =
     let n = a .n .0 in
     c .break-near .ensures ∙ ap (λ x. aim ns nm b n (breaks (labBy ns nm x))) (sym (c .before .enum-told .given .1) ∙ c .before .before .before .label-of .ensures .0)
 
--- src/lib.rt:373:5
 break-named-requires : tie.Need-break-named-requires
 break-named-requires c κs = (c .before .before .before .before .before .before .before .before .pre .0, (c .before .before .before .before .before .before .before .before .pre .1 .0, (c .before .before .before .before .before .before .before .before .pre .1 .1 .0, (c .before .before .before .before .before .before .before .before .pre .1 .1 .1 .0, (c .before .before .before .before .before .before .before .before .pre .1 .1 .1 .1 .0, (c .before .before .before .before .before .before .before .before .pre .1 .1 .1 .1 .1 .0, (c .before .before .before .before .before .before .before .before .pre .1 .1 .1 .1 .1 .1, rw (c .before .l .given .1) at (c .before .before .before .label-of .ensures .1))))))))
 
--- src/lib.rt:353:1
 returns-2 : tie.Need-returns-2
 returns-2 c =
     let a = c .before .before .before .before .before .before .before .before .before .args in

@@ -13,12 +13,6 @@ use native.Mathlib.Omega.{arith}
 use borrow.Author.Needs.{needs}
 use Rattle.code_jumps.proofs.continue_named.Statement.{statement}
 use Rattle.code_jumps.proofs.continue_named.Tie as tie
-use Rattle.code_jumps.proofs.continue_named.Reads as reads
-use Rattle.code_jumps.proofs.continue_named.Lts as lts
-use Rattle.table_ancestry.proofs.up.Reads as up-reads
-use Rattle.code_jumps.proofs.next_turn.Reads as next-turn-reads
-use Rattle.code_jumps.proofs.no_target.Reads as no-target-reads
-use Rattle.code_jumps.proofs.takes_continue.Reads as takes-continue-reads
 
 abbrev Inv-loop : tie.InvT-loop
 Inv-loop nodes names b offs l at₀ at = (at < count nodes) × (live nodes (b .0) at ≡ true) × (aim nodes names (b .0) at (continues (named (nameId nodes names (l .0)))) ≡ aim nodes names (b .0) at₀ (continues (named (nameId nodes names (l .0)))))
@@ -26,15 +20,12 @@ Inv-loop nodes names b offs l at₀ at = (at < count nodes) × (live nodes (b .0
 abbrev μ-loop : tie.MeasureT-loop
 μ-loop nodes names b offs l at₀ at = at
 
--- src/lib.rt:342:5
 loop-holds : tie.Need-loop-holds Inv-loop μ-loop
 loop-holds c = (c .before .before .before .pre .1 .0, c .before .before .before .pre .1 .1 .0, refl)
 
--- src/lib.rt:343:13
 up-requires : tie.Need-up-requires Inv-loop μ-loop
 up-requires c κs = search needs
 
--- src/lib.rt:344:12
 takes-continue-requires : tie.Need-takes-continue-requires Inv-loop μ-loop
 takes-continue-requires c κs =
     let a = c .before .before .before .before .before .before .before .args in
@@ -47,11 +38,9 @@ takes-continue-requires c κs =
     let v = live-parent ns nm b (t .falls) at (omega arith) (omega arith) (c .before .before .before .loop .inv .1) in
     (c .before .before .before .before .before .before .before .pre .0, (omega arith, (cc v, c .before .before .before .before .before .before .before .pre .1 .1 .1 .1 .1)))
 
--- src/lib.rt:345:13
 next-turn-requires : tie.Need-next-turn-requires Inv-loop μ-loop
 next-turn-requires c κs = (c .before .before .before .before .before .before .before .before .before .pre .0 .good .tree, (c .before .before .before .before .before .before .before .before .before .pre .1 .1 .1 .0, (c .before .before .before .before .before .before .before .before .before .pre .1 .1 .1 .1 .0, omega arith)))
 
--- src/lib.rt:345:13
 returns : tie.Need-returns Inv-loop μ-loop
 returns c =
     let a = c .before .before .before .before .before .before .before .before .before .before .args in
@@ -66,11 +55,9 @@ returns c =
     let e : (isLoop (shapeAt ns (parentOf ns at)) && elem (nameId ns nm (a .l .0)) (setOf ns nm b (parentOf ns at))) ≡ true = sym (c .before .before .takes-continue .ensures ∙ ap (λ k. (isLoop (shapeAt ns k) && elem (nameId ns nm (a .l .0)) (setOf ns nm b k))) (c .before .before .before .up .ensures .0)) ∙ c .before .if2 .taken in
     c .next-turn .ensures ∙ ap (λ k. off ns b k + 3) (c .before .before .before .up .ensures .0) ∙ sym (conN-hit ns nm b (t .falls) at (omega arith) (omega arith) (nameId ns nm (a .l .0)) e) ∙ c .before .before .before .before .before .before .loop .inv .2
 
--- src/lib.rt:342:5
 loop-less : tie.Need-loop-less Inv-loop μ-loop
 loop-less c = search needs
 
--- src/lib.rt:342:5
 loop-again : tie.Need-loop-again Inv-loop μ-loop
 loop-again c =
     let a = c .before .before .before .before .before .before .before .before .before .args in
@@ -84,11 +71,9 @@ loop-again c =
     let e : (isLoop (shapeAt ns (parentOf ns at)) && elem (nameId ns nm (a .l .0)) (setOf ns nm b (parentOf ns at))) ≡ false = sym (c .before .takes-continue .ensures ∙ ap (λ k. (isLoop (shapeAt ns k) && elem (nameId ns nm (a .l .0)) (setOf ns nm b k))) (c .before .before .up .ensures .0)) ∙ c .if2 .left in
     (omega arith, cc v, ap (λ k. aim ns nm b k (continues (named (nameId ns nm (a .l .0))))) (c .before .before .up .ensures .0) ∙ sym (conN-on ns nm b (t .falls) at (omega arith) (omega arith) (nameId ns nm (a .l .0)) e) ∙ c .before .before .before .before .before .loop .inv .2)
 
--- src/lib.rt:349:5
 no-target-requires : tie.Need-no-target-requires Inv-loop μ-loop
 no-target-requires c κs = (c .before .before .before .before .before .before .pre .0 .good .tree, (c .before .before .before .before .before .before .pre .1 .1 .1 .0, c .before .before .before .before .before .before .pre .1 .1 .1 .1 .0))
 
--- src/lib.rt:325:1
 returns-2 : tie.Need-returns-2 Inv-loop μ-loop
 returns-2 c =
     let a = c .before .before .before .before .before .before .before .args in

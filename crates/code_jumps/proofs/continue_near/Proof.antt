@@ -13,13 +13,6 @@ use native.Mathlib.Omega.{arith}
 use borrow.Author.Needs.{needs}
 use Rattle.code_jumps.proofs.continue_near.Statement.{statement}
 use Rattle.code_jumps.proofs.continue_near.Tie as tie
-use Rattle.code_jumps.proofs.continue_near.Reads as reads
-use Rattle.code_jumps.proofs.continue_near.Lts as lts
-use Rattle.table_ancestry.proofs.up.Reads as up-reads
-use Rattle.code_parts.proofs.shape_of.Reads as shape-of-reads
-use Rattle.code_jumps.proofs.is_loop.Reads as is-loop-reads
-use Rattle.code_jumps.proofs.next_turn.Reads as next-turn-reads
-use Rattle.code_jumps.proofs.no_target.Reads as no-target-reads
 
 abbrev Inv-loop : tie.InvT-loop
 Inv-loop nodes names b offs at₀ at = (at < count nodes) × (live nodes (b .0) at ≡ true) × (aim nodes names (b .0) at (continues near) ≡ aim nodes names (b .0) at₀ (continues near))
@@ -27,27 +20,21 @@ Inv-loop nodes names b offs at₀ at = (at < count nodes) × (live nodes (b .0) 
 abbrev μ-loop : tie.MeasureT-loop
 μ-loop nodes names b offs at₀ at = at
 
--- src/lib.rt:219:5
 loop-holds : tie.Need-loop-holds Inv-loop μ-loop
 loop-holds c = (c .before .before .before .pre .1 .0, c .before .before .before .pre .1 .1 .0, refl)
 
--- src/lib.rt:220:13
 up-requires : tie.Need-up-requires Inv-loop μ-loop
 up-requires c κs = search needs
 
--- src/lib.rt:221:20
 shape-of-requires : tie.Need-shape-of-requires Inv-loop μ-loop
 shape-of-requires c κs = search needs
 
--- src/lib.rt:221:12
 is-loop-requires : tie.Need-is-loop-requires Inv-loop μ-loop
 is-loop-requires c κs = search needs
 
--- src/lib.rt:222:13
 next-turn-requires : tie.Need-next-turn-requires Inv-loop μ-loop
 next-turn-requires c κs = (c .before .before .before .before .before .before .before .before .before .before .pre .0 .good .tree, (c .before .before .before .before .before .before .before .before .before .before .pre .1 .1 .1 .0, (c .before .before .before .before .before .before .before .before .before .before .pre .1 .1 .1 .1, omega arith)))
 
--- src/lib.rt:222:13
 returns : tie.Need-returns Inv-loop μ-loop
 returns c =
     let a = c .before .before .before .before .before .before .before .before .before .before .before .args in
@@ -62,11 +49,9 @@ returns c =
     let e : isLoop (shapeAt ns (parentOf ns at)) ≡ true = sym (c .before .before .is-loop .ensures ∙ ap isLoop (c .before .before .before .shape-of .ensures) ∙ ap (λ k. isLoop (shapeAt ns k)) (c .before .before .before .before .up .ensures .0)) ∙ c .before .if2 .taken in
     c .next-turn .ensures ∙ ap (λ k. off ns b k + 3) (c .before .before .before .before .up .ensures .0) ∙ sym (con-hit ns nm b (t .falls) at (omega arith) (omega arith) e) ∙ c .before .before .before .before .before .before .before .loop .inv .2
 
--- src/lib.rt:219:5
 loop-less : tie.Need-loop-less Inv-loop μ-loop
 loop-less c = search needs
 
--- src/lib.rt:219:5
 loop-again : tie.Need-loop-again Inv-loop μ-loop
 loop-again c =
     let a = c .before .before .before .before .before .before .before .before .before .before .args in
@@ -80,11 +65,9 @@ loop-again c =
     let e : isLoop (shapeAt ns (parentOf ns at)) ≡ false = sym (c .before .is-loop .ensures ∙ ap isLoop (c .before .before .shape-of .ensures) ∙ ap (λ k. isLoop (shapeAt ns k)) (c .before .before .before .up .ensures .0)) ∙ c .if2 .left in
     (omega arith, cc v, ap (λ k. aim ns nm b k (continues near)) (c .before .before .before .up .ensures .0) ∙ sym (con-on ns nm b (t .falls) at (omega arith) (omega arith) e) ∙ c .before .before .before .before .before .before .loop .inv .2)
 
--- src/lib.rt:226:5
 no-target-requires : tie.Need-no-target-requires Inv-loop μ-loop
 no-target-requires c κs = (c .before .before .before .before .before .before .pre .0 .good .tree, (c .before .before .before .before .before .before .pre .1 .1 .1 .0, c .before .before .before .before .before .before .pre .1 .1 .1 .1))
 
--- src/lib.rt:210:1
 returns-2 : tie.Need-returns-2 Inv-loop μ-loop
 returns-2 c =
     let a = c .before .before .before .before .before .before .before .args in

@@ -5,29 +5,19 @@ use mathlib.Core.Path.{sym, ap, _∙_}
 use borrow.Author.Needs.{needs}
 use Rattle.code_jumps.proofs.continue_target.Statement.{statement}
 use Rattle.code_jumps.proofs.continue_target.Tie as tie
-use Rattle.code_jumps.proofs.continue_target.Reads as reads
-use Rattle.code_jumps.proofs.continue_target.Lts as lts
-use Rattle.table_children.proofs.label_of.Reads as label-of-reads
-use Rattle.code_jumps.proofs.continue_named.Reads as continue-named-reads
-use Rattle.code_jumps.proofs.continue_near.Reads as continue-near-reads
 
--- src/lib.rt:385:24
 label-of-requires : tie.Need-label-of-requires
 label-of-requires c κs = search needs
 
--- src/lib.rt:385:19
 enum-known-l : tie.Need-enum-known-l
 enum-known-l c = search needs
 
--- src/lib.rt:386:9
 enum-told : tie.Need-enum-told
 enum-told c = search needs
 
--- src/lib.rt:386:9
 continue-near-requires : tie.Need-continue-near-requires
 continue-near-requires c κs = c .before .before .before .before .before .before .pre
 
--- src/lib.rt:386:9
 returns : tie.Need-returns
 returns c =
     let a = c .before .before .before .before .before .before .before .args in
@@ -38,11 +28,9 @@ returns c =
     let n = a .n .0 in
     c .continue-near .ensures ∙ ap (λ x. aim ns nm b n (continues (labBy ns nm x))) (sym (c .before .enum-told .given .1) ∙ c .before .before .before .label-of .ensures .0)
 
--- src/lib.rt:388:5
 continue-named-requires : tie.Need-continue-named-requires
 continue-named-requires c κs = (c .before .before .before .before .before .before .before .pre .0, (c .before .before .before .before .before .before .before .pre .1 .0, (c .before .before .before .before .before .before .before .pre .1 .1 .0, (c .before .before .before .before .before .before .before .pre .1 .1 .1 .0, (c .before .before .before .before .before .before .before .pre .1 .1 .1 .1, rw (c .before .l .given .1) at (c .before .before .before .label-of .ensures .1))))))
 
--- src/lib.rt:377:1
 returns-2 : tie.Need-returns-2
 returns-2 c =
     let a = c .before .before .before .before .before .before .before .before .args in

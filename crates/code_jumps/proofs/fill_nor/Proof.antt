@@ -9,11 +9,6 @@ use native.Mathlib.Omega.{arith}
 use borrow.Author.Needs.{needs}
 use Rattle.code_jumps.proofs.fill_nor.Statement.{statement}
 use Rattle.code_jumps.proofs.fill_nor.Tie as tie
-use Rattle.code_jumps.proofs.fill_nor.Reads as reads
-use Rattle.code_jumps.proofs.fill_nor.Lts as lts
-use Rattle.table_records.proofs.size.Reads as size-reads
-use Rattle.table_records.proofs.wide.Reads as wide-reads
-use Rattle.code_jumps.proofs.nor_at.Reads as nor-at-reads
 
 abbrev Inv-loop : tie.InvT-loop
 Inv-loop nodes names b offs nors₀ size j₀ nors j = (b .0 < j) × (j ≤ size) × (length nors ≡ length nors₀) × Nors nodes names (b .0) j nors
@@ -21,39 +16,30 @@ Inv-loop nodes names b offs nors₀ size j₀ nors j = (b .0 < j) × (j ≤ size
 abbrev μ-loop : tie.MeasureT-loop
 μ-loop nodes names b offs nors₀ size j₀ nors j = size - j
 
--- src/lib.rt:148:9
 size-requires : tie.Need-size-requires Inv-loop μ-loop
 size-requires c κs = search needs
 
--- src/lib.rt:149:28
 wide-requires : tie.Need-wide-requires Inv-loop μ-loop
 wide-requires c κs = search needs
 
--- src/lib.rt:149:23
 mul-nors : tie.Need-mul-nors Inv-loop μ-loop
 mul-nors c = search needs
 
--- src/lib.rt:149:23
 shared-slice-read-nors : tie.Need-shared-slice-read-nors Inv-loop μ-loop
 shared-slice-read-nors c = search needs
 
--- src/lib.rt:149:10
 wide-requires-2 : tie.Need-wide-requires-2 Inv-loop μ-loop
 wide-requires-2 c κs = search needs
 
--- src/lib.rt:149:5
 mul-nors-2 : tie.Need-mul-nors-2 Inv-loop μ-loop
 mul-nors-2 c = search needs
 
--- src/lib.rt:149:5
 slice-write-nors : tie.Need-slice-write-nors Inv-loop μ-loop
 slice-write-nors c = search needs
 
--- src/lib.rt:150:17
 add-j : tie.Need-add-j Inv-loop μ-loop
 add-j c = search needs
 
--- src/lib.rt:151:5
 loop-holds : tie.Need-loop-holds Inv-loop μ-loop
 loop-holds c =
     let a = c .before .before .before .before .before .before .before .before .before .args in
@@ -66,7 +52,6 @@ loop-holds c =
     let x : getD (a .offs .now) (c .before .before .before .wide .result) 0 ≡ off ns b (count ns) = cc (c .before .before .before .before .before .before .before .before .before .pre .1 .0 .is (count ns) (omega arith)) in
     (omega arith, omega arith, refl, rw (c .before .wide2 .ensures) (nors-first ns nm b _ (a .nors .now) (omega arith) x))
 
--- src/lib.rt:152:13
 nor-at-requires : tie.Need-nor-at-requires Inv-loop μ-loop
 nor-at-requires c κs =
     let a = c .before .before .before .before .before .before .before .before .before .before .before .before .args in
@@ -80,15 +65,12 @@ nor-at-requires c κs =
     let q = simp length-set at l in
     (c .before .before .before .before .before .before .before .before .before .before .before .before .pre .0, (omega arith, (omega arith, (c .before .before .before .before .before .before .before .before .before .before .before .before .pre .1 .0, (c .before .before .before .before .before .before .before .before .before .before .before .before .pre .1 .1 .0, (c .before .before .loop .inv .3, omega arith))))))
 
--- src/lib.rt:153:14
 wide-requires-3 : tie.Need-wide-requires-3 Inv-loop μ-loop
 wide-requires-3 c κs = search needs
 
--- src/lib.rt:153:9
 mul-nors-3 : tie.Need-mul-nors-3 Inv-loop μ-loop
 mul-nors-3 c = search needs
 
--- src/lib.rt:153:9
 slice-write-nors-2 : tie.Need-slice-write-nors-2 Inv-loop μ-loop
 slice-write-nors-2 c =
     let a = c .before .before .before .before .before .before .before .before .before .before .before .before .before .before .args in
@@ -102,15 +84,12 @@ slice-write-nors-2 c =
     let q = simp length-set at l in
     omega arith
 
--- src/lib.rt:154:9
 add-j-2 : tie.Need-add-j-2 Inv-loop μ-loop
 add-j-2 c = search needs
 
--- src/lib.rt:151:5
 loop-less : tie.Need-loop-less Inv-loop μ-loop
 loop-less c = search needs
 
--- src/lib.rt:151:5
 loop-again : tie.Need-loop-again Inv-loop μ-loop
 loop-again c =
     let a = c .before .before .before .before .before .before .before .before .before .before .before .before .before .before .args in
@@ -124,11 +103,9 @@ loop-again c =
     let q = simp length-set at l in
     (omega arith, omega arith, simp length-set q, rw (c .wide3 .ensures) (nors-next ns nm b (c .before .before .before .before .loop .j) (c .before .nor-at .result) (c .before .before .before .before .loop .nors) (omega arith) (c .before .nor-at .ensures) (c .before .before .before .before .loop .inv .3)))
 
--- src/lib.rt:141:1
 same-length : tie.Need-same-length Inv-loop μ-loop
 same-length c = simp length-set at (c .before .loop .inv .2)
 
--- src/lib.rt:141:1
 returns : tie.Need-returns Inv-loop μ-loop
 returns c =
     let q : c .before .loop .j ≡ c .before .before .before .before .before .before .size .result = omega arith in

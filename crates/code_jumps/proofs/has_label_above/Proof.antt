@@ -14,12 +14,6 @@ use native.Mathlib.Omega.{arith}
 use borrow.Author.Needs.{needs}
 use Rattle.code_jumps.proofs.has_label_above.Statement.{statement}
 use Rattle.code_jumps.proofs.has_label_above.Tie as tie
-use Rattle.code_jumps.proofs.has_label_above.Reads as reads
-use Rattle.code_jumps.proofs.has_label_above.Lts as lts
-use Rattle.table_ancestry.proofs.up.Reads as up-reads
-use Rattle.code_parts.proofs.shape_of.Reads as shape-of-reads
-use Rattle.code_jumps.proofs.has_same_label.Reads as has-same-label-reads
-use Rattle.code_jumps.proofs.is_labeled.Reads as is-labeled-reads
 
 abbrev Inv-loop : tie.InvT-loop
 Inv-loop nodes names b l at₀ at = (at < count nodes) × (live nodes (b .0) at ≡ true) × (elem (nameId nodes names (l .0)) (setOf nodes names (b .0) at) ≡ elem (nameId nodes names (l .0)) (setOf nodes names (b .0) at₀))
@@ -27,23 +21,18 @@ Inv-loop nodes names b l at₀ at = (at < count nodes) × (live nodes (b .0) at 
 abbrev μ-loop : tie.MeasureT-loop
 μ-loop nodes names b l at₀ at = at
 
--- src/lib.rt:266:5
 loop-holds : tie.Need-loop-holds Inv-loop μ-loop
 loop-holds c = (c .before .before .pre .1 .0, c .before .before .pre .1 .1 .0, refl)
 
--- src/lib.rt:267:13
 up-requires : tie.Need-up-requires Inv-loop μ-loop
 up-requires c κs = search needs
 
--- src/lib.rt:268:24
 shape-of-requires : tie.Need-shape-of-requires Inv-loop μ-loop
 shape-of-requires c κs = search needs
 
--- src/lib.rt:268:13
 is-labeled-requires : tie.Need-is-labeled-requires Inv-loop μ-loop
 is-labeled-requires c κs = search needs
 
--- src/lib.rt:269:13
 returns : tie.Need-returns Inv-loop μ-loop
 returns c =
     let a = c .before .before .before .before .before .before .before .before .before .args in
@@ -57,11 +46,9 @@ returns c =
     let e : isLabeled (shapeAt ns (parentOf ns at)) ≡ false = sym (c .before .is-labeled .ensures ∙ ap isLabeled (c .before .before .shape-of .ensures) ∙ ap (λ k. isLabeled (shapeAt ns k)) (c .before .before .before .up .ensures .0)) ∙ not-true (c .before .is-labeled .result) (c .if2 .taken) in
     sym (set-stop ns nm b (t .falls) at (omega arith) (omega arith) (nameId ns nm (a .l .0)) e) ∙ c .before .before .before .before .before .before .loop .inv .2
 
--- src/lib.rt:271:12
 has-same-label-requires : tie.Need-has-same-label-requires Inv-loop μ-loop
 has-same-label-requires c κs = (c .before .before .before .before .before .before .before .before .before .pre .0 .good .tree, (c .before .before .before .before .before .before .before .before .before .pre .0 .named, (omega arith, c .before .before .before .before .before .before .before .before .before .pre .1 .1 .1)))
 
--- src/lib.rt:272:13
 returns-2 : tie.Need-returns-2 Inv-loop μ-loop
 returns-2 c =
     let a = c .before .before .before .before .before .before .before .before .before .before .before .args in
@@ -76,11 +63,9 @@ returns-2 c =
     let g : eqb (nameId ns nm (a .l .0)) (idAt ns nm (parentOf ns at)) ≡ true = sym (c .before .has-same-label .ensures ∙ ap (λ k. eqb (nameId ns nm (a .l .0)) (idAt ns nm k)) (c .before .before .before .before .before .up .ensures .0)) ∙ c .if3 .taken in
     sym (set-hit ns nm b (t .falls) at (omega arith) (omega arith) (nameId ns nm (a .l .0)) e g) ∙ c .before .before .before .before .before .before .before .before .loop .inv .2
 
--- src/lib.rt:266:5
 loop-less : tie.Need-loop-less Inv-loop μ-loop
 loop-less c = search needs
 
--- src/lib.rt:266:5
 loop-again : tie.Need-loop-again Inv-loop μ-loop
 loop-again c =
     let a = c .before .before .before .before .before .before .before .before .before .before .before .args in
@@ -95,7 +80,6 @@ loop-again c =
     let g : eqb (nameId ns nm (a .l .0)) (idAt ns nm (parentOf ns at)) ≡ false = sym (c .before .has-same-label .ensures ∙ ap (λ k. eqb (nameId ns nm (a .l .0)) (idAt ns nm k)) (c .before .before .before .before .before .up .ensures .0)) ∙ c .if3 .left in
     (omega arith, cc v, ap (λ k. elem (nameId ns nm (a .l .0)) (setOf ns nm b k)) (c .before .before .before .before .before .up .ensures .0) ∙ sym (set-on ns nm b (t .falls) at (omega arith) (omega arith) (nameId ns nm (a .l .0)) e g) ∙ c .before .before .before .before .before .before .before .before .loop .inv .2)
 
--- src/lib.rt:258:1
 returns-3 : tie.Need-returns-3 Inv-loop μ-loop
 returns-3 c =
     let a = c .before .before .before .before .before .args in

@@ -6,24 +6,16 @@ use Rattle.table_records.specs.declared.Found.the-variants.{At, Nothing}
 use borrow.Author.Needs.{needs}
 use Rattle.code_jumps.proofs.has_same_label.Statement.{statement}
 use Rattle.code_jumps.proofs.has_same_label.Tie as tie
-use Rattle.code_jumps.proofs.has_same_label.Reads as reads
-use Rattle.code_jumps.proofs.has_same_label.Lts as lts
-use Rattle.table_children.proofs.label_of.Reads as label-of-reads
-use Rattle.table_names.proofs.same_name.Reads as same-name-reads
 
--- src/lib.rt:237:26
 label-of-requires : tie.Need-label-of-requires
 label-of-requires c κs = search needs
 
--- src/lib.rt:237:19
 enum-known-own : tie.Need-enum-known-own
 enum-known-own c = search needs
 
--- src/lib.rt:238:9
 enum-told : tie.Need-enum-told
 enum-told c = search needs
 
--- src/lib.rt:238:9
 returns : tie.Need-returns
 returns c =
     let a = c .before .before .before .before .before .args in
@@ -31,11 +23,9 @@ returns c =
     let nm = a .names .now in
     sym (id-test ns nm (a .l .0) (c .before .before .before .before .before .pre .1 .1 .1) Nothing tt) ∙ ap (λ x. eqb (nameId ns nm (a .l .0)) (idBy ns nm x)) (sym (c .enum-told .given .1) ∙ c .before .before .label-of .ensures .0)
 
--- src/lib.rt:240:5
 same-name-requires : tie.Need-same-name-requires
 same-name-requires c κs = (c .before .before .before .before .before .before .pre .1 .0, (rw (c .before .own .given .1) at (c .before .before .before .label-of .ensures .1), c .before .before .before .before .before .before .pre .1 .1 .1))
 
--- src/lib.rt:230:1
 returns-2 : tie.Need-returns-2
 returns-2 c =
     let a = c .before .before .before .before .before .before .before .args in

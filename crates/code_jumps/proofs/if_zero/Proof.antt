@@ -4,14 +4,10 @@ use native.Mathlib.Omega.{arith}
 use borrow.Author.Needs.{needs}
 use Rattle.code_jumps.proofs.if_zero.Statement.{statement}
 use Rattle.code_jumps.proofs.if_zero.Tie as tie
-use Rattle.code_jumps.proofs.if_zero.Reads as reads
-use Rattle.code_jumps.proofs.if_zero.Lts as lts
 
--- src/lib.rt:27:9
 returns : tie.Need-returns
 returns c = search needs
 
--- src/lib.rt:23:1
 returns-2 : tie.Need-returns-2
 returns-2 c = let a = c .before .args in sym (ifz-pos (a .n) (a .x) (a .y) (omega arith))
 

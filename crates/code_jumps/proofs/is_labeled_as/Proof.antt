@@ -5,25 +5,16 @@ use mathlib.Core.Bool.{true, false}
 use borrow.Author.Needs.{needs}
 use Rattle.code_jumps.proofs.is_labeled_as.Statement.{statement}
 use Rattle.code_jumps.proofs.is_labeled_as.Tie as tie
-use Rattle.code_jumps.proofs.is_labeled_as.Reads as reads
-use Rattle.code_jumps.proofs.is_labeled_as.Lts as lts
-use Rattle.code_parts.proofs.shape_of.Reads as shape-of-reads
-use Rattle.code_jumps.proofs.has_same_label.Reads as has-same-label-reads
-use Rattle.code_jumps.proofs.is_labeled.Reads as is-labeled-reads
 
--- src/lib.rt:251:19
 shape-of-requires : tie.Need-shape-of-requires
 shape-of-requires c κs = search needs
 
--- src/lib.rt:251:8
 is-labeled-requires : tie.Need-is-labeled-requires
 is-labeled-requires c κs = search needs
 
--- src/lib.rt:252:9
 has-same-label-requires : tie.Need-has-same-label-requires
 has-same-label-requires c κs = c .before .before .before .before .before .pre
 
--- src/lib.rt:252:9
 returns : tie.Need-returns
 returns c =
     let a = c .before .before .before .before .before .before .args in
@@ -31,7 +22,6 @@ returns c =
     let e : isLabeled (shapeAt ns (a .p .0)) ≡ true = sym (c .before .before .is-labeled .ensures ∙ ap isLabeled (c .before .before .before .shape-of .ensures)) ∙ c .before .if1 .taken in
     rw e (c .has-same-label .ensures)
 
--- src/lib.rt:244:1
 returns-2 : tie.Need-returns-2
 returns-2 c =
     let a = c .before .before .before .before .before .args in

@@ -7,23 +7,16 @@ use native.Mathlib.Omega.{arith}
 use borrow.Author.Needs.{needs}
 use Rattle.code_jumps.proofs.next_turn.Statement.{statement}
 use Rattle.code_jumps.proofs.next_turn.Tie as tie
-use Rattle.code_jumps.proofs.next_turn.Reads as reads
-use Rattle.code_jumps.proofs.next_turn.Lts as lts
-use Rattle.table_records.proofs.wide.Reads as wide-reads
 
--- src/lib.rt:177:10
 wide-requires : tie.Need-wide-requires
 wide-requires c κs = search needs
 
--- src/lib.rt:177:5
 mul-result : tie.Need-mul-result
 mul-result c = search needs
 
--- src/lib.rt:177:5
 shared-slice-read-result : tie.Need-shared-slice-read-result
 shared-slice-read-result c = search needs
 
--- src/lib.rt:177:5
 add-result : tie.Need-add-result
 add-result c =
     let a = c .before .before .before .before .args in
@@ -34,7 +27,6 @@ add-result c =
     let k = off-bound ns b (a .p .0) in
     omega arith
 
--- src/lib.rt:170:1
 returns : tie.Need-returns
 returns c =
     let a = c .before .before .before .before .args in

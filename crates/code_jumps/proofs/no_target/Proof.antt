@@ -8,28 +8,19 @@ use native.Mathlib.Omega.{arith}
 use borrow.Author.Needs.{needs}
 use Rattle.code_jumps.proofs.no_target.Statement.{statement}
 use Rattle.code_jumps.proofs.no_target.Tie as tie
-use Rattle.code_jumps.proofs.no_target.Reads as reads
-use Rattle.code_jumps.proofs.no_target.Lts as lts
-use Rattle.table_records.proofs.size.Reads as size-reads
-use Rattle.table_records.proofs.wide.Reads as wide-reads
 
--- src/lib.rt:165:9
 size-requires : tie.Need-size-requires
 size-requires c κs = search needs
 
--- src/lib.rt:166:10
 wide-requires : tie.Need-wide-requires
 wide-requires c κs = search needs
 
--- src/lib.rt:166:5
 mul-result : tie.Need-mul-result
 mul-result c = search needs
 
--- src/lib.rt:166:5
 shared-slice-read-result : tie.Need-shared-slice-read-result
 shared-slice-read-result c = search needs
 
--- src/lib.rt:166:5
 add-result : tie.Need-add-result
 add-result c =
     let a = c .before .before .before .before .before .args in
@@ -40,7 +31,6 @@ add-result c =
     let k = off-bound ns b (count ns) in
     omega arith
 
--- src/lib.rt:159:1
 returns : tie.Need-returns
 returns c =
     let a = c .before .before .before .before .before .args in

@@ -17,62 +17,42 @@ use native.Mathlib.Omega.{arith}
 use borrow.Author.Needs.{needs}
 use Rattle.code_jumps.proofs.nor_at.Statement.{statement}
 use Rattle.code_jumps.proofs.nor_at.Tie as tie
-use Rattle.code_jumps.proofs.nor_at.Reads as reads
-use Rattle.code_jumps.proofs.nor_at.Lts as lts
-use Rattle.table_ancestry.proofs.up.Reads as up-reads
-use Rattle.code_parts.proofs.is_live.Reads as is-live-reads
-use Rattle.code_parts.proofs.next_part.Reads as next-part-reads
-use Rattle.code_parts.proofs.shape_of.Reads as shape-of-reads
-use Rattle.table_records.proofs.wide.Reads as wide-reads
-use Rattle.code_jumps.proofs.nor_by.Reads as nor-by-reads
 
--- src/lib.rt:128:9
 is-live-requires : tie.Need-is-live-requires
 is-live-requires c κs = search needs
 
--- src/lib.rt:129:9
 returns : tie.Need-returns
 returns c =
     let e : live (c .before .before .before .before .before .before .args .nodes .now) (c .before .before .before .before .before .before .args .b .0) (c .before .before .before .before .before .before .args .n .0) ≡ false = sym (c .before .is-live .ensures) ∙ not-true (c .before .is-live .result) (c .if1 .taken) in
     λ h. never (sym h ∙ e)
 
--- src/lib.rt:131:9
 up-requires : tie.Need-up-requires
 up-requires c κs = search needs
 
--- src/lib.rt:132:9
 shape-of-requires : tie.Need-shape-of-requires
 shape-of-requires c κs = search needs
 
--- src/lib.rt:133:40
 add-next-part : tie.Need-add-next-part
 add-next-part c = search needs
 
--- src/lib.rt:133:9
 next-part-requires : tie.Need-next-part-requires
 next-part-requires c κs = search needs
 
--- src/lib.rt:134:18
 wide-requires : tie.Need-wide-requires
 wide-requires c κs = search needs
 
--- src/lib.rt:134:13
 mul-o : tie.Need-mul-o
 mul-o c = search needs
 
--- src/lib.rt:134:13
 shared-slice-read-o : tie.Need-shared-slice-read-o
 shared-slice-read-o c = search needs
 
--- src/lib.rt:135:19
 wide-requires-2 : tie.Need-wide-requires-2
 wide-requires-2 c κs = search needs
 
--- src/lib.rt:135:14
 mul-om : tie.Need-mul-om
 mul-om c = search needs
 
--- src/lib.rt:135:14
 shared-slice-read-om : tie.Need-shared-slice-read-om
 shared-slice-read-om c =
     let a = c .before .before .before .before .before .before .before .before .before .before .before .before .before .before .args in
@@ -88,19 +68,15 @@ shared-slice-read-om c =
     let x : c .before .wide2 .result ≡ head0 (parts ns (parentOf ns n) (n + 1)) = cc in
     omega arith
 
--- src/lib.rt:136:18
 wide-requires-3 : tie.Need-wide-requires-3
 wide-requires-3 c κs = search needs
 
--- src/lib.rt:136:13
 mul-r : tie.Need-mul-r
 mul-r c = search needs
 
--- src/lib.rt:136:13
 shared-slice-read-r : tie.Need-shared-slice-read-r
 shared-slice-read-r c = search needs
 
--- src/lib.rt:137:5
 nor-by-requires : tie.Need-nor-by-requires
 nor-by-requires c κs =
     let a = c .before .before .before .before .before .before .before .before .before .before .before .before .before .before .before .before .args in
@@ -118,7 +94,6 @@ nor-by-requires c κs =
     let k = off-bound ns b (parentOf ns n) in
     omega arith
 
--- src/lib.rt:111:1
 returns-2 : tie.Need-returns-2
 returns-2 c =
     let a = c .before .before .before .before .before .before .before .before .before .before .before .before .before .before .before .before .before .args in

@@ -5,25 +5,16 @@ use mathlib.Core.Bool.{true, false}
 use borrow.Author.Needs.{needs}
 use Rattle.code_jumps.proofs.takes_continue.Statement.{statement}
 use Rattle.code_jumps.proofs.takes_continue.Tie as tie
-use Rattle.code_jumps.proofs.takes_continue.Reads as reads
-use Rattle.code_jumps.proofs.takes_continue.Lts as lts
-use Rattle.code_parts.proofs.shape_of.Reads as shape-of-reads
-use Rattle.code_jumps.proofs.has_label_above.Reads as has-label-above-reads
-use Rattle.code_jumps.proofs.is_loop.Reads as is-loop-reads
 
--- src/lib.rt:287:16
 shape-of-requires : tie.Need-shape-of-requires
 shape-of-requires c κs = search needs
 
--- src/lib.rt:287:8
 is-loop-requires : tie.Need-is-loop-requires
 is-loop-requires c κs = search needs
 
--- src/lib.rt:288:9
 has-label-above-requires : tie.Need-has-label-above-requires
 has-label-above-requires c κs = c .before .before .before .before .before .pre
 
--- src/lib.rt:288:9
 returns : tie.Need-returns
 returns c =
     let a = c .before .before .before .before .before .before .args in
@@ -31,7 +22,6 @@ returns c =
     let e : isLoop (shapeAt ns (a .p .0)) ≡ true = sym (c .before .before .is-loop .ensures ∙ ap isLoop (c .before .before .before .shape-of .ensures)) ∙ c .before .if1 .taken in
     rw e (c .has-label-above .ensures)
 
--- src/lib.rt:280:1
 returns-2 : tie.Need-returns-2
 returns-2 c =
     let a = c .before .before .before .before .before .args in

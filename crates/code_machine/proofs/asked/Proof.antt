@@ -3,68 +3,49 @@ use mathlib.Core.Path.{_∙_}
 use borrow.Author.Needs.{needs}
 use Rattle.code_machine.proofs.asked.Statement.{statement}
 use Rattle.code_machine.proofs.asked.Tie as tie
-use Rattle.code_machine.proofs.asked.Reads as reads
-use Rattle.code_machine.proofs.asked.Lts as lts
-use Rattle.code_machine.proofs.wide.Reads as wide-reads
-use Rattle.code_machine.proofs.word.Reads as word-reads
 
--- src/lib.rt:106:28
 add-word : tie.Need-add-word
 add-word c = search needs
 
--- src/lib.rt:106:13
 word-requires : tie.Need-word-requires
 word-requires c κs = search needs
 
--- src/lib.rt:107:12
 mul-if2 : tie.Need-mul-if2
 mul-if2 c = search needs
 
--- src/lib.rt:107:12
 shared-slice-read-if2 : tie.Need-shared-slice-read-if2
 shared-slice-read-if2 c = search needs
 
--- src/lib.rt:108:32
 add-word-2 : tie.Need-add-word-2
 add-word-2 c = search needs
 
--- src/lib.rt:108:17
 word-requires-2 : tie.Need-word-requires-2
 word-requires-2 c κs = search needs
 
--- src/lib.rt:109:48
 wide-requires : tie.Need-wide-requires
 wide-requires c κs = search needs
 
--- src/lib.rt:109:61
 add-t15 : tie.Need-add-t15
 add-t15 c = search needs
 
--- src/lib.rt:109:13
 returns : tie.Need-returns
 returns c = wAskNo (c .before .before .before .before .before .before .before .before .before .before .args .code .now) (c .before .before .before .before .before .before .before .before .before .before .args .answers .now) (c .before .before .before .before .before .before .before .before .before .before .args .p) (c .before .before .before .before .before .before .before .before .before .before .pre .1) (c .before .before .before .before .before .word .result) (c .wide .result) (c .before .before .before .before .before .word .ensures) (c .wide .ensures ∙ c .before .word2 .ensures) (c .before .before .before .before .before .before .before .if1 .taken) (c .before .before .before .if2 .taken)
 
--- src/lib.rt:111:28
 add-word-3 : tie.Need-add-word-3
 add-word-3 c = search needs
 
--- src/lib.rt:111:13
 word-requires-3 : tie.Need-word-requires-3
 word-requires-3 c κs = search needs
 
--- src/lib.rt:112:44
 wide-requires-2 : tie.Need-wide-requires-2
 wide-requires-2 c κs = search needs
 
--- src/lib.rt:112:57
 add-t18 : tie.Need-add-t18
 add-t18 c = search needs
 
--- src/lib.rt:112:9
 returns-2 : tie.Need-returns-2
 returns-2 c = wAskYes (c .before .before .before .before .before .before .before .before .before .before .args .code .now) (c .before .before .before .before .before .before .before .before .before .before .args .answers .now) (c .before .before .before .before .before .before .before .before .before .before .args .p) (c .before .before .before .before .before .before .before .before .before .before .pre .1) (c .before .before .before .before .before .word .result) (c .wide2 .result) (c .before .before .before .before .before .word .ensures) (c .wide2 .ensures ∙ c .before .word3 .ensures) (c .before .before .before .before .before .before .before .if1 .taken) (c .before .before .before .if2 .left)
 
--- src/lib.rt:99:1
 returns-3 : tie.Need-returns-3
 returns-3 c = wAskNone (c .before .before .before .args .code .now) (c .before .before .before .args .answers .now) (c .before .before .before .args .p) (c .before .before .before .pre .1) (c .if1 .left)
 

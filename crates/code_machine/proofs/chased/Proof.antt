@@ -6,11 +6,6 @@ use Prim.Native.Nat.{_-_, _<_}
 use borrow.Author.Needs.{needs}
 use Rattle.code_machine.proofs.chased.Statement.{statement}
 use Rattle.code_machine.proofs.chased.Tie as tie
-use Rattle.code_machine.proofs.chased.Reads as reads
-use Rattle.code_machine.proofs.chased.Lts as lts
-use Rattle.code_machine.proofs.is_case.Reads as is-case-reads
-use Rattle.code_machine.proofs.wide.Reads as wide-reads
-use Rattle.code_machine.proofs.word.Reads as word-reads
 
 abbrev Inv-loop : tie.InvT-loop
 Inv-loop code p c e a from₀ to₀ left₀ from to left = (to < 4294967296) × (chase code from to e left ≡ chase code p c e a)
@@ -18,42 +13,33 @@ Inv-loop code p c e a from₀ to₀ left₀ from to left = (to < 4294967296) × 
 abbrev μ-loop : tie.MeasureT-loop
 μ-loop code p c e a from₀ to₀ left₀ from to left = left
 
--- src/lib.rt:65:5
 loop-holds : tie.Need-loop-holds Inv-loop μ-loop
 loop-holds c = search needs
 
--- src/lib.rt:65:11
 is-case-requires : tie.Need-is-case-requires Inv-loop μ-loop
 is-case-requires c κs = search needs
 
--- src/lib.rt:67:13
 returns : tie.Need-returns Inv-loop μ-loop
 returns c =
     let a = c .before .before .before .before .before .args in
     let l = c .before .before .before .loop in
     sym (chaseHere (a .code .now) (l .from) (l .to) (a .e) (l .left) (sym (c .before .before .is-case .ensures) ∙ c .before .if1 .taken) (omega arith)) ∙ l .inv .1
 
--- src/lib.rt:69:9
 sub-left : tie.Need-sub-left Inv-loop μ-loop
 sub-left c = search needs
 
--- src/lib.rt:70:9
 wide-requires : tie.Need-wide-requires Inv-loop μ-loop
 wide-requires c κs = search needs
 
--- src/lib.rt:71:25
 add-word : tie.Need-add-word Inv-loop μ-loop
 add-word c = search needs
 
--- src/lib.rt:71:9
 word-requires : tie.Need-word-requires Inv-loop μ-loop
 word-requires c κs = search needs
 
--- src/lib.rt:65:5
 loop-less : tie.Need-loop-less Inv-loop μ-loop
 loop-less c = search needs
 
--- src/lib.rt:65:5
 loop-again : tie.Need-loop-again Inv-loop μ-loop
 loop-again c =
     let a = c .before .before .before .before .before .before .before .args in
@@ -61,7 +47,6 @@ loop-again c =
     let b = chaseOn (a .code .now) (l .from) (l .to) (a .e) (l .left) (sym (c .before .before .before .before .is-case .ensures) ∙ c .before .before .before .if1 .taken) (l .left - 1) (omega arith) in
     (omega arith, cc (b))
 
--- src/lib.rt:59:1
 returns-2 : tie.Need-returns-2 Inv-loop μ-loop
 returns-2 c =
     let a = c .before .before .before .before .args in

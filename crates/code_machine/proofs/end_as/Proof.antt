@@ -4,14 +4,10 @@ use borrow.Author.Tests.{lt-ltb, le-ltb}
 use mathlib.Core.Path.{sym, ap}
 use Rattle.code_machine.proofs.end_as.Statement.{statement}
 use Rattle.code_machine.proofs.end_as.Tie as tie
-use Rattle.code_machine.proofs.end_as.Reads as reads
-use Rattle.code_machine.proofs.end_as.Lts as lts
 
--- src/lib.rt:80:9
 returns : tie.Need-returns
 returns c = sym (ap (λ b. pick b (c .before .args .e) 5) (lt-ltb (c .before .args .e) 3 (omega arith)))
 
--- src/lib.rt:76:1
 returns-2 : tie.Need-returns-2
 returns-2 c = sym (ap (λ b. pick b (c .before .args .e) 5) (le-ltb (c .before .args .e) 3 (omega arith)))
 

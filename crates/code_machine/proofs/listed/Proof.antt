@@ -3,22 +3,16 @@ use mathlib.Core.Path.{sym, refl}
 use borrow.Author.Needs.{needs}
 use Rattle.code_machine.proofs.listed.Statement.{statement}
 use Rattle.code_machine.proofs.listed.Tie as tie
-use Rattle.code_machine.proofs.listed.Reads as reads
-use Rattle.code_machine.proofs.listed.Lts as lts
 
--- src/lib.rt:142:9
 returns : tie.Need-returns
 returns c = λ qs. wFull (c .before .before .args .code .now) qs (c .before .before .args .p) 1 (c .before .before .args .n) (sym (c .before .before .pre .1 .0)) (c .before .before .pre .1 .1) refl (c .if1 .taken)
 
--- src/lib.rt:144:33
 add-t5 : tie.Need-add-t5
 add-t5 c = search needs
 
--- src/lib.rt:144:59
 sub-t6 : tie.Need-sub-t6
 sub-t6 c = search needs
 
--- src/lib.rt:135:1
 returns-2 : tie.Need-returns-2
 returns-2 c = λ qs. wList (c .before .before .before .before .args .code .now) qs (c .before .before .before .before .args .p) 1 (c .before .before .before .before .args .n) (sym (c .before .before .before .before .pre .1 .0)) (c .before .before .before .before .pre .1 .1) refl (c .before .before .if1 .left)
 

@@ -7,11 +7,6 @@ use mathlib.Core.Path.{_≡_, refl, subst}
 use borrow.Author.Needs.{needs}
 use Rattle.code_machine.proofs.run.Statement.{statement}
 use Rattle.code_machine.proofs.run.Tie as tie
-use Rattle.code_machine.proofs.run.Reads as reads
-use Rattle.code_machine.proofs.run.Lts as lts
-use Rattle.code_machine.proofs.next.Reads as next-reads
-use Rattle.code_machine.proofs.store.Reads as store-reads
-use Rattle.code_machine.proofs.turn.Reads as turn-reads
 
 abbrev Inv-loop : tie.InvT-loop
 Inv-loop code answers out₀ p₀ entries₀ out p entries = (length out ≡ length out₀) × Kept code answers out₀ out p entries
@@ -19,23 +14,18 @@ Inv-loop code answers out₀ p₀ entries₀ out p entries = (length out ≡ len
 abbrev μ-loop : tie.MeasureT-loop
 μ-loop code answers out₀ p₀ entries₀ out p entries = measure code (p .room) (drop (p .at) answers)
 
--- src/lib.rt:195:5
 loop-holds : tie.Need-loop-holds Inv-loop μ-loop
 loop-holds c = (search needs, keptFirst _ _ _ _ refl)
 
--- src/lib.rt:196:13
 turn-requires : tie.Need-turn-requires Inv-loop μ-loop
 turn-requires c κs = search needs
 
--- src/lib.rt:198:24
 enum-known-s : tie.Need-enum-known-s Inv-loop μ-loop
 enum-known-s c = search needs
 
--- src/lib.rt:199:17
 same-length : tie.Need-same-length Inv-loop μ-loop
 same-length c = search needs
 
--- src/lib.rt:199:17
 returns : tie.Need-returns Inv-loop μ-loop
 returns c =
     let a = c .before .before .before .before .before .before .before .before .args in
@@ -44,18 +34,15 @@ returns c =
     (subst (λ r. Turned (a .code .now) (a .answers .now) (l .p) r) (c .before .s .given .1) (c .before .before .before .turn .ensures)) in
     (t .end, (t .entries, (t .taken, t .list)))
 
--- src/lib.rt:201:22
 enum-known-s-2 : tie.Need-enum-known-s-2 Inv-loop μ-loop
 enum-known-s-2 c = search needs
 
--- src/lib.rt:195:5
 loop-less : tie.Need-loop-less Inv-loop μ-loop
 loop-less c =
     let a = c .before .before .before .before .before .before .before .before .args in
     let l = c .before .before .before .before .loop in
     subst (λ r. Turned (a .code .now) (a .answers .now) (l .p) r) (c .before .s2 .given .1) (c .before .before .before .turn .ensures) .less
 
--- src/lib.rt:195:5
 loop-again : tie.Need-loop-again Inv-loop μ-loop
 loop-again c =
     let a = c .before .before .before .before .before .before .before .before .args in
@@ -65,26 +52,21 @@ loop-again c =
           (subst (λ r. Turned (a .code .now) (a .answers .now) (l .p) r) (c .before .s2 .given .1) (c .before .before .before .turn .ensures)),
     )
 
--- src/lib.rt:204:26
 enum-known-s-3 : tie.Need-enum-known-s-3 Inv-loop μ-loop
 enum-known-s-3 c = search needs
 
--- src/lib.rt:205:17
 store-requires : tie.Need-store-requires Inv-loop μ-loop
 store-requires c κs = search needs
 
--- src/lib.rt:206:17
 next-requires : tie.Need-next-requires Inv-loop μ-loop
 next-requires c κs = search needs
 
--- src/lib.rt:195:5
 loop-less-2 : tie.Need-loop-less-2 Inv-loop μ-loop
 loop-less-2 c =
     let a = c .before .before .before .before .before .before .before .before .before .before .before .before .before .args in
     let l = c .before .before .before .before .before .before .before .before .before .loop in
     subst (λ r. Turned (a .code .now) (a .answers .now) (l .p) r) (c .before .before .before .before .before .before .s3 .given .1) (c .before .before .before .before .before .before .before .before .turn .ensures) .less
 
--- src/lib.rt:195:5
 loop-again-2 : tie.Need-loop-again-2 Inv-loop μ-loop
 loop-again-2 c =
     let a = c .before .before .before .before .before .before .before .before .before .before .before .before .before .args in

@@ -4,26 +4,19 @@ use mathlib.Core.Path.{sym}
 use borrow.Author.Needs.{needs}
 use Rattle.code_machine.proofs.store.Statement.{statement}
 use Rattle.code_machine.proofs.store.Tie as tie
-use Rattle.code_machine.proofs.store.Reads as reads
-use Rattle.code_machine.proofs.store.Lts as lts
 
--- src/lib.rt:168:9
 mul-out : tie.Need-mul-out
 mul-out c = search needs
 
--- src/lib.rt:168:9
 slice-write-out : tie.Need-slice-write-out
 slice-write-out c = search needs
 
--- src/lib.rt:164:1
 same-length : tie.Need-same-length
 same-length c = search needs
 
--- src/lib.rt:164:1
 returns : tie.Need-returns
 returns c = search needs
 
--- src/lib.rt:164:1
 returns-2 : tie.Need-returns-2
 returns-2 c = sym (set-out (c .before .args .out .now) (c .before .args .k) (c .before .args .node) (omega arith))
 

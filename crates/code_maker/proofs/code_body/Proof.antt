@@ -4,37 +4,25 @@ use mathlib.Core.Path.{sym, _∙_}
 use borrow.Author.Needs.{needs}
 use Rattle.code_maker.proofs.code_body.Statement.{statement}
 use Rattle.code_maker.proofs.code_body.Tie as tie
-use Rattle.code_maker.proofs.code_body.Reads as reads
-use Rattle.code_maker.proofs.code_body.Lts as lts
-use Rattle.code_maker.proofs.code_large.Reads as code-large-reads
-use Rattle.code_maker.proofs.code_small.Reads as code-small-reads
-use Rattle.table_records.proofs.is_node.Reads as is-node-reads
 
--- src/lib.rt:46:8
 is-node-requires : tie.Need-is-node-requires
 is-node-requires c κs = search needs
 
--- src/lib.rt:47:9
 code-large-requires : tie.Need-code-large-requires
 code-large-requires c κs = (c .before .before .before .before .before .before .pre .0, c .before .before .before .before .before .before .pre .1)
 
--- src/lib.rt:47:9
 same-length : tie.Need-same-length
 same-length c = search needs
 
--- src/lib.rt:47:9
 returns : tie.Need-returns
 returns c = (c .before .before .code-large .ensures .0, c .before .before .code-large .ensures .1)
 
--- src/lib.rt:49:5
 code-small-requires : tie.Need-code-small-requires
 code-small-requires c κs = (c .before .before .before .before .before .before .pre .0, (ltb-false 1024 (count (c .before .before .before .before .before .before .args .nodes .now)) (sym (c .before .before .is-node .ensures) ∙ c .before .if1 .left), c .before .before .before .before .before .before .pre .1))
 
--- src/lib.rt:40:1
 same-length-2 : tie.Need-same-length-2
 same-length-2 c = search needs
 
--- src/lib.rt:40:1
 returns-2 : tie.Need-returns-2
 returns-2 c = (c .before .before .code-small .ensures .0, c .before .before .code-small .ensures .1)
 

@@ -2,33 +2,24 @@ use Rattle.code_words.specs.Made.{code-is}
 use Rattle.code_stores.specs.Over.{over}
 use lib.ListN.{length}
 use native.Mathlib.Omega.{arith}
-use Prim.Native.Nat.{_*_, _≤_, _<_}
-use mathlib.Core.Path.{_≡_, ap, _∙_}
+use mathlib.Core.Path.{ap, _∙_}
 use borrow.Author.Needs.{needs}
 use Rattle.code_maker.proofs.code_small.Statement.{statement}
 use Rattle.code_maker.proofs.code_small.Tie as tie
-use Rattle.code_maker.proofs.code_small.Reads as reads
-use Rattle.code_maker.proofs.code_small.Lts as lts
-use Rattle.code_writer.proofs.code_by.Reads as code-by-reads
 
--- src/lib.rt:24:38
 slice-aggregate-code-by : tie.Need-slice-aggregate-code-by
 slice-aggregate-code-by c = search needs
 
--- src/lib.rt:24:49
 slice-aggregate-code-by-2 : tie.Need-slice-aggregate-code-by-2
 slice-aggregate-code-by-2 c = search needs
 
--- src/lib.rt:24:5
 code-by-requires : tie.Need-code-by-requires
 code-by-requires c κs = let s = c .before .before .before .before .before .before .pre .1 .0 in
     (c .before .before .before .before .before .before .pre .0, (omega (arith, s), (omega (arith, s), c .before .before .before .before .before .before .pre .1 .1)))
 
--- src/lib.rt:15:1
 same-length : tie.Need-same-length
 same-length c = search needs
 
--- src/lib.rt:15:1
 returns : tie.Need-returns
 returns c = let a = c .before .before .before .before .before .before .before .before .before .before .before .args in
     let i = code-is (a .nodes .now) (a .names .now) (a .b .0) (c .before .before .before .before .before .before .before .before .before .before .before .pre .0) in

@@ -1,5 +1,5 @@
 use Prim.Native.Nat.{_≤_, _-_, _+_}
-use mathlib.Core.Path.{_≡_, refl, sym, ap, _∙_, subst}
+use mathlib.Core.Path.{_≡_, refl, sym, _∙_, subst}
 use native.Mathlib.Omega.{arith}
 use lib.ListN.{length, length-set}
 use borrow.Author.Tests.{ltb-true, ltb-false}
@@ -12,11 +12,6 @@ use Rattle.code_offsets.specs.Offsets.{Offs}
 use borrow.Author.Needs.{needs}
 use Rattle.code_offsets.proofs.fill_off.Statement.{statement}
 use Rattle.code_offsets.proofs.fill_off.Tie as tie
-use Rattle.code_offsets.proofs.fill_off.Reads as reads
-use Rattle.code_offsets.proofs.fill_off.Lts as lts
-use Rattle.code_offsets.proofs.own.Reads as own-reads
-use Rattle.table_records.proofs.is_node.Reads as is-node-reads
-use Rattle.table_records.proofs.wide.Reads as wide-reads
 
 abbrev Inv-loop : tie.InvT-loop
 Inv-loop nodes b offs₀ j₀ o₀ offs j o = (j ≤ count nodes) × (length offs ≡ length offs₀) × (o ≡ off nodes (b .0) j) × Offs nodes (b .0) j offs
@@ -24,27 +19,22 @@ Inv-loop nodes b offs₀ j₀ o₀ offs j o = (j ≤ count nodes) × (length off
 abbrev μ-loop : tie.MeasureT-loop
 μ-loop nodes b offs₀ j₀ o₀ offs j o = count nodes - j
 
--- src/lib.rt:56:5
 slice-write-offs : tie.Need-slice-write-offs Inv-loop μ-loop
 slice-write-offs c = search needs
 
--- src/lib.rt:59:5
 loop-holds : tie.Need-loop-holds Inv-loop μ-loop
 unfolding off
 loop-holds c =
     let a = c .before .before .args in
     (omega arith, refl, refl, offs-first (a .nodes .now) (a .b .0) (a .offs .now) (omega arith))
 
--- src/lib.rt:59:11
 is-node-requires : tie.Need-is-node-requires Inv-loop μ-loop
 is-node-requires c κs = search needs
 
--- src/lib.rt:60:13
 own-requires : tie.Need-own-requires Inv-loop μ-loop
 own-requires c κs =
     (c .before .before .before .before .before .pre .0, ltb-true (c .before .before .loop .j) (count (c .before .before .before .before .before .args .nodes .now)) (sym (c .before .is-node .ensures) ∙ c .if1 .taken))
 
--- src/lib.rt:61:9
 add-o : tie.Need-add-o Inv-loop μ-loop
 add-o c =
     let a = c .before .before .before .before .before .before .args in
@@ -54,22 +44,18 @@ add-o c =
     let v = c .own .ensures in
     omega arith
 
--- src/lib.rt:62:9
 add-j : tie.Need-add-j Inv-loop μ-loop
 add-j c =
     let z = c .before .before .before .before .before .before .pre .0 .tree .small in
     let q = c .before .before .before .loop .inv .0 in
     omega arith
 
--- src/lib.rt:63:14
 wide-requires : tie.Need-wide-requires Inv-loop μ-loop
 wide-requires c κs = search needs
 
--- src/lib.rt:63:9
 mul-offs : tie.Need-mul-offs Inv-loop μ-loop
 mul-offs c = search needs
 
--- src/lib.rt:63:9
 slice-write-offs-2 : tie.Need-slice-write-offs-2 Inv-loop μ-loop
 slice-write-offs-2 c =
     let v = c .wide .ensures in
@@ -78,13 +64,11 @@ slice-write-offs-2 c =
     let q = simp length-set at l in
     omega arith
 
--- src/lib.rt:59:5
 loop-less : tie.Need-loop-less Inv-loop μ-loop
 loop-less c =
     let h = ltb-true (c .before .before .before .before .loop .j) (count (c .before .before .before .before .before .before .before .args .nodes .now)) (sym (c .before .before .before .is-node .ensures) ∙ c .before .before .if1 .taken) in
     omega arith
 
--- src/lib.rt:59:5
 loop-again : tie.Need-loop-again Inv-loop μ-loop
 loop-again c =
     let a = c .before .before .before .before .before .before .before .args in
@@ -97,12 +81,10 @@ loop-again c =
     let e = c .wide .ensures in
     (omega arith, simp length-set q, omega arith, rw (c .wide .ensures) (offs-next (a .nodes .now) (a .b .0) (c .before .before .before .before .loop .j) (c .before .before .before .before .loop .o + c .before .own .result) (c .before .before .before .before .loop .offs) (omega arith) (omega arith) (c .before .before .before .before .loop .inv .3)))
 
--- src/lib.rt:51:1
 same-length : tie.Need-same-length Inv-loop μ-loop
 same-length c =
     simp length-set at (c .before .before .loop .inv .1)
 
--- src/lib.rt:51:1
 returns : tie.Need-returns Inv-loop μ-loop
 returns c =
     let a = c .before .before .before .before .before .args in

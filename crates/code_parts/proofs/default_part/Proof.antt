@@ -9,11 +9,6 @@ use Rattle.code_words.specs.Steps.{default-none, default-hit, default-on, head-
 use borrow.Author.Needs.{needs}
 use Rattle.code_parts.proofs.default_part.Statement.{statement}
 use Rattle.code_parts.proofs.default_part.Tie as tie
-use Rattle.code_parts.proofs.default_part.Reads as reads
-use Rattle.code_parts.proofs.default_part.Lts as lts
-use Rattle.code_parts.proofs.is_default.Reads as is-default-reads
-use Rattle.code_parts.proofs.next_part.Reads as next-part-reads
-use Rattle.table_records.proofs.is_node.Reads as is-node-reads
 
 abbrev Inv-loop : tie.InvT-loop
 Inv-loop nodes p i₀ i = (p .0 < i) × (default0 nodes (parts nodes (p .0) i) ≡ default0 nodes (parts nodes (p .0) i₀))
@@ -21,41 +16,33 @@ Inv-loop nodes p i₀ i = (p .0 < i) × (default0 nodes (parts nodes (p .0) i) �
 abbrev μ-loop : tie.MeasureT-loop
 μ-loop nodes p i₀ i = count nodes - i
 
--- src/lib.rt:192:17
 add-i : tie.Need-add-i Inv-loop μ-loop
 add-i c = search needs
 
--- src/lib.rt:193:5
 loop-holds : tie.Need-loop-holds Inv-loop μ-loop
 loop-holds c = search needs
 
--- src/lib.rt:193:11
 is-node-requires : tie.Need-is-node-requires Inv-loop μ-loop
 is-node-requires c κs = search needs
 
--- src/lib.rt:194:13
 next-part-requires : tie.Need-next-part-requires Inv-loop μ-loop
 next-part-requires c κs = search needs
 
--- src/lib.rt:196:13
 returns : tie.Need-returns Inv-loop μ-loop
 returns c =
     let a = c .before .before .before .before .before .before .before .args in
     cc (default-none (a .nodes .now) (a .p .0) (c .before .before .before .before .loop .i) (omega arith) (sym (c .before .next-part .ensures) ∙ c .if2 .taken))
 
--- src/lib.rt:198:12
 is-default-requires : tie.Need-is-default-requires Inv-loop μ-loop
 is-default-requires c κs =
     let a = c .before .before .before .before .before .before .before .args in
     found-at (a .nodes .now) (a .p .0) (c .before .before .before .before .loop .i) (c .before .next-part .result) (omega arith) (c .before .next-part .ensures) (c .if2 .left) .high
 
--- src/lib.rt:199:13
 returns-2 : tie.Need-returns-2 Inv-loop μ-loop
 returns-2 c =
     let a = c .before .before .before .before .before .before .before .before .before .args in
     cc (default-hit (a .nodes .now) (a .p .0) (c .before .before .before .before .before .before .loop .i) (omega arith) (c .before .before .before .next-part .result) (c .before .before .before .next-part .ensures) (c .before .before .if2 .left) (sym (c .before .is-default .ensures) ∙ c .if3 .taken))
 
--- src/lib.rt:201:13
 add-i-2 : tie.Need-add-i-2 Inv-loop μ-loop
 add-i-2 c =
     let a = c .before .before .before .before .before .before .before .before .before .args in
@@ -63,7 +50,6 @@ add-i-2 c =
     let x = found-at (a .nodes .now) (a .p .0) (c .before .before .before .before .before .before .loop .i) (c .before .before .before .next-part .result) (omega arith) (c .before .before .before .next-part .ensures) (c .before .before .if2 .left) in
     omega arith
 
--- src/lib.rt:193:5
 loop-less : tie.Need-loop-less Inv-loop μ-loop
 loop-less c =
     let a = c .before .before .before .before .before .before .before .before .before .args in
@@ -71,14 +57,12 @@ loop-less c =
     let x = found-at (a .nodes .now) (a .p .0) (c .before .before .before .before .before .before .loop .i) (c .before .before .before .next-part .result) (omega arith) (c .before .before .before .next-part .ensures) (c .before .before .if2 .left) in
     omega arith
 
--- src/lib.rt:193:5
 loop-again : tie.Need-loop-again Inv-loop μ-loop
 loop-again c =
     let a = c .before .before .before .before .before .before .before .before .before .args in
     let x = found-at (a .nodes .now) (a .p .0) (c .before .before .before .before .before .before .loop .i) (c .before .before .before .next-part .result) (omega arith) (c .before .before .before .next-part .ensures) (c .before .before .if2 .left) in
     (omega arith, cc (default-on (a .nodes .now) (a .p .0) (c .before .before .before .before .before .before .loop .i) (omega arith) (c .before .before .before .next-part .result) (c .before .before .before .next-part .ensures) (c .before .before .if2 .left) (sym (c .before .is-default .ensures) ∙ c .if3 .left)))
 
--- src/lib.rt:187:1
 returns-3 : tie.Need-returns-3 Inv-loop μ-loop
 returns-3 c =
     let a = c .before .before .before .before .before .args in

@@ -1,32 +1,21 @@
-use mathlib.Core.Path.{sym, _∙_}
 use Rattle.code_unit.specs.Unit.{holderOf}
 use borrow.Author.Needs.{needs}
 use Rattle.code_parts.proofs.holder.Statement.{statement}
 use Rattle.code_parts.proofs.holder.Tie as tie
-use Rattle.code_parts.proofs.holder.Reads as reads
-use Rattle.code_parts.proofs.holder.Lts as lts
-use Rattle.table_children.proofs.function_body_of.Reads as function-body-of-reads
-use Rattle.base_common.proofs.within.Reads as within-reads
-use Rattle.table_records.proofs.kind.Reads as kind-reads
 
--- src/lib.rt:213:9
 kind-requires : tie.Need-kind-requires
 kind-requires c κs = search needs
 
--- src/lib.rt:214:8
 within-requires : tie.Need-within-requires
 within-requires c κs = search needs
 
--- src/lib.rt:215:9
 function-body-of-requires : tie.Need-function-body-of-requires
 function-body-of-requires c κs = search needs
 
--- src/lib.rt:215:9
 returns : tie.Need-returns
 unfolding holderOf
 returns c = (rw (← c .before .before .before .kind .ensures, ← c .before .before .within .ensures, c .before .if1 .taken) (c .function-body-of .ensures .0), c .function-body-of .ensures .1)
 
--- src/lib.rt:207:1
 returns-2 : tie.Need-returns-2
 unfolding holderOf
 returns-2 c = (rw (← c .before .before .kind .ensures, ← c .before .within .ensures, c .if1 .left), search needs)

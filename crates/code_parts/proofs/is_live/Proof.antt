@@ -9,10 +9,6 @@ use Prim.Native.Nat.{_<_}
 use borrow.Author.Needs.{needs}
 use Rattle.code_parts.proofs.is_live.Statement.{statement}
 use Rattle.code_parts.proofs.is_live.Tie as tie
-use Rattle.code_parts.proofs.is_live.Reads as reads
-use Rattle.code_parts.proofs.is_live.Lts as lts
-use Rattle.code_parts.proofs.is_part.Reads as is-part-reads
-use Rattle.table_ancestry.proofs.up.Reads as up-reads
 
 abbrev Inv-loop : tie.InvT-loop
 Inv-loop nodes b at₀ at = (at < count nodes) × (live nodes (b .0) at ≡ live nodes (b .0) at₀)
@@ -20,35 +16,28 @@ Inv-loop nodes b at₀ at = (at < count nodes) × (live nodes (b .0) at ≡ live
 abbrev μ-loop : tie.MeasureT-loop
 μ-loop nodes b at₀ at = at
 
--- src/lib.rt:134:5
 loop-holds : tie.Need-loop-holds Inv-loop μ-loop
 loop-holds c = search needs
 
--- src/lib.rt:135:13
 is-part-requires : tie.Need-is-part-requires Inv-loop μ-loop
 is-part-requires c κs = search needs
 
--- src/lib.rt:136:13
 returns : tie.Need-returns Inv-loop μ-loop
 returns c =
     let a = c .before .before .before .before .before .before .args in
     cc (live-stop (a .nodes .now) (a .b .0) (c .before .before .before .before .loop .at) (c .before .before .before .before .before .before .pre .0) (omega arith) (omega arith) (sym (c .before .is-part .ensures) ∙ not-true (c .before .is-part .result) (c .if2 .taken)))
 
--- src/lib.rt:138:13
 up-requires : tie.Need-up-requires Inv-loop μ-loop
 up-requires c κs = search needs
 
--- src/lib.rt:134:5
 loop-less : tie.Need-loop-less Inv-loop μ-loop
 loop-less c = search needs
 
--- src/lib.rt:134:5
 loop-again : tie.Need-loop-again Inv-loop μ-loop
 loop-again c =
     let a = c .before .before .before .before .before .before .before .args in
     (search needs, cc (live-on (a .nodes .now) (a .b .0) (c .before .before .before .before .before .loop .at) (c .before .before .before .before .before .before .before .pre .0) (omega arith) (omega arith) (sym (c .before .before .is-part .ensures) ∙ not-false (c .before .before .is-part .result) (c .before .if2 .left))))
 
--- src/lib.rt:128:1
 returns-2 : tie.Need-returns-2 Inv-loop μ-loop
 returns-2 c =
     let a = c .before .before .before .before .before .args in

@@ -2,24 +2,16 @@ use borrow.Author.Tests.{eq-eqb, ne-eqb}
 use borrow.Author.Needs.{needs}
 use Rattle.code_parts.proofs.is_part_of.Statement.{statement}
 use Rattle.code_parts.proofs.is_part_of.Tie as tie
-use Rattle.code_parts.proofs.is_part_of.Reads as reads
-use Rattle.code_parts.proofs.is_part_of.Lts as lts
-use Rattle.code_parts.proofs.is_part.Reads as is-part-reads
-use Rattle.table_records.proofs.parent.Reads as parent-reads
 
--- src/lib.rt:120:9
 parent-requires : tie.Need-parent-requires
 parent-requires c κs = search needs
 
--- src/lib.rt:122:9
 returns : tie.Need-returns
 returns c = rw (← c .before .before .before .parent .ensures, ne-eqb _ _ (c .if1 .taken))
 
--- src/lib.rt:124:5
 is-part-requires : tie.Need-is-part-requires
 is-part-requires c κs = search needs
 
--- src/lib.rt:114:1
 returns-2 : tie.Need-returns-2
 returns-2 c = rw (← c .before .before .before .before .parent .ensures, eq-eqb _ _ (c .before .if1 .left), ← c .is-part .ensures)
 

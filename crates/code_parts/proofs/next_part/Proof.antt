@@ -9,11 +9,6 @@ use Rattle.code_words.specs.Steps.{head-on, head-hit, head-stop, head-end}
 use borrow.Author.Needs.{needs}
 use Rattle.code_parts.proofs.next_part.Statement.{statement}
 use Rattle.code_parts.proofs.next_part.Tie as tie
-use Rattle.code_parts.proofs.next_part.Reads as reads
-use Rattle.code_parts.proofs.next_part.Lts as lts
-use Rattle.code_parts.proofs.is_part_of.Reads as is-part-of-reads
-use Rattle.table_records.proofs.is_node.Reads as is-node-reads
-use Rattle.table_records.proofs.parent.Reads as parent-reads
 
 abbrev Inv-loop : tie.InvT-loop
 Inv-loop nodes p from k₀ k = (p .0 < k) × (head0 (parts nodes (p .0) k) ≡ head0 (parts nodes (p .0) k₀))
@@ -21,59 +16,49 @@ Inv-loop nodes p from k₀ k = (p .0 < k) × (head0 (parts nodes (p .0) k) ≡ h
 abbrev μ-loop : tie.MeasureT-loop
 μ-loop nodes p from k₀ k = count nodes - k
 
--- src/lib.rt:152:5
 loop-holds : tie.Need-loop-holds Inv-loop μ-loop
 loop-holds c = search needs
 
--- src/lib.rt:152:11
 is-node-requires : tie.Need-is-node-requires Inv-loop μ-loop
 is-node-requires c κs = search needs
 
--- src/lib.rt:153:12
 is-part-of-requires : tie.Need-is-part-of-requires Inv-loop μ-loop
 is-part-of-requires c κs =
     let h = ltb-true (c .before .before .loop .k) (count (c .before .before .before .before .args .nodes .now)) (sym (c .before .is-node .ensures) ∙ c .if1 .taken) in
     (c .before .before .before .before .pre .0, (omega arith, h))
 
--- src/lib.rt:154:13
 returns : tie.Need-returns Inv-loop μ-loop
 returns c =
     let a = c .before .before .before .before .before .before .args in
     let h = ltb-true (c .before .before .before .before .loop .k) (count (a .nodes .now)) (sym (c .before .before .before .is-node .ensures) ∙ c .before .before .if1 .taken) in
     cc (head-hit (a .nodes .now) (a .p .0) (c .before .before .before .before .loop .k) h (sym (c .before .is-part-of .ensures) ∙ c .if2 .taken))
 
--- src/lib.rt:156:13
 parent-requires : tie.Need-parent-requires Inv-loop μ-loop
 parent-requires c κs = ltb-true (c .before .before .before .before .loop .k) (count (c .before .before .before .before .before .before .args .nodes .now)) (sym (c .before .before .before .is-node .ensures) ∙ c .before .before .if1 .taken)
 
--- src/lib.rt:158:13
 returns-2 : tie.Need-returns-2 Inv-loop μ-loop
 returns-2 c =
     let a = c .before .before .before .before .before .before .before .before .before .before .args in
     let h = ltb-true (c .before .before .before .before .before .before .before .before .loop .k) (count (a .nodes .now)) (sym (c .before .before .before .before .before .before .before .is-node .ensures) ∙ c .before .before .before .before .before .before .if1 .taken) in
     cc (head-stop (a .nodes .now) (a .p .0) (c .before .before .before .before .before .before .before .before .loop .k) (c .before .before .before .before .before .before .before .before .before .before .pre .0) (omega arith) h (omega arith))
 
--- src/lib.rt:160:9
 add-k : tie.Need-add-k Inv-loop μ-loop
 add-k c =
     let h = ltb-true (c .before .before .before .before .before .before .before .before .loop .k) (count (c .before .before .before .before .before .before .before .before .before .before .args .nodes .now)) (sym (c .before .before .before .before .before .before .before .is-node .ensures) ∙ c .before .before .before .before .before .before .if1 .taken) in
     let z = c .before .before .before .before .before .before .before .before .before .before .pre .0 .tree .small in
     omega arith
 
--- src/lib.rt:152:5
 loop-less : tie.Need-loop-less Inv-loop μ-loop
 loop-less c =
     let h = ltb-true (c .before .before .before .before .before .before .before .before .loop .k) (count (c .before .before .before .before .before .before .before .before .before .before .args .nodes .now)) (sym (c .before .before .before .before .before .before .before .is-node .ensures) ∙ c .before .before .before .before .before .before .if1 .taken) in
     omega arith
 
--- src/lib.rt:152:5
 loop-again : tie.Need-loop-again Inv-loop μ-loop
 loop-again c =
     let a = c .before .before .before .before .before .before .before .before .before .before .args in
     let h = ltb-true (c .before .before .before .before .before .before .before .before .loop .k) (count (a .nodes .now)) (sym (c .before .before .before .before .before .before .before .is-node .ensures) ∙ c .before .before .before .before .before .before .if1 .taken) in
     (omega arith, cc (head-on (a .nodes .now) (a .p .0) (c .before .before .before .before .before .before .before .before .loop .k) h (sym (c .before .before .before .before .before .is-part-of .ensures) ∙ c .before .before .before .before .if2 .left)))
 
--- src/lib.rt:146:1
 returns-3 : tie.Need-returns-3 Inv-loop μ-loop
 returns-3 c =
     let a = c .before .before .before .before .args in

@@ -4,65 +4,47 @@ use borrow.Author.Tests.{eq-eqb, ne-eqb}
 use borrow.Author.Needs.{needs}
 use Rattle.code_parts.proofs.shape_of.Statement.{statement}
 use Rattle.code_parts.proofs.shape_of.Tie as tie
-use Rattle.code_parts.proofs.shape_of.Reads as reads
-use Rattle.code_parts.proofs.shape_of.Lts as lts
-use Rattle.base_common.proofs.within.Reads as within-reads
-use Rattle.code_parts.proofs.holds_list.Reads as holds-list-reads
-use Rattle.code_parts.proofs.leaf_by.Reads as leaf-by-reads
-use Rattle.table_records.proofs.kind.Reads as kind-reads
 
--- src/lib.rt:56:9
 kind-requires : tie.Need-kind-requires
 kind-requires c κs = search needs
 
--- src/lib.rt:57:8
 holds-list-requires : tie.Need-holds-list-requires
 holds-list-requires c κs = search needs
 
--- src/lib.rt:58:9
 returns : tie.Need-returns
 unfolding shapeBy leafBy
 returns c = rw (← c .before .before .kind .ensures, ← c .before .holds-list .ensures, c .if1 .taken)
 
--- src/lib.rt:61:9
 returns-2 : tie.Need-returns-2
 unfolding shapeBy leafBy
 returns-2 c = rw (← c .before .before .before .kind .ensures, ← c .before .before .holds-list .ensures, c .before .if1 .left, eq-eqb _ _ (c .if2 .taken))
 
--- src/lib.rt:63:8
 within-requires : tie.Need-within-requires
 within-requires c κs = search needs
 
--- src/lib.rt:64:9
 returns-3 : tie.Need-returns-3
 unfolding shapeBy leafBy
 returns-3 c = rw (← c .before .before .before .before .before .kind .ensures, ← c .before .before .before .before .holds-list .ensures, c .before .before .before .if1 .left, ne-eqb _ _ (c .before .before .if2 .left), ← c .before .within .ensures, c .if3 .taken)
 
--- src/lib.rt:67:9
 returns-4 : tie.Need-returns-4
 unfolding shapeBy leafBy
 returns-4 c = rw (← c .before .before .before .before .before .before .kind .ensures, ← c .before .before .before .before .before .holds-list .ensures, c .before .before .before .before .if1 .left, ne-eqb _ _ (c .before .before .before .if2 .left), ← c .before .before .within .ensures, c .before .if3 .left, eq-eqb _ _ (c .if4 .taken))
 
--- src/lib.rt:70:9
 returns-5 : tie.Need-returns-5
 unfolding shapeBy leafBy
 returns-5 c = rw (← c .before .before .before .before .before .before .before .kind .ensures, ← c .before .before .before .before .before .before .holds-list .ensures, c .before .before .before .before .before .if1 .left, ne-eqb _ _ (c .before .before .before .before .if2 .left), ← c .before .before .before .within .ensures, c .before .before .if3 .left, ne-eqb _ _ (c .before .if4 .left), eq-eqb _ _ (c .if5 .taken))
 
--- src/lib.rt:73:9
 returns-6 : tie.Need-returns-6
 unfolding shapeBy leafBy
 returns-6 c = rw (← c .before .before .before .before .before .before .before .before .kind .ensures, ← c .before .before .before .before .before .before .before .holds-list .ensures, c .before .before .before .before .before .before .if1 .left, ne-eqb _ _ (c .before .before .before .before .before .if2 .left), ← c .before .before .before .before .within .ensures, c .before .before .before .if3 .left, ne-eqb _ _ (c .before .before .if4 .left), ne-eqb _ _ (c .before .if5 .left), eq-eqb _ _ (c .if6 .taken))
 
--- src/lib.rt:76:9
 returns-7 : tie.Need-returns-7
 unfolding shapeBy leafBy
 returns-7 c = rw (← c .before .before .before .before .before .before .before .before .before .kind .ensures, ← c .before .before .before .before .before .before .before .before .holds-list .ensures, c .before .before .before .before .before .before .before .if1 .left, ne-eqb _ _ (c .before .before .before .before .before .before .if2 .left), ← c .before .before .before .before .before .within .ensures, c .before .before .before .before .if3 .left, ne-eqb _ _ (c .before .before .before .if4 .left), ne-eqb _ _ (c .before .before .if5 .left), ne-eqb _ _ (c .before .if6 .left), eq-eqb _ _ (c .if7 .taken))
 
--- src/lib.rt:78:5
 leaf-by-requires : tie.Need-leaf-by-requires
 leaf-by-requires c κs = search needs
 
--- src/lib.rt:52:1
 returns-8 : tie.Need-returns-8
 unfolding shapeBy leafBy
 returns-8 c = rw (← c .before .before .before .before .before .before .before .before .before .before .kind .ensures, ← c .before .before .before .before .before .before .before .before .before .holds-list .ensures, c .before .before .before .before .before .before .before .before .if1 .left, ne-eqb _ _ (c .before .before .before .before .before .before .before .if2 .left), ← c .before .before .before .before .before .before .within .ensures, c .before .before .before .before .before .if3 .left, ne-eqb _ _ (c .before .before .before .before .if4 .left), ne-eqb _ _ (c .before .before .before .if5 .left), ne-eqb _ _ (c .before .before .if6 .left), ne-eqb _ _ (c .before .if7 .left), ← c .leaf-by .ensures)

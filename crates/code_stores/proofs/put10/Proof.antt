@@ -4,8 +4,6 @@ use Rattle.code_stores.specs.Stores.{put-ten}
 use borrow.Author.Needs.{needs}
 use Rattle.code_stores.proofs.put10.Statement.{statement}
 use Rattle.code_stores.proofs.put10.Tie as tie
-use Rattle.code_stores.proofs.put10.Reads as reads
-use Rattle.code_stores.proofs.put10.Lts as lts
 
 mul-code : tie.Need-mul-code
 mul-code c = search needs

@@ -4,8 +4,6 @@ use Rattle.code_stores.specs.Stores.{put-two}
 use borrow.Author.Needs.{needs}
 use Rattle.code_stores.proofs.put2.Statement.{statement}
 use Rattle.code_stores.proofs.put2.Tie as tie
-use Rattle.code_stores.proofs.put2.Reads as reads
-use Rattle.code_stores.proofs.put2.Lts as lts
 
 mul-code : tie.Need-mul-code
 mul-code c = search needs

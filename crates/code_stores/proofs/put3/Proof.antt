@@ -4,8 +4,6 @@ use Rattle.code_stores.specs.Stores.{put-three}
 use borrow.Author.Needs.{needs}
 use Rattle.code_stores.proofs.put3.Statement.{statement}
 use Rattle.code_stores.proofs.put3.Tie as tie
-use Rattle.code_stores.proofs.put3.Reads as reads
-use Rattle.code_stores.proofs.put3.Lts as lts
 
 mul-code : tie.Need-mul-code
 mul-code c = search needs

@@ -4,8 +4,6 @@ use Rattle.code_stores.specs.Stores.{put-four}
 use borrow.Author.Needs.{needs}
 use Rattle.code_stores.proofs.put4.Statement.{statement}
 use Rattle.code_stores.proofs.put4.Tie as tie
-use Rattle.code_stores.proofs.put4.Reads as reads
-use Rattle.code_stores.proofs.put4.Lts as lts
 
 mul-code : tie.Need-mul-code
 mul-code c = search needs

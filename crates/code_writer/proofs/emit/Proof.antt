@@ -1,9 +1,9 @@
 use Rattle.code_emit.specs.EmitLaws.{emit-simple, emit-break, emit-continue, emit-return, emit-throw, emit-if, emit-with, emit-block, emit-label, emit-loop, emit-switch, emit-case, emit-dead}
-use Rattle.code_emit.specs.Laid.{listWords, blockWords, loopWords, ifWords, switchWords, caseWords}
+use Rattle.code_emit.specs.Laid.{listWords}
 use Rattle.base_common.specs.Wrote.{put}
 use borrow.Author.Tests.{not-true, not-false}
 use mathlib.Core.List.{[], _∷_}
-use mathlib.Core.Bool.{true, false}
+use mathlib.Core.Bool.{true}
 use Rattle.code_unit.specs.declared.Shape.the-variants.{Simple, Break, Continue, Return, Throw, If, With, Block, Label, Loop, Switch, Case}
 use Rattle.code_writer.specs.Leaf.{leafAim}
 use Rattle.route_completion.specs.Sem.{normal}
@@ -11,33 +11,17 @@ use Rattle.code_aims.specs.Aim.{aim}
 use Rattle.code_unit.specs.Unit.{shapeAt}
 use Rattle.code_words.specs.Made.{off-bound}
 use Rattle.code_words.specs.Words.{off, live}
-use Rattle.table_records.specs.Table.{count}
-use lib.ListN.{getD, length}
+use lib.ListN.{getD}
 use native.Mathlib.Omega.{arith}
-use Prim.Native.Nat.{_+_, _*_, _-_, _≤_, _<_}
-use mathlib.Core.Path.{_≡_, refl, ap, sym, subst, _∙_}
+use Prim.Native.Nat.{_-_}
+use mathlib.Core.Path.{_≡_, refl, ap, sym, _∙_}
 use borrow.Author.Needs.{needs}
 use Rattle.code_writer.proofs.emit.Statement.{statement}
 use Rattle.code_writer.proofs.emit.Tie as tie
-use Rattle.code_writer.proofs.emit.Reads as reads
-use Rattle.code_writer.proofs.emit.Lts as lts
-use Rattle.code_emit.proofs.emit_block.Reads as emit-block-reads
-use Rattle.code_emit.proofs.emit_case.Reads as emit-case-reads
-use Rattle.code_emit.proofs.emit_if.Reads as emit-if-reads
-use Rattle.code_emit.proofs.emit_loop.Reads as emit-loop-reads
-use Rattle.code_emit.proofs.emit_switch.Reads as emit-switch-reads
-use Rattle.code_parts.proofs.is_live.Reads as is-live-reads
-use Rattle.code_parts.proofs.shape_of.Reads as shape-of-reads
-use Rattle.code_stores.proofs.put2.Reads as put2-reads
-use Rattle.code_stores.proofs.put5.Reads as put5-reads
-use Rattle.table_records.proofs.wide.Reads as wide-reads
-use Rattle.code_writer.proofs.target.Reads as target-reads
 
--- src/lib.rt:67:9
 is-live-requires : tie.Need-is-live-requires
 is-live-requires c κs = (c .before .before .before .before .before .pre .0 .good, c .before .before .before .before .before .pre .1 .1 .1 .0)
 
--- src/lib.rt:68:9
 returns : tie.Need-returns
 returns c = let a = c .before .before .before .before .before .before .before .args in
     let ns = a .nodes .now in
@@ -46,25 +30,20 @@ returns c = let a = c .before .before .before .before .before .before .before .a
     let n = a .n .0 in
     emit-dead ns nm b n (a .code .now) (sym (c .before .is-live .ensures) ∙ not-true (c .before .is-live .result) (c .if1 .taken))
 
--- src/lib.rt:70:9
 shape-of-requires : tie.Need-shape-of-requires
 shape-of-requires c κs = c .before .before .before .before .before .before .before .pre .1 .1 .1 .0
 
--- src/lib.rt:71:18
 wide-requires : tie.Need-wide-requires
 wide-requires c κs = search needs
 
--- src/lib.rt:71:13
 mul-o : tie.Need-mul-o
 mul-o c = search needs
 
--- src/lib.rt:71:13
 shared-slice-read-o : tie.Need-shared-slice-read-o
 shared-slice-read-o c = let h = c .before .before .before .before .before .before .before .before .before .before .pre .1 .0 .long in
     let l = c .before .before .before .before .before .before .before .before .before .before .pre .1 .1 .1 .0 in
     omega (arith, h, l, c .before .wide .ensures)
 
--- src/lib.rt:72:9
 target-requires : tie.Need-target-requires
 target-requires c κs = let a = c .before .before .before .before .before .before .before .before .before .before .args in
     let ns = a .nodes .now in
@@ -74,15 +53,12 @@ target-requires c κs = let a = c .before .before .before .before .before .befor
     let hl : live ns b n ≡ true = sym (c .before .before .before .before .is-live .ensures) ∙ not-false (c .before .before .before .before .is-live .result) (c .before .before .before .if1 .left) in
     (c .before .before .before .before .before .before .before .before .before .before .pre .0, (c .before .before .before .before .before .before .before .before .before .before .pre .1 .0, (c .before .before .before .before .before .before .before .before .before .before .pre .1 .1 .1 .0, hl)))
 
--- src/lib.rt:74:39
 enum-told : tie.Need-enum-told
 enum-told c = search needs
 
--- src/lib.rt:74:45
 wide-requires-2 : tie.Need-wide-requires-2
 wide-requires-2 c κs = search needs
 
--- src/lib.rt:74:26
 put5-requires : tie.Need-put5-requires
 put5-requires c κs = let a = c .before .before .before .before .before .before .before .before .before .before .before .before .before .before .before .args in
     let ns = a .nodes .now in
@@ -98,15 +74,12 @@ put5-requires c κs = let a = c .before .before .before .before .before .before 
     ap (λ k. getD (a .offs .now) k 0) (c .before .before .before .before .before .before .wide .ensures) ∙ c .before .before .before .before .before .before .before .before .before .before .before .before .before .before .before .pre .1 .0 .offsets .is n (omega arith) in
     omega (arith, ho, ob, hr, c .wide2 .ensures)
 
--- src/lib.rt:75:38
 enum-told-2 : tie.Need-enum-told-2
 enum-told-2 c = search needs
 
--- src/lib.rt:75:44
 wide-requires-3 : tie.Need-wide-requires-3
 wide-requires-3 c κs = search needs
 
--- src/lib.rt:75:25
 put5-requires-2 : tie.Need-put5-requires-2
 put5-requires-2 c κs = let a = c .before .before .before .before .before .before .before .before .before .before .before .before .before .before .before .args in
     let ns = a .nodes .now in
@@ -122,15 +95,12 @@ put5-requires-2 c κs = let a = c .before .before .before .before .before .befor
     ap (λ k. getD (a .offs .now) k 0) (c .before .before .before .before .before .before .wide .ensures) ∙ c .before .before .before .before .before .before .before .before .before .before .before .before .before .before .before .pre .1 .0 .offsets .is n (omega arith) in
     omega (arith, ho, ob, hr, c .wide3 .ensures)
 
--- src/lib.rt:76:41
 enum-told-3 : tie.Need-enum-told-3
 enum-told-3 c = search needs
 
--- src/lib.rt:76:47
 wide-requires-4 : tie.Need-wide-requires-4
 wide-requires-4 c κs = search needs
 
--- src/lib.rt:76:28
 put5-requires-3 : tie.Need-put5-requires-3
 put5-requires-3 c κs = let a = c .before .before .before .before .before .before .before .before .before .before .before .before .before .before .before .args in
     let ns = a .nodes .now in
@@ -146,15 +116,12 @@ put5-requires-3 c κs = let a = c .before .before .before .before .before .befor
     ap (λ k. getD (a .offs .now) k 0) (c .before .before .before .before .before .before .wide .ensures) ∙ c .before .before .before .before .before .before .before .before .before .before .before .before .before .before .before .pre .1 .0 .offsets .is n (omega arith) in
     omega (arith, ho, ob, hr, c .wide4 .ensures)
 
--- src/lib.rt:77:39
 enum-told-4 : tie.Need-enum-told-4
 enum-told-4 c = search needs
 
--- src/lib.rt:77:45
 wide-requires-5 : tie.Need-wide-requires-5
 wide-requires-5 c κs = search needs
 
--- src/lib.rt:77:26
 put5-requires-4 : tie.Need-put5-requires-4
 put5-requires-4 c κs = let a = c .before .before .before .before .before .before .before .before .before .before .before .before .before .before .before .args in
     let ns = a .nodes .now in
@@ -170,15 +137,12 @@ put5-requires-4 c κs = let a = c .before .before .before .before .before .befor
     ap (λ k. getD (a .offs .now) k 0) (c .before .before .before .before .before .before .wide .ensures) ∙ c .before .before .before .before .before .before .before .before .before .before .before .before .before .before .before .pre .1 .0 .offsets .is n (omega arith) in
     omega (arith, ho, ob, hr, c .wide5 .ensures)
 
--- src/lib.rt:78:38
 enum-told-5 : tie.Need-enum-told-5
 enum-told-5 c = search needs
 
--- src/lib.rt:78:44
 wide-requires-6 : tie.Need-wide-requires-6
 wide-requires-6 c κs = search needs
 
--- src/lib.rt:78:25
 put5-requires-5 : tie.Need-put5-requires-5
 put5-requires-5 c κs = let a = c .before .before .before .before .before .before .before .before .before .before .before .before .before .before .before .args in
     let ns = a .nodes .now in
@@ -194,11 +158,9 @@ put5-requires-5 c κs = let a = c .before .before .before .before .before .befor
     ap (λ k. getD (a .offs .now) k 0) (c .before .before .before .before .before .before .wide .ensures) ∙ c .before .before .before .before .before .before .before .before .before .before .before .before .before .before .before .pre .1 .0 .offsets .is n (omega arith) in
     omega (arith, ho, ob, hr, c .wide6 .ensures)
 
--- src/lib.rt:79:62
 enum-told-6 : tie.Need-enum-told-6
 enum-told-6 c = search needs
 
--- src/lib.rt:79:22
 emit-if-requires : tie.Need-emit-if-requires
 emit-if-requires c κs = let a = c .before .before .before .before .before .before .before .before .before .before .before .before .before .before .args in
     let ns = a .nodes .now in
@@ -214,15 +176,12 @@ emit-if-requires c κs = let a = c .before .before .before .before .before .befo
     ap (λ k. getD (a .offs .now) k 0) (c .before .before .before .before .before .wide .ensures) ∙ c .before .before .before .before .before .before .before .before .before .before .before .before .before .before .pre .1 .0 .offsets .is n (omega arith) in
     (c .before .before .before .before .before .before .before .before .before .before .before .before .before .before .pre .0 .good, (c .before .before .before .before .before .before .before .before .before .before .before .before .before .before .pre .1 .0 .offsets, (c .before .before .before .before .before .before .before .before .before .before .before .before .before .before .pre .1 .0 .long, (hc, (omega (arith, ho, ob, su, hc), omega (arith, ho, ob, hr, hc))))))
 
--- src/lib.rt:80:37
 enum-told-7 : tie.Need-enum-told-7
 enum-told-7 c = search needs
 
--- src/lib.rt:80:43
 wide-requires-7 : tie.Need-wide-requires-7
 wide-requires-7 c κs = search needs
 
--- src/lib.rt:80:24
 put2-requires : tie.Need-put2-requires
 put2-requires c κs = let a = c .before .before .before .before .before .before .before .before .before .before .before .before .before .before .before .args in
     let ns = a .nodes .now in
@@ -238,11 +197,9 @@ put2-requires c κs = let a = c .before .before .before .before .before .before 
     ap (λ k. getD (a .offs .now) k 0) (c .before .before .before .before .before .before .wide .ensures) ∙ c .before .before .before .before .before .before .before .before .before .before .before .before .before .before .before .pre .1 .0 .offsets .is n (omega arith) in
     omega (arith, ho, ob, hr, c .wide7 .ensures)
 
--- src/lib.rt:81:59
 enum-told-8 : tie.Need-enum-told-8
 enum-told-8 c = search needs
 
--- src/lib.rt:81:25
 emit-block-requires : tie.Need-emit-block-requires
 emit-block-requires c κs = let a = c .before .before .before .before .before .before .before .before .before .before .before .before .before .before .args in
     let ns = a .nodes .now in
@@ -261,11 +218,9 @@ emit-block-requires c κs = let a = c .before .before .before .before .before .b
 enum-told-9 : tie.Need-enum-told-9
 enum-told-9 c = search needs
 
--- src/lib.rt:83:57
 enum-told-10 : tie.Need-enum-told-10
 enum-told-10 c = search needs
 
--- src/lib.rt:83:24
 emit-loop-requires : tie.Need-emit-loop-requires
 emit-loop-requires c κs = let a = c .before .before .before .before .before .before .before .before .before .before .before .before .before .before .args in
     let ns = a .nodes .now in
@@ -281,11 +236,9 @@ emit-loop-requires c κs = let a = c .before .before .before .before .before .be
     ap (λ k. getD (a .offs .now) k 0) (c .before .before .before .before .before .wide .ensures) ∙ c .before .before .before .before .before .before .before .before .before .before .before .before .before .before .pre .1 .0 .offsets .is n (omega arith) in
     (hc, (omega (arith, ho, ob, su, hc), omega (arith, ho, ob, hr, hc)))
 
--- src/lib.rt:84:70
 enum-told-11 : tie.Need-enum-told-11
 enum-told-11 c = search needs
 
--- src/lib.rt:84:26
 emit-switch-requires : tie.Need-emit-switch-requires
 emit-switch-requires c κs = let a = c .before .before .before .before .before .before .before .before .before .before .before .before .before .before .args in
     let ns = a .nodes .now in
@@ -301,11 +254,9 @@ emit-switch-requires c κs = let a = c .before .before .before .before .before .
     ap (λ k. getD (a .offs .now) k 0) (c .before .before .before .before .before .wide .ensures) ∙ c .before .before .before .before .before .before .before .before .before .before .before .before .before .before .pre .1 .0 .offsets .is n (omega arith) in
     (c .before .before .before .before .before .before .before .before .before .before .before .before .before .before .pre .0 .good, (c .before .before .before .before .before .before .before .before .before .before .before .before .before .before .pre .1 .0 .offsets, (c .before .before .before .before .before .before .before .before .before .before .before .before .before .before .pre .1 .0 .long, (hc, (omega (arith, ho, ob, su, hc), omega (arith, ho, ob, hr, hc))))))
 
--- src/lib.rt:85:66
 enum-told-12 : tie.Need-enum-told-12
 enum-told-12 c = search needs
 
--- src/lib.rt:85:24
 emit-case-requires : tie.Need-emit-case-requires
 emit-case-requires c κs = let a = c .before .before .before .before .before .before .before .before .before .before .before .before .before .before .args in
     let ns = a .nodes .now in
@@ -321,11 +272,9 @@ emit-case-requires c κs = let a = c .before .before .before .before .before .be
     ap (λ k. getD (a .offs .now) k 0) (c .before .before .before .before .before .wide .ensures) ∙ c .before .before .before .before .before .before .before .before .before .before .before .before .before .before .pre .1 .0 .offsets .is n (omega arith) in
     (c .before .before .before .before .before .before .before .before .before .before .before .before .before .before .pre .0 .good, (c .before .before .before .before .before .before .before .before .before .before .before .before .before .before .pre .1 .0 .offsets, (c .before .before .before .before .before .before .before .before .before .before .before .before .before .before .pre .1 .0 .long, (omega (arith, hb), (hc, (omega (arith, ho, ob, su, hc), omega (arith, ho, ob, hr, hc)))))))
 
--- src/lib.rt:51:1
 same-length : tie.Need-same-length
 same-length c = search needs
 
--- src/lib.rt:51:1
 returns-2 : tie.Need-returns-2
 returns-2 c = let a = c .before .before .before .before .before .before .before .before .before .before .before .before .before .before .before .before .before .before .args in
     let ns = a .nodes .now in
@@ -345,11 +294,9 @@ returns-2 c = let a = c .before .before .before .before .before .before .before 
     let v : c .before .before .before .before .before .before .before .target .result ≡ leafAim ns nm b n Simple = c .before .before .before .before .before .before .before .target .ensures ∙ ap (leafAim ns nm b n) (c .before .before .before .before .before .enum-told .given .1) in
     c .before .before .put5 .ensures ∙ ap (λ w. put (a .code .now) w (listWords n (c .before .before .before .before .before .before .before .target .result))) (c .before .before .before .wide2 .ensures) ∙ emit-simple ns nm b (c .before .before .before .before .before .before .before .before .before .before .before .before .before .before .before .before .before .before .pre .0) n hb hc hl (a .code .now) o (c .before .before .before .before .before .before .before .target .result) ho v e
 
--- src/lib.rt:51:1
 same-length-2 : tie.Need-same-length-2
 same-length-2 c = search needs
 
--- src/lib.rt:51:1
 returns-3 : tie.Need-returns-3
 returns-3 c = let a = c .before .before .before .before .before .before .before .before .before .before .before .before .before .before .before .before .before .before .args in
     let ns = a .nodes .now in
@@ -369,11 +316,9 @@ returns-3 c = let a = c .before .before .before .before .before .before .before 
     let v : c .before .before .before .before .before .before .before .target .result ≡ leafAim ns nm b n Break = c .before .before .before .before .before .before .before .target .ensures ∙ ap (leafAim ns nm b n) (c .before .before .before .before .before .enum-told2 .given .1) in
     c .before .before .put52 .ensures ∙ ap (λ w. put (a .code .now) w (listWords n (c .before .before .before .before .before .before .before .target .result))) (c .before .before .before .wide3 .ensures) ∙ emit-break ns nm b (c .before .before .before .before .before .before .before .before .before .before .before .before .before .before .before .before .before .before .pre .0) n hb hc hl (a .code .now) o (aim ns nm b n normal) ho refl e (c .before .before .before .before .before .before .before .target .result) v
 
--- src/lib.rt:51:1
 same-length-3 : tie.Need-same-length-3
 same-length-3 c = search needs
 
--- src/lib.rt:51:1
 returns-4 : tie.Need-returns-4
 returns-4 c = let a = c .before .before .before .before .before .before .before .before .before .before .before .before .before .before .before .before .before .before .args in
     let ns = a .nodes .now in
@@ -393,11 +338,9 @@ returns-4 c = let a = c .before .before .before .before .before .before .before 
     let v : c .before .before .before .before .before .before .before .target .result ≡ leafAim ns nm b n Continue = c .before .before .before .before .before .before .before .target .ensures ∙ ap (leafAim ns nm b n) (c .before .before .before .before .before .enum-told3 .given .1) in
     c .before .before .put53 .ensures ∙ ap (λ w. put (a .code .now) w (listWords n (c .before .before .before .before .before .before .before .target .result))) (c .before .before .before .wide4 .ensures) ∙ emit-continue ns nm b (c .before .before .before .before .before .before .before .before .before .before .before .before .before .before .before .before .before .before .pre .0) n hb hc hl (a .code .now) o (aim ns nm b n normal) ho refl e (c .before .before .before .before .before .before .before .target .result) v
 
--- src/lib.rt:51:1
 same-length-4 : tie.Need-same-length-4
 same-length-4 c = search needs
 
--- src/lib.rt:51:1
 returns-5 : tie.Need-returns-5
 returns-5 c = let a = c .before .before .before .before .before .before .before .before .before .before .before .before .before .before .before .before .before .before .args in
     let ns = a .nodes .now in
@@ -417,11 +360,9 @@ returns-5 c = let a = c .before .before .before .before .before .before .before 
     let v : c .before .before .before .before .before .before .before .target .result ≡ leafAim ns nm b n Return = c .before .before .before .before .before .before .before .target .ensures ∙ ap (leafAim ns nm b n) (c .before .before .before .before .before .enum-told4 .given .1) in
     c .before .before .put54 .ensures ∙ ap (λ w. put (a .code .now) w (listWords n (c .before .before .before .before .before .before .before .target .result))) (c .before .before .before .wide5 .ensures) ∙ emit-return ns nm b (c .before .before .before .before .before .before .before .before .before .before .before .before .before .before .before .before .before .before .pre .0) n hb hc hl (a .code .now) o (aim ns nm b n normal) ho refl e (c .before .before .before .before .before .before .before .target .result) v
 
--- src/lib.rt:51:1
 same-length-5 : tie.Need-same-length-5
 same-length-5 c = search needs
 
--- src/lib.rt:51:1
 returns-6 : tie.Need-returns-6
 returns-6 c = let a = c .before .before .before .before .before .before .before .before .before .before .before .before .before .before .before .before .before .before .args in
     let ns = a .nodes .now in
@@ -441,11 +382,9 @@ returns-6 c = let a = c .before .before .before .before .before .before .before 
     let v : c .before .before .before .before .before .before .before .target .result ≡ leafAim ns nm b n Throw = c .before .before .before .before .before .before .before .target .ensures ∙ ap (leafAim ns nm b n) (c .before .before .before .before .before .enum-told5 .given .1) in
     c .before .before .put55 .ensures ∙ ap (λ w. put (a .code .now) w (listWords n (c .before .before .before .before .before .before .before .target .result))) (c .before .before .before .wide6 .ensures) ∙ emit-throw ns nm b (c .before .before .before .before .before .before .before .before .before .before .before .before .before .before .before .before .before .before .pre .0) n hb hc hl (a .code .now) o (aim ns nm b n normal) ho refl e (c .before .before .before .before .before .before .before .target .result) v
 
--- src/lib.rt:51:1
 same-length-6 : tie.Need-same-length-6
 same-length-6 c = search needs
 
--- src/lib.rt:51:1
 returns-7 : tie.Need-returns-7
 returns-7 c = let a = c .before .before .before .before .before .before .before .before .before .before .before .before .before .before .before .before .before .args in
     let ns = a .nodes .now in
@@ -465,11 +404,9 @@ returns-7 c = let a = c .before .before .before .before .before .before .before 
     let v : c .before .before .before .before .before .before .target .result ≡ leafAim ns nm b n If = c .before .before .before .before .before .before .target .ensures ∙ ap (leafAim ns nm b n) (c .before .before .before .before .enum-told6 .given .1) in
     c .before .before .emit-if .ensures ∙ emit-if ns nm b (c .before .before .before .before .before .before .before .before .before .before .before .before .before .before .before .before .before .pre .0) n hb hc hl (a .code .now) o (c .before .before .before .before .before .before .target .result) ho v e
 
--- src/lib.rt:51:1
 same-length-7 : tie.Need-same-length-7
 same-length-7 c = search needs
 
--- src/lib.rt:51:1
 returns-8 : tie.Need-returns-8
 returns-8 c = let a = c .before .before .before .before .before .before .before .before .before .before .before .before .before .before .before .before .before .before .args in
     let ns = a .nodes .now in
@@ -489,11 +426,9 @@ returns-8 c = let a = c .before .before .before .before .before .before .before 
     let v : c .before .before .before .before .before .before .before .target .result ≡ leafAim ns nm b n With = c .before .before .before .before .before .before .before .target .ensures ∙ ap (leafAim ns nm b n) (c .before .before .before .before .before .enum-told7 .given .1) in
     c .before .before .put2 .ensures ∙ ap (λ w. put (a .code .now) w (1 ∷ n ∷ [])) (c .before .before .before .wide7 .ensures) ∙ emit-with ns nm b (c .before .before .before .before .before .before .before .before .before .before .before .before .before .before .before .before .before .before .pre .0) n hb hc hl (a .code .now) o (c .before .before .before .before .before .before .before .target .result) ho v e
 
--- src/lib.rt:51:1
 same-length-8 : tie.Need-same-length-8
 same-length-8 c = search needs
 
--- src/lib.rt:51:1
 returns-9 : tie.Need-returns-9
 returns-9 c = let a = c .before .before .before .before .before .before .before .before .before .before .before .before .before .before .before .before .before .args in
     let ns = a .nodes .now in
@@ -513,7 +448,6 @@ returns-9 c = let a = c .before .before .before .before .before .before .before 
     let v : c .before .before .before .before .before .before .target .result ≡ leafAim ns nm b n Block = c .before .before .before .before .before .before .target .ensures ∙ ap (leafAim ns nm b n) (c .before .before .before .before .enum-told8 .given .1) in
     c .before .before .emit-block .ensures ∙ emit-block ns nm b (c .before .before .before .before .before .before .before .before .before .before .before .before .before .before .before .before .before .pre .0) n hb hc hl (a .code .now) o (c .before .before .before .before .before .before .target .result) ho v e
 
--- src/lib.rt:51:1
 returns-10 : tie.Need-returns-10
 returns-10 c = let a = c .before .before .before .before .before .before .before .before .before .before .before .before .before .args in
     let ns = a .nodes .now in
@@ -533,11 +467,9 @@ returns-10 c = let a = c .before .before .before .before .before .before .before
     let v : c .before .before .target .result ≡ leafAim ns nm b n Label = c .before .before .target .ensures ∙ ap (leafAim ns nm b n) (c .enum-told9 .given .1) in
     emit-label ns nm b (c .before .before .before .before .before .before .before .before .before .before .before .before .before .pre .0) n hb hc hl (a .code .now) o (c .before .before .target .result) ho v e
 
--- src/lib.rt:51:1
 same-length-9 : tie.Need-same-length-9
 same-length-9 c = search needs
 
--- src/lib.rt:51:1
 returns-11 : tie.Need-returns-11
 returns-11 c = let a = c .before .before .before .before .before .before .before .before .before .before .before .before .before .before .before .before .before .args in
     let ns = a .nodes .now in
@@ -557,11 +489,9 @@ returns-11 c = let a = c .before .before .before .before .before .before .before
     let v : c .before .before .before .before .before .before .target .result ≡ leafAim ns nm b n Loop = c .before .before .before .before .before .before .target .ensures ∙ ap (leafAim ns nm b n) (c .before .before .before .before .enum-told10 .given .1) in
     c .before .before .emit-loop .ensures ∙ emit-loop ns nm b (c .before .before .before .before .before .before .before .before .before .before .before .before .before .before .before .before .before .pre .0) n hb hc hl (a .code .now) o (c .before .before .before .before .before .before .target .result) ho v e
 
--- src/lib.rt:51:1
 same-length-10 : tie.Need-same-length-10
 same-length-10 c = search needs
 
--- src/lib.rt:51:1
 returns-12 : tie.Need-returns-12
 returns-12 c = let a = c .before .before .before .before .before .before .before .before .before .before .before .before .before .before .before .before .before .args in
     let ns = a .nodes .now in
@@ -581,11 +511,9 @@ returns-12 c = let a = c .before .before .before .before .before .before .before
     let v : c .before .before .before .before .before .before .target .result ≡ leafAim ns nm b n Switch = c .before .before .before .before .before .before .target .ensures ∙ ap (leafAim ns nm b n) (c .before .before .before .before .enum-told11 .given .1) in
     c .before .before .emit-switch .ensures ∙ emit-switch ns nm b (c .before .before .before .before .before .before .before .before .before .before .before .before .before .before .before .before .before .pre .0) n hb hc hl (a .code .now) o (c .before .before .before .before .before .before .target .result) ho v e
 
--- src/lib.rt:51:1
 same-length-11 : tie.Need-same-length-11
 same-length-11 c = search needs
 
--- src/lib.rt:51:1
 returns-13 : tie.Need-returns-13
 returns-13 c = let a = c .before .before .before .before .before .before .before .before .before .before .before .before .before .before .before .before .before .args in
     let ns = a .nodes .now in

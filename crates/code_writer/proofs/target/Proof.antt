@@ -1,78 +1,57 @@
 use Rattle.ways.specs.WaysLaws.{live-ge, return-at, throw-at}
-use Rattle.unit.specs.declared.Shape.the-variants.{Simple, Break, Continue, Return, Throw, If, With, Block, Label, Loop, Switch, Case}
 use Rattle.writer.specs.Leaf.{leafAim}
 use Rattle.completion.specs.Sem.{normal}
 use Rattle.aims.specs.Aim.{aim}
-use Rattle.unit.specs.Unit.{shapeAt}
 use Rattle.words.specs.Made.{off-bound}
-use Rattle.words.specs.Words.{off, live}
+use Rattle.words.specs.Words.{off}
 use Rattle.tables.specs.Table.{count}
-use lib.ListN.{getD, length}
+use lib.ListN.{getD}
 use native.Mathlib.Omega.{arith}
-use Prim.Native.Nat.{_+_, _*_, _-_, _≤_, _<_}
-use mathlib.Core.Path.{_≡_, refl, ap, sym, subst, _∙_}
+use Prim.Native.Nat.{_+_, _-_}
+use mathlib.Core.Path.{_≡_, ap, sym, _∙_}
 use borrow.Author.Needs.{needs}
 use Rattle.writer.proofs.target.Statement.{statement}
 use Rattle.writer.proofs.target.Tie as tie
-use Rattle.writer.proofs.target.Reads as reads
-use Rattle.writer.proofs.target.Lts as lts
-use Rattle.tables.proofs.size.Reads as size-reads
-use Rattle.tables.proofs.wide.Reads as wide-reads
-use Rattle.ways.proofs.break_target.Reads as break-target-reads
-use Rattle.ways.proofs.continue_target.Reads as continue-target-reads
 
--- src/lib.rt:32:19
 wide-requires : tie.Need-wide-requires
 wide-requires c κs = search needs
 
--- src/lib.rt:32:14
 mul-on : tie.Need-mul-on
 mul-on c = search needs
 
--- src/lib.rt:32:14
 shared-slice-read-on : tie.Need-shared-slice-read-on
 shared-slice-read-on c = let h = c .before .before .before .before .before .before .pre .1 .0 .wide in
     let l = c .before .before .before .before .before .before .pre .1 .1 .0 in
     omega (arith, h, l, c .before .wide .ensures)
 
--- src/lib.rt:33:33
 size-requires : tie.Need-size-requires
 size-requires c κs = record { some = c .before .before .before .before .before .before .pre .0 .good .tree .some; small = c .before .before .before .before .before .before .pre .0 .good .tree .small }
 
--- src/lib.rt:33:20
 wide-requires-2 : tie.Need-wide-requires-2
 wide-requires-2 c κs = search needs
 
--- src/lib.rt:33:15
 mul-end : tie.Need-mul-end
 mul-end c = search needs
 
--- src/lib.rt:33:15
 shared-slice-read-end : tie.Need-shared-slice-read-end
 shared-slice-read-end c = let h = c .before .before .before .before .before .before .before .before .before .pre .1 .0 .long in
     omega (arith, h, c .before .before .size .ensures, c .before .wide2 .ensures)
 
--- src/lib.rt:35:25
 enum-told : tie.Need-enum-told
 enum-told c = search needs
 
--- src/lib.rt:35:25
 break-target-requires : tie.Need-break-target-requires
 break-target-requires c κs = (c .before .before .before .before .before .before .before .before .before .before .before .pre .0, (c .before .before .before .before .before .before .before .before .before .before .before .pre .1 .1 .0, (c .before .before .before .before .before .before .before .before .before .before .before .pre .1 .1 .1, (c .before .before .before .before .before .before .before .before .before .before .before .pre .1 .0 .offsets, (c .before .before .before .before .before .before .before .before .before .before .before .pre .1 .0 .long, (c .before .before .before .before .before .before .before .before .before .before .before .pre .1 .0 .ways, c .before .before .before .before .before .before .before .before .before .before .before .pre .1 .0 .wide))))))
 
--- src/lib.rt:36:28
 enum-told-2 : tie.Need-enum-told-2
 enum-told-2 c = search needs
 
--- src/lib.rt:36:28
 continue-target-requires : tie.Need-continue-target-requires
 continue-target-requires c κs = (c .before .before .before .before .before .before .before .before .before .before .before .pre .0, (c .before .before .before .before .before .before .before .before .before .before .before .pre .1 .1 .0, (c .before .before .before .before .before .before .before .before .before .before .before .pre .1 .1 .1, (c .before .before .before .before .before .before .before .before .before .before .before .pre .1 .0 .offsets, c .before .before .before .before .before .before .before .before .before .before .before .pre .1 .0 .long))))
 
--- src/lib.rt:37:26
 enum-told-3 : tie.Need-enum-told-3
 enum-told-3 c = search needs
 
--- src/lib.rt:37:26
 add-result : tie.Need-add-result
 add-result c = let a = c .before .before .before .before .before .before .before .before .before .before .before .args in
     let ns = a .nodes .now in
@@ -86,11 +65,9 @@ add-result c = let a = c .before .before .before .before .before .before .before
     let w = off-bound ns b (count ns) t in
     omega (arith, y, w, u)
 
--- src/lib.rt:38:25
 enum-told-4 : tie.Need-enum-told-4
 enum-told-4 c = search needs
 
--- src/lib.rt:38:25
 add-result-2 : tie.Need-add-result-2
 add-result-2 c = let a = c .before .before .before .before .before .before .before .before .before .before .before .args in
     let ns = a .nodes .now in
@@ -104,39 +81,30 @@ add-result-2 c = let a = c .before .before .before .before .before .before .befo
     let w = off-bound ns b (count ns) t in
     omega (arith, y, w, u)
 
--- src/lib.rt:39:26
 enum-told-5 : tie.Need-enum-told-5
 enum-told-5 c = search needs
 
--- src/lib.rt:40:22
 enum-told-6 : tie.Need-enum-told-6
 enum-told-6 c = search needs
 
--- src/lib.rt:41:24
 enum-told-7 : tie.Need-enum-told-7
 enum-told-7 c = search needs
 
--- src/lib.rt:42:25
 enum-told-8 : tie.Need-enum-told-8
 enum-told-8 c = search needs
 
--- src/lib.rt:43:25
 enum-told-9 : tie.Need-enum-told-9
 enum-told-9 c = search needs
 
--- src/lib.rt:44:24
 enum-told-10 : tie.Need-enum-told-10
 enum-told-10 c = search needs
 
--- src/lib.rt:45:26
 enum-told-11 : tie.Need-enum-told-11
 enum-told-11 c = search needs
 
--- src/lib.rt:46:24
 enum-told-12 : tie.Need-enum-told-12
 enum-told-12 c = search needs
 
--- src/lib.rt:17:1
 returns : tie.Need-returns
 returns c = let a = c .before .before .before .before .before .before .before .before .before .before .before .before .args in
     let ns = a .nodes .now in
@@ -145,7 +113,6 @@ returns c = let a = c .before .before .before .before .before .before .before .b
     let n = a .n .0 in
     c .break-target .ensures ∙ sym (ap (leafAim ns nm b n) (c .before .enum-told .given .1))
 
--- src/lib.rt:17:1
 returns-2 : tie.Need-returns-2
 returns-2 c = let a = c .before .before .before .before .before .before .before .before .before .before .before .before .args in
     let ns = a .nodes .now in
@@ -154,7 +121,6 @@ returns-2 c = let a = c .before .before .before .before .before .before .before 
     let n = a .n .0 in
     c .continue-target .ensures ∙ sym (ap (leafAim ns nm b n) (c .before .enum-told2 .given .1))
 
--- src/lib.rt:17:1
 returns-3 : tie.Need-returns-3
 returns-3 c = let a = c .before .before .before .before .before .before .before .before .before .before .before .args in
     let ns = a .nodes .now in
@@ -168,7 +134,6 @@ returns-3 c = let a = c .before .before .before .before .before .before .before 
     let w = off-bound ns b (count ns) t in
     ap (λ k. k + 2) y ∙ sym (return-at ns nm b (c .before .before .before .before .before .before .before .before .before .before .before .pre .0 .good .tree .falls) n (c .before .before .before .before .before .before .before .before .before .before .before .pre .1 .1 .0) (c .before .before .before .before .before .before .before .before .before .before .before .pre .1 .1 .1)) ∙ sym (ap (leafAim ns nm b n) (c .enum-told3 .given .1))
 
--- src/lib.rt:17:1
 returns-4 : tie.Need-returns-4
 returns-4 c = let a = c .before .before .before .before .before .before .before .before .before .before .before .args in
     let ns = a .nodes .now in
@@ -182,7 +147,6 @@ returns-4 c = let a = c .before .before .before .before .before .before .before 
     let w = off-bound ns b (count ns) t in
     ap (λ k. k + 4) y ∙ sym (throw-at ns nm b (c .before .before .before .before .before .before .before .before .before .before .before .pre .0 .good .tree .falls) n (c .before .before .before .before .before .before .before .before .before .before .before .pre .1 .1 .0) (c .before .before .before .before .before .before .before .before .before .before .before .pre .1 .1 .1)) ∙ sym (ap (leafAim ns nm b n) (c .enum-told4 .given .1))
 
--- src/lib.rt:17:1
 returns-5 : tie.Need-returns-5
 returns-5 c = let a = c .before .before .before .before .before .before .before .before .before .before .before .args in
     let ns = a .nodes .now in
@@ -194,7 +158,6 @@ returns-5 c = let a = c .before .before .before .before .before .before .before 
     ap (λ k. getD (a .nors .now) k 0) (c .before .before .before .before .before .before .wide .ensures) ∙ c .before .before .before .before .before .before .before .before .before .before .before .pre .1 .0 .ways .is n (live-ge ns b n (c .before .before .before .before .before .before .before .before .before .before .before .pre .1 .1 .1)) hc (c .before .before .before .before .before .before .before .before .before .before .before .pre .1 .1 .1) in
     v ∙ sym (ap (leafAim ns nm b n) (c .enum-told5 .given .1))
 
--- src/lib.rt:17:1
 returns-6 : tie.Need-returns-6
 returns-6 c = let a = c .before .before .before .before .before .before .before .before .before .before .before .args in
     let ns = a .nodes .now in
@@ -206,7 +169,6 @@ returns-6 c = let a = c .before .before .before .before .before .before .before 
     ap (λ k. getD (a .nors .now) k 0) (c .before .before .before .before .before .before .wide .ensures) ∙ c .before .before .before .before .before .before .before .before .before .before .before .pre .1 .0 .ways .is n (live-ge ns b n (c .before .before .before .before .before .before .before .before .before .before .before .pre .1 .1 .1)) hc (c .before .before .before .before .before .before .before .before .before .before .before .pre .1 .1 .1) in
     v ∙ sym (ap (leafAim ns nm b n) (c .enum-told6 .given .1))
 
--- src/lib.rt:17:1
 returns-7 : tie.Need-returns-7
 returns-7 c = let a = c .before .before .before .before .before .before .before .before .before .before .before .args in
     let ns = a .nodes .now in
@@ -218,7 +180,6 @@ returns-7 c = let a = c .before .before .before .before .before .before .before 
     ap (λ k. getD (a .nors .now) k 0) (c .before .before .before .before .before .before .wide .ensures) ∙ c .before .before .before .before .before .before .before .before .before .before .before .pre .1 .0 .ways .is n (live-ge ns b n (c .before .before .before .before .before .before .before .before .before .before .before .pre .1 .1 .1)) hc (c .before .before .before .before .before .before .before .before .before .before .before .pre .1 .1 .1) in
     v ∙ sym (ap (leafAim ns nm b n) (c .enum-told7 .given .1))
 
--- src/lib.rt:17:1
 returns-8 : tie.Need-returns-8
 returns-8 c = let a = c .before .before .before .before .before .before .before .before .before .before .before .args in
     let ns = a .nodes .now in
@@ -230,7 +191,6 @@ returns-8 c = let a = c .before .before .before .before .before .before .before 
     ap (λ k. getD (a .nors .now) k 0) (c .before .before .before .before .before .before .wide .ensures) ∙ c .before .before .before .before .before .before .before .before .before .before .before .pre .1 .0 .ways .is n (live-ge ns b n (c .before .before .before .before .before .before .before .before .before .before .before .pre .1 .1 .1)) hc (c .before .before .before .before .before .before .before .before .before .before .before .pre .1 .1 .1) in
     v ∙ sym (ap (leafAim ns nm b n) (c .enum-told8 .given .1))
 
--- src/lib.rt:17:1
 returns-9 : tie.Need-returns-9
 returns-9 c = let a = c .before .before .before .before .before .before .before .before .before .before .before .args in
     let ns = a .nodes .now in
@@ -242,7 +202,6 @@ returns-9 c = let a = c .before .before .before .before .before .before .before 
     ap (λ k. getD (a .nors .now) k 0) (c .before .before .before .before .before .before .wide .ensures) ∙ c .before .before .before .before .before .before .before .before .before .before .before .pre .1 .0 .ways .is n (live-ge ns b n (c .before .before .before .before .before .before .before .before .before .before .before .pre .1 .1 .1)) hc (c .before .before .before .before .before .before .before .before .before .before .before .pre .1 .1 .1) in
     v ∙ sym (ap (leafAim ns nm b n) (c .enum-told9 .given .1))
 
--- src/lib.rt:17:1
 returns-10 : tie.Need-returns-10
 returns-10 c = let a = c .before .before .before .before .before .before .before .before .before .before .before .args in
     let ns = a .nodes .now in
@@ -254,7 +213,6 @@ returns-10 c = let a = c .before .before .before .before .before .before .before
     ap (λ k. getD (a .nors .now) k 0) (c .before .before .before .before .before .before .wide .ensures) ∙ c .before .before .before .before .before .before .before .before .before .before .before .pre .1 .0 .ways .is n (live-ge ns b n (c .before .before .before .before .before .before .before .before .before .before .before .pre .1 .1 .1)) hc (c .before .before .before .before .before .before .before .before .before .before .before .pre .1 .1 .1) in
     v ∙ sym (ap (leafAim ns nm b n) (c .enum-told10 .given .1))
 
--- src/lib.rt:17:1
 returns-11 : tie.Need-returns-11
 returns-11 c = let a = c .before .before .before .before .before .before .before .before .before .before .before .args in
     let ns = a .nodes .now in
@@ -266,7 +224,6 @@ returns-11 c = let a = c .before .before .before .before .before .before .before
     ap (λ k. getD (a .nors .now) k 0) (c .before .before .before .before .before .before .wide .ensures) ∙ c .before .before .before .before .before .before .before .before .before .before .before .pre .1 .0 .ways .is n (live-ge ns b n (c .before .before .before .before .before .before .before .before .before .before .before .pre .1 .1 .1)) hc (c .before .before .before .before .before .before .before .before .before .before .before .pre .1 .1 .1) in
     v ∙ sym (ap (leafAim ns nm b n) (c .enum-told11 .given .1))
 
--- src/lib.rt:17:1
 returns-12 : tie.Need-returns-12
 returns-12 c = let a = c .before .before .before .before .before .before .before .before .before .before .before .args in
     let ns = a .nodes .now in

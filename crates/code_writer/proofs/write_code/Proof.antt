@@ -1,28 +1,17 @@
 use Rattle.code_emit.specs.EmitLaws.{wrote-row, wrote-first, wrote-last}
 use Rattle.code_words.specs.Made.{code-room, off-bound}
-use Rattle.code_words.specs.Words.{rows, codeOf, off, live}
+use Rattle.code_words.specs.Words.{rows, codeOf, off}
 use Rattle.code_flat.specs.Code.{ends}
 use Rattle.base_common.specs.Wrote.{Wrote, put}
 use mathlib.Core.List.{_++_}
-use Rattle.code_unit.specs.declared.Shape.the-variants.{Simple, Break, Continue, Return, Throw, If, With, Block, Label, Loop, Switch, Case}
-use Rattle.code_writer.specs.Leaf.{leafAim}
-use Rattle.route_completion.specs.Sem.{normal}
-use Rattle.code_aims.specs.Aim.{aim}
-use Rattle.code_unit.specs.Unit.{shapeAt}
 use Rattle.table_records.specs.Table.{count}
-use lib.ListN.{getD, length}
+use lib.ListN.{getD}
 use native.Mathlib.Omega.{arith}
-use Prim.Native.Nat.{_+_, _*_, _-_, _≤_, _<_}
-use mathlib.Core.Path.{_≡_, refl, ap, sym, subst, _∙_}
+use Prim.Native.Nat.{_+_, _-_, _≤_, _<_}
+use mathlib.Core.Path.{_≡_, ap, sym, subst, _∙_}
 use borrow.Author.Needs.{needs}
 use Rattle.code_writer.proofs.write_code.Statement.{statement}
 use Rattle.code_writer.proofs.write_code.Tie as tie
-use Rattle.code_writer.proofs.write_code.Reads as reads
-use Rattle.code_writer.proofs.write_code.Lts as lts
-use Rattle.code_stores.proofs.put8.Reads as put8-reads
-use Rattle.table_records.proofs.size.Reads as size-reads
-use Rattle.table_records.proofs.wide.Reads as wide-reads
-use Rattle.code_writer.proofs.emit.Reads as emit-reads
 
 abbrev Inv-loop : tie.InvT-loop
 Inv-loop nodes names b offs nors code₀ size j₀ code j = (b .0 < j) × (j ≤ count nodes) × Wrote code₀ code (off nodes (b .0) j) (rows nodes names (b .0) j ++ ends) (codeOf nodes names (b .0))
@@ -30,11 +19,9 @@ Inv-loop nodes names b offs nors code₀ size j₀ code j = (b .0 < j) × (j ≤
 abbrev μ-loop : tie.MeasureT-loop
 μ-loop nodes names b offs nors code₀ size j₀ code j = count nodes - j
 
--- src/lib.rt:103:9
 size-requires : tie.Need-size-requires Inv-loop μ-loop
 size-requires c κs = record { some = c .before .before .before .before .before .pre .0 .good .tree .some; small = c .before .before .before .before .before .pre .0 .good .tree .small }
 
--- src/lib.rt:104:17
 add-j : tie.Need-add-j Inv-loop μ-loop
 add-j c = let a = c .before .before .before .before .before .before .before .args in
     let ns = a .nodes .now in
@@ -45,7 +32,6 @@ add-j c = let a = c .before .before .before .before .before .before .before .arg
     let tm = c .before .before .before .before .before .before .before .pre .0 .good .tree .small in
     omega (arith, ro, tm)
 
--- src/lib.rt:105:5
 loop-holds : tie.Need-loop-holds Inv-loop μ-loop
 loop-holds c = let a = c .before .before .before .before .before .before .before .args in
     let ns = a .nodes .now in
@@ -57,7 +43,6 @@ loop-holds c = let a = c .before .before .before .before .before .before .before
     let se = c .before .size .ensures in
     (omega arith, omega (arith, ro), wrote-first ns nm b (code-room ns nm b (c .before .before .before .before .before .before .before .pre .0)) (a .code .now) (c .before .before .before .before .before .before .before .pre .1 .1))
 
--- src/lib.rt:106:9
 emit-requires : tie.Need-emit-requires Inv-loop μ-loop
 emit-requires c κs = let a = c .before .before .before .before .before .before .before .before .before .before .args in
     let ns = a .nodes .now in
@@ -71,15 +56,12 @@ emit-requires c κs = let a = c .before .before .before .before .before .before 
     let l = c .before .before .before .before .before .before .before .before .before .before .pre .1 .1 in
     (c .before .before .before .before .before .before .before .before .before .before .pre .0, (c .before .before .before .before .before .before .before .before .before .before .pre .1 .0, (c .before .before .loop .inv .0, (omega arith, omega (arith, sa, l)))))
 
--- src/lib.rt:107:9
 add-j-2 : tie.Need-add-j-2 Inv-loop μ-loop
 add-j-2 c = search needs
 
--- src/lib.rt:105:5
 loop-less : tie.Need-loop-less Inv-loop μ-loop
 loop-less c = search needs
 
--- src/lib.rt:105:5
 loop-again : tie.Need-loop-again Inv-loop μ-loop
 loop-again c = let a = c .before .before .before .before .before .before .before .before .before .before .before .before .before .args in
     let ns = a .nodes .now in
@@ -95,15 +77,12 @@ loop-again c = let a = c .before .before .before .before .before .before .before
           (wrote-row ns nm b (a .code .now) (c .before .before .before .before .before .loop .code) (c .before .before .before .before .before .loop .j) ends (codeOf ns nm b) (omega arith) (c .before .before .before .before .before .loop .inv .2)),
     )
 
--- src/lib.rt:109:18
 wide-requires : tie.Need-wide-requires Inv-loop μ-loop
 wide-requires c κs = search needs
 
--- src/lib.rt:109:13
 mul-m : tie.Need-mul-m Inv-loop μ-loop
 mul-m c = search needs
 
--- src/lib.rt:109:13
 shared-slice-read-m : tie.Need-shared-slice-read-m Inv-loop μ-loop
 shared-slice-read-m c = let a = c .before .before .before .before .before .before .before .before .before .before .before .args in
     let ns = a .nodes .now in
@@ -116,11 +95,9 @@ shared-slice-read-m c = let a = c .before .before .before .before .before .befor
     let h = c .before .before .before .before .before .before .before .before .before .before .before .pre .1 .0 .long in
     omega (arith, h, se, c .before .wide .ensures)
 
--- src/lib.rt:110:24
 wide-requires-2 : tie.Need-wide-requires-2 Inv-loop μ-loop
 wide-requires-2 c κs = search needs
 
--- src/lib.rt:110:5
 put8-requires : tie.Need-put8-requires Inv-loop μ-loop
 put8-requires c κs = let a = c .before .before .before .before .before .before .before .before .before .before .before .before .before .args in
     let ns = a .nodes .now in
@@ -137,11 +114,9 @@ put8-requires c κs = let a = c .before .before .before .before .before .before 
     ap (λ k. getD (a .offs .now) k 0) (c .before .before .before .wide .ensures ∙ se) ∙ c .before .before .before .before .before .before .before .before .before .before .before .before .before .pre .1 .0 .offsets .is (count ns) (omega arith) in
     omega (arith, y, w, sa, l, c .wide2 .ensures)
 
--- src/lib.rt:90:1
 same-length : tie.Need-same-length Inv-loop μ-loop
 same-length c = search needs
 
--- src/lib.rt:90:1
 returns : tie.Need-returns Inv-loop μ-loop
 returns c = let a = c .before .before .before .before .before .before .before .before .before .before .before .before .before .before .before .before .args in
     let ns = a .nodes .now in

@@ -4,18 +4,13 @@ use mathlib.Core.Path.{sym}
 use borrow.Author.Needs.{needs}
 use Rattle.line_output.proofs.front_numbers.Statement.{statement}
 use Rattle.line_output.proofs.front_numbers.Tie as tie
-use Rattle.line_output.proofs.front_numbers.Reads as reads
-use Rattle.line_output.proofs.front_numbers.Lts as lts
 
--- src/main.rt:21:9
 slice-aggregate-result : tie.Need-slice-aggregate-result
 slice-aggregate-result c = sym (length-take-le (c .before .before .args .n) (c .before .before .args .s .now) (c .before .if1 .taken))
 
--- src/main.rt:21:9
 returns : tie.Need-returns
 returns c = search needs
 
--- src/main.rt:19:1
 returns-2 : tie.Need-returns-2
 returns-2 c = sym (take-all (c .before .args .n) (c .before .args .s .now) (omega arith))
 

@@ -17,9 +17,6 @@ use Prim.Native.Nat.{ℕ, _≤_, _<_, _+_}
 use borrow.Author.Needs.{needs}
 use Rattle.line_reader.proofs.write_numbers.Statement.{statement}
 use Rattle.line_reader.proofs.write_numbers.Tie as tie
-use Rattle.line_reader.proofs.write_numbers.Reads as reads
-use Rattle.line_reader.proofs.write_numbers.Lts as lts
-use Rattle.line_reader.proofs.next_from.Reads as next-from-reads
 
 abbrev Inv-loop : tie.InvT-loop
 Inv-loop tail n out₀ w at₀ left₀ k₀ out at left k = (left ≤ length (fieldsIn (drop at tail))) × (k + left ≡ w + n) × (all isNumber (firsts left (drop at tail)) ≡ true) × Wrote out₀ out k (map valueOf (firsts left (drop at tail))) (take w out₀ ++ map valueOf (firsts n tail))

@@ -9,12 +9,6 @@ use Rattle.refusal_counts.specs.CountsLaws.{tallyBy, by-turn, by-end, de
 use borrow.Author.Needs.{needs}
 use Rattle.refusal_counts.proofs.defaults.Statement.{statement}
 use Rattle.refusal_counts.proofs.defaults.Tie as tie
-use Rattle.refusal_counts.proofs.defaults.Reads as reads
-use Rattle.refusal_counts.proofs.defaults.Lts as lts
-use Rattle.table_children.proofs.tick.Reads as tick-reads
-use Rattle.refusal_counts.proofs.is_default.Reads as is-default-reads
-use Rattle.table_records.proofs.is_node.Reads as is-node-reads
-use Rattle.table_records.proofs.parent.Reads as parent-reads
 
 abbrev Inv-loop : tie.InvT-loop
 Inv-loop nodes p i₀ c₀ i c = (p .0 < i) × (i ≤ count nodes) × (c ≤ i) × (c + tallyBy (isDefault nodes (p .0)) i (count nodes) ≡ tallyBy (isDefault nodes (p .0)) (p .0 + 1) (count nodes))
@@ -22,50 +16,39 @@ Inv-loop nodes p i₀ c₀ i c = (p .0 < i) × (i ≤ count nodes) × (c ≤ i) 
 abbrev μ-loop : tie.MeasureT-loop
 μ-loop nodes p i₀ c₀ i c = count nodes - i
 
--- src/lib.rt:61:17
 add-i : tie.Need-add-i Inv-loop μ-loop
 add-i c = search needs
 
--- src/lib.rt:63:5
 loop-holds : tie.Need-loop-holds Inv-loop μ-loop
 loop-holds c = search needs
 
--- src/lib.rt:63:11
 is-node-requires : tie.Need-is-node-requires Inv-loop μ-loop
 is-node-requires c κs = search needs
 
--- src/lib.rt:64:13
 parent-requires : tie.Need-parent-requires Inv-loop μ-loop
 parent-requires c κs = ltb-true (c .before .before .loop .i) (count (c .before .before .before .before .before .args .nodes .now)) (sym (c .before .is-node .ensures) ∙ c .if1 .taken)
 
--- src/lib.rt:66:13
 returns : tie.Need-returns Inv-loop μ-loop
 returns c = let a = c .before .before .before .before .before .before .before .before .before .args in
     let h = ltb-true (c .before .before .before .before .before .before .loop .i) (count (a .nodes .now)) (sym (c .before .before .before .before .before .is-node .ensures) ∙ c .before .before .before .before .if1 .taken) in
     let o = defaults-out (a .nodes .now) (a .p .0) (c .before .before .before .before .before .before .before .before .before .pre .0) (c .before .before .before .before .before .before .loop .i) (omega arith) h (omega arith) in
     omega (arith, o, defaults-all (a .nodes .now) (a .p .0))
 
--- src/lib.rt:68:19
 is-default-requires : tie.Need-is-default-requires Inv-loop μ-loop
 is-default-requires c κs = ltb-true (c .before .before .before .before .before .before .loop .i) (count (c .before .before .before .before .before .before .before .before .before .args .nodes .now)) (sym (c .before .before .before .before .before .is-node .ensures) ∙ c .before .before .before .before .if1 .taken)
 
--- src/lib.rt:68:14
 tick-requires : tie.Need-tick-requires Inv-loop μ-loop
 tick-requires c κs = search needs
 
--- src/lib.rt:68:9
 add-c : tie.Need-add-c Inv-loop μ-loop
 add-c c = let s = c .before .before .before .before .before .before .before .before .before .before .before .pre .0 .small in omega arith
 
--- src/lib.rt:69:9
 add-i-2 : tie.Need-add-i-2 Inv-loop μ-loop
 add-i-2 c = let s = c .before .before .before .before .before .before .before .before .before .before .before .pre .0 .small in omega arith
 
--- src/lib.rt:63:5
 loop-less : tie.Need-loop-less Inv-loop μ-loop
 loop-less c = let h = ltb-true (c .before .before .before .before .before .before .before .before .loop .i) (count (c .before .before .before .before .before .before .before .before .before .before .before .args .nodes .now)) (sym (c .before .before .before .before .before .before .before .is-node .ensures) ∙ c .before .before .before .before .before .before .if1 .taken) in omega arith
 
--- src/lib.rt:63:5
 loop-again : tie.Need-loop-again Inv-loop μ-loop
 loop-again c = let a = c .before .before .before .before .before .before .before .before .before .before .before .args in
     let h = ltb-true (c .before .before .before .before .before .before .before .before .loop .i) (count (a .nodes .now)) (sym (c .before .before .before .before .before .before .before .is-node .ensures) ∙ c .before .before .before .before .before .before .if1 .taken) in
@@ -73,7 +56,6 @@ loop-again c = let a = c .before .before .before .before .before .before .before
     let e : c .tick .result ≡ cond {A = ℕ} (isDefault (a .nodes .now) (a .p .0) (c .before .before .before .before .before .before .before .before .loop .i)) 1 0 = c .tick .ensures .0 ∙ ap (λ (b : Bool). cond {A = ℕ} b 1 0) (c .before .is-default .ensures) in
     (omega arith, omega arith, omega arith, omega arith)
 
--- src/lib.rt:56:1
 returns-2 : tie.Need-returns-2 Inv-loop μ-loop
 returns-2 c = let a = c .before .before .before .before .before .args in
     let h = ltb-false (c .before .before .loop .i) (count (a .nodes .now)) (sym (c .before .is-node .ensures) ∙ c .if1 .left) in

@@ -3,25 +3,17 @@ use Rattle.refusal_counts.specs.Counts.{wrongClause}
 use borrow.Author.Needs.{needs}
 use Rattle.refusal_counts.proofs.wrong_clause.Statement.{statement}
 use Rattle.refusal_counts.proofs.wrong_clause.Tie as tie
-use Rattle.refusal_counts.proofs.wrong_clause.Reads as reads
-use Rattle.refusal_counts.proofs.wrong_clause.Lts as lts
-use Rattle.refusal_counts.proofs.with_role.Reads as with-role-reads
-use Rattle.table_records.proofs.kind.Reads as kind-reads
 
--- src/lib.rt:127:8
 kind-requires : tie.Need-kind-requires
 kind-requires c κs = search needs
 
--- src/lib.rt:128:16
 with-role-requires : tie.Need-with-role-requires
 with-role-requires c κs = search needs
 
--- src/lib.rt:128:9
 returns : tie.Need-returns
 unfolding wrongClause
 returns c = rw (← c .before .before .kind .ensures, eq-eqb _ _ (c .before .if1 .taken)) (cc)
 
--- src/lib.rt:122:1
 returns-2 : tie.Need-returns-2
 unfolding wrongClause
 returns-2 c = rw (← c .before .kind .ensures, ne-eqb _ _ (c .if1 .left))

@@ -3,25 +3,17 @@ use Rattle.refusal_counts.specs.Counts.{wrongDefault}
 use borrow.Author.Needs.{needs}
 use Rattle.refusal_counts.proofs.wrong_default.Statement.{statement}
 use Rattle.refusal_counts.proofs.wrong_default.Tie as tie
-use Rattle.refusal_counts.proofs.wrong_default.Reads as reads
-use Rattle.refusal_counts.proofs.wrong_default.Lts as lts
-use Rattle.refusal_counts.proofs.defaults.Reads as defaults-reads
-use Rattle.table_records.proofs.kind.Reads as kind-reads
 
--- src/lib.rt:101:8
 kind-requires : tie.Need-kind-requires
 kind-requires c κs = search needs
 
--- src/lib.rt:102:20
 defaults-requires : tie.Need-defaults-requires
 defaults-requires c κs = search needs
 
--- src/lib.rt:102:9
 returns : tie.Need-returns
 unfolding wrongDefault
 returns c = rw (← c .before .before .kind .ensures, eq-eqb _ _ (c .before .if1 .taken)) (cc)
 
--- src/lib.rt:96:1
 returns-2 : tie.Need-returns-2
 unfolding wrongDefault
 returns-2 c = rw (← c .before .kind .ensures, ne-eqb _ _ (c .if1 .left))

@@ -3,39 +3,27 @@ use Rattle.refusal_counts.specs.Counts.{wrongLabel}
 use borrow.Author.Needs.{needs}
 use Rattle.refusal_counts.proofs.wrong_label.Statement.{statement}
 use Rattle.refusal_counts.proofs.wrong_label.Tie as tie
-use Rattle.refusal_counts.proofs.wrong_label.Reads as reads
-use Rattle.refusal_counts.proofs.wrong_label.Lts as lts
-use Rattle.base_common.proofs.within.Reads as within-reads
-use Rattle.refusal_counts.proofs.labels.Reads as labels-reads
-use Rattle.table_records.proofs.kind.Reads as kind-reads
 
--- src/lib.rt:138:9
 kind-requires : tie.Need-kind-requires
 kind-requires c κs = search needs
 
--- src/lib.rt:140:16
 labels-requires : tie.Need-labels-requires
 labels-requires c κs = search needs
 
--- src/lib.rt:140:9
 returns : tie.Need-returns
 unfolding wrongLabel
 returns c = rw (← c .before .before .kind .ensures, eq-eqb _ _ (c .before .if1 .taken)) (cc)
 
--- src/lib.rt:142:8
 within-requires : tie.Need-within-requires
 within-requires c κs = search needs
 
--- src/lib.rt:143:20
 labels-requires-2 : tie.Need-labels-requires-2
 labels-requires-2 c κs = search needs
 
--- src/lib.rt:143:9
 returns-2 : tie.Need-returns-2
 unfolding wrongLabel
 returns-2 c = rw (← c .before .before .before .before .kind .ensures, ne-eqb _ _ (c .before .before .before .if1 .left), ← c .before .before .within .ensures, c .before .if2 .taken) (cc)
 
--- src/lib.rt:133:1
 returns-3 : tie.Need-returns-3
 unfolding wrongLabel
 returns-3 c = rw (← c .before .before .before .kind .ensures, ne-eqb _ _ (c .before .before .if1 .left), ← c .before .within .ensures, c .if2 .left)

@@ -1,37 +1,28 @@
 use Rattle.refusal_fields.specs.Fields.{mostExtra}
-use borrow.Author.Tests.{eq-eqb, ne-eqb}
-use borrow.Author.Needs.{needs}
+use borrow.Author.Tests.{ne-eqb}
 use Rattle.refusal_fields.proofs.most_extra.Statement.{statement}
 use Rattle.refusal_fields.proofs.most_extra.Tie as tie
-use Rattle.refusal_fields.proofs.most_extra.Reads as reads
-use Rattle.refusal_fields.proofs.most_extra.Lts as lts
 
--- src/lib.rt:34:1
 returns : tie.Need-returns
 unfolding mostExtra
 returns c = rw (c .match .keys1)
 
--- src/lib.rt:34:1
 returns-2 : tie.Need-returns-2
 unfolding mostExtra
 returns-2 c = rw (c .match .keys2)
 
--- src/lib.rt:34:1
 returns-3 : tie.Need-returns-3
 unfolding mostExtra
 returns-3 c = rw (c .match .keys3)
 
--- src/lib.rt:34:1
 returns-4 : tie.Need-returns-4
 unfolding mostExtra
 returns-4 c = rw (c .match .keys4)
 
--- src/lib.rt:34:1
 returns-5 : tie.Need-returns-5
 unfolding mostExtra
 returns-5 c = rw (c .match .keys5)
 
--- src/lib.rt:34:1
 returns-6 : tie.Need-returns-6
 unfolding mostExtra
 returns-6 c = rw (ne-eqb _ _ (c .match .rest .0 .0 .0 .0 .1), ne-eqb _ _ (c .match .rest .0 .0 .0 .1), ne-eqb _ _ (c .match .rest .0 .0 .1), ne-eqb _ _ (c .match .rest .0 .1), ne-eqb _ _ (c .match .rest .1))

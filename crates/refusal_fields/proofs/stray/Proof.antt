@@ -1,5 +1,5 @@
-use Prim.Native.Nat.{_≤_, _<_, _+_, _-_}
-use mathlib.Core.Path.{_≡_, ap, sym, _∙_}
+use Prim.Native.Nat.{_≤_, _-_}
+use mathlib.Core.Path.{_≡_, sym, _∙_}
 use native.Mathlib.Omega.{arith}
 use Rattle.table_records.specs.Table.{count}
 use Rattle.refusal_verdict.specs.First.{first}
@@ -8,10 +8,6 @@ use Rattle.refusal_fields.specs.Fields.{strayAt}
 use borrow.Author.Needs.{needs}
 use Rattle.refusal_fields.proofs.stray.Statement.{statement}
 use Rattle.refusal_fields.proofs.stray.Tie as tie
-use Rattle.refusal_fields.proofs.stray.Reads as reads
-use Rattle.refusal_fields.proofs.stray.Lts as lts
-use Rattle.refusal_fields.proofs.stray_at.Reads as stray-at-reads
-use Rattle.table_records.proofs.size.Reads as size-reads
 
 abbrev Inv-loop : tie.InvT-loop
 Inv-loop nodes source names size i₀ i = (i ≤ size) × (first (strayAt nodes source names) i (count nodes) ≡ first (strayAt nodes source names) 0 (count nodes))
@@ -19,37 +15,29 @@ Inv-loop nodes source names size i₀ i = (i ≤ size) × (first (strayAt nodes 
 abbrev μ-loop : tie.MeasureT-loop
 μ-loop nodes source names size i₀ i = size - i
 
--- src/lib.rt:113:9
 size-requires : tie.Need-size-requires Inv-loop μ-loop
 size-requires c κs = search needs
 
--- src/lib.rt:115:5
 loop-holds : tie.Need-loop-holds Inv-loop μ-loop
 loop-holds c = search needs
 
--- src/lib.rt:116:12
 stray-at-requires : tie.Need-stray-at-requires Inv-loop μ-loop
 stray-at-requires c κs = search needs
 
--- src/lib.rt:117:13
 returns : tie.Need-returns Inv-loop μ-loop
 returns c =
     cc (first-stop (strayAt (c .before .before .before .before .before .before .before .before .args .nodes .now) (c .before .before .before .before .before .before .before .before .args .source .now) (c .before .before .before .before .before .before .before .before .args .names .now)) (c .before .before .before .loop .i) (count (c .before .before .before .before .before .before .before .before .args .nodes .now)) (omega arith) (sym (c .before .stray-at .ensures) ∙ c .if1 .taken))
 
--- src/lib.rt:119:9
 add-i : tie.Need-add-i Inv-loop μ-loop
 add-i c = search needs
 
--- src/lib.rt:115:5
 loop-less : tie.Need-loop-less Inv-loop μ-loop
 loop-less c = search needs
 
--- src/lib.rt:115:5
 loop-again : tie.Need-loop-again Inv-loop μ-loop
 loop-again c =
     (search needs, cc (first-on (strayAt (c .before .before .before .before .before .before .before .before .args .nodes .now) (c .before .before .before .before .before .before .before .before .args .source .now) (c .before .before .before .before .before .before .before .before .args .names .now)) (c .before .before .before .loop .i) (count (c .before .before .before .before .before .before .before .before .args .nodes .now)) (omega arith) (sym (c .before .stray-at .ensures) ∙ c .if1 .left)))
 
--- src/lib.rt:109:1
 returns-2 : tie.Need-returns-2 Inv-loop μ-loop
 returns-2 c =
     cc (first-end (strayAt (c .before .before .before .before .before .before .args .nodes .now) (c .before .before .before .before .before .before .args .source .now) (c .before .before .before .before .before .before .args .names .now)) (c .before .loop .i) (count (c .before .before .before .before .before .before .args .nodes .now)) (omega arith))

@@ -1,5 +1,5 @@
-use Prim.Native.Nat.{_≤_, _<_, _+_, _-_}
-use mathlib.Core.Path.{_≡_, ap, sym, _∙_}
+use Prim.Native.Nat.{_≤_, _-_}
+use mathlib.Core.Path.{_≡_, sym, _∙_}
 use native.Mathlib.Omega.{arith}
 use Rattle.table_records.specs.Table.{count}
 use Rattle.refusal_verdict.specs.First.{first}
@@ -8,10 +8,6 @@ use Rattle.refusal_fields.specs.Fields.{unlistedAt}
 use borrow.Author.Needs.{needs}
 use Rattle.refusal_fields.proofs.unlisted.Statement.{statement}
 use Rattle.refusal_fields.proofs.unlisted.Tie as tie
-use Rattle.refusal_fields.proofs.unlisted.Reads as reads
-use Rattle.refusal_fields.proofs.unlisted.Lts as lts
-use Rattle.refusal_fields.proofs.unlisted_at.Reads as unlisted-at-reads
-use Rattle.table_records.proofs.size.Reads as size-reads
 
 abbrev Inv-loop : tie.InvT-loop
 Inv-loop nodes size i₀ i = (i ≤ size) × (first (unlistedAt nodes) i (count nodes) ≡ first (unlistedAt nodes) 0 (count nodes))
@@ -19,37 +15,29 @@ Inv-loop nodes size i₀ i = (i ≤ size) × (first (unlistedAt nodes) i (count 
 abbrev μ-loop : tie.MeasureT-loop
 μ-loop nodes size i₀ i = size - i
 
--- src/lib.rt:70:9
 size-requires : tie.Need-size-requires Inv-loop μ-loop
 size-requires c κs = search needs
 
--- src/lib.rt:72:5
 loop-holds : tie.Need-loop-holds Inv-loop μ-loop
 loop-holds c = search needs
 
--- src/lib.rt:73:12
 unlisted-at-requires : tie.Need-unlisted-at-requires Inv-loop μ-loop
 unlisted-at-requires c κs = search needs
 
--- src/lib.rt:74:13
 returns : tie.Need-returns Inv-loop μ-loop
 returns c =
     cc (first-stop (unlistedAt (c .before .before .before .before .before .before .args .nodes .now)) (c .before .before .before .loop .i) (count (c .before .before .before .before .before .before .args .nodes .now)) (omega arith) (sym (c .before .unlisted-at .ensures) ∙ c .if1 .taken))
 
--- src/lib.rt:76:9
 add-i : tie.Need-add-i Inv-loop μ-loop
 add-i c = search needs
 
--- src/lib.rt:72:5
 loop-less : tie.Need-loop-less Inv-loop μ-loop
 loop-less c = search needs
 
--- src/lib.rt:72:5
 loop-again : tie.Need-loop-again Inv-loop μ-loop
 loop-again c =
     (search needs, cc (first-on (unlistedAt (c .before .before .before .before .before .before .args .nodes .now)) (c .before .before .before .loop .i) (count (c .before .before .before .before .before .before .args .nodes .now)) (omega arith) (sym (c .before .unlisted-at .ensures) ∙ c .if1 .left)))
 
--- src/lib.rt:66:1
 returns-2 : tie.Need-returns-2 Inv-loop μ-loop
 returns-2 c =
     cc (first-end (unlistedAt (c .before .before .before .before .args .nodes .now)) (c .before .loop .i) (count (c .before .before .before .before .args .nodes .now)) (omega arith))

@@ -1,5 +1,5 @@
-use Prim.Native.Nat.{_≤_, _<_, _+_, _-_}
-use mathlib.Core.Path.{_≡_, ap, sym, _∙_}
+use Prim.Native.Nat.{_≤_, _-_}
+use mathlib.Core.Path.{_≡_, sym, _∙_}
 use native.Mathlib.Omega.{arith}
 use Rattle.table_records.specs.Table.{countScopes}
 use Rattle.refusal_verdict.specs.First.{first}
@@ -8,10 +8,6 @@ use Rattle.refusal_scopes.specs.Scopes.{brokenAt}
 use borrow.Author.Needs.{needs}
 use Rattle.refusal_scopes.proofs.broken.Statement.{statement}
 use Rattle.refusal_scopes.proofs.broken.Tie as tie
-use Rattle.refusal_scopes.proofs.broken.Reads as reads
-use Rattle.refusal_scopes.proofs.broken.Lts as lts
-use Rattle.refusal_scopes.proofs.broken_at.Reads as broken-at-reads
-use Rattle.table_records.proofs.scopes_size.Reads as scopes-size-reads
 
 abbrev Inv-loop : tie.InvT-loop
 Inv-loop scopes size s₀ s = (s ≤ size) × (first (brokenAt scopes) s (countScopes scopes) ≡ first (brokenAt scopes) 0 (countScopes scopes))
@@ -19,39 +15,31 @@ Inv-loop scopes size s₀ s = (s ≤ size) × (first (brokenAt scopes) s (countS
 abbrev μ-loop : tie.MeasureT-loop
 μ-loop scopes size s₀ s = size - s
 
--- src/lib.rt:73:9
 scopes-size-requires : tie.Need-scopes-size-requires Inv-loop μ-loop
 scopes-size-requires c κs = search needs
 
--- src/lib.rt:75:5
 loop-holds : tie.Need-loop-holds Inv-loop μ-loop
 loop-holds c = search needs
 
--- src/lib.rt:76:12
 broken-at-requires : tie.Need-broken-at-requires Inv-loop μ-loop
 broken-at-requires c κs = search needs
 
--- src/lib.rt:77:13
 returns : tie.Need-returns Inv-loop μ-loop
 returns c =
     let n = c .before .before .before .before .before .before .args .scopes .now in
     cc (first-stop (brokenAt n) (c .before .before .before .loop .s) (countScopes n) (omega arith) (sym (c .before .broken-at .ensures) ∙ c .if1 .taken))
 
--- src/lib.rt:79:9
 add-s : tie.Need-add-s Inv-loop μ-loop
 add-s c = search needs
 
--- src/lib.rt:75:5
 loop-less : tie.Need-loop-less Inv-loop μ-loop
 loop-less c = search needs
 
--- src/lib.rt:75:5
 loop-again : tie.Need-loop-again Inv-loop μ-loop
 loop-again c =
     let n = c .before .before .before .before .before .before .args .scopes .now in
     (search needs, cc (first-on (brokenAt n) (c .before .before .before .loop .s) (countScopes n) (omega arith) (sym (c .before .broken-at .ensures) ∙ c .if1 .left)))
 
--- src/lib.rt:69:1
 returns-2 : tie.Need-returns-2 Inv-loop μ-loop
 returns-2 c =
     let n = c .before .before .before .before .args .scopes .now in

@@ -3,30 +3,21 @@ use Rattle.refusal_scopes.specs.Scopes.{brokenAt}
 use borrow.Author.Needs.{needs}
 use Rattle.refusal_scopes.proofs.broken_at.Statement.{statement}
 use Rattle.refusal_scopes.proofs.broken_at.Tie as tie
-use Rattle.refusal_scopes.proofs.broken_at.Reads as reads
-use Rattle.refusal_scopes.proofs.broken_at.Lts as lts
-use Rattle.table_records.proofs.scope_flags.Reads as scope-flags-reads
-use Rattle.table_records.proofs.scope_parent.Reads as scope-parent-reads
 
--- src/lib.rt:45:9
 scope-flags-requires : tie.Need-scope-flags-requires
 scope-flags-requires c κs = search needs
 
--- src/lib.rt:47:9
 returns : tie.Need-returns
 unfolding brokenAt
 returns c = rw (← c .before .scope-flags .ensures, lt-ltb _ _ (c .if1 .taken))
 
--- src/lib.rt:49:9
 scope-parent-requires : tie.Need-scope-parent-requires
 scope-parent-requires c κs = search needs
 
--- src/lib.rt:51:9
 returns-2 : tie.Need-returns-2
 unfolding brokenAt
 returns-2 c = rw (← c .before .before .before .before .before .scope-flags .ensures, le-ltb _ _ (c .before .before .before .before .if1 .left), eq-eqb _ _ (c .before .if2 .taken), ← c .before .before .before .scope-parent .ensures)
 
--- src/lib.rt:41:1
 returns-3 : tie.Need-returns-3
 unfolding brokenAt
 returns-3 c = rw (← c .before .before .before .before .before .before .scope-flags .ensures, le-ltb _ _ (c .before .before .before .before .before .if1 .left), ne-eqb _ _ (c .before .before .if2 .left), ← c .before .before .before .before .scope-parent .ensures)

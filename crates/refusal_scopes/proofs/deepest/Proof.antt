@@ -1,18 +1,12 @@
 use Rattle.refusal_scopes.specs.ScopesLaws.{Deep, deep-start, deep-more}
-use Rattle.table_records.specs.Table.{count, countScopes}
+use Rattle.table_records.specs.Table.{countScopes}
 use lib.ListN.{length, length-set}
 use native.Mathlib.Omega.{arith}
-use mathlib.Core.Path.{_≡_, ap, sym, _∙_}
-use Prim.Native.Nat.{_≤_, _<_, _+_, _-_}
+use mathlib.Core.Path.{_≡_, _∙_}
+use Prim.Native.Nat.{_≤_, _-_}
 use borrow.Author.Needs.{needs}
 use Rattle.refusal_scopes.proofs.deepest.Statement.{statement}
 use Rattle.refusal_scopes.proofs.deepest.Tie as tie
-use Rattle.refusal_scopes.proofs.deepest.Reads as reads
-use Rattle.refusal_scopes.proofs.deepest.Lts as lts
-use Rattle.refusal_scopes.proofs.meet.Reads as meet-reads
-use Rattle.table_records.proofs.scope_node.Reads as scope-node-reads
-use Rattle.table_records.proofs.scope_parent.Reads as scope-parent-reads
-use Rattle.table_records.proofs.scopes_size.Reads as scopes-size-reads
 
 abbrev Inv-loop : tie.InvT-loop
 Inv-loop nodes scopes deep₀ size s₀ deep s = (1 ≤ s) × (s ≤ size) × (length deep ≡ length deep₀) × Deep nodes scopes deep s
@@ -20,74 +14,58 @@ Inv-loop nodes scopes deep₀ size s₀ deep s = (1 ≤ s) × (s ≤ size) × (l
 abbrev μ-loop : tie.MeasureT-loop
 μ-loop nodes scopes deep₀ size s₀ deep s = size - s
 
--- src/lib.rt:79:9
 scopes-size-requires : tie.Need-scopes-size-requires Inv-loop μ-loop
 scopes-size-requires c κs = search needs
 
--- src/lib.rt:80:9
 scope-node-requires : tie.Need-scope-node-requires Inv-loop μ-loop
 scope-node-requires c κs = search needs
 
--- src/lib.rt:81:5
 slice-write-deep : tie.Need-slice-write-deep Inv-loop μ-loop
 slice-write-deep c = search needs
 
--- src/lib.rt:83:5
 loop-holds : tie.Need-loop-holds Inv-loop μ-loop
 loop-holds c = let a = c .before .before .before .before .before .args in
     (omega arith, omega arith, simp length-set, rw (c .scope-node .ensures) (deep-start (a .nodes .now) (a .scopes .now) (a .deep .now) (omega arith)))
 
--- src/lib.rt:84:13
 scope-parent-requires : tie.Need-scope-parent-requires Inv-loop μ-loop
 scope-parent-requires c κs = search needs
 
--- src/lib.rt:85:13
 scope-node-requires-2 : tie.Need-scope-node-requires-2 Inv-loop μ-loop
 scope-node-requires-2 c κs = search needs
 
--- src/lib.rt:86:21
 cast-above : tie.Need-cast-above Inv-loop μ-loop
 cast-above c = search needs
 
--- src/lib.rt:87:34
 mul-meet : tie.Need-mul-meet Inv-loop μ-loop
 mul-meet c = let f = c .before .before .before .before .before .before .before .before .before .before .pre .1 .0 .falls (c .before .before .before .before .loop .s) (omega arith) (omega arith) in omega arith
 
--- src/lib.rt:87:34
 slice-read-meet : tie.Need-slice-read-meet Inv-loop μ-loop
 slice-read-meet c = let f = c .before .before .before .before .before .before .before .before .before .before .before .pre .1 .0 .falls (c .before .before .before .before .before .loop .s) (omega arith) (omega arith) in
     let p = c .before .before .before .before .before .before .before .before .before .before .before .pre .1 .1 in
     let q : length (c .before .before .before .before .before .loop .deep) ≡ length (c .before .before .before .before .before .before .before .before .before .before .before .args .deep .now) = c .before .before .before .before .before .loop .inv .2 ∙ length-set (c .before .before .before .before .before .before .before .before .before .before .before .args .deep .now) 0 (c .before .before .before .before .before .before .scope-node .result .0) in
     omega (arith, p, q, f)
 
--- src/lib.rt:87:13
 meet-requires : tie.Need-meet-requires Inv-loop μ-loop
 meet-requires c κs = search needs
 
--- src/lib.rt:88:17
 cast-k : tie.Need-cast-k Inv-loop μ-loop
 cast-k c = search needs
 
--- src/lib.rt:89:9
 mul-deep : tie.Need-mul-deep Inv-loop μ-loop
 mul-deep c = search needs
 
--- src/lib.rt:89:9
 slice-write-deep-2 : tie.Need-slice-write-deep-2 Inv-loop μ-loop
 slice-write-deep-2 c = let p = c .before .before .before .before .before .before .before .before .before .before .before .before .pre .1 .1 in
     let q : length (c .before .before .before .before .before .before .loop .deep) ≡ length (c .before .before .before .before .before .before .before .before .before .before .before .before .args .deep .now) = c .before .before .before .before .before .before .loop .inv .2 ∙ length-set (c .before .before .before .before .before .before .before .before .before .before .before .before .args .deep .now) 0 (c .before .before .before .before .before .before .before .scope-node .result .0) in
     let z = c .before .before .before .before .before .before .before .before .scopes-size .ensures in
     omega (arith, p, q, z)
 
--- src/lib.rt:90:9
 add-s : tie.Need-add-s Inv-loop μ-loop
 add-s c = search needs
 
--- src/lib.rt:83:5
 loop-less : tie.Need-loop-less Inv-loop μ-loop
 loop-less c = search needs
 
--- src/lib.rt:83:5
 loop-again : tie.Need-loop-again Inv-loop μ-loop
 loop-again c = let a = c .before .before .before .before .before .before .before .before .before .before .before .before .args in
     let p = c .before .before .before .before .before .before .before .before .before .before .before .before .pre .1 .1 in
@@ -95,11 +73,9 @@ loop-again c = let a = c .before .before .before .before .before .before .before
     let z = c .before .before .before .before .before .before .before .before .scopes-size .ensures in
     (omega arith, omega arith, simp length-set q, deep-more (a .nodes .now) (a .scopes .now) (c .before .before .before .before .before .before .loop .deep) (c .before .before .before .before .before .before .before .before .before .before .before .before .pre .1 .0) (c .before .before .before .before .before .before .loop .s) (c .meet .result) (omega arith) (omega arith) (omega (arith, p, q, z)) (c .before .before .before .before .before .before .loop .inv .3) (rw (c .before .before .before .scope-node2 .ensures, c .before .before .before .before .scope-parent .ensures) at (c .meet .ensures)))
 
--- src/lib.rt:73:1
 same-length : tie.Need-same-length Inv-loop μ-loop
 same-length c = c .before .loop .inv .2 ∙ length-set (c .before .before .before .before .before .before .before .args .deep .now) 0 (c .before .before .scope-node .result .0)
 
--- src/lib.rt:73:1
 returns : tie.Need-returns Inv-loop μ-loop
 returns c = let q : c .before .loop .s ≡ countScopes (c .before .before .before .before .before .before .before .args .scopes .now) = omega arith in
     rw q at (c .before .loop .inv .3)

@@ -1,64 +1,42 @@
 use Rattle.refusal_scopes.specs.ScopesLaws.{mis-missing, mis-extra, mis-chain}
 use native.Mathlib.Omega.{arith}
-use mathlib.Core.Path.{_≡_, sym, _∙_}
-use Prim.Native.Nat.{_≤_, _<_}
 use borrow.Author.Needs.{needs}
 use Rattle.refusal_scopes.proofs.misscoped_at.Statement.{statement}
 use Rattle.refusal_scopes.proofs.misscoped_at.Tie as tie
-use Rattle.refusal_scopes.proofs.misscoped_at.Reads as reads
-use Rattle.refusal_scopes.proofs.misscoped_at.Lts as lts
-use Rattle.table_ancestry.proofs.is_on_path.Reads as is-on-path-reads
-use Rattle.base_common.proofs.and.Reads as and-reads
-use Rattle.table_records.proofs.extra.Reads as extra-reads
-use Rattle.table_records.proofs.kind.Reads as kind-reads
-use Rattle.table_records.proofs.scope.Reads as scope-reads
-use Rattle.table_records.proofs.scopes_size.Reads as scopes-size-reads
 
--- src/lib.rt:103:9
 scopes-size-requires : tie.Need-scopes-size-requires
 scopes-size-requires c κs = search needs
 
--- src/lib.rt:104:9
 scope-requires : tie.Need-scope-requires
 scope-requires c κs = search needs
 
--- src/lib.rt:106:9
 returns : tie.Need-returns
 returns c = let a = c .before .before .before .before .before .before .before .args in cc (mis-missing (a .nodes .now) (a .scopes .now) (a .n .0) (omega arith))
 
--- src/lib.rt:108:9
 kind-requires : tie.Need-kind-requires
 kind-requires c κs = search needs
 
--- src/lib.rt:109:9
 extra-requires : tie.Need-extra-requires
 extra-requires c κs = search needs
 
--- src/lib.rt:110:8
 and-requires : tie.Need-and-requires
 and-requires c κs = search needs
 
--- src/lib.rt:111:9
 returns-2 : tie.Need-returns-2
 returns-2 c = let a = c .before .before .before .before .before .before .before .before .before .before .before .args in cc (mis-extra (a .nodes .now) (a .scopes .now) (a .n .0) (omega arith) (cc))
 
--- src/lib.rt:113:13
 cast-i : tie.Need-cast-i
 cast-i c = search needs
 
--- src/lib.rt:114:24
 mul-is-on-path : tie.Need-mul-is-on-path
 mul-is-on-path c = search needs
 
--- src/lib.rt:114:24
 shared-slice-read-is-on-path : tie.Need-shared-slice-read-is-on-path
 shared-slice-read-is-on-path c = search needs
 
--- src/lib.rt:114:6
 is-on-path-requires : tie.Need-is-on-path-requires
 is-on-path-requires c κs = search needs
 
--- src/lib.rt:95:1
 returns-3 : tie.Need-returns-3
 returns-3 c = let a = c .before .before .before .before .before .before .before .before .before .before .before .before .before .before .args in
     let d = c .before .before .before .before .before .before .before .before .before .before .before .before .before .before .pre .1 .1 .1 .0 (c .before .before .before .before .before .before .before .before .before .scope .result .0) (omega arith) (a .n .0) (omega arith) in

@@ -1,5 +1,5 @@
-use Prim.Native.Nat.{_≤_, _<_, _+_, _-_}
-use mathlib.Core.Path.{_≡_, ap, sym, _∙_}
+use Prim.Native.Nat.{_≤_, _-_}
+use mathlib.Core.Path.{_≡_, sym, _∙_}
 use native.Mathlib.Omega.{arith}
 use Rattle.table_records.specs.Table.{count}
 use Rattle.refusal_verdict.specs.First.{first}
@@ -8,10 +8,6 @@ use Rattle.refusal_scopes.specs.Scopes.{misscopedAt}
 use borrow.Author.Needs.{needs}
 use Rattle.refusal_scopes.proofs.misscoped_by.Statement.{statement}
 use Rattle.refusal_scopes.proofs.misscoped_by.Tie as tie
-use Rattle.refusal_scopes.proofs.misscoped_by.Reads as reads
-use Rattle.refusal_scopes.proofs.misscoped_by.Lts as lts
-use Rattle.refusal_scopes.proofs.misscoped_at.Reads as misscoped-at-reads
-use Rattle.table_records.proofs.size.Reads as size-reads
 
 abbrev Inv-loop : tie.InvT-loop
 Inv-loop nodes scopes deep size i₀ i = (i ≤ size) × (first (misscopedAt nodes scopes) i (count nodes) ≡ first (misscopedAt nodes scopes) 0 (count nodes))
@@ -19,42 +15,34 @@ Inv-loop nodes scopes deep size i₀ i = (i ≤ size) × (first (misscopedAt nod
 abbrev μ-loop : tie.MeasureT-loop
 μ-loop nodes scopes deep size i₀ i = size - i
 
--- src/lib.rt:135:9
 size-requires : tie.Need-size-requires Inv-loop μ-loop
 size-requires c κs = search needs
 
--- src/lib.rt:137:5
 loop-holds : tie.Need-loop-holds Inv-loop μ-loop
 loop-holds c = search needs
 
--- src/lib.rt:138:12
 misscoped-at-requires : tie.Need-misscoped-at-requires Inv-loop μ-loop
 misscoped-at-requires c κs =
     (c .before .before .before .before .before .before .pre .0, (c .before .before .before .before .before .before .pre .1 .0, (c .before .before .before .before .before .before .pre .1 .1 .0, (c .before .before .before .before .before .before .pre .1 .1 .1, omega arith))))
 
--- src/lib.rt:139:13
 returns : tie.Need-returns Inv-loop μ-loop
 returns c =
     let n = c .before .before .before .before .before .before .before .before .args .nodes .now in
     let s = c .before .before .before .before .before .before .before .before .args .scopes .now in
     cc (first-stop (misscopedAt n s) (c .before .before .before .loop .i) (count n) (omega arith) (sym (c .before .misscoped-at .ensures) ∙ c .if1 .taken))
 
--- src/lib.rt:141:9
 add-i : tie.Need-add-i Inv-loop μ-loop
 add-i c = search needs
 
--- src/lib.rt:137:5
 loop-less : tie.Need-loop-less Inv-loop μ-loop
 loop-less c = search needs
 
--- src/lib.rt:137:5
 loop-again : tie.Need-loop-again Inv-loop μ-loop
 loop-again c =
     let n = c .before .before .before .before .before .before .before .before .args .nodes .now in
     let s = c .before .before .before .before .before .before .before .before .args .scopes .now in
     (search needs, cc (first-on (misscopedAt n s) (c .before .before .before .loop .i) (count n) (omega arith) (sym (c .before .misscoped-at .ensures) ∙ c .if1 .left)))
 
--- src/lib.rt:128:1
 returns-2 : tie.Need-returns-2 Inv-loop μ-loop
 returns-2 c =
     let n = c .before .before .before .before .before .before .args .nodes .now in

@@ -2,30 +2,21 @@ use native.Mathlib.Omega.{arith}
 use borrow.Author.Needs.{needs}
 use Rattle.refusal_scopes.proofs.misscoped_many.Statement.{statement}
 use Rattle.refusal_scopes.proofs.misscoped_many.Tie as tie
-use Rattle.refusal_scopes.proofs.misscoped_many.Reads as reads
-use Rattle.refusal_scopes.proofs.misscoped_many.Lts as lts
-use Rattle.refusal_scopes.proofs.deepest.Reads as deepest-reads
-use Rattle.refusal_scopes.proofs.misscoped_by.Reads as misscoped-by-reads
 
--- src/lib.rt:153:28
 slice-aggregate-deepest : tie.Need-slice-aggregate-deepest
 slice-aggregate-deepest c = search needs
 
--- src/lib.rt:153:5
 deepest-requires : tie.Need-deepest-requires
 deepest-requires c κs = let s = c .before .before .before .pre .1 .small in
     (c .before .before .before .pre .0, (c .before .before .before .pre .1, omega (arith, s)))
 
--- src/lib.rt:154:33
 slice-aggregate-misscoped-by : tie.Need-slice-aggregate-misscoped-by
 slice-aggregate-misscoped-by c = search needs
 
--- src/lib.rt:154:5
 misscoped-by-requires : tie.Need-misscoped-by-requires
 misscoped-by-requires c κs =
     (c .before .before .before .before .before .before .pre .0, (c .before .before .before .before .before .before .pre .1, (search needs, c .before .before .deepest .ensures)))
 
--- src/lib.rt:147:1
 returns : tie.Need-returns
 returns c = search needs
 

@@ -3,41 +3,31 @@ use Rattle.refusal_shape.specs.Shape.{lower}
 use borrow.Author.Needs.{needs}
 use Rattle.refusal_shape.proofs.lower.Statement.{statement}
 use Rattle.refusal_shape.proofs.lower.Tie as tie
-use Rattle.refusal_shape.proofs.lower.Reads as reads
-use Rattle.refusal_shape.proofs.lower.Lts as lts
 
--- src/lib.rt:12:21
 enum-known-a : tie.Need-enum-known-a
 enum-known-a c = search needs
 
--- src/lib.rt:13:9
 enum-told : tie.Need-enum-told
 enum-told c = search needs
 
--- src/lib.rt:13:9
 returns : tie.Need-returns
 unfolding lower
 returns c = rw (c .enum-told .given .1)
 
--- src/lib.rt:15:21
 enum-known-b : tie.Need-enum-known-b
 enum-known-b c = search needs
 
--- src/lib.rt:16:9
 enum-told-2 : tie.Need-enum-told-2
 enum-told-2 c = search needs
 
--- src/lib.rt:16:9
 returns-2 : tie.Need-returns-2
 unfolding lower
 returns-2 c = rw (c .before .before .before .a .given .1, c .enum-told2 .given .1)
 
--- src/lib.rt:19:9
 returns-3 : tie.Need-returns-3
 unfolding lower
 returns-3 c = rw (c .before .before .before .before .before .a .given .1, c .before .before .b .given .1, le-leb _ _ (c .if1 .taken))
 
--- src/lib.rt:9:1
 returns-4 : tie.Need-returns-4
 unfolding lower
 returns-4 c = rw (c .before .before .before .before .before .a .given .1, c .before .before .b .given .1, lt-leb _ _ (c .if1 .left))

@@ -1,17 +1,12 @@
 use borrow.Author.Tests.{eq-eqb, ne-eqb}
 use Rattle.refusal_standing.specs.Standing.{tryPart}
-use borrow.Author.Needs.{needs}
 use Rattle.refusal_standing.proofs.try_part.Statement.{statement}
 use Rattle.refusal_standing.proofs.try_part.Tie as tie
-use Rattle.refusal_standing.proofs.try_part.Reads as reads
-use Rattle.refusal_standing.proofs.try_part.Lts as lts
 
--- src/lib.rt:112:9
 returns : tie.Need-returns
 unfolding tryPart
 returns c = rw (eq-eqb _ _ (c .if1 .taken))
 
--- src/lib.rt:108:1
 returns-2 : tie.Need-returns-2
 unfolding tryPart
 returns-2 c = rw (ne-eqb _ _ (c .if1 .left))

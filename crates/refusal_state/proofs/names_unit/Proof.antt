@@ -1,39 +1,28 @@
 use Rattle.refusal_state.specs.Targets.{namesUnit}
 use Rattle.base_common.specs.Tests.{within}
-use Rattle.table_records.specs.Table.{count, kindOf}
+use Rattle.table_records.specs.Table.{count}
 use lib.Dec.{ltb}
 use borrow.Author.Tests.{not-true, not-false, ltb-true}
 use Prim.Native.Nat.{ℕ}
 use mathlib.Core.Bool.{true, false}
 use mathlib.Core.Path.{_≡_, ap, sym, _∙_}
-use native.Mathlib.Omega.{arith}
 use borrow.Author.Needs.{needs}
 use Rattle.refusal_state.proofs.names_unit.Statement.{statement}
 use Rattle.refusal_state.proofs.names_unit.Tie as tie
-use Rattle.refusal_state.proofs.names_unit.Reads as reads
-use Rattle.refusal_state.proofs.names_unit.Lts as lts
-use Rattle.base_common.proofs.within.Reads as within-reads
-use Rattle.table_records.proofs.is_node.Reads as is-node-reads
-use Rattle.table_records.proofs.kind.Reads as kind-reads
 
--- src/lib.rt:18:9
 is-node-requires : tie.Need-is-node-requires
 is-node-requires c κs = search needs
 
--- src/lib.rt:19:9
 returns : tie.Need-returns
 unfolding namesUnit
 returns c = let h : ltb (c .before .before .before .args .u) (count (c .before .before .before .args .nodes .now)) ≡ false = sym (c .before .is-node .ensures) ∙ not-true (c .before .is-node .result) (c .if1 .taken) in rw h
 
--- src/lib.rt:21:12
 kind-requires : tie.Need-kind-requires
 kind-requires c κs = ltb-true (c .before .before .before .args .u) (count (c .before .before .before .args .nodes .now)) (sym (c .before .is-node .ensures) ∙ not-false (c .before .is-node .result) (c .if1 .left))
 
--- src/lib.rt:21:5
 within-requires : tie.Need-within-requires
 within-requires c κs = search needs
 
--- src/lib.rt:15:1
 returns-2 : tie.Need-returns-2
 unfolding namesUnit
 returns-2 c = let h : ltb (c .before .before .before .before .before .args .u) (count (c .before .before .before .before .before .args .nodes .now)) ≡ true = sym (c .before .before .before .is-node .ensures) ∙ not-false (c .before .before .before .is-node .result) (c .before .before .if1 .left) in

@@ -1,37 +1,29 @@
 use mathlib.Core.List.{List}
 use Rattle.refusal_state.specs.TargetsLaws.{place-none, place-some}
 use Rattle.check_dispatch.specs.Findings.{findingsOf}
-use Rattle.refusal_verdict.specs.declared.Place.the-variants.{Here, Nowhere}
-use lib.ListN.{length, getD}
-use Prim.Native.Nat.{ℕ, _+_, _*_}
-use mathlib.Core.Path.{_≡_, refl, ap, sym, _∙_}
+use Rattle.refusal_verdict.specs.declared.Place.the-variants.{Here}
+use lib.ListN.{getD}
+use Prim.Native.Nat.{ℕ}
+use mathlib.Core.Path.{refl, ap, sym, _∙_}
 use native.Mathlib.Omega.{arith}
 use borrow.Author.Needs.{needs}
 use Rattle.refusal_state.proofs.state_place.Statement.{statement}
 use Rattle.refusal_state.proofs.state_place.Tie as tie
-use Rattle.refusal_state.proofs.state_place.Reads as reads
-use Rattle.refusal_state.proofs.state_place.Lts as lts
-use Rattle.check_dispatch.proofs.check_tree.Reads as check-tree-reads
 
--- src/lib.rt:110:82
 slice-aggregate-check-tree : tie.Need-slice-aggregate-check-tree
 slice-aggregate-check-tree c = search needs
 
--- src/lib.rt:110:9
 check-tree-requires : tie.Need-check-tree-requires
 check-tree-requires c κs = search needs
 
--- src/lib.rt:112:9
 returns : tie.Need-returns
 returns c = let a = c .before .before .before .before .before .before .before .before .args in
     let f = findingsOf (a .source-type) (a .nodes .now) (a .scopes .now) (a .source .now) (a .names .now) in
     sym (place-none (a .source-type) (a .nodes .now) (a .scopes .now) (a .source .now) (a .names .now) (c .before .before .before .before .before .before .before .before .pre .0 .tree) (omega (arith, c .before .before .check-tree .ensures .place, c .if1 .taken)))
 
--- src/lib.rt:114:17
 array-read-t13 : tie.Need-array-read-t13
 array-read-t13 c = search needs
 
--- src/lib.rt:98:1
 returns-2 : tie.Need-returns-2
 returns-2 c = let a = c .before .before .before .before .before .before .before .before .args in
     let f = findingsOf (a .source-type) (a .nodes .now) (a .scopes .now) (a .source .now) (a .names .now) in

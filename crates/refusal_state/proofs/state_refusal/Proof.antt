@@ -3,14 +3,10 @@ use Rattle.refusal_verdict.specs.declared.Place.{Place}
 use Rattle.refusal_verdict.specs.Verdict.{orNext}
 use Rattle.refusal_verdict.specs.declared.Verdict.the-variants.{Passed}
 use Rattle.refusal_verdict.specs.declared.Verdict.{Verdict}
-use mathlib.Core.Path.{_≡_, ap, sym, _∙_}
+use mathlib.Core.Path.{ap, sym, _∙_}
 use borrow.Author.Needs.{needs}
 use Rattle.refusal_state.proofs.state_refusal.Statement.{statement}
 use Rattle.refusal_state.proofs.state_refusal.Tie as tie
-use Rattle.refusal_state.proofs.state_refusal.Reads as reads
-use Rattle.refusal_state.proofs.state_refusal.Lts as lts
-use Rattle.refusal_state.proofs.unit_refusal.Reads as unit-refusal-reads
-use Rattle.refusal_state.proofs.state_place.Reads as state-place-reads
 
 unit-refusal-requires : tie.Need-unit-refusal-requires
 unit-refusal-requires c κs = c .before .before .before .before .pre .0 .tree

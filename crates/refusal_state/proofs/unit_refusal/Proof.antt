@@ -5,10 +5,6 @@ use mathlib.Core.Path.{_≡_, sym, _∙_}
 use borrow.Author.Needs.{needs}
 use Rattle.refusal_state.proofs.unit_refusal.Statement.{statement}
 use Rattle.refusal_state.proofs.unit_refusal.Tie as tie
-use Rattle.refusal_state.proofs.unit_refusal.Reads as reads
-use Rattle.refusal_state.proofs.unit_refusal.Lts as lts
-use Rattle.refusal_state.proofs.names_unit.Reads as names-unit-reads
-use Rattle.refusal_state.proofs.holds_try.Reads as holds-try-reads
 
 names-unit-requires : tie.Need-names-unit-requires
 names-unit-requires c κs = search needs

@@ -1,16 +1,13 @@
-use Prim.Native.Nat.{_≤_, _<_, _+_, _-_}
-use mathlib.Core.Path.{_≡_, ap, sym, _∙_}
+use Prim.Native.Nat.{_≤_, _+_, _-_}
+use mathlib.Core.Path.{_≡_, ap}
 use native.Mathlib.Omega.{arith}
-use Rattle.table_records.specs.Table.{count, parentOf, depthOf}
+use Rattle.table_records.specs.Table.{parentOf, depthOf}
 use Rattle.base_walk.specs.On.{on}
 use Rattle.base_walk.specs.OnLaws.{on-miss}
 use Rattle.refusal_tree.specs.TreeLaws.{depth-up, from-hit, from-miss}
 use borrow.Author.Needs.{needs}
 use Rattle.refusal_tree.proofs.depth_from.Statement.{statement}
 use Rattle.refusal_tree.proofs.depth_from.Tie as tie
-use Rattle.refusal_tree.proofs.depth_from.Reads as reads
-use Rattle.refusal_tree.proofs.depth_from.Lts as lts
-use Rattle.table_records.proofs.parent.Reads as parent-reads
 
 abbrev Inv-loop : tie.InvT-loop
 Inv-loop nodes depth p a₀ d₀ a d = (a .0 ≤ a₀ .0) × (d ≡ depthOf nodes (a .0)) × (on (parentOf nodes) p (a .0) ≡ on (parentOf nodes) p (a₀ .0))
@@ -18,27 +15,22 @@ Inv-loop nodes depth p a₀ d₀ a d = (a .0 ≤ a₀ .0) × (d ≡ depthOf node
 abbrev μ-loop : tie.MeasureT-loop
 μ-loop nodes depth p a₀ d₀ a d = a .0
 
--- src/lib.rt:27:5
 loop-holds : tie.Need-loop-holds Inv-loop μ-loop
 loop-holds c = search needs
 
--- src/lib.rt:28:9
 parent-requires : tie.Need-parent-requires Inv-loop μ-loop
 parent-requires c κs = search needs
 
--- src/lib.rt:29:9
 sub-d : tie.Need-sub-d Inv-loop μ-loop
 sub-d c =
     let a = c .before .before .before .before .before .args in
     omega (arith, depth-up (a .nodes .now) (a .at .0 + 1) (c .before .before .before .before .before .pre .0) (c .before .before .before .loop .a .0) (omega arith) (omega arith))
 
--- src/lib.rt:27:5
 loop-less : tie.Need-loop-less Inv-loop μ-loop
 loop-less c =
     let a = c .before .before .before .before .before .args in
     omega (arith, c .before .before .before .before .before .pre .0 (c .before .before .before .loop .a .0) (omega arith) (omega arith))
 
--- src/lib.rt:27:5
 loop-again : tie.Need-loop-again Inv-loop μ-loop
 loop-again c =
     let a = c .before .before .before .before .before .args in
@@ -47,13 +39,11 @@ loop-again c =
     let m = on-miss (parentOf (a .nodes .now)) (a .at .0 + 1) (c .before .before .before .before .before .pre .0) (a .p) (c .before .before .before .loop .a .0) (omega arith) (omega arith) (λ q. omega arith) in
     (omega arith, omega (arith, ap (depthOf (a .nodes .now)) (c .parent .ensures)), cc m)
 
--- src/lib.rt:32:9
 returns : tie.Need-returns Inv-loop μ-loop
 returns c =
     let a = c .before .before .before .before .before .before .args in
     cc (from-hit (a .nodes .now) (a .at .0) (a .p) (c .before .before .before .before .loop .a .0) (cc) (c .if2 .taken))
 
--- src/lib.rt:19:1
 returns-2 : tie.Need-returns-2 Inv-loop μ-loop
 returns-2 c =
     let a = c .before .before .before .before .before .before .args in

@@ -1,4 +1,4 @@
-use Prim.Native.Nat.{_≤_, _<_, _+_, _-_}
+use Prim.Native.Nat.{_≤_, _+_, _-_}
 use mathlib.Core.Path.{_≡_, ap, sym, _∙_}
 use native.Mathlib.Omega.{arith}
 use Rattle.table_records.specs.Table.{count, parentOf, depthOf}
@@ -10,12 +10,6 @@ use Rattle.refusal_tree.specs.TreeLaws.{depth-root, root-kind, root-pare
 use borrow.Author.Needs.{needs}
 use Rattle.refusal_tree.proofs.misplaced.Statement.{statement}
 use Rattle.refusal_tree.proofs.misplaced.Tie as tie
-use Rattle.refusal_tree.proofs.misplaced.Reads as reads
-use Rattle.refusal_tree.proofs.misplaced.Lts as lts
-use Rattle.table_records.proofs.kind.Reads as kind-reads
-use Rattle.table_records.proofs.parent.Reads as parent-reads
-use Rattle.table_records.proofs.size.Reads as size-reads
-use Rattle.refusal_tree.proofs.depth_at.Reads as depth-at-reads
 
 abbrev Inv-loop : tie.InvT-loop
 Inv-loop nodes size k i₀ depth₀ i depth = (1 ≤ i) × (i ≤ size) × Falls (parentOf nodes) i × (depth ≡ depthOf nodes (i - 1)) × (first (misplacedAt nodes) i (count nodes) ≡ first (misplacedAt nodes) 0 (count nodes))
@@ -23,68 +17,55 @@ Inv-loop nodes size k i₀ depth₀ i depth = (1 ≤ i) × (i ≤ size) × Falls
 abbrev μ-loop : tie.MeasureT-loop
 μ-loop nodes size k i₀ depth₀ i depth = size - i
 
--- src/lib.rt:64:9
 size-requires : tie.Need-size-requires Inv-loop μ-loop
 size-requires c κs = search needs
 
--- src/lib.rt:65:9
 kind-requires : tie.Need-kind-requires Inv-loop μ-loop
 kind-requires c κs = search needs
 
--- src/lib.rt:67:9
 returns : tie.Need-returns Inv-loop μ-loop
 returns c =
     let a = c .before .before .before .before .args in
     let n = a .nodes .now in
     sym (first-stop (misplacedAt n) 0 (count n) (omega arith) (root-kind n (λ q. c .if1 .taken (cc))))
 
--- src/lib.rt:69:9
 parent-requires : tie.Need-parent-requires Inv-loop μ-loop
 parent-requires c κs = search needs
 
--- src/lib.rt:71:9
 returns-2 : tie.Need-returns-2 Inv-loop μ-loop
 returns-2 c =
     let a = c .before .before .before .before .before .before .before .args in
     let n = a .nodes .now in
     sym (first-stop (misplacedAt n) 0 (count n) (omega arith) (root-parent n (cc) (λ q. c .if2 .taken (cc))))
 
--- src/lib.rt:75:5
 loop-holds : tie.Need-loop-holds Inv-loop μ-loop
 loop-holds c =
     let a = c .before .before .before .before .before .before .before .args in
     let n = a .nodes .now in
     (omega arith, omega arith, (λ i h l. absurd (omega arith)), sym (depth-root n), sym (first-on (misplacedAt n) 0 (count n) (omega arith) (root-fine n (cc) (cc))))
 
--- src/lib.rt:76:28
 depth-at-requires : tie.Need-depth-at-requires Inv-loop μ-loop
 depth-at-requires c κs =
     (c .before .loop .inv .2, search needs)
 
--- src/lib.rt:76:23
 enum-known-d : tie.Need-enum-known-d Inv-loop μ-loop
 enum-known-d c = search needs
 
--- src/lib.rt:77:13
 enum-told : tie.Need-enum-told Inv-loop μ-loop
 enum-told c = search needs
 
--- src/lib.rt:77:13
 returns-3 : tie.Need-returns-3 Inv-loop μ-loop
 returns-3 c =
     let a = c .before .before .before .before .before .before .before .before .before .before .before .before .args in
     let n = a .nodes .now in
     cc (first-stop (misplacedAt n) (c .before .before .before .before .loop .i) (count n) (omega arith) (if-off n (c .before .before .before .before .loop .i) (cc)))
 
--- src/lib.rt:80:9
 add-i : tie.Need-add-i Inv-loop μ-loop
 add-i c = search needs
 
--- src/lib.rt:75:5
 loop-less : tie.Need-loop-less Inv-loop μ-loop
 loop-less c = search needs
 
--- src/lib.rt:75:5
 loop-again : tie.Need-loop-again Inv-loop μ-loop
 loop-again c =
     let a = c .before .before .before .before .before .before .before .before .before .before .before .before .before .args in
@@ -94,7 +75,6 @@ loop-again c =
     let q : i ≡ i + 1 - 1 = omega arith in
     (omega arith, omega arith, falls-more n i (c .before .before .before .before .before .loop .inv .2) (omega arith) (fine-on n i (omega arith) (w .0)), sym (w .1) ∙ ap (depthOf n) q, cc (first-on (misplacedAt n) i (count n) (omega arith) (w .0)))
 
--- src/lib.rt:60:1
 returns-4 : tie.Need-returns-4 Inv-loop μ-loop
 returns-4 c =
     let a = c .before .before .before .before .before .before .before .before .before .args in

@@ -8,10 +8,6 @@ use Prim.Native.Nat.{_≤_, _-_}
 use borrow.Author.Needs.{needs}
 use Rattle.refusal_wellformed.proofs.failing.Statement.{statement}
 use Rattle.refusal_wellformed.proofs.failing.Tie as tie
-use Rattle.refusal_wellformed.proofs.failing.Reads as reads
-use Rattle.refusal_wellformed.proofs.failing.Lts as lts
-use Rattle.check_super_search.proofs.fails_at.Reads as fails-at-reads
-use Rattle.table_records.proofs.size.Reads as size-reads
 
 abbrev Inv-loop : tie.InvT-loop
 Inv-loop nodes scopes size i₀ i = (i ≤ size) × (size ≡ count nodes) × (first (failsAt nodes scopes) i (count nodes) ≡ first (failsAt nodes scopes) 0 (count nodes))
@@ -19,35 +15,27 @@ Inv-loop nodes scopes size i₀ i = (i ≤ size) × (size ≡ count nodes) × (f
 abbrev μ-loop : tie.MeasureT-loop
 μ-loop nodes scopes size i₀ i = size - i
 
--- src/lib.rt:19:9
 size-requires : tie.Need-size-requires Inv-loop μ-loop
 size-requires c κs = record { some = c .before .before .pre .0 .some; small = c .before .before .pre .0 .small }
 
--- src/lib.rt:21:5
 loop-holds : tie.Need-loop-holds Inv-loop μ-loop
 loop-holds c = search needs
 
--- src/lib.rt:22:12
 fails-at-requires : tie.Need-fails-at-requires Inv-loop μ-loop
 fails-at-requires c κs = (c .before .before .before .before .before .pre .0, (c .before .before .before .before .before .pre .1 .0, (c .before .before .before .before .before .pre .1 .1, omega arith)))
 
--- src/lib.rt:23:13
 returns : tie.Need-returns Inv-loop μ-loop
 returns c = let a = c .before .before .before .before .before .before .before .args in cc (first-stop (failsAt (a .nodes .now) (a .scopes .now)) (c .before .before .before .loop .i) (count (a .nodes .now)) (omega arith) (sym (c .before .fails-at .ensures) ∙ c .if1 .taken))
 
--- src/lib.rt:25:9
 add-i : tie.Need-add-i Inv-loop μ-loop
 add-i c = search needs
 
--- src/lib.rt:21:5
 loop-less : tie.Need-loop-less Inv-loop μ-loop
 loop-less c = search needs
 
--- src/lib.rt:21:5
 loop-again : tie.Need-loop-again Inv-loop μ-loop
 loop-again c = let a = c .before .before .before .before .before .before .before .args in (omega arith, search needs, cc (first-on (failsAt (a .nodes .now) (a .scopes .now)) (c .before .before .before .loop .i) (count (a .nodes .now)) (omega arith) (sym (c .before .fails-at .ensures) ∙ c .if1 .left)))
 
--- src/lib.rt:13:1
 returns-2 : tie.Need-returns-2 Inv-loop μ-loop
 returns-2 c = let a = c .before .before .before .before .before .args in cc (first-end (failsAt (a .nodes .now) (a .scopes .now)) (c .before .loop .i) (count (a .nodes .now)) (omega arith))
 

@@ -7,52 +7,39 @@ use Rattle.refusal_verdict.specs.declared.Verdict.{Verdict}
 use Rattle.refusal_verdict.specs.declared.Place.{Place}
 use Rattle.refusal_verdict.specs.First.{first}
 use Rattle.table_records.specs.Table.{count}
-use mathlib.Core.Path.{_≡_, ap, sym, _∙_}
+use mathlib.Core.Path.{ap, sym, _∙_}
 use borrow.Author.Needs.{needs}
 use Rattle.refusal_wellformed.proofs.refusal.Statement.{statement}
 use Rattle.refusal_wellformed.proofs.refusal.Tie as tie
-use Rattle.refusal_wellformed.proofs.refusal.Reads as reads
-use Rattle.refusal_wellformed.proofs.refusal.Lts as lts
-use Rattle.refusal_input.proofs.refusal.Reads as refusal-reads
-use Rattle.refusal_wellformed.proofs.failing.Reads as failing-reads
 
--- src/lib.rt:34:9
 refusal-requires : tie.Need-refusal-requires
 refusal-requires c κs = search needs
 
--- src/lib.rt:36:35
 enum-told : tie.Need-enum-told
 enum-told c = search needs
 
--- src/lib.rt:37:34
 enum-told-2 : tie.Need-enum-told-2
 enum-told-2 c = search needs
 
--- src/lib.rt:37:34
 failing-requires : tie.Need-failing-requires
 failing-requires c κs = let a = c .before .before .before .before .before .before .before .args in
     let w = well-formed (a .source-type) (a .nodes .now) (a .scopes .now) (a .source .now) (a .names .now) (sym (c .before .before .refusal .ensures) ∙ c .enum-told2 .given .1) in
     (w .input .tree, (w .input .chained, w .input .scoped))
 
--- src/lib.rt:38:25
 enum-known-p : tie.Need-enum-known-p
 enum-known-p c = search needs
 
--- src/lib.rt:39:31
 enum-told-3 : tie.Need-enum-told-3
 enum-told-3 c = search needs
 
--- src/lib.rt:31:1
 returns : tie.Need-returns
 unfolding inputRefusal
 returns c = let a = c .before .before .before .before .before .before .before .args in c .enum-told .given .1 ∙ ap (λ (v : Verdict). refusalOr v (first (failsAt (a .nodes .now) (a .scopes .now)) 0 (count (a .nodes .now)))) (sym (c .enum-told .given .1) ∙ c .before .before .refusal .ensures)
 
--- src/lib.rt:31:1
 returns-2 : tie.Need-returns-2
 unfolding inputRefusal
 returns-2 c = let a = c .before .before .before .before .before .before .before .before .before .before .before .args in sym (ap (λ (v : Verdict). refusalOr v (first (failsAt (a .nodes .now) (a .scopes .now)) 0 (count (a .nodes .now)))) (sym (c .before .before .before .before .before .before .refusal .ensures) ∙ c .before .before .before .before .enum-told2 .given .1) ∙ ap (λ (q : Place). orNext 6 q Passed) (sym (c .before .before .before .failing .ensures) ∙ c .before .p .given .1))
 
--- src/lib.rt:31:1
 returns-3 : tie.Need-returns-3
 unfolding inputRefusal
 returns-3 c = let a = c .before .before .before .before .before .before .before .before .before .before .args in sym (ap (λ (v : Verdict). refusalOr v (first (failsAt (a .nodes .now) (a .scopes .now)) 0 (count (a .nodes .now)))) (sym (c .before .before .before .before .before .refusal .ensures) ∙ c .before .before .before .enum-told2 .given .1) ∙ ap (λ (q : Place). orNext 6 q Passed) (sym (c .before .before .failing .ensures) ∙ c .enum-told3 .given .1))

@@ -4,26 +4,19 @@ use mathlib.Core.Path.{ap, sym, _∙_}
 use borrow.Author.Needs.{needs}
 use Rattle.table_ancestry.proofs.has_ancestor.Statement.{statement}
 use Rattle.table_ancestry.proofs.has_ancestor.Tie as tie
-use Rattle.table_ancestry.proofs.has_ancestor.Reads as reads
-use Rattle.table_ancestry.proofs.has_ancestor.Lts as lts
-use Rattle.table_ancestry.proofs.nearest.Reads as nearest-reads
 
--- src/lib.rt:70:24
 nearest-requires : tie.Need-nearest-requires
 nearest-requires c κs = search needs
 
 enum-told : tie.Need-enum-told
 enum-told c = search needs
 
--- src/lib.rt:71:9
 enum-told-2 : tie.Need-enum-told-2
 enum-told-2 c = search needs
 
--- src/lib.rt:71:9
 returns : tie.Need-returns
 returns c = let a = c .before .before .before .before .args in sym (nearest-some (a .nodes .now) (a .low) (a .high) (a .n .0) ∙ ap isAt (sym (c .before .before .nearest .ensures .0) ∙ c .enum-told2 .given .1))
 
--- src/lib.rt:65:1
 returns-2 : tie.Need-returns-2
 returns-2 c = let a = c .before .before .before .before .args in sym (nearest-some (a .nodes .now) (a .low) (a .high) (a .n .0) ∙ ap isAt (sym (c .before .before .nearest .ensures .0) ∙ c .enum-told .given .1))
 

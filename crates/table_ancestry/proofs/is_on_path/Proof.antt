@@ -1,6 +1,5 @@
-use Prim.Native.Nat.{_≤_, _<_, _+_, _-_}
-use mathlib.Core.Path.{_≡_, ap, sym, _∙_}
-use mathlib.Core.Bool.{Bool, true, false}
+use Prim.Native.Nat.{_≤_, _-_}
+use mathlib.Core.Path.{_≡_}
 use native.Mathlib.Omega.{arith}
 use Rattle.table_records.specs.Table.{count, parentOf}
 use Rattle.base_walk.specs.On.{on}
@@ -9,9 +8,6 @@ use Rattle.table_ancestry.specs.AncestryLaws.{on-at}
 use borrow.Author.Needs.{needs}
 use Rattle.table_ancestry.proofs.is_on_path.Statement.{statement}
 use Rattle.table_ancestry.proofs.is_on_path.Tie as tie
-use Rattle.table_ancestry.proofs.is_on_path.Reads as reads
-use Rattle.table_ancestry.proofs.is_on_path.Lts as lts
-use Rattle.table_records.proofs.parent.Reads as parent-reads
 
 abbrev Inv-loop : tie.InvT-loop
 Inv-loop nodes a at₀ at = (at .0 ≤ at₀ .0) × (on (parentOf nodes) a (at .0) ≡ on (parentOf nodes) a (at₀ .0))
@@ -19,26 +15,21 @@ Inv-loop nodes a at₀ at = (at .0 ≤ at₀ .0) × (on (parentOf nodes) a (at .
 abbrev μ-loop : tie.MeasureT-loop
 μ-loop nodes a at₀ at = at .0
 
--- src/lib.rt:25:5
 loop-holds : tie.Need-loop-holds Inv-loop μ-loop
 loop-holds c = search needs
 
--- src/lib.rt:26:9
 parent-requires : tie.Need-parent-requires Inv-loop μ-loop
 parent-requires c κs = search needs
 
--- src/lib.rt:25:5
 loop-less : tie.Need-loop-less Inv-loop μ-loop
 loop-less c =
     omega (arith, c .before .before .before .before .before .pre .0 .falls (c .before .before .before .loop .at .0) (omega arith) (omega arith))
 
--- src/lib.rt:25:5
 loop-again : tie.Need-loop-again Inv-loop μ-loop
 loop-again c =
     let f = c .before .before .before .before .before .pre .0 .falls (c .before .before .before .loop .at .0) (omega arith) (omega arith) in
     (omega arith, cc (on-miss (parentOf (c .before .before .before .before .before .args .nodes .now)) (count (c .before .before .before .before .before .args .nodes .now)) (c .before .before .before .before .before .pre .0 .falls) (c .before .before .before .before .before .args .a) (c .before .before .before .loop .at .0) (omega arith) (omega arith) (λ q. omega arith)))
 
--- src/lib.rt:19:1
 returns : tie.Need-returns Inv-loop μ-loop
 returns c =
     cc (on-at (c .before .before .before .before .before .args .nodes .now) (c .before .before .before .before .before .pre .0) (c .before .before .before .before .before .args .a) (c .before .before .before .loop .at .0) (omega arith) (omega arith))

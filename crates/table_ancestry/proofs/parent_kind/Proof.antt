@@ -3,20 +3,13 @@ use native.Mathlib.Omega.{arith}
 use borrow.Author.Needs.{needs}
 use Rattle.table_ancestry.proofs.parent_kind.Statement.{statement}
 use Rattle.table_ancestry.proofs.parent_kind.Tie as tie
-use Rattle.table_ancestry.proofs.parent_kind.Reads as reads
-use Rattle.table_ancestry.proofs.parent_kind.Lts as lts
-use Rattle.table_records.proofs.kind.Reads as kind-reads
-use Rattle.table_records.proofs.parent.Reads as parent-reads
 
--- src/lib.rt:31:25
 parent-requires : tie.Need-parent-requires
 parent-requires c κs = search needs
 
--- src/lib.rt:31:5
 kind-requires : tie.Need-kind-requires
 kind-requires c κs = omega (arith, parent-in (c .before .before .args .nodes .now) (c .before .before .pre .0) (c .before .before .args .n .0) (omega arith))
 
--- src/lib.rt:26:1
 returns : tie.Need-returns
 returns c = cc
 

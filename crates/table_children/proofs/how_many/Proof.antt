@@ -9,12 +9,6 @@ use mathlib.Core.Bool.{Bool, cond}
 use borrow.Author.Needs.{needs}
 use Rattle.table_children.proofs.how_many.Statement.{statement}
 use Rattle.table_children.proofs.how_many.Tie as tie
-use Rattle.table_children.proofs.how_many.Reads as reads
-use Rattle.table_children.proofs.how_many.Lts as lts
-use Rattle.table_children.proofs.is_child.Reads as is-child-reads
-use Rattle.table_children.proofs.tick.Reads as tick-reads
-use Rattle.table_records.proofs.is_node.Reads as is-node-reads
-use Rattle.table_records.proofs.parent.Reads as parent-reads
 
 abbrev Inv-loop : tie.InvT-loop
 Inv-loop nodes p low high first last i₀ c₀ i c = (p .0 < i) × (i ≤ count nodes) × (c ≤ i) × (c + tally nodes (p .0) low high first last i ≡ tally nodes (p .0) low high first last (p .0 + 1))
@@ -22,50 +16,39 @@ Inv-loop nodes p low high first last i₀ c₀ i c = (p .0 < i) × (i ≤ count 
 abbrev μ-loop : tie.MeasureT-loop
 μ-loop nodes p low high first last i₀ c₀ i c = count nodes - i
 
--- src/lib.rt:69:17
 add-i : tie.Need-add-i Inv-loop μ-loop
 add-i c = search needs
 
--- src/lib.rt:71:5
 loop-holds : tie.Need-loop-holds Inv-loop μ-loop
 loop-holds c = search needs
 
--- src/lib.rt:71:11
 is-node-requires : tie.Need-is-node-requires Inv-loop μ-loop
 is-node-requires c κs = search needs
 
--- src/lib.rt:72:13
 parent-requires : tie.Need-parent-requires Inv-loop μ-loop
 parent-requires c κs = ltb-true (c .before .before .loop .i) (count (c .before .before .before .before .before .args .nodes .now)) (sym (c .before .is-node .ensures) ∙ c .if1 .taken)
 
--- src/lib.rt:74:13
 returns : tie.Need-returns Inv-loop μ-loop
 returns c = let a = c .before .before .before .before .before .before .before .before .before .args in
     let h = ltb-true (c .before .before .before .before .before .before .loop .i) (count (a .nodes .now)) (sym (c .before .before .before .before .before .is-node .ensures) ∙ c .before .before .before .before .if1 .taken) in
     let o = tally-out (a .nodes .now) (a .p .0) (a .low) (a .high) (a .first) (a .last) (c .before .before .before .before .before .before .before .before .before .pre .0) (c .before .before .before .before .before .before .loop .i) (omega arith) h (omega arith) in
     omega (arith, o, tally-all (a .nodes .now) (a .p .0) (a .low) (a .high) (a .first) (a .last))
 
--- src/lib.rt:76:19
 is-child-requires : tie.Need-is-child-requires Inv-loop μ-loop
 is-child-requires c κs = ltb-true (c .before .before .before .before .before .before .loop .i) (count (c .before .before .before .before .before .before .before .before .before .args .nodes .now)) (sym (c .before .before .before .before .before .is-node .ensures) ∙ c .before .before .before .before .if1 .taken)
 
--- src/lib.rt:76:14
 tick-requires : tie.Need-tick-requires Inv-loop μ-loop
 tick-requires c κs = search needs
 
--- src/lib.rt:76:9
 add-c : tie.Need-add-c Inv-loop μ-loop
 add-c c = let s = c .before .before .before .before .before .before .before .before .before .before .before .pre .0 .small in omega arith
 
--- src/lib.rt:77:9
 add-i-2 : tie.Need-add-i-2 Inv-loop μ-loop
 add-i-2 c = let s = c .before .before .before .before .before .before .before .before .before .before .before .pre .0 .small in omega arith
 
--- src/lib.rt:71:5
 loop-less : tie.Need-loop-less Inv-loop μ-loop
 loop-less c = let h = ltb-true (c .before .before .before .before .before .before .before .before .loop .i) (count (c .before .before .before .before .before .before .before .before .before .before .before .args .nodes .now)) (sym (c .before .before .before .before .before .before .before .is-node .ensures) ∙ c .before .before .before .before .before .before .if1 .taken) in omega arith
 
--- src/lib.rt:71:5
 loop-again : tie.Need-loop-again Inv-loop μ-loop
 loop-again c = let a = c .before .before .before .before .before .before .before .before .before .before .before .args in
     let h = ltb-true (c .before .before .before .before .before .before .before .before .loop .i) (count (a .nodes .now)) (sym (c .before .before .before .before .before .before .before .is-node .ensures) ∙ c .before .before .before .before .before .before .if1 .taken) in
@@ -73,7 +56,6 @@ loop-again c = let a = c .before .before .before .before .before .before .before
     let e : c .tick .result ≡ cond {A = ℕ} (isChild (a .nodes .now) (a .p .0) (a .low) (a .high) (a .first) (a .last) (c .before .before .before .before .before .before .before .before .loop .i)) 1 0 = c .tick .ensures .0 ∙ ap (λ (b : Bool). cond {A = ℕ} b 1 0) (c .before .is-child .ensures) in
     (omega arith, omega arith, omega arith, omega arith)
 
--- src/lib.rt:64:1
 returns-2 : tie.Need-returns-2 Inv-loop μ-loop
 returns-2 c = let a = c .before .before .before .before .before .args in
     let h = ltb-false (c .before .before .loop .i) (count (a .nodes .now)) (sym (c .before .is-node .ensures) ∙ c .if1 .left) in

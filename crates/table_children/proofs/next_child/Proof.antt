@@ -5,15 +5,10 @@ use Rattle.table_records.specs.Table.{count}
 use borrow.Author.Tests.{ltb-true, ltb-false}
 use native.Mathlib.Omega.{arith}
 use mathlib.Core.Path.{_≡_}
-use Prim.Native.Nat.{_≤_, _<_, _-_}
+use Prim.Native.Nat.{_≤_, _-_}
 use borrow.Author.Needs.{needs}
 use Rattle.table_children.proofs.next_child.Statement.{statement}
 use Rattle.table_children.proofs.next_child.Tie as tie
-use Rattle.table_children.proofs.next_child.Reads as reads
-use Rattle.table_children.proofs.next_child.Lts as lts
-use Rattle.table_children.proofs.is_child.Reads as is-child-reads
-use Rattle.table_records.proofs.is_node.Reads as is-node-reads
-use Rattle.table_records.proofs.parent.Reads as parent-reads
 
 abbrev Inv-loop : tie.InvT-loop
 Inv-loop nodes p low high first last from i₀ i = (from ≤ i) × (i ≤ count nodes) × (nextChild nodes (p .0) low high first last i ≡ nextChild nodes (p .0) low high first last from)
@@ -21,51 +16,41 @@ Inv-loop nodes p low high first last from i₀ i = (from ≤ i) × (i ≤ count 
 abbrev μ-loop : tie.MeasureT-loop
 μ-loop nodes p low high first last from i₀ i = count nodes - i
 
--- src/lib.rt:37:5
 loop-holds : tie.Need-loop-holds Inv-loop μ-loop
 loop-holds c = search needs
 
--- src/lib.rt:37:11
 is-node-requires : tie.Need-is-node-requires Inv-loop μ-loop
 is-node-requires c κs = search needs
 
--- src/lib.rt:38:13
 parent-requires : tie.Need-parent-requires Inv-loop μ-loop
 parent-requires c κs = ltb-true (c .before .before .loop .i) (count (c .before .before .before .before .args .nodes .now)) (sym (c .before .is-node .ensures) ∙ c .if1 .taken)
 
--- src/lib.rt:40:13
 returns : tie.Need-returns Inv-loop μ-loop
 returns c = let a = c .before .before .before .before .before .before .before .before .args in
     let h = ltb-true (c .before .before .before .before .before .before .loop .i) (count (a .nodes .now)) (sym (c .before .before .before .before .before .is-node .ensures) ∙ c .before .before .before .before .if1 .taken) in
     (cc (child-out (a .nodes .now) (a .p .0) (a .low) (a .high) (a .first) (a .last) (c .before .before .before .before .before .before .before .before .pre .0) (c .before .before .before .before .before .before .loop .i) (omega arith) h (omega arith)), search needs)
 
--- src/lib.rt:42:12
 is-child-requires : tie.Need-is-child-requires Inv-loop μ-loop
 is-child-requires c κs = ltb-true (c .before .before .before .before .before .before .loop .i) (count (c .before .before .before .before .before .before .before .before .args .nodes .now)) (sym (c .before .before .before .before .before .is-node .ensures) ∙ c .before .before .before .before .if1 .taken)
 
--- src/lib.rt:43:13
 returns-2 : tie.Need-returns-2 Inv-loop μ-loop
 returns-2 c = let a = c .before .before .before .before .before .before .before .before .before .before .args in
     let h = ltb-true (c .before .before .before .before .before .before .before .before .loop .i) (count (a .nodes .now)) (sym (c .before .before .before .before .before .before .before .is-node .ensures) ∙ c .before .before .before .before .before .before .if1 .taken) in
     let e = sym (c .before .is-child .ensures) ∙ c .if3 .taken in
     (cc (node-stop (isChild (a .nodes .now) (a .p .0) (a .low) (a .high) (a .first) (a .last)) (c .before .before .before .before .before .before .before .before .loop .i) (count (a .nodes .now)) h e), h)
 
--- src/lib.rt:45:9
 add-i : tie.Need-add-i Inv-loop μ-loop
 add-i c = search needs
 
--- src/lib.rt:37:5
 loop-less : tie.Need-loop-less Inv-loop μ-loop
 loop-less c = let h = ltb-true (c .before .before .before .before .before .before .before .before .loop .i) (count (c .before .before .before .before .before .before .before .before .before .before .args .nodes .now)) (sym (c .before .before .before .before .before .before .before .is-node .ensures) ∙ c .before .before .before .before .before .before .if1 .taken) in omega arith
 
--- src/lib.rt:37:5
 loop-again : tie.Need-loop-again Inv-loop μ-loop
 loop-again c = let a = c .before .before .before .before .before .before .before .before .before .before .args in
     let h = ltb-true (c .before .before .before .before .before .before .before .before .loop .i) (count (a .nodes .now)) (sym (c .before .before .before .before .before .before .before .is-node .ensures) ∙ c .before .before .before .before .before .before .if1 .taken) in
     let e = sym (c .before .is-child .ensures) ∙ c .if3 .left in
     (omega arith, omega arith, cc (node-on (isChild (a .nodes .now) (a .p .0) (a .low) (a .high) (a .first) (a .last)) (c .before .before .before .before .before .before .before .before .loop .i) (count (a .nodes .now)) h e))
 
--- src/lib.rt:29:1
 returns-3 : tie.Need-returns-3 Inv-loop μ-loop
 returns-3 c = let a = c .before .before .before .before .args in
     let h = ltb-false (c .before .before .loop .i) (count (a .nodes .now)) (sym (c .before .is-node .ensures) ∙ c .if1 .left) in

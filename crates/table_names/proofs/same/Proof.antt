@@ -7,8 +7,6 @@ use Prim.Native.Nat.{_≤_, _-_}
 use borrow.Author.Needs.{needs}
 use Rattle.table_names.proofs.same.Statement.{statement}
 use Rattle.table_names.proofs.same.Tie as tie
-use Rattle.table_names.proofs.same.Reads as reads
-use Rattle.table_names.proofs.same.Lts as lts
 
 abbrev Inv-loop : tie.InvT-loop
 Inv-loop a b len i₀ i = (i ≤ len) × (len ≡ length a) × (length a ≡ length b) × (same (drop i a) (drop i b) ≡ same a b)
@@ -16,39 +14,30 @@ Inv-loop a b len i₀ i = (i ≤ len) × (len ≡ length a) × (length a ≡ len
 abbrev μ-loop : tie.MeasureT-loop
 μ-loop a b len i₀ i = len - i
 
--- src/lib.rt:15:9
 returns : tie.Need-returns Inv-loop μ-loop
 returns c = let a = c .before .args in cc (same-lengths (a .a .now) (a .b .now) (c .if1 .taken))
 
--- src/lib.rt:18:5
 loop-holds : tie.Need-loop-holds Inv-loop μ-loop
 loop-holds c = search needs
 
--- src/lib.rt:19:12
 shared-slice-read-if2 : tie.Need-shared-slice-read-if2 Inv-loop μ-loop
 shared-slice-read-if2 c = search needs
 
--- src/lib.rt:19:20
 shared-slice-read-if2-2 : tie.Need-shared-slice-read-if2-2 Inv-loop μ-loop
 shared-slice-read-if2-2 c = search needs
 
--- src/lib.rt:20:13
 returns-2 : tie.Need-returns-2 Inv-loop μ-loop
 returns-2 c = let a = c .before .before .before .before .before .before .args in cc (same-stop (a .a .now) (a .b .now) (c .before .before .before .before .loop .i) (c .before .before .before .before .loop .inv .2) (omega arith) (c .if2 .taken))
 
--- src/lib.rt:22:9
 add-i : tie.Need-add-i Inv-loop μ-loop
 add-i c = search needs
 
--- src/lib.rt:18:5
 loop-less : tie.Need-loop-less Inv-loop μ-loop
 loop-less c = search needs
 
--- src/lib.rt:18:5
 loop-again : tie.Need-loop-again Inv-loop μ-loop
 loop-again c = let a = c .before .before .before .before .before .before .args in (omega arith, search needs, search needs, cc (same-on (a .a .now) (a .b .now) (c .before .before .before .before .loop .i) (c .before .before .before .before .loop .inv .2) (omega arith) (c .if2 .left)))
 
--- src/lib.rt:10:1
 returns-3 : tie.Need-returns-3 Inv-loop μ-loop
 returns-3 c = let a = c .before .before .before .args in cc (same-end (a .a .now) (a .b .now) (c .before .loop .i) (c .before .loop .inv .2) (omega arith))
 

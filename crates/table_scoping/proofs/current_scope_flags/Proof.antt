@@ -1,22 +1,14 @@
 use native.Mathlib.Omega.{arith}
-use mathlib.Core.Path.{_∙_, sym}
 use borrow.Author.Needs.{needs}
 use Rattle.table_scoping.proofs.current_scope_flags.Statement.{statement}
 use Rattle.table_scoping.proofs.current_scope_flags.Tie as tie
-use Rattle.table_scoping.proofs.current_scope_flags.Reads as reads
-use Rattle.table_scoping.proofs.current_scope_flags.Lts as lts
-use Rattle.table_records.proofs.scope.Reads as scope-reads
-use Rattle.table_records.proofs.scope_flags.Reads as scope-flags-reads
 
--- src/lib.rt:17:33
 scope-requires : tie.Need-scope-requires
 scope-requires c κs = search needs
 
--- src/lib.rt:17:5
 scope-flags-requires : tie.Need-scope-flags-requires
 scope-flags-requires c κs = omega (arith, c .before .before .before .pre .0 .scope (c .before .before .before .args .n .0) (c .before .before .before .pre .1))
 
--- src/lib.rt:12:1
 returns : tie.Need-returns
 returns c = cc
 

@@ -1,20 +1,15 @@
 use Rattle.table_records.specs.ScopeFlag as scope
 use Rattle.table_records.specs.Table.{scopeFlagsOf, hasFlag}
-use mathlib.Core.Bool.{Bool, true, false}
+use mathlib.Core.Bool.{true, false}
 use Rattle.table_scoping.specs.ScopingLaws.{static-here, static-function, static-up, static-root}
 use Rattle.table_scoping.specs.Scoping.{inStaticBlock}
 use Rattle.table_records.specs.Table.{countScopes}
 use native.Mathlib.Omega.{arith}
 use mathlib.Core.Path.{_≡_, sym, _∙_, ap}
-use Prim.Native.Nat.{_≤_, _<_}
+use Prim.Native.Nat.{_<_}
 use borrow.Author.Needs.{needs}
 use Rattle.table_scoping.proofs.in_static_block.Statement.{statement}
 use Rattle.table_scoping.proofs.in_static_block.Tie as tie
-use Rattle.table_scoping.proofs.in_static_block.Reads as reads
-use Rattle.table_scoping.proofs.in_static_block.Lts as lts
-use Rattle.table_ancestry.proofs.scope_up.Reads as scope-up-reads
-use Rattle.table_records.proofs.has_flag.Reads as has-flag-reads
-use Rattle.table_records.proofs.scope_flags.Reads as scope-flags-reads
 
 abbrev Inv-loop : tie.InvT-loop
 Inv-loop scopes at₀ at = (at .0 < countScopes scopes) × (inStaticBlock scopes (at .0) ≡ inStaticBlock scopes (at₀ .0))
@@ -22,51 +17,41 @@ Inv-loop scopes at₀ at = (at .0 < countScopes scopes) × (inStaticBlock scopes
 abbrev μ-loop : tie.MeasureT-loop
 μ-loop scopes at₀ at = at .0
 
--- src/lib.rt:39:5
 loop-holds : tie.Need-loop-holds Inv-loop μ-loop
 loop-holds c = search needs
 
--- src/lib.rt:40:13
 scope-flags-requires : tie.Need-scope-flags-requires Inv-loop μ-loop
 scope-flags-requires c κs = search needs
 
--- src/lib.rt:41:12
 has-flag-requires : tie.Need-has-flag-requires Inv-loop μ-loop
 has-flag-requires c κs = search needs
 
--- src/lib.rt:44:12
 has-flag-requires-2 : tie.Need-has-flag-requires-2 Inv-loop μ-loop
 has-flag-requires-2 c κs = search needs
 
--- src/lib.rt:50:9
 scope-up-requires : tie.Need-scope-up-requires Inv-loop μ-loop
 scope-up-requires c κs = search needs
 
--- src/lib.rt:39:5
 loop-less : tie.Need-loop-less Inv-loop μ-loop
 loop-less c = search needs
 
--- src/lib.rt:39:5
 loop-again : tie.Need-loop-again Inv-loop μ-loop
 loop-again c = let a = c .before .before .before .before .before .before .before .before .before .before .args in
     let e : hasFlag (scopeFlagsOf (a .scopes .now) (c .before .before .before .before .before .before .before .before .loop .at .0)) scope.StaticBlockScope ≡ false = ap (λ f. hasFlag f scope.StaticBlockScope) (sym (c .before .before .before .before .before .before .before .scope-flags .ensures)) ∙ sym (c .before .before .before .before .before .before .has-flag .ensures) ∙ c .before .before .before .before .before .if1 .left in
     let g : hasFlag (scopeFlagsOf (a .scopes .now) (c .before .before .before .before .before .before .before .before .loop .at .0)) scope.FunctionScope ≡ false = ap (λ f. hasFlag f scope.FunctionScope) (sym (c .before .before .before .before .before .before .before .scope-flags .ensures)) ∙ sym (c .before .before .before .before .has-flag2 .ensures) ∙ c .before .before .before .if2 .left in
     (omega arith, cc (static-up (a .scopes .now) (c .before .before .before .before .before .before .before .before .loop .at .0) (c .before .before .before .before .before .before .before .before .before .before .pre .0) (omega arith) (omega arith) e g))
 
--- src/lib.rt:33:1
 returns : tie.Need-returns Inv-loop μ-loop
 returns c = let a = c .before .before .before .before .before .args in
     let e : hasFlag (scopeFlagsOf (a .scopes .now) (c .before .before .before .loop .at .0)) scope.StaticBlockScope ≡ true = ap (λ f. hasFlag f scope.StaticBlockScope) (sym (c .before .before .scope-flags .ensures)) ∙ sym (c .before .has-flag .ensures) ∙ c .if1 .taken in
     cc (static-here (a .scopes .now) (c .before .before .before .loop .at .0) e)
 
--- src/lib.rt:33:1
 returns-2 : tie.Need-returns-2 Inv-loop μ-loop
 returns-2 c = let a = c .before .before .before .before .before .before .before .args in
     let e : hasFlag (scopeFlagsOf (a .scopes .now) (c .before .before .before .before .before .loop .at .0)) scope.StaticBlockScope ≡ false = ap (λ f. hasFlag f scope.StaticBlockScope) (sym (c .before .before .before .before .scope-flags .ensures)) ∙ sym (c .before .before .before .has-flag .ensures) ∙ c .before .before .if1 .left in
     let g : hasFlag (scopeFlagsOf (a .scopes .now) (c .before .before .before .before .before .loop .at .0)) scope.FunctionScope ≡ true = ap (λ f. hasFlag f scope.FunctionScope) (sym (c .before .before .before .before .scope-flags .ensures)) ∙ sym (c .before .has-flag2 .ensures) ∙ c .if2 .taken in
     cc (static-function (a .scopes .now) (c .before .before .before .before .before .loop .at .0) e g)
 
--- src/lib.rt:33:1
 returns-3 : tie.Need-returns-3 Inv-loop μ-loop
 returns-3 c = let a = c .before .before .before .before .before .before .before .before .before .args in
     let e : hasFlag (scopeFlagsOf (a .scopes .now) (c .before .before .before .before .before .before .before .loop .at .0)) scope.StaticBlockScope ≡ false = ap (λ f. hasFlag f scope.StaticBlockScope) (sym (c .before .before .before .before .before .before .scope-flags .ensures)) ∙ sym (c .before .before .before .before .before .has-flag .ensures) ∙ c .before .before .before .before .if1 .left in

@@ -1,23 +1,14 @@
 use native.Mathlib.Omega.{arith}
-use mathlib.Core.Path.{sym, subst}
-use Prim.Native.Nat.{_<_}
 use borrow.Author.Needs.{needs}
 use Rattle.table_scoping.proofs.is_in_class_static_block.Statement.{statement}
 use Rattle.table_scoping.proofs.is_in_class_static_block.Tie as tie
-use Rattle.table_scoping.proofs.is_in_class_static_block.Reads as reads
-use Rattle.table_scoping.proofs.is_in_class_static_block.Lts as lts
-use Rattle.table_scoping.proofs.in_static_block.Reads as in-static-block-reads
-use Rattle.table_records.proofs.scope.Reads as scope-reads
 
--- src/lib.rt:61:29
 scope-requires : tie.Need-scope-requires
 scope-requires c κs = search needs
 
--- src/lib.rt:61:5
 in-static-block-requires : tie.Need-in-static-block-requires
 in-static-block-requires c κs = (c .before .before .before .pre .0, omega (arith, c .before .before .before .pre .1 .0 .scope (c .before .before .before .args .n .0) (c .before .before .before .pre .1 .1)))
 
--- src/lib.rt:55:1
 returns : tie.Need-returns
 returns c = cc
 
