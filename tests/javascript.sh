@@ -37,8 +37,45 @@ appended() { { tools/treemaker rules/while-switch.js && echo U,0 && echo A,1,0; 
 
 tools/setup rulecheck ruleroute node || { echo "0 passed, 1 failed"; exit 1; }
 
-check "the rule that comes with the repository" says 'F,22,4,0,1,14,15,0\nE,1' ./check-rule rules/block-label.js
-check "a rule without errors" says 'E,0' ./check-rule rules/office-hours.js
+check "the rule that comes with the repository" says 'F,22,4,0,1,14,15,0\nE,1' ./check-rule --lines rules/block-label.js
+check "a rule without errors" says 'E,0' ./check-rule --lines rules/office-hours.js
+check "a finding for people" says 'rules/block-label.js:1:1  `continue` names a label that is on no loop  [22]
+  1 | a: { continue a; }
+    | ^             ~
+  put the label on the loop, or write `break`
+1 finding in 1 file' ./check-rule rules/block-label.js
+
+# status WANTED COMMAND..: the status of a command, whatever it prints
+status() {
+    local want=$1 got
+    shift
+    "$@" >/dev/null 2>&1
+    got=$?
+    [ "$got" -eq "$want" ] || { echo "status $got, not $want: $*"; return 1; }
+}
+# of a text: the rule, its ending and the status
+text_status() {
+    local rule
+    rule=$(mktemp "--suffix=$2")
+    printf '%b' "$3" >"$rule"
+    status "$1" ./check-rule "$rule"
+    local was=$?
+    rm -f "$rule"
+    return $was
+}
+to_full_disk() { ./check-rule rules/office-hours.js >/dev/full; }
+to_closed() { ./check-rule rules/office-hours.js >&-; }
+check "status 0: clean" status 0 ./check-rule rules/office-hours.js
+check "status 1: findings" status 1 ./check-rule rules/block-label.js
+check "status 1: findings in one of several" status 1 ./check-rule rules
+check "status 1: a name declared twice, which document 01 leaves out" text_status 1 .js 'let a; let a;'
+check "status 1: no assignment target" text_status 1 .mjs '1 = 2;'
+check "status 2: no such file" status 2 ./check-rule rules/none.js
+check "status 2: an ending that doesn't tell what it is" text_status 2 .JS 'a;'
+check "status 2: no UTF-8" text_status 2 .js '\xff'
+check "status 2: outside the grammar" text_status 2 .js 'if ('
+check "status 2: the output's disk is full" status 2 to_full_disk
+check "status 2: the output is closed" status 2 to_closed
 check "a text for each code" tools/examples
 
 check "a route: the answers go to a continue" says 'L,3\nL,6\nL,10\nL,3\nZ,0,4,3' lines 1,0,0
