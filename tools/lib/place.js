@@ -11,6 +11,8 @@ const UNSEEN = /[\u0000-\u001f\u007f-\u009f\u061c\u200b-\u200f\u202a-\u202e\u206
 
 const shownAs = (c) => (c === '\t' ? ' ' : UNSEEN.test(c) ? `<U+${c.codePointAt(0).toString(16).toUpperCase().padStart(4, '0')}>` : c);
 const shown = (text) => [...text].map(shownAs).join('');
+// the same with its lines and tabs as they are
+const shownLines = (text) => [...text].map((c) => (/[\n\r\t]/.test(c) ? c : shownAs(c))).join('');
 
 // The text of bytes, or why there is none.
 function textOf(bytes) {
@@ -69,4 +71,4 @@ class Lines {
   }
 }
 
-module.exports = { Lines, shown, textOf };
+module.exports = { Lines, shown, shownLines, textOf };
