@@ -5,13 +5,14 @@ source "$(dirname "$0")/lib.bash" || exit 1
 
 needs cargo rulecheck ruleroute
 static_library || give_up
-(cd compare && cargo build --release --offline -q --features cases/proved) || give_up
-if (cd compare && cargo test --release --offline -q --features cases/proved >/dev/null 2>&1); then ok; else bad "cargo test in compare"; fi
-answer=$(compare/target/release/compare run 20000 2027)
+cargo build --profile checked --offline -q --features cases/proved || give_up
+compare=target/cargo/checked/compare
+if cargo test --profile checked --offline -q --features cases/proved >/dev/null 2>&1; then ok; else bad "cargo test of the judges"; fi
+answer=$($compare run 20000 2027)
 if [ "$(tail -n 1 <<<"$answer")" = "20000 cases, 0 differences" ] && grep -q "^route calls of the proved library" <<<"$answer"; then ok; else bad "compare run 20000 2027: $answer"; fi
 
 vectors=$(mktemp -d)
-compare/target/release/compare vectors "$vectors" 400 11 >/dev/null
+$compare vectors "$vectors" 400 11 >/dev/null
 seen=0
 for input in "$vectors"/*.in; do
     [ -e "$input" ] || continue

@@ -179,13 +179,13 @@ pub fn rescope(rng: &mut Rng, t: &mut OwnedTables) {
         let flags = rng.pick(&[0, 0, 1, 2, 4, 4, 5, 5, 12, 16, 17, 20, 31, 3]);
         t.scopes.extend([parent, flags, node as u32]);
     }
-    for n in 0..nodes {
+    for (n, path) in paths.iter().enumerate() {
         let fits = |s: usize| {
             let mut chain = vec![s];
             while chain[chain.len() - 1] != 0 {
                 chain.push(t.scopes[3 * chain[chain.len() - 1]] as usize);
             }
-            chain.iter().all(|&s| paths[n].contains(&(t.scopes[3 * s + 2] as usize)))
+            chain.iter().all(|&s| path.contains(&(t.scopes[3 * s + 2] as usize)))
         };
         let fit: Vec<usize> = (0..scopes).filter(|&s| fits(s)).collect();
         // The innermost more often than another.

@@ -202,12 +202,13 @@ fn routes(t: &Tables, rng: &mut Rng, counts: &mut Counts) -> Result<(), String> 
 /// Tables as rulecheck's lines, where they can be written so.
 fn lines(tables: &OwnedTables) -> Option<Vec<u8>> {
     let t = tables.lend();
-    let whole = t.nodes.len() % 10 == 0 && t.scopes.len() % 3 == 0 && t.node_count() <= 1024 && t.scope_count() <= 1024;
+    let whole = t.nodes.len().is_multiple_of(10) && t.scopes.len().is_multiple_of(3);
+    let small = t.node_count() <= 1024 && t.scope_count() <= 1024;
     let named = |n: usize| {
         let end = u64::from(t.name_start(n)) + u64::from(t.name_length(n));
         end <= t.names.len() as u64 && !t.name(n).contains(&b'\n')
     };
-    (whole && (0..t.node_count()).all(named)).then(|| tables.lines())
+    (whole && small && (0..t.node_count()).all(named)).then(|| tables.lines())
 }
 
 fn show(seed: u64, index: u64) {

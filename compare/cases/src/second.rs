@@ -137,8 +137,7 @@ fn shaped(t: &Tables, n: usize) -> bool {
         (least..=most).contains(&found)
     });
     let one_default = kind != 14 || count(&|c| field(c, 0) == 15 && field(c, 6) & 4096 != 0) < 2;
-    let some_way_out =
-        kind != 16 || count(&|c| field(c, 2) == 4 || field(c, 2) == 5) > 0;
+    let some_way_out = kind != 16 || count(&|c| field(c, 2) == 4 || field(c, 2) == 5) > 0;
     let placed = n == 0 || may_stand(field(field(n, 1) as usize, 0), kind, field(n, 2));
     placed && counted && one_default && some_way_out
 }
