@@ -18,7 +18,7 @@ no_holes() { ! grep -rnE '(=|→|\(|,) *\?([a-z]*)?( |$|\)|,)|(^|[^[:alnum:]-])(
 
 # A walk up goes through these crates; none of them divides, but for the count of records at a table's size.
 no_division() {
-    ! grep -nE '[^/]/[^/]|%' crates/ancestry/src/*.rt crates/children/src/*.rt crates/names/src/*.rt crates/scoping/src/*.rt |
+    ! grep -nE '[^/]/[^/]|%' crates/table_ancestry/src/*.rt crates/table_children/src/*.rt crates/table_names/src/*.rt crates/table_scoping/src/*.rt |
         grep -vE ':[0-9]+: *(//|ghost)'
 }
 

@@ -3,12 +3,12 @@ use Prim.Native.Nat.{ℕ}
 use mathlib.Core.List.{List}
 use mathlib.Core.Bool.{Bool, false, cond, not, _&&_, _||_}
 use lib.Dec.{eqb}
-use Rattle.common.specs.Tests.{within}
-use Rattle.tables.specs.Table.{kindOf}
-use Rattle.tables.specs.Kinds as k
-use Rattle.children.specs.Children.{valueOf, isNode}
-use Rattle.trees.specs.Trail.{handedDown}
-use Rattle.trees.specs.Rose.{Rose, Roses, node, rnil, rcons, idx, partsOf}
+use Rattle.base_common.specs.Tests.{within}
+use Rattle.table_records.specs.Table.{kindOf}
+use Rattle.table_records.specs.Kinds as k
+use Rattle.table_children.specs.Children.{valueOf, isNode}
+use Rattle.ecma_trees.specs.Trail.{handedDown}
+use Rattle.ecma_trees.specs.Rose.{Rose, Roses, node, rnil, rcons, idx, partsOf}
 
 -- "For each child node child of this Parse Node: if child is an instance of symbol, return true; if child is an instance of a nonterminal, let contained be the result
 -- of child Contains symbol. If contained is true, return true. Return false." It goes into the part j of the node i where `into i j` says so.

@@ -8,19 +8,19 @@ use native.Mathlib.Nat.{eq-or-lt-of-le}
 use native.Mathlib.Omega.{arith}
 use borrow.Author.Tests.{eq-eqb, ne-eqb, eqb-true}
 use lib.Dec.{eqb}
-use Rattle.common.specs.Upto.{upto}
-use Rattle.common.specs.UptoLaws.{and-left, and-right}
-use Rattle.common.specs.Bools.{never}
-use Rattle.tables.specs.Table.{kindOf, parentOf, count}
-use Rattle.tables.specs.Facts.{Tree}
-use Rattle.ancestry.specs.AncestryLaws.{parent-in}
-use Rattle.trees.specs.Rose.{Rose, Roses, node, rnil, rcons, idx, partsOf, marks, marksAll}
-use Rattle.trees.specs.RoseLaws.{Under, Placed, PlacedAll, partsPlaced}
-use Rattle.trees.specs.Walk.{each, some, only}
-use Rattle.trees.specs.WalkLaws.{eachAppend, someAppend, someOnly}
-use Rattle.trees.specs.Unit.{says, saysAll}
-use Rattle.trees.specs.Trail.{unitOf}
-use Rattle.trees.specs.TrailLaws.{unitBridge, handedLaw, handedRoot}
+use Rattle.base_common.specs.Upto.{upto}
+use Rattle.base_common.specs.UptoLaws.{and-left, and-right}
+use Rattle.base_common.specs.Bools.{never}
+use Rattle.table_records.specs.Table.{kindOf, parentOf, count}
+use Rattle.table_records.specs.Facts.{Tree}
+use Rattle.table_ancestry.specs.AncestryLaws.{parent-in}
+use Rattle.ecma_trees.specs.Rose.{Rose, Roses, node, rnil, rcons, idx, partsOf, marks, marksAll}
+use Rattle.ecma_trees.specs.RoseLaws.{Under, Placed, PlacedAll, partsPlaced}
+use Rattle.ecma_trees.specs.Walk.{each, some, only}
+use Rattle.ecma_trees.specs.WalkLaws.{eachAppend, someAppend, someOnly}
+use Rattle.ecma_trees.specs.Unit.{says, saysAll}
+use Rattle.ecma_trees.specs.Trail.{unitOf}
+use Rattle.ecma_trees.specs.TrailLaws.{unitBridge, handedLaw, handedRoot}
 use Rattle.ecma_base.specs.Contains.{contains, containsAny, containsFrom, containsIn, comes}
 
 -- only node 0 is a Program

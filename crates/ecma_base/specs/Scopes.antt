@@ -3,11 +3,11 @@ use Prim.Native.Nat.{ℕ}
 use mathlib.Core.List.{List}
 use mathlib.Core.Bool.{Bool, cond, not, _&&_, _||_}
 use lib.Dec.{eqb, ltb}
-use Rattle.common.specs.Upto.{upto, all}
-use Rattle.common.specs.Tests.{within}
-use Rattle.tables.specs.Table.{kindOf, parentOf, count, extraOf, scopeOf, scopeParentOf, scopeFlagsOf, scopeNodeOf, hasFlag}
-use Rattle.tables.specs.Kinds as k
-use Rattle.tables.specs.ScopeFlag as scope
+use Rattle.base_common.specs.Upto.{upto, all}
+use Rattle.base_common.specs.Tests.{within}
+use Rattle.table_records.specs.Table.{kindOf, parentOf, count, extraOf, scopeOf, scopeParentOf, scopeFlagsOf, scopeNodeOf, hasFlag}
+use Rattle.table_records.specs.Kinds as k
+use Rattle.table_records.specs.ScopeFlag as scope
 
 -- what makes a scope for all that stands in it: functions, arrows, static blocks, Blocks, the three kinds of for
 abbrev pub makesScope : ℕ → Bool

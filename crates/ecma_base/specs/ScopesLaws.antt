@@ -8,13 +8,13 @@ use native.Mathlib.Nat.{eq-or-lt-of-le}
 use native.Mathlib.Omega.{arith}
 use borrow.Author.Tests.{eq-eqb, ne-eqb, eqb-true, ltb-true}
 use lib.Dec.{eqb, ltb}
-use Rattle.common.specs.Upto.{upto, all}
-use Rattle.common.specs.UptoLaws.{all-upto, and-left, and-right}
-use Rattle.common.specs.Tests.{within}
-use Rattle.common.specs.Bools.{never, either, in-range, range-of}
-use Rattle.tables.specs.Table.{kindOf, parentOf, extraOf, count, scopeOf, scopeParentOf, scopeNodeOf}
-use Rattle.tables.specs.Facts.{Tree}
-use Rattle.tables.specs.Kinds as k
+use Rattle.base_common.specs.Upto.{upto, all}
+use Rattle.base_common.specs.UptoLaws.{all-upto, and-left, and-right}
+use Rattle.base_common.specs.Tests.{within}
+use Rattle.base_common.specs.Bools.{never, either, in-range, range-of}
+use Rattle.table_records.specs.Table.{kindOf, parentOf, extraOf, count, scopeOf, scopeParentOf, scopeNodeOf}
+use Rattle.table_records.specs.Facts.{Tree}
+use Rattle.table_records.specs.Kinds as k
 use Rattle.ecma_base.specs.Scopes.{makesScope, mayMakeScope, sameScope, newScope, followsAt, iff, implies, blockScope, functionScope, arrowScope, topScope, scopeKind, flaggedAt, classAt, scopesFollow}
 
 pub notProgram : (ns : List ℕ) → Tree ns → (i : ℕ) → (kindOf ns i ≡ 0 → ⊥) → 0 < i

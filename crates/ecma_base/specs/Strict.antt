@@ -2,8 +2,8 @@
 use Prim.Native.Nat.{ℕ}
 use mathlib.Core.List.{List}
 use mathlib.Core.Bool.{Bool}
-use Rattle.tables.specs.Table.{scopeOf, scopeFlagsOf, hasFlag}
-use Rattle.tables.specs.ScopeFlag as scope
+use Rattle.table_records.specs.Table.{scopeOf, scopeFlagsOf, hasFlag}
+use Rattle.table_records.specs.ScopeFlag as scope
 
 -- IsStrict of the production that a node is
 abbrev pub strictCode : List ℕ → List ℕ → ℕ → Bool

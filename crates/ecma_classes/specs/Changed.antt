@@ -7,18 +7,18 @@ use mathlib.Core.Bool.{Bool, true, false, cond, not, xor, _&&_}
 use mathlib.Core.Logic.{_⊎_}
 use lib.Dec.{eqb, ltb}
 use lib.ListN.{length}
-use Rattle.common.specs.Tests.{within}
-use Rattle.walk.specs.On.{member}
-use Rattle.tables.specs.Table.{kindOf, parentOf, flagsOf, extraOf, nameLenOf, count, hasFlag}
-use Rattle.tables.specs.Kinds as k
-use Rattle.tables.specs.Extras as extra
-use Rattle.tables.specs.NodeFlag as flag
-use Rattle.tables.specs.declared.Found.{Found}
-use Rattle.tables.specs.declared.Found.the-variants.{At, Nothing}
-use Rattle.names.specs.Name.{same}
-use Rattle.names.specs.Words as word
-use Rattle.children.specs.Children.{keep, children, keyOf, valueOf, functionBodyOf, found}
-use Rattle.trees.specs.Rose.{treeOf}
+use Rattle.base_common.specs.Tests.{within}
+use Rattle.base_walk.specs.On.{member}
+use Rattle.table_records.specs.Table.{kindOf, parentOf, flagsOf, extraOf, nameLenOf, count, hasFlag}
+use Rattle.table_records.specs.Kinds as k
+use Rattle.table_records.specs.Extras as extra
+use Rattle.table_records.specs.NodeFlag as flag
+use Rattle.table_records.specs.declared.Found.{Found}
+use Rattle.table_records.specs.declared.Found.the-variants.{At, Nothing}
+use Rattle.table_names.specs.Name.{same}
+use Rattle.table_names.specs.Words as word
+use Rattle.table_children.specs.Children.{keep, children, keyOf, valueOf, functionBodyOf, found}
+use Rattle.ecma_trees.specs.Rose.{treeOf}
 use Rattle.ecma_base.specs.Telling.{Telling, asyncOrGenerator}
 use Rattle.ecma_classes.specs.ClassElements.{keyName, computed, classElements, namesConstructor, constructorTwice, isColon, isProto}
 use Rattle.ecma_classes.specs.PrivateNames.{isPrivateBound, entries, isSetter, matched, invalid, isUse}

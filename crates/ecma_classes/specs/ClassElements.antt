@@ -1,19 +1,19 @@
 -- ECMA-262, 15.7 Class Definitions, 15.7.1 Static Semantics: Early Errors, and 13.2.5 Object Initializer, 13.2.5.1 Static Semantics: Early Errors: those on the elements of one class or one object.
 use Prim.Native.Nat.{ℕ}
 use mathlib.Core.List.{List, [], _∷_}
-use mathlib.Core.Bool.{Bool, true, false, cond, not, _&&_, _||_}
+use mathlib.Core.Bool.{Bool, false, cond, not, _&&_, _||_}
 use lib.Dec.{eqb, ltb}
 use lib.ListN.{length}
-use Rattle.common.specs.Tests.{within}
-use Rattle.tables.specs.Table.{kindOf, parentOf, flagsOf, extraOf, hasFlag}
-use Rattle.tables.specs.Kinds as k
-use Rattle.tables.specs.Extras as extra
-use Rattle.tables.specs.NodeFlag as flag
-use Rattle.tables.specs.declared.Found.{Found}
-use Rattle.tables.specs.declared.Found.the-variants.{At, Nothing}
-use Rattle.names.specs.Name.{same, nameOf}
-use Rattle.names.specs.Words as word
-use Rattle.children.specs.Children.{keep, children, firstChild, keyOf, innerOf, classBodyOf, isNode, found}
+use Rattle.base_common.specs.Tests.{within}
+use Rattle.table_records.specs.Table.{kindOf, parentOf, flagsOf, extraOf, hasFlag}
+use Rattle.table_records.specs.Kinds as k
+use Rattle.table_records.specs.Extras as extra
+use Rattle.table_records.specs.NodeFlag as flag
+use Rattle.table_records.specs.declared.Found.{Found}
+use Rattle.table_records.specs.declared.Found.the-variants.{At, Nothing}
+use Rattle.table_names.specs.Name.{same, nameOf}
+use Rattle.table_names.specs.Words as word
+use Rattle.table_children.specs.Children.{keep, children, firstChild, keyOf, innerOf, classBodyOf, isNode, found}
 
 -- the name at the key of an element or a property; no name is []
 abbrev pub nameFound : List ℕ → List ℕ → Found → List ℕ

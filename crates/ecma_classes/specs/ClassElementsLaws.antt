@@ -7,22 +7,22 @@ use native.Mathlib.Omega.{arith}
 use borrow.Author.Tests.{lt-ltb}
 use lib.Dec.{eqb, ltb}
 use lib.ListN.{length}
-use Rattle.tables.specs.Table.{kindOf, parentOf, spanStartOf, flagsOf, hasFlag}
-use Rattle.tables.specs.Kinds as k
-use Rattle.tables.specs.NodeFlag as flag
-use Rattle.tables.specs.declared.Found.{Found}
-use Rattle.tables.specs.declared.Found.the-variants.{At, Nothing}
-use Rattle.children.specs.Children.{keep, children, firstChild, valueOf, functionBodyOf, classBodyOf, found}
-use Rattle.ancestry.specs.Ancestry.{isAt}
-use Rattle.trees.specs.Walk.{only}
-use Rattle.diagnostics.specs.declared.Raised.the-variants.{Clear}
-use Rattle.diagnostics.specs.Finding.{listed, errorSpan}
-use Rattle.diagnostics.specs.Codes as code
-use Rattle.diagnostics.specs.Contexts as context
-use Rattle.classes.specs.Elements.{hasBody, hasBodyAt}
-use Rattle.classes.specs.Elements as e
-use Rattle.class_checks.specs.ClassChecks.{requireClassName, constructors, firstPair, secondBy, secondConstructor}
-use Rattle.checker.specs.Findings.{findingsAt}
+use Rattle.table_records.specs.Table.{kindOf, parentOf, spanStartOf, flagsOf, hasFlag}
+use Rattle.table_records.specs.Kinds as k
+use Rattle.table_records.specs.NodeFlag as flag
+use Rattle.table_records.specs.declared.Found.{Found}
+use Rattle.table_records.specs.declared.Found.the-variants.{At, Nothing}
+use Rattle.table_children.specs.Children.{keep, children, firstChild, valueOf, functionBodyOf, classBodyOf, found}
+use Rattle.table_ancestry.specs.Ancestry.{isAt}
+use Rattle.ecma_trees.specs.Walk.{only}
+use Rattle.check_diagnostics.specs.declared.Raised.the-variants.{Clear}
+use Rattle.check_diagnostics.specs.Finding.{listed, errorSpan}
+use Rattle.check_diagnostics.specs.Codes as code
+use Rattle.check_diagnostics.specs.Contexts as context
+use Rattle.check_class_table.specs.Elements.{hasBody, hasBodyAt}
+use Rattle.check_class_table.specs.Elements as e
+use Rattle.check_classes.specs.ClassChecks.{requireClassName, constructors, firstPair, secondBy, secondConstructor}
+use Rattle.check_dispatch.specs.Findings.{findingsAt}
 use Rattle.ecma_dispatch.specs.WithCode.{withCode}
 use Rattle.ecma_dispatch.specs.Dispatch.{at26, at27}
 use Rattle.ecma_dispatch.specs.NodesOf.{nodesOf, raised}

@@ -5,12 +5,12 @@ use mathlib.Core.List.{List, [], _∷_}
 use mathlib.Core.Bool.{Bool, true, false, cond, _&&_}
 use lib.Dec.{eqb}
 use borrow.Author.Tests.{eqb-true}
-use Rattle.common.specs.Upto.{upto}
-use Rattle.tables.specs.Table.{count}
-use Rattle.tables.specs.Facts.{Tree}
-use Rattle.trees.specs.Walk.{each, some, only}
-use Rattle.trees.specs.WalkLaws.{eachSame}
-use Rattle.trees.specs.Trail.{unitOf}
+use Rattle.base_common.specs.Upto.{upto}
+use Rattle.table_records.specs.Table.{count}
+use Rattle.table_records.specs.Facts.{Tree}
+use Rattle.ecma_trees.specs.Walk.{each, some, only}
+use Rattle.ecma_trees.specs.WalkLaws.{eachSame}
+use Rattle.ecma_trees.specs.Trail.{unitOf}
 use Rattle.ecma_base.specs.ContainsLaws.{containsIs}
 use Rattle.ecma_classes.specs.Raised.{inUnit}
 use Rattle.ecma_classes.specs.Supers.{begins, unitContains}

@@ -9,34 +9,34 @@ use mathlib.Core.Logic.{_⊎_, inl, inr, ⊎-elim}
 use native.Mathlib.Omega.{arith}
 use borrow.Author.Tests.{eq-eqb, eqb-true}
 use lib.Dec.{eqb}
-use Rattle.common.specs.Upto.{upto, range, all}
-use Rattle.common.specs.UptoLaws.{all-upto}
-use Rattle.common.specs.Bools.{never, either}
-use Rattle.tables.specs.Table.{kindOf, parentOf, count}
-use Rattle.tables.specs.Kinds as k
-use Rattle.names.specs.Name.{same, nameOf}
-use Rattle.fields.specs.Fields.{wrongTable, wrongSizes, listedFlags, mostExtra, listedExtra, unlistedAt, strayAt}
-use Rattle.tree.specs.Tree.{misplacedAt, depthFrom, depthIf}
-use Rattle.scopes.specs.Scopes.{brokenAt, chainOn, misscopedAt}
-use Rattle.standing.specs.Standing.{isStatement, mayBeStatement, isHolder, strayStatement, strayHeld, strayAlternate, strayInSwitch, strayCase, tryPart, strayInTry, strayClause, strayInClause, strayFunctionBody, strayClassBody, strayElement, strayValue, misplacedStatement, misplacedPart, misplacedElement, misplaced, misplacedChildAt}
-use Rattle.counts.specs.Counts.{isDefault, defaults, wrongBody, wrongAlternate, wrongDefault, wrongTry, wrongClause, wrongLabel, wrongFunction, wrongClass, wrongValue, wrongElement, wrongStatement, wrongPart, wrongHome, wrongCountAt}
-use Rattle.shape.specs.Shape.{misshapenAt, lower}
-use Rattle.input.specs.Input.{refusalOf, WellFormed}
-use Rattle.wellformed.specs.WellFormed.{inputRefusal}
-use Rattle.places.specs.First.{first}
-use Rattle.children.specs.Children.{keep, children, howMany, isChild, firstNode}
-use Rattle.walk.specs.Above as a
-use Rattle.walk.specs.On.{on}
-use Rattle.ancestry.specs.Ancestry.{nearestOf}
-use Rattle.supers.specs.Super.{isValueOf, partOf, placeOf, objectUse, methodUse, functionUse, stepAt, reachFrom, reachOf, failsAt}
-use Rattle.verdict.specs.declared.Verdict.the-variants.{Passed}
-use Rattle.wellformed.specs.WellFormedLaws.{input-well-formed}
-use Rattle.diagnostics.specs.declared.Finding.{Finding}
-use Rattle.checker.specs.Findings.{findingsOf}
+use Rattle.base_common.specs.Upto.{upto, range, all}
+use Rattle.base_common.specs.UptoLaws.{all-upto}
+use Rattle.base_common.specs.Bools.{never, either}
+use Rattle.table_records.specs.Table.{kindOf, parentOf, count}
+use Rattle.table_records.specs.Kinds as k
+use Rattle.table_names.specs.Name.{same, nameOf}
+use Rattle.refusal_fields.specs.Fields.{wrongTable, wrongSizes, listedFlags, mostExtra, listedExtra, unlistedAt, strayAt}
+use Rattle.refusal_tree.specs.Tree.{misplacedAt, depthFrom, depthIf}
+use Rattle.refusal_scopes.specs.Scopes.{brokenAt, chainOn, misscopedAt}
+use Rattle.refusal_standing.specs.Standing.{isStatement, mayBeStatement, isHolder, strayStatement, strayHeld, strayAlternate, strayInSwitch, strayCase, tryPart, strayInTry, strayClause, strayInClause, strayFunctionBody, strayClassBody, strayElement, strayValue, misplacedStatement, misplacedPart, misplacedElement, misplaced, misplacedChildAt}
+use Rattle.refusal_counts.specs.Counts.{isDefault, defaults, wrongBody, wrongAlternate, wrongDefault, wrongTry, wrongClause, wrongLabel, wrongFunction, wrongClass, wrongValue, wrongElement, wrongStatement, wrongPart, wrongHome, wrongCountAt}
+use Rattle.refusal_shape.specs.Shape.{misshapenAt, lower}
+use Rattle.refusal_input.specs.Input.{refusalOf, WellFormed}
+use Rattle.refusal_wellformed.specs.WellFormed.{inputRefusal}
+use Rattle.refusal_verdict.specs.First.{first}
+use Rattle.table_children.specs.Children.{keep, children, howMany, isChild, firstNode}
+use Rattle.base_walk.specs.Above as a
+use Rattle.base_walk.specs.On.{on}
+use Rattle.table_ancestry.specs.Ancestry.{nearestOf}
+use Rattle.check_supers.specs.Super.{isValueOf, partOf, placeOf, objectUse, methodUse, functionUse, stepAt, reachFrom, reachOf, failsAt}
+use Rattle.refusal_verdict.specs.declared.Verdict.the-variants.{Passed}
+use Rattle.refusal_wellformed.specs.WellFormedLaws.{input-well-formed}
+use Rattle.check_diagnostics.specs.declared.Finding.{Finding}
+use Rattle.check_dispatch.specs.Findings.{findingsOf}
 use Rattle.ecma_dispatch.specs.WithCode.{withCode}
-use Rattle.trees.specs.Rose.{kids, others, forest, partsOf}
-use Rattle.trees.specs.Walk.{walk}
-use Rattle.trees.specs.Trail.{trail, climb}
+use Rattle.ecma_trees.specs.Rose.{kids, others, forest, partsOf}
+use Rattle.ecma_trees.specs.Walk.{walk}
+use Rattle.ecma_trees.specs.Trail.{trail, climb}
 use Rattle.ecma_dispatch.specs.NodesOf.{raised}
 use Rattle.ecma_classes.specs.ClassElements.{keyName, propName, namesConstructor, isConstructorKind, constructorMethod, isFirstConstructor, classElements, nameMissing}
 use Rattle.ecma_classes.specs.PrivateNames.{isPrivateBound, entries, matched, invalid}

@@ -9,19 +9,19 @@ use native.Mathlib.Omega.{arith}
 use borrow.Author.Tests.{eq-eqb, eqb-true, lt-ltb}
 use lib.Dec.{eqb, ltb}
 use lib.ListN.{length}
-use Rattle.common.specs.Upto.{upto}
-use Rattle.common.specs.UptoLaws.{and-right}
-use Rattle.common.specs.Bools.{never}
-use Rattle.walk.specs.On.{member}
-use Rattle.tables.specs.Table.{kindOf, parentOf, count}
-use Rattle.tables.specs.Facts.{Tree}
-use Rattle.tables.specs.Kinds as k
-use Rattle.tables.specs.declared.Found.the-variants.{At}
-use Rattle.children.specs.Children.{keep, children, isNode}
-use Rattle.ancestry.specs.AncestryLaws.{parent-in}
-use Rattle.fields.specs.Fields.{Listed}
-use Rattle.shape.specs.Shape.{Shaped}
-use Rattle.trees.specs.Trail.{unitOf}
+use Rattle.base_common.specs.Upto.{upto}
+use Rattle.base_common.specs.UptoLaws.{and-right}
+use Rattle.base_common.specs.Bools.{never}
+use Rattle.base_walk.specs.On.{member}
+use Rattle.table_records.specs.Table.{kindOf, parentOf, count}
+use Rattle.table_records.specs.Facts.{Tree}
+use Rattle.table_records.specs.Kinds as k
+use Rattle.table_records.specs.declared.Found.the-variants.{At}
+use Rattle.table_children.specs.Children.{keep, children, isNode}
+use Rattle.table_ancestry.specs.AncestryLaws.{parent-in}
+use Rattle.refusal_fields.specs.Fields.{Listed}
+use Rattle.refusal_shape.specs.Shape.{Shaped}
+use Rattle.ecma_trees.specs.Trail.{unitOf}
 use Rattle.ecma_classes.specs.ListLaws.{in-kept, upto-in}
 use Rattle.ecma_classes.specs.ClassElements.{elementsIn, classElements, namesConstructor, constructorTwice, isConstructorKind, constructorMethod, isFirstConstructor}
 use Rattle.ecma_classes.specs.Supers.{begins, isMethod, isConstructorMethod, isBare, standardBare}

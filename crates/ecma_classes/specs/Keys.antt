@@ -3,10 +3,10 @@
 use Prim.Native.Nat.{ℕ}
 use mathlib.Core.Path.{_≡_, refl}
 use mathlib.Core.List.{List, [], _∷_, map}
-use Rattle.common.specs.Upto.{upto, range}
-use Rattle.names.specs.Name.{same, nameOf}
-use Rattle.names.specs.Words as word
-use Rattle.children.specs.Children.{keep, isChild, firstNode}
+use Rattle.base_common.specs.Upto.{upto, range}
+use Rattle.table_names.specs.Name.{same, nameOf}
+use Rattle.table_names.specs.Words as word
+use Rattle.table_children.specs.Children.{keep, isChild, firstNode}
 use Rattle.ecma_classes.specs.ClassElements.{keyName, propName, constructorWord, namesConstructor, isProto}
 
 abbrev table : List ℕ

@@ -6,10 +6,10 @@ use mathlib.Core.Bool.{Bool, true, false, cond, _||_}
 use native.Mathlib.Omega.{arith}
 use borrow.Author.Tests.{eq-eqb, eqb-true, eqb-false}
 use lib.Dec.{eqb}
-use Rattle.common.specs.Upto.{range, upto, any}
-use Rattle.common.specs.Bools.{never}
-use Rattle.walk.specs.On.{member}
-use Rattle.children.specs.Children.{keep}
+use Rattle.base_common.specs.Upto.{range, upto, any}
+use Rattle.base_common.specs.Bools.{never}
+use Rattle.base_walk.specs.On.{member}
+use Rattle.table_children.specs.Children.{keep}
 
 pub member-here : (x : ℕ) (l : List ℕ) → member x (x ∷ l) ≡ true
 member-here x l = rw (eq-eqb x x refl)

@@ -7,21 +7,21 @@ use native.Mathlib.Omega.{arith}
 use borrow.Author.Tests.{lt-ltb, le-leb, eqb-true}
 use lib.Dec.{eqb, ltb}
 use lib.ListN.{length}
-use Rattle.common.specs.Upto.{upto}
-use Rattle.tables.specs.Table.{kindOf, roleOf, parentOf, flagsOf, count, hasFlag}
-use Rattle.tables.specs.Kinds as k
-use Rattle.tables.specs.NodeFlag as flag
-use Rattle.tables.specs.declared.Found.{Found}
-use Rattle.tables.specs.declared.Found.the-variants.{At, Nothing}
-use Rattle.names.specs.Name.{same, nameOf}
-use Rattle.names.specs.Words as word
-use Rattle.children.specs.Children.{keep, children, isChild, keyOf}
-use Rattle.children.specs.ChildrenLaws.{keep-keep, number}
-use Rattle.classes.specs.ClassesLaws.{within-one}
-use Rattle.fields.specs.Fields.{Listed}
-use Rattle.trees.specs.Walk.{each, some, only}
-use Rattle.expressions.specs.Expressions.{properties, isPlain, ifProto, protoKey, toList, protoKeys, repeatsAfter, repeats, checkObjectExpression}
-use Rattle.checker.specs.Findings.{findingsAt}
+use Rattle.base_common.specs.Upto.{upto}
+use Rattle.table_records.specs.Table.{kindOf, roleOf, parentOf, flagsOf, count, hasFlag}
+use Rattle.table_records.specs.Kinds as k
+use Rattle.table_records.specs.NodeFlag as flag
+use Rattle.table_records.specs.declared.Found.{Found}
+use Rattle.table_records.specs.declared.Found.the-variants.{At, Nothing}
+use Rattle.table_names.specs.Name.{same, nameOf}
+use Rattle.table_names.specs.Words as word
+use Rattle.table_children.specs.Children.{keep, children, isChild, keyOf}
+use Rattle.table_children.specs.ChildrenLaws.{keep-keep, number}
+use Rattle.check_class_table.specs.ClassesLaws.{within-one}
+use Rattle.refusal_fields.specs.Fields.{Listed}
+use Rattle.ecma_trees.specs.Walk.{each, some, only}
+use Rattle.check_expressions.specs.Expressions.{properties, isPlain, ifProto, protoKey, toList, protoKeys, repeatsAfter, repeats, checkObjectExpression}
+use Rattle.check_dispatch.specs.Findings.{findingsAt}
 use Rattle.ecma_dispatch.specs.WithCode.{withCode}
 use Rattle.ecma_dispatch.specs.Dispatch.{at1}
 use Rattle.ecma_dispatch.specs.NodesOf.{nodesOf, raised}

@@ -3,16 +3,16 @@ use Prim.Native.Nat.{ℕ}
 use mathlib.Core.List.{List, [], _∷_, _++_, foldr}
 use mathlib.Core.Bool.{Bool, true, false, cond, not, xor, _&&_, _||_}
 use lib.Dec.{eqb}
-use Rattle.common.specs.Upto.{any}
-use Rattle.common.specs.Tests.{within}
-use Rattle.tables.specs.Table.{kindOf, parentOf, flagsOf, extraOf, hasFlag}
-use Rattle.tables.specs.Kinds as k
-use Rattle.tables.specs.Extras as extra
-use Rattle.tables.specs.NodeFlag as flag
-use Rattle.names.specs.Name.{same, nameOf, has}
-use Rattle.children.specs.Children.{keep, children}
-use Rattle.trees.specs.Rose.{Rose, Roses, node, rnil, rcons, treeOf}
-use Rattle.trees.specs.Walk.{walk, only}
+use Rattle.base_common.specs.Upto.{any}
+use Rattle.base_common.specs.Tests.{within}
+use Rattle.table_records.specs.Table.{kindOf, parentOf, flagsOf, extraOf, hasFlag}
+use Rattle.table_records.specs.Kinds as k
+use Rattle.table_records.specs.Extras as extra
+use Rattle.table_records.specs.NodeFlag as flag
+use Rattle.table_names.specs.Name.{same, nameOf, has}
+use Rattle.table_children.specs.Children.{keep, children}
+use Rattle.ecma_trees.specs.Rose.{Rose, Roses, node, rnil, rcons, treeOf}
+use Rattle.ecma_trees.specs.Walk.{walk, only}
 use Rattle.ecma_classes.specs.ClassElements.{keyName, isDefinition, isStatic}
 
 -- 15.7.8: a ClassElement whose ClassElementName is a PrivateIdentifier; keyName is its StringValue

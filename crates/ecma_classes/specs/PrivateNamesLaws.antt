@@ -9,39 +9,39 @@ use native.Mathlib.Omega.{arith}
 use borrow.Author.Tests.{eq-eqb, eqb-true, lt-leb, le-leb}
 use lib.Dec.{eqb}
 use lib.ListN.{length}
-use Rattle.common.specs.Upto.{upto, any}
-use Rattle.common.specs.UptoLaws.{and-left}
-use Rattle.common.specs.Tests.{within}
-use Rattle.common.specs.Bools.{never}
-use Rattle.walk.specs.On.{member}
-use Rattle.walk.specs.PreorderLaws.{lt-or-ge}
-use Rattle.tables.specs.Table.{kindOf, parentOf, roleOf, count, ancestors}
-use Rattle.tables.specs.Facts.{Tree}
-use Rattle.tables.specs.Kinds as k
-use Rattle.tables.specs.declared.Found.{Found}
-use Rattle.tables.specs.declared.Found.the-variants.{At, Nothing}
-use Rattle.names.specs.Name.{same, nameOf, has}
-use Rattle.children.specs.Children.{keep, isChild, classBodyOf, found}
-use Rattle.children.specs.ChildrenLaws.{keep-keep, found-child, tally, tally-all}
-use Rattle.ancestry.specs.Ancestry.{nearestOf}
-use Rattle.ancestry.specs.AncestryLaws.{ancestors-up, ancestors-root}
-use Rattle.fields.specs.Fields.{Listed}
-use Rattle.shape.specs.Shape.{Shaped}
-use Rattle.trees.specs.Rose.{Rose, Roses, node, rnil, rcons, treeOf}
-use Rattle.trees.specs.Walk.{each, walk, walkAll, some, only}
-use Rattle.trees.specs.WalkLaws.{foldIs, someAppend, someOnly}
-use Rattle.diagnostics.specs.declared.Finding.{Finding}
-use Rattle.diagnostics.specs.declared.Raised.the-variants.{Clear}
-use Rattle.diagnostics.specs.Finding.{listed, errorAt}
-use Rattle.diagnostics.specs.Codes as code
-use Rattle.diagnostics.specs.Contexts as context
-use Rattle.gather.specs.Gather.{flat-keep, kept-first, kept-none}
-use Rattle.classes.specs.declared.Current.the-variants.{Class}
-use Rattle.classes.specs.Classes.{classAt, bodyAbove, currentClass, outerClasses}
-use Rattle.classes.specs.ClassesLaws.{within-one, over, outer-at}
-use Rattle.classes.specs.Elements.{elementName, privates, hasPrivate, isDeclared}
-use Rattle.class_checks.specs.ClassChecks.{outsideBy, privateOutside, isClass, references, undeclaredAt, undeclaredIn, undeclaredBy, privateUndeclared}
-use Rattle.checker.specs.Findings.{findingsAt}
+use Rattle.base_common.specs.Upto.{upto, any}
+use Rattle.base_common.specs.UptoLaws.{and-left}
+use Rattle.base_common.specs.Tests.{within}
+use Rattle.base_common.specs.Bools.{never}
+use Rattle.base_walk.specs.On.{member}
+use Rattle.base_walk.specs.PreorderLaws.{lt-or-ge}
+use Rattle.table_records.specs.Table.{kindOf, parentOf, roleOf, count, ancestors}
+use Rattle.table_records.specs.Facts.{Tree}
+use Rattle.table_records.specs.Kinds as k
+use Rattle.table_records.specs.declared.Found.{Found}
+use Rattle.table_records.specs.declared.Found.the-variants.{At, Nothing}
+use Rattle.table_names.specs.Name.{same, nameOf, has}
+use Rattle.table_children.specs.Children.{keep, isChild, classBodyOf, found}
+use Rattle.table_children.specs.ChildrenLaws.{keep-keep, found-child, tally, tally-all}
+use Rattle.table_ancestry.specs.Ancestry.{nearestOf}
+use Rattle.table_ancestry.specs.AncestryLaws.{ancestors-up, ancestors-root}
+use Rattle.refusal_fields.specs.Fields.{Listed}
+use Rattle.refusal_shape.specs.Shape.{Shaped}
+use Rattle.ecma_trees.specs.Rose.{Rose, Roses, node, rnil, rcons, treeOf}
+use Rattle.ecma_trees.specs.Walk.{each, walk, walkAll, some, only}
+use Rattle.ecma_trees.specs.WalkLaws.{foldIs, someAppend, someOnly}
+use Rattle.check_diagnostics.specs.declared.Finding.{Finding}
+use Rattle.check_diagnostics.specs.declared.Raised.the-variants.{Clear}
+use Rattle.check_diagnostics.specs.Finding.{listed, errorAt}
+use Rattle.check_diagnostics.specs.Codes as code
+use Rattle.check_diagnostics.specs.Contexts as context
+use Rattle.check_diagnostics.specs.Gather.{flat-keep, kept-first, kept-none}
+use Rattle.check_class_table.specs.declared.Current.the-variants.{Class}
+use Rattle.check_class_table.specs.Classes.{classAt, bodyAbove, currentClass, outerClasses}
+use Rattle.check_class_table.specs.ClassesLaws.{within-one, over, outer-at}
+use Rattle.check_class_table.specs.Elements.{elementName, privates, hasPrivate, isDeclared}
+use Rattle.check_classes.specs.ClassChecks.{outsideBy, privateOutside, isClass, references, undeclaredAt, undeclaredIn, undeclaredBy, privateUndeclared}
+use Rattle.check_dispatch.specs.Findings.{findingsAt}
 use Rattle.ecma_dispatch.specs.WithCode.{withCode}
 use Rattle.ecma_dispatch.specs.Dispatch.{at7, at8}
 use Rattle.ecma_dispatch.specs.NodesOf.{nodesOf, raised}

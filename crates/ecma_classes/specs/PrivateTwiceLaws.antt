@@ -7,24 +7,24 @@ use native.Mathlib.Omega.{arith}
 use borrow.Author.Tests.{lt-ltb, le-ltb, eqb-true}
 use lib.Dec.{eqb, ltb}
 use lib.ListN.{length}
-use Rattle.common.specs.Upto.{upto, any}
-use Rattle.common.specs.Bools.{never}
-use Rattle.walk.specs.On.{member}
-use Rattle.tables.specs.Table.{kindOf, parentOf, extraOf, count}
-use Rattle.tables.specs.Kinds as k
-use Rattle.tables.specs.declared.Found.{Found}
-use Rattle.tables.specs.declared.Found.the-variants.{At, Nothing}
-use Rattle.names.specs.Name.{same}
-use Rattle.names.specs.NameLaws.{same-self, same-eq}
-use Rattle.children.specs.Children.{keep, children, keyOf, valueOf}
-use Rattle.children.specs.ChildrenLaws.{keep-keep}
-use Rattle.trees.specs.Walk.{some}
-use Rattle.diagnostics.specs.Finding.{listed}
-use Rattle.diagnostics.specs.declared.Raised.the-variants.{Clear}
-use Rattle.classes.specs.Elements.{nameAt, hasNameAt, elementName, isDefinition, isPrivate, enters, elements, privates}
-use Rattle.classes.specs.Elements as e
-use Rattle.duplicates.specs.declared.Place.{Place}
-use Rattle.duplicates.specs.Duplicates.{nowhere, here, step, lastOf, sideOf, isEarlier, previousOn, orElse, previousOf, isDuplicate, redeclaration, duplicateBy, duplicateAt, duplicatesIn}
+use Rattle.base_common.specs.Upto.{upto, any}
+use Rattle.base_common.specs.Bools.{never}
+use Rattle.base_walk.specs.On.{member}
+use Rattle.table_records.specs.Table.{kindOf, parentOf, extraOf, count}
+use Rattle.table_records.specs.Kinds as k
+use Rattle.table_records.specs.declared.Found.{Found}
+use Rattle.table_records.specs.declared.Found.the-variants.{At, Nothing}
+use Rattle.table_names.specs.Name.{same}
+use Rattle.table_names.specs.NameLaws.{same-self, same-eq}
+use Rattle.table_children.specs.Children.{keep, children, keyOf, valueOf}
+use Rattle.table_children.specs.ChildrenLaws.{keep-keep}
+use Rattle.ecma_trees.specs.Walk.{some}
+use Rattle.check_diagnostics.specs.Finding.{listed}
+use Rattle.check_diagnostics.specs.declared.Raised.the-variants.{Clear}
+use Rattle.check_class_table.specs.Elements.{nameAt, hasNameAt, elementName, isDefinition, isPrivate, enters, elements, privates}
+use Rattle.check_class_table.specs.Elements as e
+use Rattle.check_duplicates.specs.declared.Place.{Place}
+use Rattle.check_duplicates.specs.Duplicates.{nowhere, here, step, lastOf, sideOf, isEarlier, previousOn, orElse, previousOf, isDuplicate, redeclaration, duplicateBy, duplicateAt, duplicatesIn}
 use Rattle.ecma_dispatch.specs.WithCode.{withCode}
 use Rattle.ecma_dispatch.specs.NodesOf.{nodesOf, raised}
 use Rattle.ecma_dispatch.specs.NodesOfLaws.{raisedFlat}

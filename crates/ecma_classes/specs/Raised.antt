@@ -3,17 +3,17 @@ use Prim.Native.Nat.{ℕ, _+_}
 use mathlib.Core.List.{List, [], _∷_, foldr, flatMap}
 use mathlib.Core.Bool.{Bool, false, cond}
 use lib.Dec.{eqb}
-use Rattle.common.specs.Upto.{upto}
-use Rattle.tables.specs.Table.{kindOf, count, ancestors}
-use Rattle.tables.specs.Kinds as k
-use Rattle.tables.specs.declared.Found.{Found}
-use Rattle.tables.specs.declared.Found.the-variants.{At, Nothing}
-use Rattle.children.specs.Children.{keep, classBodyOf}
-use Rattle.diagnostics.specs.declared.Finding.{Finding}
-use Rattle.diagnostics.specs.Finding.{listed, errorAt}
-use Rattle.diagnostics.specs.Codes as code
-use Rattle.diagnostics.specs.Contexts as context
-use Rattle.trees.specs.Walk.{each, only}
+use Rattle.base_common.specs.Upto.{upto}
+use Rattle.table_records.specs.Table.{kindOf, count, ancestors}
+use Rattle.table_records.specs.Kinds as k
+use Rattle.table_records.specs.declared.Found.{Found}
+use Rattle.table_records.specs.declared.Found.the-variants.{At, Nothing}
+use Rattle.table_children.specs.Children.{keep, classBodyOf}
+use Rattle.check_diagnostics.specs.declared.Finding.{Finding}
+use Rattle.check_diagnostics.specs.Finding.{listed, errorAt}
+use Rattle.check_diagnostics.specs.Codes as code
+use Rattle.check_diagnostics.specs.Contexts as context
+use Rattle.ecma_trees.specs.Walk.{each, only}
 use Rattle.ecma_classes.specs.PrivateNames.{isClassBody}
 use Rattle.ecma_classes.specs.Supers.{unit}
 

@@ -1,16 +1,16 @@
 -- Laws of lists of nodes that pass a test, and of findings with one code.
 use Prim.Native.Nat.{ℕ, zero, suc, _+_, _-_, _≤_, _<_}
 use mathlib.Core.Path.{_≡_, refl, _∙_}
-use mathlib.Core.List.{List, [], _∷_, _++_, flatMap}
+use mathlib.Core.List.{List, [], _∷_, flatMap}
 use mathlib.Core.Bool.{Bool, true, false, cond, _&&_, _||_}
 use borrow.Author.Tests.{eq-eqb}
 use native.Mathlib.Omega.{arith}
 use native.Mathlib.Numerals.{add-one}
-use Rattle.common.specs.Upto.{range, upto, any}
-use Rattle.common.specs.UptoLaws.{upto-cons}
+use Rattle.base_common.specs.Upto.{range, upto, any}
+use Rattle.base_common.specs.UptoLaws.{upto-cons}
 use lib.Dec.{eqb}
-use Rattle.walk.specs.On.{member}
-use Rattle.children.specs.Children.{keep}
+use Rattle.base_walk.specs.On.{member}
+use Rattle.table_children.specs.Children.{keep}
 
 pub keep-same : (p q : ℕ → Bool) → ((k : ℕ) → p k ≡ q k) → (l : List ℕ) → keep p l ≡ keep q l
 unfolding keep

@@ -7,12 +7,12 @@ use mathlib.Core.Logic.{_⊎_, inl, inr, ⊎-elim}
 use native.Mathlib.Omega.{arith}
 use borrow.Author.Tests.{ne-eqb}
 use lib.Dec.{eqb}
-use Rattle.common.specs.Tests.{within}
-use Rattle.common.specs.Bools.{range-of}
-use Rattle.tables.specs.Table.{kindOf, parentOf, extraOf, scopeOf, count, scopeFlagsOf, scopeNodeOf, hasFlag}
-use Rattle.tables.specs.Facts.{Tree}
-use Rattle.tables.specs.Kinds as k
-use Rattle.tables.specs.ScopeFlag as scope
+use Rattle.base_common.specs.Tests.{within}
+use Rattle.base_common.specs.Bools.{range-of}
+use Rattle.table_records.specs.Table.{kindOf, parentOf, extraOf, scopeOf, count, scopeFlagsOf, scopeNodeOf, hasFlag}
+use Rattle.table_records.specs.Facts.{Tree}
+use Rattle.table_records.specs.Kinds as k
+use Rattle.table_records.specs.ScopeFlag as scope
 use Rattle.ecma_base.specs.Scopes.{makesScope, mayMakeScope, scopeKind, scopesFollow}
 use Rattle.ecma_base.specs.ScopesLaws.{notProgram, noFunction, Made, root, blockFlag, functionFlag, arrowFlag, made, sameOrMade, sameOnly, madeKind, rootKind, className, classBody, classElement}
 

@@ -8,26 +8,26 @@ use native.Mathlib.Nat.{eq-or-lt-of-le}
 use native.Mathlib.Omega.{arith}
 use borrow.Author.Tests.{eq-eqb, ne-eqb, eqb-true, eqb-false}
 use lib.Dec.{eqb}
-use Rattle.common.specs.Tests.{within}
-use Rattle.common.specs.Bools.{never, in-range, range-of, either}
-use Rattle.walk.specs.AboveLaws.{above-root}
-use Rattle.tables.specs.Table.{kindOf, parentOf, extraOf, scopeOf, count, outer, scopeParentOf, scopeNodeOf}
-use Rattle.tables.specs.Facts.{Tree, Chained, Scoped}
-use Rattle.tables.specs.Kinds as k
-use Rattle.tables.specs.declared.Found.{Found}
-use Rattle.tables.specs.declared.Found.the-variants.{At, Nothing}
-use Rattle.children.specs.Children.{valueOf, isNode}
-use Rattle.ancestry.specs.AncestryLaws.{nearest-stop, nearest-on, nearest-root}
-use Rattle.classes.specs.ClassesLaws.{within-one, over}
-use Rattle.standing.specs.Standing.{Placed}
-use Rattle.trees.specs.Trail.{unitOf}
-use Rattle.trees.specs.TrailLaws.{handedLaw, handedRoot}
-use Rattle.supers.specs.Super.{ifCall, isValueOf, partOf, placeOf, functionUse, isClassScope, atClass, stepAt, classAbove, reachFrom}
-use Rattle.supers.specs.SuperLaws.{place-stop, place-on, reach-stop, reach-leave, reach-on, outer-next}
-use Rattle.supers.specs.declared.ElementPart.the-variants.{Value, Key}
-use Rattle.supers.specs.declared.Reach.{Reach}
-use Rattle.supers.specs.declared.Reach.the-variants.{Illegal}
-use Rattle.supers.specs.declared.Step.the-variants.{On}
+use Rattle.base_common.specs.Tests.{within}
+use Rattle.base_common.specs.Bools.{never, in-range, range-of, either}
+use Rattle.base_walk.specs.AboveLaws.{above-root}
+use Rattle.table_records.specs.Table.{kindOf, parentOf, extraOf, scopeOf, count, outer, scopeParentOf, scopeNodeOf}
+use Rattle.table_records.specs.Facts.{Tree, Chained, Scoped}
+use Rattle.table_records.specs.Kinds as k
+use Rattle.table_records.specs.declared.Found.{Found}
+use Rattle.table_records.specs.declared.Found.the-variants.{At, Nothing}
+use Rattle.table_children.specs.Children.{valueOf, isNode}
+use Rattle.table_ancestry.specs.AncestryLaws.{nearest-stop, nearest-on, nearest-root}
+use Rattle.check_class_table.specs.ClassesLaws.{within-one, over}
+use Rattle.refusal_standing.specs.Standing.{Placed}
+use Rattle.ecma_trees.specs.Trail.{unitOf}
+use Rattle.ecma_trees.specs.TrailLaws.{handedLaw, handedRoot}
+use Rattle.check_supers.specs.Super.{ifCall, isValueOf, partOf, placeOf, functionUse, isClassScope, atClass, stepAt, classAbove, reachFrom}
+use Rattle.check_supers.specs.SuperLaws.{place-stop, place-on, reach-stop, reach-leave, reach-on, outer-next}
+use Rattle.check_supers.specs.declared.ElementPart.the-variants.{Value, Key}
+use Rattle.check_supers.specs.declared.Reach.{Reach}
+use Rattle.check_supers.specs.declared.Reach.the-variants.{Illegal}
+use Rattle.check_supers.specs.declared.Step.the-variants.{On}
 use Rattle.ecma_base.specs.ScopesLaws.{Made}
 use Rattle.ecma_classes.specs.ScopesFitLaws.{isFunctionScope, isArrowScope, isBlockScope, Same, ScopesFit}
 use Rattle.ecma_classes.specs.Supers.{begins}

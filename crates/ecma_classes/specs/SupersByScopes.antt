@@ -5,11 +5,11 @@ use Prim.Native.Nat.{ℕ}
 use mathlib.Core.List.{List}
 use mathlib.Core.Bool.{Bool, true, false, _&&_}
 use lib.Dec.{eqb}
-use Rattle.tables.specs.Table.{kindOf}
-use Rattle.tables.specs.Kinds as k
-use Rattle.supers.specs.Super.{reachOf}
-use Rattle.supers.specs.declared.Reach.{Reach}
-use Rattle.supers.specs.declared.Reach.the-variants.{Legal, Illegal, Underived, Fails}
+use Rattle.table_records.specs.Table.{kindOf}
+use Rattle.table_records.specs.Kinds as k
+use Rattle.check_supers.specs.Super.{reachOf}
+use Rattle.check_supers.specs.declared.Reach.{Reach}
+use Rattle.check_supers.specs.declared.Reach.the-variants.{Legal, Illegal, Underived, Fails}
 use Rattle.ecma_classes.specs.Changed.{isTableCall, isTableProperty}
 
 -- the search ends in a constructor of a class without heritage ..

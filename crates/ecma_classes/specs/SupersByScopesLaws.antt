@@ -4,17 +4,17 @@ use mathlib.Core.Path.{_≡_, refl, ap, sym, _∙_}
 use mathlib.Core.List.{List, []}
 use mathlib.Core.Bool.{Bool, true, false, cond, not, _&&_}
 use lib.Dec.{eqb}
-use Rattle.tables.specs.Table.{kindOf, count}
-use Rattle.tables.specs.Facts.{Tree, Chained, Scoped}
-use Rattle.tables.specs.Kinds as k
-use Rattle.standing.specs.Standing.{Placed}
-use Rattle.trees.specs.Walk.{some, only}
-use Rattle.trees.specs.WalkLaws.{someOnly}
-use Rattle.diagnostics.specs.Finding.{listed}
-use Rattle.supers.specs.Super.{reachOf, isCall, byReach, checkSuper}
-use Rattle.supers.specs.declared.Reach.{Reach}
-use Rattle.supers.specs.declared.Reach.the-variants.{Legal, Illegal, Underived, Fails}
-use Rattle.checker.specs.Findings.{findingsAt}
+use Rattle.table_records.specs.Table.{kindOf, count}
+use Rattle.table_records.specs.Facts.{Tree, Chained, Scoped}
+use Rattle.table_records.specs.Kinds as k
+use Rattle.refusal_standing.specs.Standing.{Placed}
+use Rattle.ecma_trees.specs.Walk.{some, only}
+use Rattle.ecma_trees.specs.WalkLaws.{someOnly}
+use Rattle.check_diagnostics.specs.Finding.{listed}
+use Rattle.check_supers.specs.Super.{reachOf, isCall, byReach, checkSuper}
+use Rattle.check_supers.specs.declared.Reach.{Reach}
+use Rattle.check_supers.specs.declared.Reach.the-variants.{Legal, Illegal, Underived, Fails}
+use Rattle.check_dispatch.specs.Findings.{findingsAt}
 use Rattle.ecma_dispatch.specs.WithCode.{withCode}
 use Rattle.ecma_dispatch.specs.Dispatch.{at28, at29, at30}
 use Rattle.ecma_dispatch.specs.NodesOf.{nodesOf, raised}

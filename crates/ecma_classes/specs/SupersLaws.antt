@@ -8,24 +8,24 @@ use native.Mathlib.Nat.{eq-or-lt-of-le}
 use native.Mathlib.Omega.{arith}
 use borrow.Author.Tests.{ne-eqb, eqb-true}
 use lib.Dec.{eqb}
-use Rattle.common.specs.UptoLaws.{and-left, and-right}
-use Rattle.common.specs.Tests.{within}
-use Rattle.common.specs.Bools.{never}
-use Rattle.tables.specs.Table.{kindOf, parentOf, flagsOf, extraOf, count, hasFlag}
-use Rattle.tables.specs.Facts.{Tree, Chained, Scoped}
-use Rattle.tables.specs.Kinds as k
-use Rattle.tables.specs.Extras as extra
-use Rattle.tables.specs.NodeFlag as flag
-use Rattle.tables.specs.declared.Found.the-variants.{At}
-use Rattle.standing.specs.Standing.{Placed}
-use Rattle.trees.specs.Walk.{only}
-use Rattle.trees.specs.Trail.{unitOf}
-use Rattle.trees.specs.TrailLaws.{handedLaw, handedRoot}
-use Rattle.diagnostics.specs.Finding.{listed}
-use Rattle.supers.specs.Super.{ifCall, isMethodLike, objectUse, methodUse, functionUse, classAbove, reachOf, isCall, byReach, checkSuper}
-use Rattle.supers.specs.declared.Reach.{Reach}
-use Rattle.supers.specs.declared.Reach.the-variants.{Legal, Illegal, Underived}
-use Rattle.checker.specs.Findings.{findingsAt}
+use Rattle.base_common.specs.UptoLaws.{and-left, and-right}
+use Rattle.base_common.specs.Tests.{within}
+use Rattle.base_common.specs.Bools.{never}
+use Rattle.table_records.specs.Table.{kindOf, parentOf, flagsOf, extraOf, count, hasFlag}
+use Rattle.table_records.specs.Facts.{Tree, Chained, Scoped}
+use Rattle.table_records.specs.Kinds as k
+use Rattle.table_records.specs.Extras as extra
+use Rattle.table_records.specs.NodeFlag as flag
+use Rattle.table_records.specs.declared.Found.the-variants.{At}
+use Rattle.refusal_standing.specs.Standing.{Placed}
+use Rattle.ecma_trees.specs.Walk.{only}
+use Rattle.ecma_trees.specs.Trail.{unitOf}
+use Rattle.ecma_trees.specs.TrailLaws.{handedLaw, handedRoot}
+use Rattle.check_diagnostics.specs.Finding.{listed}
+use Rattle.check_supers.specs.Super.{ifCall, isMethodLike, objectUse, methodUse, functionUse, classAbove, reachOf, isCall, byReach, checkSuper}
+use Rattle.check_supers.specs.declared.Reach.{Reach}
+use Rattle.check_supers.specs.declared.Reach.the-variants.{Legal, Illegal, Underived}
+use Rattle.check_dispatch.specs.Findings.{findingsAt}
 use Rattle.ecma_dispatch.specs.WithCode.{withCode}
 use Rattle.ecma_dispatch.specs.Dispatch.{at28, at29, at30}
 use Rattle.ecma_dispatch.specs.NodesOf.{nodesOf, raised}

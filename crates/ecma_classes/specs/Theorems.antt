@@ -5,24 +5,24 @@ use mathlib.Core.Path.{_≡_, refl, ap, sym, subst, _∙_}
 use mathlib.Core.List.{List, [], _∷_, _++_, flatMap}
 use mathlib.Core.Bool.{Bool, true, false, cond, not, _&&_, _||_}
 use lib.Dec.{eqb, ltb}
-use Rattle.common.specs.Upto.{upto, any}
-use Rattle.walk.specs.On.{member}
-use Rattle.tables.specs.Table.{kindOf, parentOf, count}
-use Rattle.tables.specs.Kinds as k
-use Rattle.tables.specs.declared.Found.the-variants.{At}
-use Rattle.children.specs.Children.{keep, classBodyOf, found}
-use Rattle.children.specs.ChildrenLaws.{found-child}
-use Rattle.trees.specs.Rose.{treeOf}
-use Rattle.trees.specs.Walk.{some, only}
-use Rattle.trees.specs.WalkLaws.{someAppend}
-use Rattle.diagnostics.specs.declared.Finding.{Finding}
-use Rattle.diagnostics.specs.Finding.{listed, errorAt}
-use Rattle.diagnostics.specs.Codes as code
-use Rattle.diagnostics.specs.Contexts as context
-use Rattle.classes.specs.Classes.{classesOf}
-use Rattle.duplicates.specs.Duplicates.{duplicatesIn, duplicateElements}
-use Rattle.checker.specs.Findings.{findingsAt, findingsOf}
-use Rattle.input.specs.Input.{WellFormed}
+use Rattle.base_common.specs.Upto.{upto, any}
+use Rattle.base_walk.specs.On.{member}
+use Rattle.table_records.specs.Table.{kindOf, parentOf, count}
+use Rattle.table_records.specs.Kinds as k
+use Rattle.table_records.specs.declared.Found.the-variants.{At}
+use Rattle.table_children.specs.Children.{keep, classBodyOf, found}
+use Rattle.table_children.specs.ChildrenLaws.{found-child}
+use Rattle.ecma_trees.specs.Rose.{treeOf}
+use Rattle.ecma_trees.specs.Walk.{some, only}
+use Rattle.ecma_trees.specs.WalkLaws.{someAppend}
+use Rattle.check_diagnostics.specs.declared.Finding.{Finding}
+use Rattle.check_diagnostics.specs.Finding.{listed, errorAt}
+use Rattle.check_diagnostics.specs.Codes as code
+use Rattle.check_diagnostics.specs.Contexts as context
+use Rattle.check_class_table.specs.Classes.{classesOf}
+use Rattle.check_duplicates.specs.Duplicates.{duplicatesIn, duplicateElements}
+use Rattle.check_dispatch.specs.Findings.{findingsAt, findingsOf}
+use Rattle.refusal_input.specs.Input.{WellFormed}
 use Rattle.ecma_dispatch.specs.WithCode.{withCode}
 use Rattle.ecma_dispatch.specs.Dispatch.{wholeOne, wholeOther}
 use Rattle.ecma_dispatch.specs.NodesOf.{raised}

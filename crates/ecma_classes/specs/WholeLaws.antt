@@ -8,27 +8,27 @@ use native.Mathlib.Nat.{eq-or-lt-of-le}
 use native.Mathlib.Omega.{arith}
 use borrow.Author.Tests.{eq-eqb, eqb-true}
 use lib.Dec.{eqb}
-use Rattle.common.specs.Upto.{range, upto, any}
-use Rattle.common.specs.UptoLaws.{and-left, and-right}
-use Rattle.common.specs.Bools.{never}
-use Rattle.walk.specs.On.{member}
-use Rattle.tables.specs.Table.{kindOf, parentOf, count}
-use Rattle.tables.specs.Facts.{Tree}
-use Rattle.tables.specs.Kinds as k
-use Rattle.tables.specs.declared.Found.{Found}
-use Rattle.tables.specs.declared.Found.the-variants.{At, Nothing}
-use Rattle.children.specs.Children.{keep, classBodyOf, found}
-use Rattle.classes.specs.ClassesLaws.{within-one, over}
-use Rattle.fields.specs.Fields.{Listed}
-use Rattle.shape.specs.Shape.{Shaped}
-use Rattle.trees.specs.Walk.{some, only}
-use Rattle.trees.specs.WalkLaws.{someAppend, someEach, someOnly}
-use Rattle.trees.specs.Trail.{unitOf}
-use Rattle.trees.specs.TrailLaws.{handedLaw, handedRoot}
-use Rattle.diagnostics.specs.declared.Finding.{Finding}
-use Rattle.diagnostics.specs.Finding.{listed, errorAt}
-use Rattle.diagnostics.specs.Codes as code
-use Rattle.diagnostics.specs.Contexts as context
+use Rattle.base_common.specs.Upto.{range, upto, any}
+use Rattle.base_common.specs.UptoLaws.{and-left, and-right}
+use Rattle.base_common.specs.Bools.{never}
+use Rattle.base_walk.specs.On.{member}
+use Rattle.table_records.specs.Table.{kindOf, parentOf, count}
+use Rattle.table_records.specs.Facts.{Tree}
+use Rattle.table_records.specs.Kinds as k
+use Rattle.table_records.specs.declared.Found.{Found}
+use Rattle.table_records.specs.declared.Found.the-variants.{At, Nothing}
+use Rattle.table_children.specs.Children.{keep, classBodyOf, found}
+use Rattle.check_class_table.specs.ClassesLaws.{within-one, over}
+use Rattle.refusal_fields.specs.Fields.{Listed}
+use Rattle.refusal_shape.specs.Shape.{Shaped}
+use Rattle.ecma_trees.specs.Walk.{some, only}
+use Rattle.ecma_trees.specs.WalkLaws.{someAppend, someEach, someOnly}
+use Rattle.ecma_trees.specs.Trail.{unitOf}
+use Rattle.ecma_trees.specs.TrailLaws.{handedLaw, handedRoot}
+use Rattle.check_diagnostics.specs.declared.Finding.{Finding}
+use Rattle.check_diagnostics.specs.Finding.{listed, errorAt}
+use Rattle.check_diagnostics.specs.Codes as code
+use Rattle.check_diagnostics.specs.Contexts as context
 use Rattle.ecma_dispatch.specs.WithCode.{withCode}
 use Rattle.ecma_dispatch.specs.NodesOf.{nodesOf, raised}
 use Rattle.ecma_dispatch.specs.NodesOfLaws.{raisedFlat}

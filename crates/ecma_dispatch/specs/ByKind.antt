@@ -2,12 +2,12 @@
 use Prim.Native.Nat.{ℕ, _≤_}
 use mathlib.Core.Path.{_≡_, refl, sym, ap, _∙_}
 use mathlib.Core.List.{List, [], _∷_, _++_}
-use mathlib.Core.Bool.{Bool, true, false, cond, _&&_, _||_, true≢false}
+use mathlib.Core.Bool.{Bool, true, false, cond, _&&_, true≢false}
 use native.Mathlib.Omega.{arith}
-use borrow.Author.Tests.{eqb-true, eqb-false, ne-eqb, le-leb, lt-leb}
+use borrow.Author.Tests.{eqb-true, eqb-false, le-leb, lt-leb}
 use lib.Dec.{eqb, leb}
-use Rattle.common.specs.Tests.{within}
-use Rattle.common.specs.Bools.{range-of}
+use Rattle.base_common.specs.Tests.{within}
+use Rattle.base_common.specs.Bools.{range-of}
 
 and-false : (b : Bool) → (b && false) ≡ false
 and-false true = refl

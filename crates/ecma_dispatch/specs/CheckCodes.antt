@@ -1,36 +1,32 @@
 -- The codes that each check raises.
 use Prim.Native.Nat.{ℕ}
 use mathlib.Core.Path.{_≡_, refl}
-use mathlib.Core.List.{List, [], _∷_, _++_, flatMap, foldr}
-use mathlib.Core.Bool.{Bool, true, false, cond, not, _&&_, _||_}
-use lib.Dec.{eqb, leb}
-use Rattle.common.specs.Tests.{within}
-use Rattle.tables.specs.Table.{kindOf, parentOf, extraOf, flagsOf, spanStartOf, scopeOf, scopeFlagsOf, ancestors, hasFlag}
-use Rattle.tables.specs.declared.Found.{Found}
-use Rattle.tables.specs.declared.Found.the-variants.{At, Nothing}
-use Rattle.children.specs.Children.{labelOf, heldOf, alternateOf, valueOf, innerOf, classBodyOf}
-use Rattle.diagnostics.specs.declared.Raised.{Raised}
-use Rattle.diagnostics.specs.declared.Raised.the-variants.{Error, Clear}
-use Rattle.diagnostics.specs.declared.Finding.{Finding}
-use Rattle.diagnostics.specs.Finding.{listed, errorBetween}
-use Rattle.jumps.specs.Jumps.{walkUp, sameLabel, noLabel, plainBreakAt, labelledBreakAt, plainContinueAt, labelledContinueAt, continueTo, labeledAt, checkBreakStatement, checkContinueStatement, checkLabeledStatement}
-use Rattle.statements.specs.Statements.{checkFunctionDeclaration, checkBody, checkConsequent, checkAlternate, labelledFunction, checkLabeledItem, checkFunctionDeclarationInLabeledStatement, checkWithStatement, leftOf, declaratorOf, checkInitialiser, checkLeft, checkForStatementLeft, checkForOfStatement, checkUsing, checkAwaitUsing}
-use Rattle.identifiers.specs.Identifiers.{awaitFinding, letBound, letAt, letFrom, argumentsAt, argumentsFrom, checkIdentifier, checkBindingIdentifier, checkIdentifierReference, checkDirective}
-use Rattle.literals.specs.declared.Escape.{Escape}
-use Rattle.literals.specs.declared.Escape.the-variants.{LegacyOctal, NonOctalDecimal, Fine}
-use Rattle.literals.specs.Literals.{escapeFinding, checkNumberLiteral, checkStringLiteral}
-use Rattle.expressions.specs.Expressions.{repeats, repeatsAfter, errorPart, protoKeys, fieldOf, innerExpression, chainFinding, deleteOf, deleteFinding, inParameter, inBlock, checkObjectExpression, checkUnaryExpression, checkAwaitExpression, checkYieldExpression}
-use Rattle.classes.specs.declared.Current.{Current}
-use Rattle.classes.specs.declared.Current.the-variants.{Class, Outside}
-use Rattle.classes.specs.Classes.{currentClass, classesOf}
-use Rattle.classes.specs.Elements.{privates}
-use Rattle.class_checks.specs.ClassChecks.{outsideBy, privateOutside, undeclaredAt, undeclaredIn, undeclaredBy, privateUndeclared, requireClassName, firstPair, secondBy, secondConstructor, constructors, references, checkClass}
-use Rattle.duplicates.specs.declared.Place.{Place}
-use Rattle.duplicates.specs.Duplicates.{redeclaration, duplicateBy, duplicateAt, previousOf, duplicatesIn, duplicateElements}
-use Rattle.supers.specs.declared.Reach.{Reach}
-use Rattle.supers.specs.declared.Reach.the-variants.{Legal, Illegal, Underived, Fails}
-use Rattle.supers.specs.Super.{byReach, reachOf, checkSuper}
-use Rattle.ecma_dispatch.specs.WithCodeLaws.{Coded, codedNil, codedAppend, codedCond, codedFlatMap, codedMore, coded, fine, fineIf, fineError, fineClear, bothTrue, fineUp, fineFound, fineHeld}
+use mathlib.Core.List.{List, [], _∷_}
+use mathlib.Core.Bool.{Bool, true, false}
+use Rattle.table_records.specs.Table.{ancestors}
+use Rattle.table_records.specs.declared.Found.{Found}
+use Rattle.table_records.specs.declared.Found.the-variants.{At, Nothing}
+use Rattle.table_children.specs.Children.{labelOf, heldOf, alternateOf, valueOf, innerOf, classBodyOf}
+use Rattle.check_diagnostics.specs.declared.Raised.the-variants.{Clear}
+use Rattle.check_diagnostics.specs.Finding.{listed, errorBetween}
+use Rattle.check_jumps.specs.Jumps.{walkUp, sameLabel, noLabel, plainBreakAt, labelledBreakAt, plainContinueAt, labelledContinueAt, continueTo, labeledAt, checkBreakStatement, checkContinueStatement, checkLabeledStatement}
+use Rattle.check_statements.specs.Statements.{checkFunctionDeclaration, checkBody, checkConsequent, checkAlternate, labelledFunction, checkLabeledItem, checkFunctionDeclarationInLabeledStatement, checkWithStatement, leftOf, declaratorOf, checkInitialiser, checkLeft, checkForStatementLeft, checkForOfStatement, checkUsing, checkAwaitUsing}
+use Rattle.check_identifiers.specs.Identifiers.{awaitFinding, letAt, letFrom, argumentsAt, argumentsFrom, checkIdentifier, checkBindingIdentifier, checkIdentifierReference, checkDirective}
+use Rattle.check_literals.specs.declared.Escape.{Escape}
+use Rattle.check_literals.specs.declared.Escape.the-variants.{LegacyOctal, NonOctalDecimal, Fine}
+use Rattle.check_literals.specs.Literals.{escapeFinding, checkNumberLiteral, checkStringLiteral}
+use Rattle.check_expressions.specs.Expressions.{repeats, repeatsAfter, errorPart, protoKeys, fieldOf, innerExpression, chainFinding, deleteOf, deleteFinding, inParameter, inBlock, checkObjectExpression, checkUnaryExpression}
+use Rattle.check_class_table.specs.declared.Current.{Current}
+use Rattle.check_class_table.specs.declared.Current.the-variants.{Class, Outside}
+use Rattle.check_class_table.specs.Classes.{currentClass, classesOf}
+use Rattle.check_class_table.specs.Elements.{privates}
+use Rattle.check_classes.specs.ClassChecks.{outsideBy, privateOutside, undeclaredAt, undeclaredIn, undeclaredBy, privateUndeclared, requireClassName, firstPair, secondBy, secondConstructor, constructors, references}
+use Rattle.check_duplicates.specs.declared.Place.{Place}
+use Rattle.check_duplicates.specs.Duplicates.{redeclaration, duplicateBy, duplicateAt, previousOf, duplicatesIn, duplicateElements}
+use Rattle.check_supers.specs.declared.Reach.{Reach}
+use Rattle.check_supers.specs.declared.Reach.the-variants.{Legal, Illegal, Underived, Fails}
+use Rattle.check_supers.specs.Super.{byReach, reachOf, checkSuper}
+use Rattle.ecma_dispatch.specs.WithCodeLaws.{Coded, codedNil, codedAppend, codedFlatMap, coded, fine, fineIf, fineError, fineClear, bothTrue, fineUp, fineFound, fineHeld}
 
 abbrev pub ofBreak : List ℕ
 ofBreak = 18 ∷ 19 ∷ 20 ∷ []

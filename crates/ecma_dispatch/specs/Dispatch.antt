@@ -1,24 +1,24 @@
 -- The findings of a node with each code: those of the one or two checks that can raise it, at the kinds that the checks are made at.
 use Prim.Native.Nat.{ℕ}
-use mathlib.Core.Path.{_≡_, refl, ap, sym, _∙_}
+use mathlib.Core.Path.{_≡_, refl, ap, _∙_}
 use mathlib.Core.List.{List, [], _∷_, _++_, flatMap}
-use mathlib.Core.Bool.{Bool, true, false, cond}
+use mathlib.Core.Bool.{true, false, cond}
 use lib.Dec.{eqb}
-use Rattle.common.specs.Upto.{all, upto}
-use Rattle.common.specs.Tests.{within}
-use Rattle.walk.specs.On.{member}
-use Rattle.tables.specs.Table.{kindOf, count}
-use Rattle.diagnostics.specs.declared.Finding.{Finding}
-use Rattle.diagnostics.specs.Finding.{listed}
-use Rattle.jumps.specs.Jumps.{checkBreakStatement, checkContinueStatement, checkLabeledStatement}
-use Rattle.statements.specs.Statements.{checkBody, checkConsequent, checkAlternate, checkFunctionDeclarationInLabeledStatement, checkWithStatement, checkForStatementLeft, checkForOfStatement, checkUsing, checkAwaitUsing}
-use Rattle.identifiers.specs.Identifiers.{checkIdentifier, checkBindingIdentifier, checkIdentifierReference, checkDirective}
-use Rattle.literals.specs.Literals.{checkNumberLiteral, checkStringLiteral}
-use Rattle.expressions.specs.Expressions.{checkObjectExpression, checkUnaryExpression, inParameter, inBlock}
-use Rattle.class_checks.specs.ClassChecks.{privateOutside, privateUndeclared, requireClassName, secondConstructor, checkClass}
-use Rattle.duplicates.specs.Duplicates.{duplicateElements}
-use Rattle.supers.specs.Super.{checkSuper}
-use Rattle.checker.specs.Findings.{nameFindings, loopFindings, jumpFindings, literalFindings, expressionFindings, findingsAt, findingsOf}
+use Rattle.base_common.specs.Upto.{upto}
+use Rattle.base_common.specs.Tests.{within}
+use Rattle.base_walk.specs.On.{member}
+use Rattle.table_records.specs.Table.{kindOf, count}
+use Rattle.check_diagnostics.specs.declared.Finding.{Finding}
+use Rattle.check_diagnostics.specs.Finding.{listed}
+use Rattle.check_jumps.specs.Jumps.{checkBreakStatement, checkContinueStatement, checkLabeledStatement}
+use Rattle.check_statements.specs.Statements.{checkBody, checkConsequent, checkAlternate, checkFunctionDeclarationInLabeledStatement, checkWithStatement, checkForStatementLeft, checkForOfStatement, checkUsing, checkAwaitUsing}
+use Rattle.check_identifiers.specs.Identifiers.{checkIdentifier, checkBindingIdentifier, checkIdentifierReference, checkDirective}
+use Rattle.check_literals.specs.Literals.{checkNumberLiteral, checkStringLiteral}
+use Rattle.check_expressions.specs.Expressions.{checkObjectExpression, checkUnaryExpression, inParameter, inBlock}
+use Rattle.check_classes.specs.ClassChecks.{privateOutside, privateUndeclared, requireClassName, secondConstructor, checkClass}
+use Rattle.check_duplicates.specs.Duplicates.{duplicateElements}
+use Rattle.check_supers.specs.Super.{checkSuper}
+use Rattle.check_dispatch.specs.Findings.{nameFindings, loopFindings, jumpFindings, literalFindings, expressionFindings, findingsAt, findingsOf}
 use Rattle.ecma_dispatch.specs.WithCode.{withCode}
 use Rattle.ecma_dispatch.specs.WithCodeLaws.{withAppend, withFlatMap, withCond, withNil, Coded, codedNone, codedAll, codedAppend, codedMore}
 use Rattle.ecma_dispatch.specs.CheckCodes.{ofBreak, ofContinue, ofLabel, ofHeld, ofName, ofBinding, ofReference, ofNumber, ofString, ofDelete, ofSuper, breakCodes, continueCodes, labelCodes, bodyCodes, consequentCodes, alternateCodes, labelledFunctionCodes, withCodes, leftCodes, forOfCodes, usingCodes, awaitUsingCodes, nameCodes, bindingCodes, referenceCodes, directiveCodes, stringCodes, numberCodes, objectCodes, unaryCodes, parameterCodes, blockCodes, outsideCodes, undeclaredCodes, classNameCodes, constructorCodes, duplicateCodes, superCodes}

@@ -1,7 +1,7 @@
 -- The nodes that findings are raised at, one for each finding.
 use Prim.Native.Nat.{ℕ}
 use mathlib.Core.List.{List, [], _∷_}
-use Rattle.diagnostics.specs.declared.Finding.{Finding}
+use Rattle.check_diagnostics.specs.declared.Finding.{Finding}
 use Rattle.ecma_dispatch.specs.WithCode.{withCode}
 
 unfoldable pub nodesOf : List Finding → List ℕ

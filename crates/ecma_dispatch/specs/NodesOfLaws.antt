@@ -1,20 +1,19 @@
 -- The nodes with a finding of a code, from each node to the whole tree.
 use Prim.Native.Nat.{ℕ, zero, suc, _+_, _-_, _≤_, _<_}
-use mathlib.Core.Path.{_≡_, refl, ap, sym, _∙_}
+use mathlib.Core.Path.{_≡_, refl, ap, _∙_}
 use mathlib.Core.List.{List, [], _∷_, _++_, flatMap}
 use mathlib.Core.Bool.{Bool, true, false, cond}
 use native.Mathlib.Omega.{arith}
 use borrow.Author.Tests.{eq-eqb}
 use lib.Dec.{eqb}
-use Rattle.common.specs.Upto.{range, upto}
-use Rattle.walk.specs.On.{member}
-use Rattle.tables.specs.Table.{count}
-use Rattle.children.specs.Children.{keep}
-use Rattle.diagnostics.specs.declared.Finding.{Finding}
-use Rattle.diagnostics.specs.declared.Raised.{Raised}
-use Rattle.diagnostics.specs.declared.Raised.the-variants.{Error, Clear}
-use Rattle.diagnostics.specs.Finding.{listed}
-use Rattle.checker.specs.Findings.{findingsAt, findingsOf}
+use Rattle.base_common.specs.Upto.{range, upto}
+use Rattle.base_walk.specs.On.{member}
+use Rattle.table_records.specs.Table.{count}
+use Rattle.table_children.specs.Children.{keep}
+use Rattle.check_diagnostics.specs.declared.Finding.{Finding}
+use Rattle.check_diagnostics.specs.declared.Raised.the-variants.{Error, Clear}
+use Rattle.check_diagnostics.specs.Finding.{listed}
+use Rattle.check_dispatch.specs.Findings.{findingsAt, findingsOf}
 use Rattle.ecma_dispatch.specs.WithCode.{withCode}
 use Rattle.ecma_dispatch.specs.WithCodeLaws.{withAppend}
 use Rattle.ecma_dispatch.specs.NodesOf.{nodesOf, raised}

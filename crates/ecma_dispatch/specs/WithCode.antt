@@ -3,7 +3,7 @@ use Prim.Native.Nat.{ℕ}
 use mathlib.Core.List.{List, [], _∷_}
 use mathlib.Core.Bool.{cond}
 use lib.Dec.{eqb}
-use Rattle.diagnostics.specs.declared.Finding.{Finding}
+use Rattle.check_diagnostics.specs.declared.Finding.{Finding}
 
 unfoldable pub withCode : ℕ → List Finding → List Finding
 withCode c [] = []

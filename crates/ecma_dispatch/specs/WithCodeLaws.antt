@@ -2,21 +2,21 @@
 use Prim.Native.Nat.{ℕ}
 use mathlib.Core.Path.{_≡_, refl, ap, sym, subst, _∙_}
 use mathlib.Core.List.{List, [], _∷_, _++_, foldr, flatMap}
-use mathlib.Core.Bool.{Bool, true, false, cond, _&&_, _||_}
+use mathlib.Core.Bool.{Bool, true, false, cond, _||_}
 use borrow.Author.Tests.{eq-eqb, eqb-true}
 use lib.Dec.{eqb}
-use Rattle.common.specs.Upto.{all, any}
-use Rattle.common.specs.UptoLaws.{and-left, and-right}
-use Rattle.common.specs.Bools.{never}
-use Rattle.walk.specs.On.{member}
-use Rattle.tables.specs.declared.Found.{Found}
-use Rattle.tables.specs.declared.Found.the-variants.{At, Nothing}
-use Rattle.diagnostics.specs.declared.Finding.{Finding}
-use Rattle.diagnostics.specs.declared.Raised.{Raised}
-use Rattle.diagnostics.specs.declared.Raised.the-variants.{Error, Clear}
-use Rattle.diagnostics.specs.Finding.{listed}
-use Rattle.jumps.specs.Jumps.{whenFound}
-use Rattle.statements.specs.Statements.{checkFound}
+use Rattle.base_common.specs.Upto.{all}
+use Rattle.base_common.specs.UptoLaws.{and-left, and-right}
+use Rattle.base_common.specs.Bools.{never}
+use Rattle.base_walk.specs.On.{member}
+use Rattle.table_records.specs.declared.Found.{Found}
+use Rattle.table_records.specs.declared.Found.the-variants.{At, Nothing}
+use Rattle.check_diagnostics.specs.declared.Finding.{Finding}
+use Rattle.check_diagnostics.specs.declared.Raised.{Raised}
+use Rattle.check_diagnostics.specs.declared.Raised.the-variants.{Error, Clear}
+use Rattle.check_diagnostics.specs.Finding.{listed}
+use Rattle.check_jumps.specs.Jumps.{whenFound}
+use Rattle.check_statements.specs.Statements.{checkFound}
 use Rattle.ecma_dispatch.specs.WithCode.{withCode}
 
 pub withAppend : (c : ℕ) (fs gs : List Finding) → withCode c (fs ++ gs) ≡ withCode c fs ++ withCode c gs

@@ -1,15 +1,15 @@
 -- A walk up that ends at units, beside what is handed down from the unit: they agree at each node, if they do below a unit and at each step.
-use Prim.Native.Nat.{ℕ, zero, suc, _+_, _≤_, _<_}
-use mathlib.Core.Path.{_≡_, refl, sym, _∙_, ap, subst}
+use Prim.Native.Nat.{ℕ, zero, suc, _≤_, _<_}
+use mathlib.Core.Path.{_≡_, refl, sym, _∙_, subst}
 use mathlib.Core.Logic.{⊎-elim}
 use mathlib.Core.Bool.{Bool, true, false, cond, true≢false}
-use mathlib.Core.List.{List, [], _∷_, foldr}
+use mathlib.Core.List.{List, foldr}
 use native.Mathlib.Nat.{eq-or-lt-of-le}
 use native.Mathlib.Omega.{arith}
-use Rattle.walk.specs.AboveLaws.{fold-up}
-use Rattle.tables.specs.Table.{parentOf, count, ancestors}
-use Rattle.tables.specs.Facts.{Tree}
-use Rattle.trees.specs.Unit.{homeOf, inUnit}
+use Rattle.base_walk.specs.AboveLaws.{fold-up}
+use Rattle.table_records.specs.Table.{parentOf, count, ancestors}
+use Rattle.table_records.specs.Facts.{Tree}
+use Rattle.ecma_trees.specs.Unit.{homeOf, inUnit}
 
 -- R j h r s: of the node j in the unit h, what it is handed, and what the walk up from it gives
 module _ {A C : Type 0} (ns : List ℕ) (t : Tree ns) (unit : ℕ → Bool) (root : unit 0 ≡ true) (start : A) (f : ℕ → A → A) (g : ℕ → C → C) (e : C)

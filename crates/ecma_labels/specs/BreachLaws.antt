@@ -1,21 +1,21 @@
 -- The operations of the standard, of a unit and of the program, and the nodes at which the rules are broken.
-use Prim.Native.Nat.{ℕ, _+_, _-_, _≤_, _<_}
-use mathlib.Core.Path.{_≡_, refl, sym, _∙_, ap}
+use Prim.Native.Nat.{ℕ, _+_, _-_, _<_}
+use mathlib.Core.Path.{_≡_, refl, sym, ap}
 use mathlib.Core.Logic.{_↔_}
 use mathlib.Core.Bool.{Bool, true, false, cond, not, _&&_, _||_, true≢false}
-use mathlib.Core.List.{List, [], _∷_, _++_}
+use mathlib.Core.List.{List, [], _++_}
 use lib.Dec.{eqb}
 use borrow.Author.Tests.{eqb-true}
 use native.Mathlib.Omega.{arith}
-use Rattle.common.specs.Upto.{upto}
-use Rattle.common.specs.Bools.{in-range, range-of}
-use Rattle.tables.specs.Table.{kindOf, count}
-use Rattle.tables.specs.Facts.{Tree}
-use Rattle.shape.specs.Shape.{Shaped}
-use Rattle.trees.specs.Rose.{Roses, node, partsOf, treeOf}
-use Rattle.trees.specs.Walk.{each, some, Says, only}
-use Rattle.trees.specs.Unit.{lists, broken}
-use Rattle.trees.specs.Rule.{Rule, ruleList, ruleUnit, ruleProgram, ruleSome}
+use Rattle.base_common.specs.Upto.{upto}
+use Rattle.base_common.specs.Bools.{in-range, range-of}
+use Rattle.table_records.specs.Table.{kindOf, count}
+use Rattle.table_records.specs.Facts.{Tree}
+use Rattle.refusal_shape.specs.Shape.{Shaped}
+use Rattle.ecma_trees.specs.Rose.{Roses, node, partsOf, treeOf}
+use Rattle.ecma_trees.specs.Walk.{each, some, Says, only}
+use Rattle.ecma_trees.specs.Unit.{lists, broken}
+use Rattle.ecma_trees.specs.Rule.{Rule, ruleList, ruleUnit, ruleProgram, ruleSome}
 use Rattle.ecma_labels.specs.Labels.{isIteration, holds, isUnit, labelIn, unlabelled, contains, lacks, adding, containsDuplicateLabels, anyDuplicateLabels, containsUndefinedBreakTarget, anyUndefinedBreakTarget, containsUndefinedContinueTarget, anyUndefinedContinueTarget, containsContinueNotNested, anyContinueNotNested, containsBreakNotNested, anyBreakNotNested}
 use Rattle.ecma_labels.specs.Findings.{inUnitOf}
 use Rattle.ecma_labels.specs.Breaches.{labelAt, labelsDown, labelSetAt, setsDown, setsAt, loopDown, inLoop, breakableDown, inBreakable, duplicateLabelAt, undefinedBreakAt, undefinedContinueAt, continueNotNestedAt, breakNotNestedAt}

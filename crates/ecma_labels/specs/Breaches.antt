@@ -2,13 +2,13 @@
 -- the operations.
 use Prim.Native.Nat.{ℕ}
 use mathlib.Core.Bool.{Bool, true, false, cond, not, _&&_, _||_}
-use mathlib.Core.List.{List, [], _∷_, _++_, foldr}
+use mathlib.Core.List.{List, [], _++_, foldr}
 use lib.Dec.{eqb}
-use Rattle.tables.specs.Table.{kindOf, ancestors}
-use Rattle.tables.specs.Kinds as k
-use Rattle.tables.specs.declared.Found.{Found}
-use Rattle.trees.specs.Rose.{partsOf}
-use Rattle.trees.specs.Unit.{inUnit}
+use Rattle.table_records.specs.Table.{kindOf, ancestors}
+use Rattle.table_records.specs.Kinds as k
+use Rattle.table_records.specs.declared.Found.{Found}
+use Rattle.ecma_trees.specs.Rose.{partsOf}
+use Rattle.ecma_trees.specs.Unit.{inUnit}
 use Rattle.ecma_labels.specs.Labels.{isIteration, labelIn, unlabelled, contains, lacks, adding, isUnit}
 
 module _ (ns names : List ℕ) where

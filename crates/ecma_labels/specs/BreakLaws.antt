@@ -1,32 +1,29 @@
 -- What the checks of a break and of a label raise, by what is handed down to the statement.
-use Prim.Native.Nat.{ℕ, zero, suc, _+_, _≤_, _<_}
-use mathlib.Core.Path.{_≡_, refl, sym, _∙_, ap, subst}
-use mathlib.Core.Bool.{Bool, true, false, cond, not, _&&_, _||_, true≢false}
-use mathlib.Core.List.{List, [], _∷_, _++_, foldr}
-use mathlib.Core.Logic.{⊎-elim}
-use lib.Dec.{eqb, leb}
-use borrow.Author.Tests.{eqb-true, eqb-false, eq-eqb, ne-eqb, lt-leb, le-leb}
-use native.Mathlib.Nat.{eq-or-lt-of-le}
+use Prim.Native.Nat.{ℕ, zero, suc, _≤_, _<_}
+use mathlib.Core.Path.{_≡_, refl}
+use mathlib.Core.Bool.{Bool, true, false, cond, not, _&&_, _||_}
+use mathlib.Core.List.{List, [], foldr}
+use lib.Dec.{eqb}
+use borrow.Author.Tests.{eqb-true, eqb-false, lt-leb, le-leb}
 use native.Mathlib.Omega.{arith}
-use Rattle.common.specs.Tests.{within}
-use Rattle.common.specs.Bools.{in-range, range-of}
-use Rattle.walk.specs.AboveLaws.{fold-root}
-use Rattle.tables.specs.Table.{kindOf, parentOf, count, ancestors}
-use Rattle.tables.specs.Facts.{Tree}
-use Rattle.tables.specs.declared.Found.{Found}
-use Rattle.tables.specs.declared.Found.the-variants.{At, Nothing}
-use Rattle.names.specs.Name.{same, nameOf, has}
-use Rattle.children.specs.Children.{labelOf}
-use Rattle.diagnostics.specs.declared.Raised.{Raised}
-use Rattle.diagnostics.specs.declared.Raised.the-variants.{Error, Clear}
-use Rattle.diagnostics.specs.Finding.{listed, errorAt, errorBetween}
-use Rattle.jumps.specs.Jumps.{whenFound, walkUp, sameLabel, noLabel, plainBreakAt, labelledBreakAt, labeledAt, checkBreakStatement, checkLabeledStatement}
+use Rattle.base_common.specs.Tests.{within}
+use Rattle.base_common.specs.Bools.{in-range, range-of}
+use Rattle.base_walk.specs.AboveLaws.{fold-root}
+use Rattle.table_records.specs.Table.{kindOf, parentOf, count, ancestors}
+use Rattle.table_records.specs.Facts.{Tree}
+use Rattle.table_records.specs.declared.Found.{Found}
+use Rattle.table_records.specs.declared.Found.the-variants.{At, Nothing}
+use Rattle.table_names.specs.Name.{same, nameOf, has}
+use Rattle.table_children.specs.Children.{labelOf}
+use Rattle.check_diagnostics.specs.declared.Raised.{Raised}
+use Rattle.check_diagnostics.specs.declared.Raised.the-variants.{Clear}
+use Rattle.check_diagnostics.specs.Finding.{listed, errorAt, errorBetween}
+use Rattle.check_jumps.specs.Jumps.{whenFound, walkUp, sameLabel, noLabel, plainBreakAt, labelledBreakAt, labeledAt, checkBreakStatement, checkLabeledStatement}
 use Rattle.ecma_dispatch.specs.WithCode.{withCode}
 use Rattle.ecma_dispatch.specs.NodesOf.{nodesOf}
-use Rattle.trees.specs.Rose.{partsOf}
-use Rattle.trees.specs.Walk.{only}
-use Rattle.trees.specs.Unit.{homeOf, inUnit}
-use Rattle.ecma_labels.specs.Labels.{isIteration, isUnit, labelIn, unlabelled, contains, lacks, adding}
+use Rattle.ecma_trees.specs.Walk.{only}
+use Rattle.ecma_trees.specs.Unit.{homeOf}
+use Rattle.ecma_labels.specs.Labels.{isIteration, isUnit, unlabelled, contains, lacks, adding}
 use Rattle.ecma_labels.specs.Breaches.{labelAt, labelsDown, labelSetAt, breakableDown, inBreakable}
 use Rattle.ecma_labels.specs.Changed.{inProgram}
 use Rattle.ecma_labels.specs.ShapeLaws.{labelInIs, notUnit}

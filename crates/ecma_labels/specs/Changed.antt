@@ -4,14 +4,14 @@ use mathlib.Core.Path.{_≡_}
 use mathlib.Core.Bool.{Bool, true, false, cond, not, _&&_, _||_}
 use mathlib.Core.List.{List, [], _∷_, _++_, foldr}
 use lib.Dec.{eqb}
-use Rattle.common.specs.Tests.{within}
-use Rattle.tables.specs.Table.{kindOf, ancestors}
-use Rattle.tables.specs.Kinds as k
-use Rattle.tables.specs.declared.Found.{Found}
-use Rattle.tables.specs.declared.Found.the-variants.{At, Nothing}
-use Rattle.names.specs.Name.{same, nameOf}
-use Rattle.trees.specs.Rose.{Rose, Roses, node, rnil, rcons, partsOf}
-use Rattle.trees.specs.Unit.{inUnit, homeOf}
+use Rattle.base_common.specs.Tests.{within}
+use Rattle.table_records.specs.Table.{kindOf, ancestors}
+use Rattle.table_records.specs.Kinds as k
+use Rattle.table_records.specs.declared.Found.{Found}
+use Rattle.table_records.specs.declared.Found.the-variants.{At, Nothing}
+use Rattle.table_names.specs.Name.{same, nameOf}
+use Rattle.ecma_trees.specs.Rose.{Rose, Roses, node, rnil, rcons, partsOf}
+use Rattle.ecma_trees.specs.Unit.{inUnit, homeOf}
 use Rattle.ecma_labels.specs.Labels.{isIteration, holds, labelIn, unlabelled, contains, lacks, adding, isUnit, anyDuplicateLabels}
 use Rattle.ecma_labels.specs.Breaches.{labelAt, labelSetAt, inLoop}
 

@@ -1,41 +1,41 @@
 -- THE FINDINGS 18 TO 23 OF A NODE: each code is raised at exactly the nodes where its rule is broken, once.
-use Prim.Native.Nat.{ℕ, zero, suc, _+_, _≤_, _<_}
+use Prim.Native.Nat.{ℕ, suc, _<_}
 use mathlib.Core.Path.{_≡_, refl, sym, _∙_, ap, subst}
-use mathlib.Core.Bool.{Bool, true, false, cond, not, _&&_, _||_, true≢false}
-use mathlib.Core.List.{List, [], _∷_, _++_, foldr}
-use mathlib.Core.Logic.{_⊎_, inl, inr, ⊎-elim}
-use lib.Dec.{eqb, leb}
-use borrow.Author.Tests.{eqb-true, eqb-false, eq-eqb, ne-eqb}
+use mathlib.Core.Bool.{Bool, true, false, cond, not, _&&_, _||_}
+use mathlib.Core.List.{List, []}
+use mathlib.Core.Logic.{_⊎_, ⊎-elim}
+use lib.Dec.{eqb}
+use borrow.Author.Tests.{eqb-true, eqb-false}
 use native.Mathlib.Nat.{eq-or-lt-of-le}
 use native.Mathlib.Omega.{arith}
-use Rattle.common.specs.Tests.{within}
-use Rattle.common.specs.Upto.{upto}
-use Rattle.common.specs.Bools.{in-range, range-of}
-use Rattle.tables.specs.Table.{kindOf, parentOf, count}
-use Rattle.tables.specs.Facts.{Tree}
-use Rattle.tables.specs.declared.Found.{Found}
-use Rattle.tables.specs.declared.Found.the-variants.{At, Nothing}
-use Rattle.names.specs.Name.{nameOf, has}
-use Rattle.children.specs.Children.{keep, labelOf}
-use Rattle.shape.specs.Shape.{Shaped}
-use Rattle.diagnostics.specs.declared.Raised.{Raised}
-use Rattle.diagnostics.specs.declared.Raised.the-variants.{Error, Clear}
-use Rattle.diagnostics.specs.Finding.{listed, errorAt, errorBetween}
-use Rattle.jumps.specs.Jumps.{whenFound, walkUp, noLabel, plainContinueAt, labelledContinueAt, checkContinueStatement, checkBreakStatement, checkLabeledStatement}
-use Rattle.jumps.specs.JumpsLaws.{item-here}
-use Rattle.checker.specs.Findings.{findingsAt, findingsOf}
+use Rattle.base_common.specs.Tests.{within}
+use Rattle.base_common.specs.Upto.{upto}
+use Rattle.base_common.specs.Bools.{in-range, range-of}
+use Rattle.table_records.specs.Table.{kindOf, count}
+use Rattle.table_records.specs.Facts.{Tree}
+use Rattle.table_records.specs.declared.Found.{Found}
+use Rattle.table_records.specs.declared.Found.the-variants.{At, Nothing}
+use Rattle.table_names.specs.Name.{nameOf, has}
+use Rattle.table_children.specs.Children.{keep, labelOf}
+use Rattle.refusal_shape.specs.Shape.{Shaped}
+use Rattle.check_diagnostics.specs.declared.Raised.{Raised}
+use Rattle.check_diagnostics.specs.declared.Raised.the-variants.{Clear}
+use Rattle.check_diagnostics.specs.Finding.{listed, errorAt, errorBetween}
+use Rattle.check_jumps.specs.Jumps.{whenFound, walkUp, noLabel, plainContinueAt, labelledContinueAt, checkContinueStatement, checkBreakStatement, checkLabeledStatement}
+use Rattle.check_jumps.specs.JumpsLaws.{item-here}
+use Rattle.check_dispatch.specs.Findings.{findingsAt, findingsOf}
 use Rattle.ecma_dispatch.specs.WithCode.{withCode}
 use Rattle.ecma_dispatch.specs.NodesOf.{nodesOf, raised}
-use Rattle.ecma_dispatch.specs.NodesOfLaws.{nodesNil, nodesCond, nodesWhole}
+use Rattle.ecma_dispatch.specs.NodesOfLaws.{nodesNil, nodesWhole}
 use Rattle.ecma_dispatch.specs.Dispatch.{at18, at19, at20, at21, at22, at23}
-use Rattle.trees.specs.Walk.{only}
-use Rattle.trees.specs.Unit.{homeOf}
-use Rattle.ecma_labels.specs.Labels.{isIteration, isUnit, labelIn, unlabelled, contains, lacks}
-use Rattle.ecma_labels.specs.Breaches.{labelAt, labelSetAt, inLoop, inBreakable, duplicateLabelAt, undefinedBreakAt, breakNotNestedAt}
+use Rattle.ecma_trees.specs.Walk.{only}
+use Rattle.ecma_trees.specs.Unit.{homeOf}
+use Rattle.ecma_labels.specs.Labels.{isIteration, isUnit, unlabelled, contains, lacks}
+use Rattle.ecma_labels.specs.Breaches.{labelAt, labelSetAt, inLoop, inBreakable, duplicateLabelAt, breakNotNestedAt}
 use Rattle.ecma_labels.specs.Changed.{nearestAt, undefinedNearestAt, plainContinueNotNestedAt, noLabelAt, noLoopAt, inProgram}
 use Rattle.ecma_labels.specs.ShapeLaws.{labelInIs}
 use Rattle.ecma_labels.specs.BreakLaws.{breakIs, break18, break19, break20, labelIs}
-use Rattle.ecma_labels.specs.ContinueLaws.{isClear, loopy, plainContinueIs, Went, wentIs, clearIs}
+use Rattle.ecma_labels.specs.ContinueLaws.{isClear, loopy, plainContinueIs, wentIs, clearIs}
 
 orFalse : (b : Bool) → (b || false) ≡ b
 orFalse true = refl

@@ -1,35 +1,29 @@
 -- What the check of a continue raises, by what is handed down to the statement.
-use Prim.Native.Nat.{ℕ, zero, suc, _+_, _≤_, _<_}
-use mathlib.Core.Path.{_≡_, refl, sym, _∙_, ap, subst}
-use mathlib.Core.Bool.{Bool, true, false, cond, not, _&&_, _||_, true≢false}
-use mathlib.Core.List.{List, [], _∷_, _++_, foldr}
-use mathlib.Core.Logic.{_⊎_, inl, inr, ⊎-elim}
-use lib.Dec.{eqb, leb}
-use borrow.Author.Tests.{eqb-true, eqb-false, eq-eqb, ne-eqb}
+use Prim.Native.Nat.{ℕ, _+_, _≤_, _<_}
+use mathlib.Core.Path.{_≡_, refl, sym, _∙_, ap}
+use mathlib.Core.Bool.{Bool, true, false, cond, _&&_, _||_, true≢false}
+use mathlib.Core.List.{List, [], _∷_, _++_}
+use mathlib.Core.Logic.{_⊎_, inl, inr}
+use lib.Dec.{eqb}
+use borrow.Author.Tests.{eqb-true, eqb-false}
 use native.Mathlib.Omega.{arith}
-use Rattle.common.specs.Tests.{within}
-use Rattle.common.specs.Bools.{in-range, range-of}
-use Rattle.tables.specs.Table.{kindOf, parentOf, count, ancestors}
-use Rattle.tables.specs.Facts.{Tree}
-use Rattle.tables.specs.declared.Found.{Found}
-use Rattle.tables.specs.declared.Found.the-variants.{At, Nothing}
-use Rattle.names.specs.Name.{same, nameOf, has}
-use Rattle.names.specs.NameLaws.{same-eq, same-self}
-use Rattle.children.specs.Children.{labelOf, heldOf}
-use Rattle.shape.specs.Shape.{Shaped}
-use Rattle.diagnostics.specs.declared.Raised.{Raised}
-use Rattle.diagnostics.specs.declared.Raised.the-variants.{Error, Clear}
-use Rattle.diagnostics.specs.Finding.{listed, errorAt, errorBetween}
-use Rattle.jumps.specs.Jumps.{whenFound, walkUp, sameLabel, noLabel, labeledItem, continueTo, plainContinueAt, labelledContinueAt, checkContinueStatement}
-use Rattle.jumps.specs.JumpsLaws.{item-here, item-down}
-use Rattle.ecma_dispatch.specs.WithCode.{withCode}
-use Rattle.ecma_dispatch.specs.NodesOf.{nodesOf}
-use Rattle.trees.specs.Rose.{partsOf}
-use Rattle.trees.specs.Walk.{only}
-use Rattle.trees.specs.Unit.{homeOf, inUnit}
-use Rattle.ecma_labels.specs.Labels.{isIteration, isUnit, labelIn, unlabelled, contains, lacks, adding}
-use Rattle.ecma_labels.specs.Breaches.{labelAt, labelsDown, labelSetAt, loopDown, inLoop}
-use Rattle.ecma_labels.specs.Changed.{without, hiding, nearestDown, nearestAt, inProgram}
+use Rattle.table_records.specs.Table.{kindOf, parentOf, count}
+use Rattle.table_records.specs.Facts.{Tree}
+use Rattle.table_records.specs.declared.Found.{Found}
+use Rattle.table_records.specs.declared.Found.the-variants.{At, Nothing}
+use Rattle.table_names.specs.Name.{same, nameOf, has}
+use Rattle.table_names.specs.NameLaws.{same-eq}
+use Rattle.table_children.specs.Children.{labelOf}
+use Rattle.refusal_shape.specs.Shape.{Shaped}
+use Rattle.check_diagnostics.specs.declared.Raised.{Raised}
+use Rattle.check_diagnostics.specs.declared.Raised.the-variants.{Error, Clear}
+use Rattle.check_diagnostics.specs.Finding.{errorAt, errorBetween}
+use Rattle.check_jumps.specs.Jumps.{whenFound, walkUp, sameLabel, noLabel, labeledItem, continueTo, plainContinueAt, labelledContinueAt}
+use Rattle.check_jumps.specs.JumpsLaws.{item-here, item-down}
+use Rattle.ecma_trees.specs.Unit.{homeOf}
+use Rattle.ecma_labels.specs.Labels.{isIteration, isUnit, adding}
+use Rattle.ecma_labels.specs.Breaches.{labelsDown, labelSetAt, loopDown, inLoop}
+use Rattle.ecma_labels.specs.Changed.{without, hiding, nearestDown, nearestAt}
 use Rattle.ecma_labels.specs.ShapeLaws.{labelInIs, notUnit, stands, heldIs}
 use Rattle.ecma_labels.specs.AgreeLaws.{unitsAgree}
 use Rattle.ecma_labels.specs.BreakLaws.{rootUnit, sameBy}

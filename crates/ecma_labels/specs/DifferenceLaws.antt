@@ -2,31 +2,31 @@
 use Prim.Native.Nat.{ℕ, zero, suc, _+_, _≤_, _<_}
 use mathlib.Core.Path.{_≡_, refl, sym, _∙_, ap, subst}
 use mathlib.Core.Bool.{Bool, true, false, cond, not, _&&_, _||_, true≢false}
-use mathlib.Core.List.{List, [], _∷_, _++_}
-use mathlib.Core.Logic.{_⊎_, ⊎-elim, _↔_}
+use mathlib.Core.List.{List, [], _++_}
+use mathlib.Core.Logic.{_⊎_, ⊎-elim}
 use lib.Dec.{eqb}
 use borrow.Author.Tests.{eqb-true, eq-eqb}
 use native.Mathlib.Nat.{eq-or-lt-of-le}
 use native.Mathlib.Omega.{arith}
-use Rattle.common.specs.Tests.{within}
-use Rattle.common.specs.UptoLaws.{and-left}
-use Rattle.common.specs.Bools.{in-range}
-use Rattle.walk.specs.AboveLaws.{fold-up}
-use Rattle.tables.specs.Table.{kindOf, parentOf, count}
-use Rattle.tables.specs.Facts.{Tree}
-use Rattle.tables.specs.declared.Found.{Found}
-use Rattle.tables.specs.declared.Found.the-variants.{At, Nothing}
-use Rattle.names.specs.Name.{same, nameOf, has}
-use Rattle.names.specs.NameLaws.{same-eq}
-use Rattle.children.specs.Children.{labelOf}
-use Rattle.shape.specs.Shape.{Shaped}
-use Rattle.checker.specs.Findings.{findingsAt}
+use Rattle.base_common.specs.Tests.{within}
+use Rattle.base_common.specs.UptoLaws.{and-left}
+use Rattle.base_common.specs.Bools.{in-range}
+use Rattle.base_walk.specs.AboveLaws.{fold-up}
+use Rattle.table_records.specs.Table.{kindOf, parentOf, count}
+use Rattle.table_records.specs.Facts.{Tree}
+use Rattle.table_records.specs.declared.Found.{Found}
+use Rattle.table_records.specs.declared.Found.the-variants.{At, Nothing}
+use Rattle.table_names.specs.Name.{same, nameOf, has}
+use Rattle.table_names.specs.NameLaws.{same-eq}
+use Rattle.table_children.specs.Children.{labelOf}
+use Rattle.refusal_shape.specs.Shape.{Shaped}
+use Rattle.check_dispatch.specs.Findings.{findingsAt}
 use Rattle.ecma_dispatch.specs.NodesOf.{raised}
-use Rattle.trees.specs.Rose.{partsOf}
-use Rattle.trees.specs.Walk.{each, some, only}
-use Rattle.trees.specs.WalkLaws.{foldsAgree, someEach}
-use Rattle.trees.specs.Unit.{homeOf, inUnit}
-use Rattle.trees.specs.UnitLaws.{homeBefore}
+use Rattle.ecma_trees.specs.Rose.{partsOf}
+use Rattle.ecma_trees.specs.Walk.{each, some, only}
+use Rattle.ecma_trees.specs.WalkLaws.{foldsAgree, someEach}
+use Rattle.ecma_trees.specs.Unit.{homeOf, inUnit}
+use Rattle.ecma_trees.specs.UnitLaws.{homeBefore}
 use Rattle.ecma_labels.specs.Labels.{isIteration, isUnit, unlabelled, contains, lacks, adding, anyDuplicateLabels}
 use Rattle.ecma_labels.specs.Breaches.{labelAt, labelsDown, labelSetAt, setsDown, setsAt, loopDown, inLoop, duplicateLabelAt, undefinedBreakAt, undefinedContinueAt, continueNotNestedAt}
 use Rattle.ecma_labels.specs.Changed.{without, hiding, nearestDown, nearestAt, undefinedNearestAt, plainContinueNotNestedAt, noLabelAt, noLoopAt, inProgram}

@@ -1,26 +1,26 @@
 -- THE PROGRAM HAS AN EARLY ERROR BY 8.3, 14.8.1 OR 14.9.1 JUST WHERE SOME NODE HAS A FINDING 18 TO 23.
 use Prim.Native.Nat.{ℕ, _+_, _≤_, _<_}
 use mathlib.Core.Path.{_≡_, refl, sym, _∙_, ap, subst}
-use mathlib.Core.Bool.{Bool, true, false, cond, _&&_, _||_, true≢false}
+use mathlib.Core.Bool.{Bool, true, false, cond, _||_, true≢false}
 use mathlib.Core.List.{List, [], _∷_, _++_, flatMap}
 use mathlib.Core.Logic.{_↔_, ⊎-elim}
 use lib.Dec.{eqb}
 use borrow.Author.Tests.{eqb-true}
 use native.Mathlib.Nat.{eq-or-lt-of-le}
 use native.Mathlib.Omega.{arith}
-use Rattle.common.specs.Upto.{upto}
-use Rattle.tables.specs.Table.{count}
-use Rattle.tables.specs.Facts.{Tree}
-use Rattle.shape.specs.Shape.{Shaped}
-use Rattle.diagnostics.specs.declared.Finding.{Finding}
-use Rattle.checker.specs.Findings.{findingsAt}
+use Rattle.base_common.specs.Upto.{upto}
+use Rattle.table_records.specs.Table.{count}
+use Rattle.table_records.specs.Facts.{Tree}
+use Rattle.refusal_shape.specs.Shape.{Shaped}
+use Rattle.check_diagnostics.specs.declared.Finding.{Finding}
+use Rattle.check_dispatch.specs.Findings.{findingsAt}
 use Rattle.ecma_dispatch.specs.WithCode.{withCode}
 use Rattle.ecma_dispatch.specs.NodesOf.{nodesOf}
-use Rattle.trees.specs.Rose.{partsOf}
-use Rattle.trees.specs.Walk.{each, some, Says, only}
-use Rattle.trees.specs.WalkLaws.{eachSame, someAppend, someEach, someOnly}
-use Rattle.trees.specs.Unit.{homeOf}
-use Rattle.trees.specs.ProgramLaws.{programIs}
+use Rattle.ecma_trees.specs.Rose.{partsOf}
+use Rattle.ecma_trees.specs.Walk.{each, some, Says, only}
+use Rattle.ecma_trees.specs.WalkLaws.{eachSame, someAppend, someEach, someOnly}
+use Rattle.ecma_trees.specs.Unit.{homeOf}
+use Rattle.ecma_trees.specs.ProgramLaws.{programIs}
 use Rattle.ecma_labels.specs.Labels.{isUnit, labelRule, labelErrors, anyDuplicateLabels}
 use Rattle.ecma_labels.specs.Breaches.{duplicateLabelAt, undefinedBreakAt, undefinedContinueAt, continueNotNestedAt, breakNotNestedAt}
 use Rattle.ecma_labels.specs.Changed.{undefinedNearestAt, plainContinueNotNestedAt}

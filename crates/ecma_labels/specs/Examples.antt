@@ -1,16 +1,15 @@
 -- Both sides computed, on the tables of document 01's rows: the rules are broken at some nodes, and the changed one differs where it is said to.
 use Prim.Native.Nat.{ℕ}
 use mathlib.Core.Path.{_≡_, refl}
-use mathlib.Core.Bool.{Bool, true, false}
+use mathlib.Core.Bool.{true, false}
 use mathlib.Core.List.{List, [], _∷_}
-use Rattle.common.specs.Upto.{upto, range}
-use Rattle.walk.specs.Above.{above, climb}
-use Rattle.names.specs.Name.{same, nameOf}
-use Rattle.tables.specs.Kinds as k
-use Rattle.tables.specs.Roles as role
-use Rattle.trees.specs.Rose.{kids, others, forest, partsOf, marks}
-use Rattle.trees.specs.Unit.{broken}
-use Rattle.ecma_labels.specs.Labels.{labelIn, containsDuplicateLabels, containsUndefinedBreakTarget, containsUndefinedContinueTarget, containsContinueNotNested, containsBreakNotNested, anyDuplicateLabels, anyUndefinedContinueTarget, labelRule, labelErrors}
+use Rattle.base_walk.specs.Above.{above, climb}
+use Rattle.table_names.specs.Name.{same, nameOf}
+use Rattle.table_records.specs.Kinds as k
+use Rattle.table_records.specs.Roles as role
+use Rattle.ecma_trees.specs.Rose.{kids, others, forest, partsOf}
+use Rattle.ecma_trees.specs.Unit.{broken}
+use Rattle.ecma_labels.specs.Labels.{labelIn, containsDuplicateLabels, containsUndefinedContinueTarget, anyUndefinedContinueTarget, labelRule, labelErrors}
 use Rattle.ecma_labels.specs.Breaches.{labelSetAt, setsAt, inLoop, duplicateLabelAt, undefinedContinueAt, continueNotNestedAt}
 use Rattle.ecma_labels.specs.Changed.{without, containsUndefinedNearest, anyUndefinedNearest, nearestAt, undefinedNearestAt, plainContinueNotNestedAt, noLoopAt}
 

@@ -1,15 +1,15 @@
 -- The findings of a node that are about labels, break and continue.
 use Prim.Native.Nat.{ℕ}
-use mathlib.Core.List.{List, [], _∷_, _++_, flatMap}
+use mathlib.Core.List.{List, [], _∷_, flatMap}
 use mathlib.Core.Bool.{Bool, cond}
 use lib.Dec.{eqb}
-use Rattle.tables.specs.Table.{kindOf}
-use Rattle.tables.specs.Kinds as k
-use Rattle.diagnostics.specs.declared.Finding.{Finding}
-use Rattle.checker.specs.Findings.{findingsAt}
+use Rattle.table_records.specs.Table.{kindOf}
+use Rattle.table_records.specs.Kinds as k
+use Rattle.check_diagnostics.specs.declared.Finding.{Finding}
+use Rattle.check_dispatch.specs.Findings.{findingsAt}
 use Rattle.ecma_dispatch.specs.WithCode.{withCode}
-use Rattle.trees.specs.Walk.{only}
-use Rattle.trees.specs.Unit.{homeOf}
+use Rattle.ecma_trees.specs.Walk.{only}
+use Rattle.ecma_trees.specs.Unit.{homeOf}
 use Rattle.ecma_labels.specs.Labels.{isUnit}
 
 module _ (sourceType : ℕ) (ns ss source names : List ℕ) where

@@ -5,17 +5,17 @@ use Prim.Native.Nat.{ℕ}
 use mathlib.Core.Bool.{Bool, true, false, cond, not, _&&_, _||_}
 use mathlib.Core.List.{List, [], _∷_, _++_}
 use lib.Dec.{eqb}
-use Rattle.children.specs.Children.{found}
-use Rattle.common.specs.Tests.{within}
-use Rattle.common.specs.Upto.{any}
-use Rattle.tables.specs.Table.{kindOf, roleOf}
-use Rattle.tables.specs.Kinds as k
-use Rattle.tables.specs.Roles as role
-use Rattle.tables.specs.declared.Found.{Found}
-use Rattle.tables.specs.declared.Found.the-variants.{At, Nothing}
-use Rattle.names.specs.Name.{same, nameOf, has}
-use Rattle.trees.specs.Rose.{Rose, Roses, node, rnil, rcons, foldParts, treeOf}
-use Rattle.trees.specs.Unit.{broken}
+use Rattle.table_children.specs.Children.{found}
+use Rattle.base_common.specs.Tests.{within}
+use Rattle.base_common.specs.Upto.{any}
+use Rattle.table_records.specs.Table.{kindOf, roleOf}
+use Rattle.table_records.specs.Kinds as k
+use Rattle.table_records.specs.Roles as role
+use Rattle.table_records.specs.declared.Found.{Found}
+use Rattle.table_records.specs.declared.Found.the-variants.{At, Nothing}
+use Rattle.table_names.specs.Name.{nameOf, has}
+use Rattle.ecma_trees.specs.Rose.{Rose, Roses, node, rnil, rcons, foldParts, treeOf}
+use Rattle.ecma_trees.specs.Unit.{broken}
 
 -- what holds statements: kinds 4 to 17
 abbrev pub holds : ℕ → Bool

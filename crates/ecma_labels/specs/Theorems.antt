@@ -9,22 +9,22 @@ use native.Mathlib.Nat.{eq-or-lt-of-le}
 use lib.Dec.{eqb}
 use borrow.Author.Tests.{eqb-true}
 use native.Mathlib.Omega.{arith}
-use Rattle.common.specs.Upto.{range, upto}
-use Rattle.tables.specs.Table.{kindOf, count}
-use Rattle.tables.specs.Kinds as k
-use Rattle.ancestry.specs.AncestryLaws.{ancestors-root}
-use Rattle.children.specs.Children.{keep}
-use Rattle.input.specs.Input.{WellFormed}
-use Rattle.diagnostics.specs.declared.Finding.{Finding}
-use Rattle.checker.specs.Findings.{findingsAt, findingsOf}
+use Rattle.base_common.specs.Upto.{range, upto}
+use Rattle.table_records.specs.Table.{kindOf, count}
+use Rattle.table_records.specs.Kinds as k
+use Rattle.table_ancestry.specs.AncestryLaws.{ancestors-root}
+use Rattle.table_children.specs.Children.{keep}
+use Rattle.refusal_input.specs.Input.{WellFormed}
+use Rattle.check_diagnostics.specs.declared.Finding.{Finding}
+use Rattle.check_dispatch.specs.Findings.{findingsAt, findingsOf}
 use Rattle.ecma_dispatch.specs.WithCode.{withCode}
 use Rattle.ecma_dispatch.specs.NodesOf.{nodesOf, raised}
 use Rattle.ecma_dispatch.specs.NodesOfLaws.{nodesAppend}
-use Rattle.trees.specs.Rose.{partsOf}
-use Rattle.trees.specs.Walk.{each, some, Says, only}
-use Rattle.trees.specs.WalkLaws.{someAppend, someEach, someOnly}
-use Rattle.trees.specs.Unit.{homeOf}
-use Rattle.trees.specs.UnitLaws.{homeBefore, homeEdge}
+use Rattle.ecma_trees.specs.Rose.{partsOf}
+use Rattle.ecma_trees.specs.Walk.{each, some, Says, only}
+use Rattle.ecma_trees.specs.WalkLaws.{someAppend, someEach, someOnly}
+use Rattle.ecma_trees.specs.Unit.{homeOf}
+use Rattle.ecma_trees.specs.UnitLaws.{homeBefore, homeEdge}
 use Rattle.ecma_labels.specs.Labels.{isUnit, labelRule, labelErrors, unlabelled, anyDuplicateLabels, anyUndefinedBreakTarget, anyUndefinedContinueTarget, anyContinueNotNested, anyBreakNotNested}
 use Rattle.ecma_labels.specs.Breaches.{labelAt, duplicateLabelAt, undefinedBreakAt, undefinedContinueAt, continueNotNestedAt, breakNotNestedAt}
 use Rattle.ecma_labels.specs.Changed.{anyUndefinedNearest, undefinedNearestAt, plainContinueNotNestedAt, noLabelAt, noLoopAt, inProgram, LabelsOnce, ContinuePlain}

@@ -8,15 +8,15 @@ use native.Mathlib.Nat.{eq-or-lt-of-le}
 use native.Mathlib.Omega.{arith}
 use borrow.Author.Tests.{eq-eqb, eqb-true, eqb-false}
 use lib.Dec.{eqb}
-use Rattle.common.specs.Tests.{within}
-use Rattle.common.specs.Bools.{never, or-second, in-range, range-of}
-use Rattle.tables.specs.Table.{kindOf, parentOf, count, scopeOf, scopeParentOf}
-use Rattle.tables.specs.Facts.{Tree, Chained, Scoped}
-use Rattle.tables.specs.Kinds as k
-use Rattle.children.specs.Children.{valueOf, isNode}
-use Rattle.scoping.specs.Scoping.{inStaticBlock}
-use Rattle.scoping.specs.ScopingLaws.{static-here, static-function, static-up, static-root}
-use Rattle.trees.specs.Trail.{unitOf}
+use Rattle.base_common.specs.Tests.{within}
+use Rattle.base_common.specs.Bools.{never, or-second, in-range, range-of}
+use Rattle.table_records.specs.Table.{kindOf, parentOf, count, scopeOf, scopeParentOf}
+use Rattle.table_records.specs.Facts.{Tree, Chained, Scoped}
+use Rattle.table_records.specs.Kinds as k
+use Rattle.table_children.specs.Children.{valueOf, isNode}
+use Rattle.table_scoping.specs.Scoping.{inStaticBlock}
+use Rattle.table_scoping.specs.ScopingLaws.{static-here, static-function, static-up, static-root}
+use Rattle.ecma_trees.specs.Trail.{unitOf}
 use Rattle.ecma_base.specs.Strict.{strictCode}
 use Rattle.ecma_strict.specs.Identifiers.{assignsEval}
 use Rattle.ecma_base.specs.Contains.{initializer}

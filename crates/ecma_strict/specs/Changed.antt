@@ -6,18 +6,18 @@ use mathlib.Core.List.{List, [], _∷_, foldr}
 use mathlib.Core.Bool.{Bool, true, false, cond, not, _&&_, _||_}
 use lib.Dec.{eqb}
 use lib.ListN.{length}
-use Rattle.common.specs.Upto.{all, any}
-use Rattle.common.specs.Tests.{within}
-use Rattle.tables.specs.Table.{kindOf, parentOf, extraOf, scopeOf, scopeFlagsOf, scopeNodeOf, outer, hasFlag, ancestors}
-use Rattle.tables.specs.Kinds as k
-use Rattle.tables.specs.Extras as extra
-use Rattle.tables.specs.ScopeFlag as scope
-use Rattle.tables.specs.declared.Found.{Found}
-use Rattle.tables.specs.declared.Found.the-variants.{At, Nothing}
-use Rattle.children.specs.Children.{valueOf, heldOf, alternateOf, isNode}
-use Rattle.trees.specs.Trail.{unitOf}
-use Rattle.names.specs.Name.{nameIs}
-use Rattle.names.specs.Words as word
+use Rattle.base_common.specs.Upto.{all, any}
+use Rattle.base_common.specs.Tests.{within}
+use Rattle.table_records.specs.Table.{kindOf, parentOf, extraOf, scopeOf, scopeFlagsOf, scopeNodeOf, outer, hasFlag, ancestors}
+use Rattle.table_records.specs.Kinds as k
+use Rattle.table_records.specs.Extras as extra
+use Rattle.table_records.specs.ScopeFlag as scope
+use Rattle.table_records.specs.declared.Found.{Found}
+use Rattle.table_records.specs.declared.Found.the-variants.{At, Nothing}
+use Rattle.table_children.specs.Children.{valueOf, heldOf, alternateOf, isNode}
+use Rattle.ecma_trees.specs.Trail.{unitOf}
+use Rattle.table_names.specs.Name.{nameIs}
+use Rattle.table_names.specs.Words as word
 use Rattle.ecma_base.specs.Telling.{Telling, asyncOrGenerator}
 use Rattle.ecma_base.specs.Strict.{strictCode}
 use Rattle.ecma_base.specs.Scopes.{mayMakeScope, blockScope, topScope, scopesFollow}

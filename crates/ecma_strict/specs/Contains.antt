@@ -3,17 +3,17 @@ use Prim.Native.Nat.{ℕ}
 use mathlib.Core.List.{List}
 use mathlib.Core.Bool.{Bool, not, _&&_, _||_}
 use lib.Dec.{eqb}
-use Rattle.common.specs.Upto.{any}
-use Rattle.common.specs.Tests.{within}
-use Rattle.tables.specs.Table.{kindOf, parentOf, roleOf, flagsOf, extraOf, hasFlag}
-use Rattle.tables.specs.Kinds as k
-use Rattle.tables.specs.Roles as role
-use Rattle.tables.specs.Extras as extra
-use Rattle.tables.specs.NodeFlag as flag
-use Rattle.children.specs.Children.{children}
-use Rattle.names.specs.Name.{nameIs}
-use Rattle.names.specs.Words as word
-use Rattle.trees.specs.Trail.{unitOf}
+use Rattle.base_common.specs.Upto.{any}
+use Rattle.base_common.specs.Tests.{within}
+use Rattle.table_records.specs.Table.{kindOf, parentOf, roleOf, flagsOf, extraOf, hasFlag}
+use Rattle.table_records.specs.Kinds as k
+use Rattle.table_records.specs.Roles as role
+use Rattle.table_records.specs.Extras as extra
+use Rattle.table_records.specs.NodeFlag as flag
+use Rattle.table_children.specs.Children.{children}
+use Rattle.table_names.specs.Name.{nameIs}
+use Rattle.table_names.specs.Words as word
+use Rattle.ecma_trees.specs.Trail.{unitOf}
 use Rattle.ecma_base.specs.Contains.{initializer}
 
 -- 8.5.1: of a function and of a ClassStaticBlockBody it is false; of an arrow function too, "If symbol is not one of NewTarget, SuperProperty, SuperCall, super, or this"; of a class it looks at the

@@ -3,14 +3,14 @@ use Prim.Native.Nat.{ℕ}
 use mathlib.Core.List.{List}
 use mathlib.Core.Bool.{Bool, false, cond, _&&_, _||_}
 use lib.Dec.{eqb}
-use Rattle.tables.specs.Table.{kindOf, flagsOf, extraOf, hasFlag}
-use Rattle.tables.specs.Kinds as k
-use Rattle.tables.specs.Extras as extra
-use Rattle.tables.specs.NodeFlag as flag
-use Rattle.tables.specs.declared.Found.{Found}
-use Rattle.tables.specs.declared.Found.the-variants.{At, Nothing}
-use Rattle.children.specs.Children.{valueOf}
-use Rattle.trees.specs.Rose.{Rose, Roses, node, rnil, rcons, idx, treeAt}
+use Rattle.table_records.specs.Table.{kindOf, flagsOf, extraOf, hasFlag}
+use Rattle.table_records.specs.Kinds as k
+use Rattle.table_records.specs.Extras as extra
+use Rattle.table_records.specs.NodeFlag as flag
+use Rattle.table_records.specs.declared.Found.{Found}
+use Rattle.table_records.specs.declared.Found.the-variants.{At, Nothing}
+use Rattle.table_children.specs.Children.{valueOf}
+use Rattle.ecma_trees.specs.Rose.{Rose, Roses, node, rnil, rcons, idx, treeAt}
 use Rattle.ecma_base.specs.Strict.{strictCode}
 
 -- 13.2, PrimaryExpression : CoverParenthesizedExpressionAndArrowParameterList

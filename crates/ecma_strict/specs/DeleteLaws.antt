@@ -6,27 +6,27 @@ use mathlib.Core.Bool.{Bool, true, false, cond, _&&_, _||_}
 use native.Mathlib.Omega.{arith}
 use borrow.Author.Tests.{eq-eqb, ne-eqb, eqb-true}
 use lib.Dec.{eqb}
-use Rattle.common.specs.UptoLaws.{and-left}
-use Rattle.common.specs.Bools.{in-range}
-use Rattle.tables.specs.Table.{kindOf, roleOf, parentOf, count, flagsOf, extraOf, hasFlag}
-use Rattle.tables.specs.Facts.{Tree}
-use Rattle.tables.specs.Kinds as k
-use Rattle.tables.specs.NodeFlag as flag
-use Rattle.tables.specs.declared.Found.{Found}
-use Rattle.tables.specs.declared.Found.the-variants.{At, Nothing}
-use Rattle.children.specs.Children.{isChild, firstNode, valueOf, innerOf}
-use Rattle.children.specs.ChildrenLaws.{child-other, found-child}
-use Rattle.diagnostics.specs.Finding.{errorAt}
-use Rattle.diagnostics.specs.Codes as code
-use Rattle.diagnostics.specs.Contexts as context
-use Rattle.diagnostics.specs.declared.Raised.{Raised}
-use Rattle.diagnostics.specs.declared.Raised.the-variants.{Clear}
-use Rattle.fields.specs.Fields.{Listed}
-use Rattle.expressions.specs.Expressions.{innerExpression, errorPart, fieldOf, chainFinding, deleteOf, deleteFinding, checkUnaryExpression}
-use Rattle.expressions.specs.ExpressionLaws.{inner-bare, inner-empty, inner-on}
-use Rattle.trees.specs.Rose.{Rose, Roses, node, rnil, rcons, idx, partsOf, treeAt, foldParts}
-use Rattle.trees.specs.RoseLaws.{PlacedAll, WholeAll, partsPlaced, partsWhole, foldPartsIs}
-use Rattle.trees.specs.Walk.{only}
+use Rattle.base_common.specs.UptoLaws.{and-left}
+use Rattle.base_common.specs.Bools.{in-range}
+use Rattle.table_records.specs.Table.{kindOf, roleOf, parentOf, count, flagsOf, extraOf, hasFlag}
+use Rattle.table_records.specs.Facts.{Tree}
+use Rattle.table_records.specs.Kinds as k
+use Rattle.table_records.specs.NodeFlag as flag
+use Rattle.table_records.specs.declared.Found.{Found}
+use Rattle.table_records.specs.declared.Found.the-variants.{At, Nothing}
+use Rattle.table_children.specs.Children.{isChild, firstNode, valueOf, innerOf}
+use Rattle.table_children.specs.ChildrenLaws.{child-other, found-child}
+use Rattle.check_diagnostics.specs.Finding.{errorAt}
+use Rattle.check_diagnostics.specs.Codes as code
+use Rattle.check_diagnostics.specs.Contexts as context
+use Rattle.check_diagnostics.specs.declared.Raised.{Raised}
+use Rattle.check_diagnostics.specs.declared.Raised.the-variants.{Clear}
+use Rattle.refusal_fields.specs.Fields.{Listed}
+use Rattle.check_expressions.specs.Expressions.{innerExpression, errorPart, fieldOf, chainFinding, deleteOf, deleteFinding, checkUnaryExpression}
+use Rattle.check_expressions.specs.ExpressionLaws.{inner-bare, inner-empty, inner-on}
+use Rattle.ecma_trees.specs.Rose.{Rose, Roses, node, rnil, rcons, idx, partsOf, treeAt, foldParts}
+use Rattle.ecma_trees.specs.RoseLaws.{PlacedAll, WholeAll, partsPlaced, partsWhole, foldPartsIs}
+use Rattle.ecma_trees.specs.Walk.{only}
 use Rattle.ecma_strict.specs.Nodes.{ofCheck}
 use Rattle.ecma_base.specs.Strict.{strictCode}
 use Rattle.ecma_strict.specs.Delete.{parenthesized, ultimately, ultimatelyFirst, nameReference, firstIsPrivate, privateReference, derives, deletesName, deletesPrivate}

@@ -1,7 +1,6 @@
 -- The numbers of a text's tables, and tellings, for the examples.
 use Prim.Native.Nat.{ℕ}
-use mathlib.Core.Path.{_≡_}
-use mathlib.Core.List.{List, _∷_, _++_}
+use mathlib.Core.List.{List}
 use mathlib.Core.Bool.{false}
 use lib.Dec.{eqb}
 use Rattle.ecma_base.specs.Telling.{Telling}

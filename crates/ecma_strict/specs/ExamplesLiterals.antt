@@ -1,14 +1,14 @@
 -- Texts of which the rules are told apart, as the tree maker writes them: what the standard's rule says at a node, and what the Rust's. Literals and delete.
 use Prim.Native.Nat.{ℕ}
 use mathlib.Core.Path.{_≡_, refl}
-use mathlib.Core.List.{List, [], _∷_, map, _++_}
+use mathlib.Core.List.{List, [], _∷_, map}
 use mathlib.Core.Bool.{Bool, true, false}
-use Rattle.names.specs.Name.{same, nameOf}
-use Rattle.walk.specs.Above.{above, climb}
-use Rattle.common.specs.Upto.{upto, range}
-use Rattle.children.specs.Children.{keep, children, isChild, firstNode}
-use Rattle.trees.specs.Rose.{kids, others, forest, partsOf}
-use Rattle.trees.specs.Trail as trails
+use Rattle.table_names.specs.Name.{same, nameOf}
+use Rattle.base_walk.specs.Above.{above, climb}
+use Rattle.base_common.specs.Upto.{upto, range}
+use Rattle.table_children.specs.Children.{keep, children, isChild, firstNode}
+use Rattle.ecma_trees.specs.Rose.{kids, others, forest, partsOf}
+use Rattle.ecma_trees.specs.Trail as trails
 use Rattle.ecma_base.specs.Scopes.{followsAt, flaggedAt, classAt, scopesFollow}
 use Rattle.ecma_strict.specs.Literals.{textOf, legacyOctalInteger, octalsThenNonOctal, nonOctalDecimalInteger, legacyOctalEscape, nonOctalDecimalEscape, escapes, strictOctalEscape, strictNonOctalEscape}
 use Rattle.ecma_strict.specs.Delete.{ultimately, privateReference, deletesPrivate}

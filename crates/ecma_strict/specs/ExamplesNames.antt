@@ -3,12 +3,12 @@ use Prim.Native.Nat.{ℕ}
 use mathlib.Core.Path.{_≡_, refl}
 use mathlib.Core.List.{List, [], _∷_, map, foldr, _++_}
 use mathlib.Core.Bool.{true, false}
-use Rattle.names.specs.Name.{same, nameOf}
-use Rattle.walk.specs.Above.{above, climb}
-use Rattle.common.specs.Upto.{upto, range}
-use Rattle.children.specs.Children.{keep, children, isChild, firstNode}
-use Rattle.trees.specs.Rose.{kids, others, forest, partsOf}
-use Rattle.trees.specs.Trail as trails
+use Rattle.table_names.specs.Name.{same, nameOf}
+use Rattle.base_walk.specs.Above.{above, climb}
+use Rattle.base_common.specs.Upto.{upto, range}
+use Rattle.table_children.specs.Children.{keep, children, isChild, firstNode}
+use Rattle.ecma_trees.specs.Rose.{kids, others, forest, partsOf}
+use Rattle.ecma_trees.specs.Trail as trails
 use Rattle.ecma_base.specs.Telling.{ordinary}
 use Rattle.ecma_base.specs.Scopes.{followsAt, flaggedAt, classAt, scopesFollow}
 use Rattle.ecma_strict.specs.ReservedWords.{reservedWords}

@@ -4,15 +4,15 @@ use Prim.Native.Nat.{ℕ}
 use mathlib.Core.List.{List}
 use mathlib.Core.Bool.{Bool, false, cond, not, _&&_, _||_}
 use lib.Dec.{eqb}
-use Rattle.common.specs.Tests.{within}
-use Rattle.tables.specs.Table.{kindOf, roleOf}
-use Rattle.tables.specs.Kinds as k
-use Rattle.tables.specs.Roles as role
-use Rattle.tables.specs.declared.Found.{Found}
-use Rattle.tables.specs.declared.Found.the-variants.{At, Nothing}
-use Rattle.children.specs.Children.{heldOf, alternateOf}
-use Rattle.trees.specs.Rose.{Rose, Roses, node, rnil, rcons, idx, partsOf}
-use Rattle.trees.specs.Trail.{unitOf}
+use Rattle.base_common.specs.Tests.{within}
+use Rattle.table_records.specs.Table.{kindOf, roleOf}
+use Rattle.table_records.specs.Kinds as k
+use Rattle.table_records.specs.Roles as role
+use Rattle.table_records.specs.declared.Found.{Found}
+use Rattle.table_records.specs.declared.Found.the-variants.{At, Nothing}
+use Rattle.table_children.specs.Children.{heldOf, alternateOf}
+use Rattle.ecma_trees.specs.Rose.{Rose, Roses, node, rnil, rcons, idx, partsOf}
+use Rattle.ecma_trees.specs.Trail.{unitOf}
 use Rattle.ecma_base.specs.Strict.{strictCode}
 use Rattle.ecma_base.specs.Telling.{Telling, asyncOrGenerator}
 

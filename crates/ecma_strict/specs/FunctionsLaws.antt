@@ -5,23 +5,23 @@ use mathlib.Core.List.{List, []}
 use mathlib.Core.Bool.{Bool, true, false, cond, not, _&&_, _||_}
 use borrow.Author.Tests.{eq-eqb, eqb-true, eqb-false}
 use lib.Dec.{eqb}
-use Rattle.common.specs.Bools.{never}
-use Rattle.common.specs.UptoLaws.{and-left, and-right}
-use Rattle.tables.specs.Table.{kindOf, parentOf, count}
-use Rattle.tables.specs.Facts.{Tree}
-use Rattle.tables.specs.Kinds as k
-use Rattle.tables.specs.declared.Found.{Found}
-use Rattle.tables.specs.declared.Found.the-variants.{At, Nothing}
-use Rattle.children.specs.Children.{heldOf, alternateOf}
-use Rattle.diagnostics.specs.Finding.{errorAt}
-use Rattle.diagnostics.specs.Codes as code
-use Rattle.diagnostics.specs.Contexts as context
-use Rattle.diagnostics.specs.declared.Raised.{Raised}
-use Rattle.diagnostics.specs.declared.Raised.the-variants.{Clear}
-use Rattle.statements.specs.Statements.{checkFound, checkFunctionDeclaration, checkBody, checkConsequent, checkAlternate, labelledFunction, checkLabeledItem, checkFunctionDeclarationInLabeledStatement}
-use Rattle.statements.specs.StatementsLaws.{function-on, function-held, function-free, function-root}
-use Rattle.trees.specs.Walk.{only}
-use Rattle.trees.specs.Trail.{unitOf}
+use Rattle.base_common.specs.Bools.{never}
+use Rattle.base_common.specs.UptoLaws.{and-left, and-right}
+use Rattle.table_records.specs.Table.{kindOf, parentOf, count}
+use Rattle.table_records.specs.Facts.{Tree}
+use Rattle.table_records.specs.Kinds as k
+use Rattle.table_records.specs.declared.Found.{Found}
+use Rattle.table_records.specs.declared.Found.the-variants.{At, Nothing}
+use Rattle.table_children.specs.Children.{heldOf, alternateOf}
+use Rattle.check_diagnostics.specs.Finding.{errorAt}
+use Rattle.check_diagnostics.specs.Codes as code
+use Rattle.check_diagnostics.specs.Contexts as context
+use Rattle.check_diagnostics.specs.declared.Raised.{Raised}
+use Rattle.check_diagnostics.specs.declared.Raised.the-variants.{Clear}
+use Rattle.check_statements.specs.Statements.{checkFound, checkFunctionDeclaration, checkBody, checkConsequent, checkAlternate, labelledFunction, checkLabeledItem, checkFunctionDeclarationInLabeledStatement}
+use Rattle.check_statements.specs.StatementsLaws.{function-on, function-held, function-free, function-root}
+use Rattle.ecma_trees.specs.Walk.{only}
+use Rattle.ecma_trees.specs.Trail.{unitOf}
 use Rattle.ecma_strict.specs.Nodes.{ofCheck}
 use Rattle.ecma_base.specs.Strict.{strictCode}
 use Rattle.ecma_base.specs.Telling.{Telling, asyncOrGenerator, ordinary}

@@ -3,14 +3,14 @@ use Prim.Native.Nat.{ℕ}
 use mathlib.Core.List.{List, [], _∷_}
 use mathlib.Core.Bool.{Bool, not, _&&_, _||_}
 use lib.Dec.{eqb}
-use Rattle.common.specs.Upto.{any}
-use Rattle.common.specs.Tests.{within}
-use Rattle.tables.specs.Table.{kindOf, parentOf, flagsOf, hasFlag}
-use Rattle.tables.specs.Kinds as k
-use Rattle.tables.specs.NodeFlag as flag
-use Rattle.children.specs.Children.{children}
-use Rattle.names.specs.Name.{nameIs}
-use Rattle.names.specs.Words as word
+use Rattle.base_common.specs.Upto.{any}
+use Rattle.base_common.specs.Tests.{within}
+use Rattle.table_records.specs.Table.{kindOf, parentOf, flagsOf, hasFlag}
+use Rattle.table_records.specs.Kinds as k
+use Rattle.table_records.specs.NodeFlag as flag
+use Rattle.table_children.specs.Children.{children}
+use Rattle.table_names.specs.Name.{nameIs}
+use Rattle.table_names.specs.Words as word
 use Rattle.ecma_base.specs.Strict.{strictCode}
 use Rattle.ecma_base.specs.Telling.{Telling}
 use Rattle.ecma_strict.specs.ReservedWords.{reservedWords}

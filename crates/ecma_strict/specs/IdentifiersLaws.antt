@@ -5,21 +5,21 @@ use mathlib.Core.List.{List}
 use mathlib.Core.Bool.{Bool, true, false, cond, not, _&&_, _||_}
 use borrow.Author.Tests.{eq-eqb, eqb-true}
 use lib.Dec.{eqb}
-use Rattle.common.specs.Upto.{any}
-use Rattle.common.specs.Tests.{within}
-use Rattle.common.specs.Bools.{never}
-use Rattle.tables.specs.Table.{kindOf, parentOf, spanStartOf, spanEndOf, scopeOf, scopeFlagsOf, scopeNodeOf, hasFlag}
-use Rattle.tables.specs.Kinds as k
-use Rattle.tables.specs.ScopeFlag as scope
-use Rattle.names.specs.Name.{same, nameOf, nameIs}
-use Rattle.names.specs.NameLaws.{same-eq}
-use Rattle.names.specs.Words as word
-use Rattle.diagnostics.specs.Finding.{errorAt}
-use Rattle.diagnostics.specs.Codes as code
-use Rattle.diagnostics.specs.Contexts as context
-use Rattle.diagnostics.specs.declared.Raised.the-variants.{Clear}
-use Rattle.identifiers.specs.Identifiers.{strictContext, awaitFinding, isStrictWord, checkIdentifier, isNotSimple, checkDirective}
-use Rattle.trees.specs.Walk.{only}
+use Rattle.base_common.specs.Upto.{any}
+use Rattle.base_common.specs.Tests.{within}
+use Rattle.base_common.specs.Bools.{never}
+use Rattle.table_records.specs.Table.{kindOf, parentOf, spanStartOf, spanEndOf, scopeOf, scopeFlagsOf, scopeNodeOf, hasFlag}
+use Rattle.table_records.specs.Kinds as k
+use Rattle.table_records.specs.ScopeFlag as scope
+use Rattle.table_names.specs.Name.{same, nameOf, nameIs}
+use Rattle.table_names.specs.NameLaws.{same-eq}
+use Rattle.table_names.specs.Words as word
+use Rattle.check_diagnostics.specs.Finding.{errorAt}
+use Rattle.check_diagnostics.specs.Codes as code
+use Rattle.check_diagnostics.specs.Contexts as context
+use Rattle.check_diagnostics.specs.declared.Raised.the-variants.{Clear}
+use Rattle.check_identifiers.specs.Identifiers.{strictContext, awaitFinding, isStrictWord, checkIdentifier, isNotSimple, checkDirective}
+use Rattle.ecma_trees.specs.Walk.{only}
 use Rattle.ecma_strict.specs.Nodes.{ofCheck}
 use Rattle.ecma_base.specs.Strict.{strictCode}
 use Rattle.ecma_strict.specs.StatementsLaws.{ifOnly}

@@ -9,21 +9,21 @@ use native.Mathlib.Omega.{arith}
 use borrow.Author.Tests.{eq-eqb, ne-eqb, eqb-true, eqb-false}
 use lib.Dec.{eqb}
 use lib.ListN.{length}
-use Rattle.common.specs.Upto.{upto}
-use Rattle.common.specs.Tests.{within}
-use Rattle.common.specs.Bools.{in-range, range-of}
-use Rattle.tables.specs.Table.{kindOf, parentOf, roleOf, count}
-use Rattle.tables.specs.Facts.{Tree}
-use Rattle.tables.specs.Roles as role
-use Rattle.tables.specs.declared.Found.{Found}
-use Rattle.tables.specs.declared.Found.the-variants.{At, Nothing}
-use Rattle.children.specs.Children.{keep, howMany, isChild, firstNode, heldOf}
-use Rattle.children.specs.ChildrenLaws.{child-other, tally, tally-all}
-use Rattle.fields.specs.Fields.{Listed}
-use Rattle.standing.specs.Standing.{isStatement}
-use Rattle.shape.specs.Shape.{Shaped}
-use Rattle.trees.specs.Rose.{Rose, Roses, node, rnil, rcons, idx, partsOf, foldParts}
-use Rattle.trees.specs.RoseLaws.{Under, Placed, PlacedAll, Whole, WholeAll, partsPlaced, partsWhole, foldPartsIs}
+use Rattle.base_common.specs.Upto.{upto}
+use Rattle.base_common.specs.Tests.{within}
+use Rattle.base_common.specs.Bools.{in-range, range-of}
+use Rattle.table_records.specs.Table.{kindOf, parentOf, roleOf, count}
+use Rattle.table_records.specs.Facts.{Tree}
+use Rattle.table_records.specs.Roles as role
+use Rattle.table_records.specs.declared.Found.{Found}
+use Rattle.table_records.specs.declared.Found.the-variants.{At, Nothing}
+use Rattle.table_children.specs.Children.{keep, howMany, isChild, firstNode, heldOf}
+use Rattle.table_children.specs.ChildrenLaws.{child-other, tally, tally-all}
+use Rattle.refusal_fields.specs.Fields.{Listed}
+use Rattle.refusal_standing.specs.Standing.{isStatement}
+use Rattle.refusal_shape.specs.Shape.{Shaped}
+use Rattle.ecma_trees.specs.Rose.{Rose, Roses, node, rnil, rcons, idx, partsOf, foldParts}
+use Rattle.ecma_trees.specs.RoseLaws.{Under, Placed, PlacedAll, Whole, WholeAll, partsPlaced, partsWhole, foldPartsIs}
 use Rattle.ecma_base.specs.Contains.{contains, containsAny, containsIn}
 use Rattle.ecma_strict.specs.Functions.{isFunction, endsInStatement, isLabelledFunction, labelledItem, labelledAmong, labelsFunction, labelEdge}
 

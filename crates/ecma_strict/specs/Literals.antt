@@ -4,10 +4,10 @@ use mathlib.Core.List.{List, [], _∷_}
 use mathlib.Core.Bool.{Bool, false, cond, not, _&&_, _||_}
 use lib.Dec.{eqb}
 use lib.ListN.{take, drop}
-use Rattle.common.specs.Upto.{all, any}
-use Rattle.common.specs.Tests.{within}
-use Rattle.tables.specs.Table.{kindOf, parentOf, spanStartOf, spanEndOf}
-use Rattle.tables.specs.Kinds as k
+use Rattle.base_common.specs.Upto.{all, any}
+use Rattle.base_common.specs.Tests.{within}
+use Rattle.table_records.specs.Table.{kindOf, parentOf, spanStartOf, spanEndOf}
+use Rattle.table_records.specs.Kinds as k
 use Rattle.ecma_base.specs.Strict.{strictCode}
 
 unfoldable pub textOf : List ℕ → List ℕ → ℕ → List ℕ

@@ -6,22 +6,22 @@ use mathlib.Core.Bool.{Bool, true, false, cond, not, _&&_, _||_}
 use native.Mathlib.Omega.{arith}
 use borrow.Author.Tests.{eq-eqb, ne-eqb, eqb-true, eqb-false, leb-true, leb-false, lt-leb}
 use lib.Dec.{eqb, leb}
-use Rattle.common.specs.Upto.{all, any}
-use Rattle.common.specs.UptoLaws.{and-left}
-use Rattle.common.specs.Tests.{within}
-use Rattle.common.specs.Bools.{never, or-first, or-second}
-use Rattle.tables.specs.Table.{kindOf, parentOf, spanStartOf, spanEndOf, extraOf}
-use Rattle.tables.specs.Kinds as k
-use Rattle.tables.specs.Extras as extra
-use Rattle.diagnostics.specs.Finding.{errorSpan, errorAt}
-use Rattle.diagnostics.specs.Codes as code
-use Rattle.diagnostics.specs.Contexts as context
-use Rattle.diagnostics.specs.declared.Raised.{Raised}
-use Rattle.diagnostics.specs.declared.Raised.the-variants.{Clear}
-use Rattle.literals.specs.declared.Escape.the-variants.{LegacyOctal, NonOctalDecimal, Fine}
-use Rattle.literals.specs.Escapes.{digitNext, isLegacyOctal, isNonOctalDecimal, escapeOf, orElse, badEscape}
-use Rattle.literals.specs.Literals.{sourceText, leadingZero, escapeFinding, checkStringLiteral, checkNumberLiteral}
-use Rattle.trees.specs.Walk.{only}
+use Rattle.base_common.specs.Upto.{all, any}
+use Rattle.base_common.specs.UptoLaws.{and-left}
+use Rattle.base_common.specs.Tests.{within}
+use Rattle.base_common.specs.Bools.{never, or-first, or-second}
+use Rattle.table_records.specs.Table.{kindOf, parentOf, spanStartOf, spanEndOf, extraOf}
+use Rattle.table_records.specs.Kinds as k
+use Rattle.table_records.specs.Extras as extra
+use Rattle.check_diagnostics.specs.Finding.{errorSpan, errorAt}
+use Rattle.check_diagnostics.specs.Codes as code
+use Rattle.check_diagnostics.specs.Contexts as context
+use Rattle.check_diagnostics.specs.declared.Raised.{Raised}
+use Rattle.check_diagnostics.specs.declared.Raised.the-variants.{Clear}
+use Rattle.check_literals.specs.declared.Escape.the-variants.{LegacyOctal, NonOctalDecimal, Fine}
+use Rattle.check_literals.specs.Escapes.{digitNext, isLegacyOctal, isNonOctalDecimal, escapeOf, orElse, badEscape}
+use Rattle.check_literals.specs.Literals.{sourceText, leadingZero, escapeFinding, checkStringLiteral, checkNumberLiteral}
+use Rattle.ecma_trees.specs.Walk.{only}
 use Rattle.ecma_strict.specs.Nodes.{ofCheck}
 use Rattle.ecma_base.specs.Strict.{strictCode}
 use Rattle.ecma_strict.specs.Literals.{textOf, decimalDigit, octalDigit, nonOctalDigit, next, legacyOctalInteger, octalsThenNonOctal, nonOctalDecimalInteger, numericLiteral, strictOctal, strictNonOctal, legacyOctalEscape, nonOctalDecimalEscape, escapes, stringLiteral, strictOctalEscape, strictNonOctalEscape}

@@ -3,12 +3,12 @@ use Prim.Native.Nat.{ℕ}
 use mathlib.Core.Path.{_≡_, refl, ap, sym, _∙_}
 use mathlib.Core.List.{List, [], _∷_, _++_}
 use mathlib.Core.Bool.{Bool, true, false, not, _&&_, _||_}
-use Rattle.common.specs.Upto.{any}
-use Rattle.common.specs.Bools.{never, or-first, or-second}
-use Rattle.names.specs.Name.{same, nameOf, nameIs}
-use Rattle.names.specs.Words as word
-use Rattle.trees.specs.Walk.{some, only}
-use Rattle.trees.specs.WalkLaws.{someAppend, someOnly}
+use Rattle.base_common.specs.Upto.{any}
+use Rattle.base_common.specs.Bools.{never, or-first, or-second}
+use Rattle.table_names.specs.Name.{same, nameOf, nameIs}
+use Rattle.table_names.specs.Words as word
+use Rattle.ecma_trees.specs.Walk.{some, only}
+use Rattle.ecma_trees.specs.WalkLaws.{someAppend, someOnly}
 use Rattle.ecma_base.specs.Telling.{Telling}
 use Rattle.ecma_base.specs.Strict.{strictCode}
 use Rattle.ecma_base.specs.Scopes.{blockScope}

@@ -8,15 +8,15 @@ use native.Mathlib.Nat.{eq-or-lt-of-le}
 use native.Mathlib.Omega.{arith}
 use borrow.Author.Tests.{eq-eqb, ne-eqb, eqb-true, not-true}
 use lib.Dec.{eqb}
-use Rattle.common.specs.UptoLaws.{and-left}
-use Rattle.common.specs.Tests.{within}
-use Rattle.common.specs.Bools.{never, or-first, or-second, either, in-range, range-of}
-use Rattle.tables.specs.Table.{kindOf, parentOf, count, extraOf}
-use Rattle.tables.specs.Facts.{Tree}
-use Rattle.tables.specs.Extras as extra
-use Rattle.children.specs.Children.{valueOf, isNode}
-use Rattle.trees.specs.Trail.{unitOf}
-use Rattle.trees.specs.TrailLaws.{handedLaw}
+use Rattle.base_common.specs.UptoLaws.{and-left}
+use Rattle.base_common.specs.Tests.{within}
+use Rattle.base_common.specs.Bools.{never, or-first, or-second, either, in-range, range-of}
+use Rattle.table_records.specs.Table.{kindOf, parentOf, count, extraOf}
+use Rattle.table_records.specs.Facts.{Tree}
+use Rattle.table_records.specs.Extras as extra
+use Rattle.table_children.specs.Children.{valueOf, isNode}
+use Rattle.ecma_trees.specs.Trail.{unitOf}
+use Rattle.ecma_trees.specs.TrailLaws.{handedLaw}
 use Rattle.ecma_base.specs.Contains.{initializer, comes}
 use Rattle.ecma_strict.specs.Contains.{containsInto, staticBlock, blockBegin, awaitEdge, argumentsBegin, argumentsInto, argumentsEdge, argumentsHome, parameter, parameterBegin, parameterEdge, lexicalDeclaration, boundBegin, unbound, boundInto, boundEdge}
 use Rattle.ecma_base.specs.ContainsLaws.{upward, unitUp, unitRoot, comesHome}

@@ -4,20 +4,20 @@ use mathlib.Core.Path.{_≡_, refl, ap, sym, _∙_}
 use mathlib.Core.List.{List, [], _∷_, _++_, flatMap}
 use mathlib.Core.Bool.{Bool, true, false, cond}
 use lib.Dec.{eqb}
-use Rattle.common.specs.Upto.{upto}
-use Rattle.walk.specs.On.{member}
-use Rattle.tables.specs.Table.{count}
-use Rattle.diagnostics.specs.declared.Finding.{Finding}
-use Rattle.diagnostics.specs.declared.Raised.{Raised}
-use Rattle.diagnostics.specs.declared.Raised.the-variants.{Error, Clear}
-use Rattle.diagnostics.specs.Finding.{listed}
-use Rattle.checker.specs.Findings.{findingsAt, findingsOf}
-use Rattle.trees.specs.Walk.{each, only}
-use Rattle.trees.specs.WalkLaws.{eachSame}
+use Rattle.base_common.specs.Upto.{upto}
+use Rattle.base_walk.specs.On.{member}
+use Rattle.table_records.specs.Table.{count}
+use Rattle.check_diagnostics.specs.declared.Finding.{Finding}
+use Rattle.check_diagnostics.specs.declared.Raised.{Raised}
+use Rattle.check_diagnostics.specs.declared.Raised.the-variants.{Error, Clear}
+use Rattle.check_diagnostics.specs.Finding.{listed}
+use Rattle.check_dispatch.specs.Findings.{findingsAt, findingsOf}
+use Rattle.ecma_trees.specs.Walk.{each, only}
+use Rattle.ecma_trees.specs.WalkLaws.{eachSame}
 use Rattle.ecma_dispatch.specs.WithCode.{withCode}
 use Rattle.ecma_dispatch.specs.Dispatch.{wholeOther}
 use Rattle.ecma_dispatch.specs.NodesOf.{nodesOf, raised}
-use Rattle.ecma_dispatch.specs.NodesOfLaws.{nodesAppend, raisedNil, raisedAppend, raisedAgain}
+use Rattle.ecma_dispatch.specs.NodesOfLaws.{nodesAppend, raisedNil, raisedAgain}
 use Rattle.ecma_strict.specs.Nodes.{ofCheck}
 
 -- a check

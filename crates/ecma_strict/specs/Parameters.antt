@@ -3,10 +3,10 @@ use Prim.Native.Nat.{ℕ}
 use mathlib.Core.List.{List}
 use mathlib.Core.Bool.{Bool, true, false, cond, _&&_, _||_}
 use lib.Dec.{eqb}
-use Rattle.tables.specs.Table.{kindOf, flagsOf, hasFlag}
-use Rattle.tables.specs.Kinds as k
-use Rattle.tables.specs.NodeFlag as flag
-use Rattle.trees.specs.Trail.{handedDown}
+use Rattle.table_records.specs.Table.{kindOf, flagsOf, hasFlag}
+use Rattle.table_records.specs.Kinds as k
+use Rattle.table_records.specs.NodeFlag as flag
+use Rattle.ecma_trees.specs.Trail.{handedDown}
 use Rattle.ecma_base.specs.Telling.{Telling}
 use Rattle.ecma_base.specs.Contains.{initializer}
 use Rattle.ecma_strict.specs.Contains.{staticBlock}

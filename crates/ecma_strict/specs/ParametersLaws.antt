@@ -8,22 +8,22 @@ use native.Mathlib.Nat.{eq-or-lt-of-le}
 use native.Mathlib.Omega.{arith}
 use borrow.Author.Tests.{ne-eqb, eqb-true}
 use lib.Dec.{eqb}
-use Rattle.common.specs.Upto.{any}
-use Rattle.common.specs.UptoLaws.{and-left}
-use Rattle.common.specs.Tests.{within}
-use Rattle.common.specs.Bools.{never, or-first, in-range, range-of}
-use Rattle.tables.specs.Table.{kindOf, parentOf, flagsOf, hasFlag, count, scopeOf, scopeFlagsOf, scopeNodeOf}
-use Rattle.tables.specs.Facts.{Tree}
-use Rattle.tables.specs.Kinds as k
-use Rattle.tables.specs.NodeFlag as flag
-use Rattle.tables.specs.ScopeFlag as scope
-use Rattle.children.specs.Children.{valueOf, isNode}
-use Rattle.names.specs.Name.{nameIs}
-use Rattle.names.specs.Words as word
-use Rattle.ancestry.specs.AncestryLaws.{parent-in}
-use Rattle.standing.specs.Standing.{Placed}
-use Rattle.trees.specs.Trail.{unitOf}
-use Rattle.trees.specs.TrailLaws.{handedLaw, handedRoot}
+use Rattle.base_common.specs.Upto.{any}
+use Rattle.base_common.specs.UptoLaws.{and-left}
+use Rattle.base_common.specs.Tests.{within}
+use Rattle.base_common.specs.Bools.{never, or-first, in-range, range-of}
+use Rattle.table_records.specs.Table.{kindOf, parentOf, flagsOf, hasFlag, count, scopeOf, scopeFlagsOf, scopeNodeOf}
+use Rattle.table_records.specs.Facts.{Tree}
+use Rattle.table_records.specs.Kinds as k
+use Rattle.table_records.specs.NodeFlag as flag
+use Rattle.table_records.specs.ScopeFlag as scope
+use Rattle.table_children.specs.Children.{valueOf, isNode}
+use Rattle.table_names.specs.Name.{nameIs}
+use Rattle.table_names.specs.Words as word
+use Rattle.table_ancestry.specs.AncestryLaws.{parent-in}
+use Rattle.refusal_standing.specs.Standing.{Placed}
+use Rattle.ecma_trees.specs.Trail.{unitOf}
+use Rattle.ecma_trees.specs.TrailLaws.{handedLaw, handedRoot}
 use Rattle.ecma_base.specs.Telling.{Telling}
 use Rattle.ecma_base.specs.Strict.{strictCode}
 use Rattle.ecma_base.specs.Contains.{initializer}

@@ -1,5 +1,5 @@
 -- What is known where the scopes follow the tree.
-use Prim.Native.Nat.{ℕ, _≤_, _<_}
+use Prim.Native.Nat.{ℕ, _<_}
 use mathlib.Core.Path.{_≡_, refl, ap, sym, _∙_}
 use mathlib.Core.List.{List}
 use mathlib.Core.Bool.{Bool, true, false, not, _&&_, _||_}
@@ -8,13 +8,13 @@ use native.Mathlib.Nat.{eq-or-lt-of-le}
 use native.Mathlib.Omega.{arith}
 use borrow.Author.Tests.{eq-eqb, ne-eqb, eqb-true, eqb-false}
 use lib.Dec.{eqb}
-use Rattle.common.specs.Tests.{within}
-use Rattle.common.specs.Bools.{never, or-first, or-second, either, in-range, range-of}
-use Rattle.tables.specs.Table.{kindOf, parentOf, count, scopeOf, scopeNodeOf}
-use Rattle.tables.specs.Facts.{Tree}
-use Rattle.tables.specs.Kinds as k
-use Rattle.ancestry.specs.AncestryLaws.{parent-in, ancestors-up, ancestors-root}
-use Rattle.standing.specs.Standing.{Placed}
+use Rattle.base_common.specs.Tests.{within}
+use Rattle.base_common.specs.Bools.{never, or-first, or-second, either, in-range, range-of}
+use Rattle.table_records.specs.Table.{kindOf, parentOf, count, scopeOf, scopeNodeOf}
+use Rattle.table_records.specs.Facts.{Tree}
+use Rattle.table_records.specs.Kinds as k
+use Rattle.table_ancestry.specs.AncestryLaws.{parent-in, ancestors-up, ancestors-root}
+use Rattle.refusal_standing.specs.Standing.{Placed}
 use Rattle.ecma_base.specs.Scopes.{makesScope, mayMakeScope, scopesFollow}
 use Rattle.ecma_base.specs.ScopesLaws.{notProgram, noFunction, root, blockFlag, functionFlag, topFlag, made, sameOrMade, sameOnly, madeKind, rootKind}
 use Rattle.ecma_strict.specs.Statements.{holdsUsing, heldUsing}

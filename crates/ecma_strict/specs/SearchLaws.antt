@@ -8,34 +8,32 @@ use native.Mathlib.Nat.{eq-or-lt-of-le}
 use native.Mathlib.Omega.{arith}
 use borrow.Author.Tests.{eq-eqb, ne-eqb, eqb-true, eqb-false}
 use lib.Dec.{eqb}
-use Rattle.common.specs.Tests.{within}
-use Rattle.common.specs.Bools.{never, either, in-range, range-of}
-use Rattle.tables.specs.Table.{kindOf, parentOf, count, flagsOf, extraOf, spanStartOf, spanEndOf, hasFlag}
-use Rattle.tables.specs.Facts.{Tree}
-use Rattle.tables.specs.Kinds as k
-use Rattle.tables.specs.Extras as extra
-use Rattle.tables.specs.NodeFlag as flag
-use Rattle.tables.specs.declared.Found.{Found}
-use Rattle.tables.specs.declared.Found.the-variants.{At, Nothing}
-use Rattle.names.specs.Name.{nameIs}
-use Rattle.names.specs.Words as word
-use Rattle.children.specs.Children.{valueOf, isNode}
-use Rattle.ancestry.specs.Ancestry.{hasAncestor}
-use Rattle.ancestry.specs.AncestryLaws.{parent-in, ancestors-up}
-use Rattle.diagnostics.specs.Finding.{errorAt}
-use Rattle.diagnostics.specs.Codes as code
-use Rattle.diagnostics.specs.Contexts as context
-use Rattle.diagnostics.specs.declared.Raised.{Raised}
-use Rattle.diagnostics.specs.declared.Raised.the-variants.{Clear}
-use Rattle.scoping.specs.Scoping.{inStaticBlock}
-use Rattle.identifiers.specs.Identifiers as its
-use Rattle.identifiers.specs.IdentifierLaws.{let-found, let-function, let-on, let-root, arguments-function, arguments-found, arguments-on, arguments-root}
-use Rattle.expressions.specs.Expressions.{isParameter, inFormalParameters, inParameter, inBlock}
-use Rattle.expressions.specs.ExpressionLaws.{parameter-found, parameter-stop, parameter-on, parameter-root}
-use Rattle.statements.specs.Statements.{checkForOfStatement, checkAwaitUsing}
-use Rattle.standing.specs.Standing.{Placed}
-use Rattle.trees.specs.Walk.{only}
-use Rattle.trees.specs.Trail.{unitOf}
+use Rattle.base_common.specs.Tests.{within}
+use Rattle.base_common.specs.Bools.{never, either, in-range, range-of}
+use Rattle.table_records.specs.Table.{kindOf, parentOf, count, flagsOf, extraOf, spanStartOf, spanEndOf, hasFlag}
+use Rattle.table_records.specs.Facts.{Tree}
+use Rattle.table_records.specs.Kinds as k
+use Rattle.table_records.specs.Extras as extra
+use Rattle.table_records.specs.NodeFlag as flag
+use Rattle.table_names.specs.Name.{nameIs}
+use Rattle.table_names.specs.Words as word
+use Rattle.table_children.specs.Children.{valueOf, isNode}
+use Rattle.table_ancestry.specs.Ancestry.{hasAncestor}
+use Rattle.table_ancestry.specs.AncestryLaws.{parent-in, ancestors-up}
+use Rattle.check_diagnostics.specs.Finding.{errorAt}
+use Rattle.check_diagnostics.specs.Codes as code
+use Rattle.check_diagnostics.specs.Contexts as context
+use Rattle.check_diagnostics.specs.declared.Raised.{Raised}
+use Rattle.check_diagnostics.specs.declared.Raised.the-variants.{Clear}
+use Rattle.table_scoping.specs.Scoping.{inStaticBlock}
+use Rattle.check_identifiers.specs.Identifiers as its
+use Rattle.check_identifiers.specs.IdentifierLaws.{let-found, let-function, let-on, let-root, arguments-function, arguments-found, arguments-on, arguments-root}
+use Rattle.check_expressions.specs.Expressions.{isParameter, inFormalParameters, inParameter, inBlock}
+use Rattle.check_expressions.specs.ExpressionLaws.{parameter-found, parameter-stop, parameter-on, parameter-root}
+use Rattle.check_statements.specs.Statements.{checkForOfStatement, checkAwaitUsing}
+use Rattle.refusal_standing.specs.Standing.{Placed}
+use Rattle.ecma_trees.specs.Walk.{only}
+use Rattle.ecma_trees.specs.Trail.{unitOf}
 use Rattle.ecma_strict.specs.Nodes.{ofCheck}
 use Rattle.ecma_base.specs.Strict.{strictCode}
 use Rattle.ecma_strict.specs.StatementsLaws.{ifOnly}

@@ -6,22 +6,22 @@ use mathlib.Core.List.{List, [], _++_, append-nil}
 use mathlib.Core.Bool.{Bool, true, false, not, _&&_, _||_}
 use borrow.Author.Tests.{eqb-true, not-true}
 use lib.Dec.{eqb}
-use Rattle.common.specs.Tests.{within}
-use Rattle.common.specs.UptoLaws.{and-left, and-right}
-use Rattle.tables.specs.Table.{kindOf, parentOf, count, extraOf}
-use Rattle.tables.specs.Kinds as k
-use Rattle.tables.specs.Extras as extra
-use Rattle.checker.specs.Findings.{findingsAt}
-use Rattle.input.specs.Input.{WellFormed}
-use Rattle.trees.specs.Walk.{some, only}
-use Rattle.trees.specs.Trail.{unitOf}
+use Rattle.base_common.specs.Tests.{within}
+use Rattle.base_common.specs.UptoLaws.{and-left, and-right}
+use Rattle.table_records.specs.Table.{kindOf, parentOf, count, extraOf}
+use Rattle.table_records.specs.Kinds as k
+use Rattle.table_records.specs.Extras as extra
+use Rattle.check_dispatch.specs.Findings.{findingsAt}
+use Rattle.refusal_input.specs.Input.{WellFormed}
+use Rattle.ecma_trees.specs.Walk.{some, only}
+use Rattle.ecma_trees.specs.Trail.{unitOf}
 use Rattle.ecma_dispatch.specs.NodesOf.{raised}
 use Rattle.ecma_base.specs.Telling.{Telling, ordinary}
 use Rattle.ecma_base.specs.Strict.{strictCode}
 use Rattle.ecma_strict.specs.Literals.{numericLiteral, stringLiteral, strictOctal, strictNonOctal, strictOctalEscape, strictNonOctalEscape}
 use Rattle.ecma_strict.specs.LiteralsLaws.{octalAgrees, nonOctalAgrees, octalEscapeAgrees, nonOctalEscapeAgrees}
 use Rattle.ecma_strict.specs.Delete.{privateReference, derives, deleteExpression, deletesPrivate}
-use Rattle.children.specs.Children.{valueOf}
+use Rattle.table_children.specs.Children.{valueOf}
 use Rattle.ecma_strict.specs.DeleteLaws.{deletePrivateAgrees}
 use Rattle.ecma_strict.specs.Statements.{usingDeclaration, initializedHead, badUsing}
 use Rattle.ecma_strict.specs.StatementsLaws.{headAgrees, usingAgrees}

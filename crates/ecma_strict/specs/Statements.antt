@@ -4,16 +4,16 @@ use mathlib.Core.List.{List}
 use mathlib.Core.Bool.{Bool, false, not, _&&_, _||_}
 use lib.Dec.{eqb, leb}
 use lib.ListN.{length}
-use Rattle.common.specs.Upto.{upto, all, any}
-use Rattle.common.specs.Tests.{within}
-use Rattle.tables.specs.Table.{kindOf, parentOf, count, flagsOf, extraOf, hasFlag, ancestors}
-use Rattle.tables.specs.Kinds as k
-use Rattle.tables.specs.Roles as role
-use Rattle.tables.specs.Extras as extra
-use Rattle.tables.specs.NodeFlag as flag
-use Rattle.tables.specs.declared.Found.{Found}
-use Rattle.tables.specs.declared.Found.the-variants.{At, Nothing}
-use Rattle.children.specs.Children.{keep, isChild, firstChild}
+use Rattle.base_common.specs.Upto.{upto, all, any}
+use Rattle.base_common.specs.Tests.{within}
+use Rattle.table_records.specs.Table.{kindOf, parentOf, count, flagsOf, extraOf, hasFlag, ancestors}
+use Rattle.table_records.specs.Kinds as k
+use Rattle.table_records.specs.Roles as role
+use Rattle.table_records.specs.Extras as extra
+use Rattle.table_records.specs.NodeFlag as flag
+use Rattle.table_records.specs.declared.Found.{Found}
+use Rattle.table_records.specs.declared.Found.the-variants.{At, Nothing}
+use Rattle.table_children.specs.Children.{keep, isChild, firstChild}
 use Rattle.ecma_base.specs.Strict.{strictCode}
 
 -- 14.11.1: WithStatement : with ( Expression ) Statement: "It is a Syntax Error if IsStrict(this production) is true."

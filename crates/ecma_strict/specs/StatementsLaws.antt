@@ -7,22 +7,22 @@ use native.Mathlib.Omega.{arith}
 use borrow.Author.Tests.{eq-eqb, lt-leb}
 use lib.Dec.{eqb}
 use lib.ListN.{length}
-use Rattle.common.specs.Upto.{upto}
-use Rattle.common.specs.Tests.{within}
-use Rattle.tables.specs.Table.{kindOf, count, extraOf, spanStartOf, spanEndOf}
-use Rattle.tables.specs.Kinds as k
-use Rattle.tables.specs.Extras as extra
-use Rattle.tables.specs.declared.Found.{Found}
-use Rattle.tables.specs.declared.Found.the-variants.{At, Nothing}
-use Rattle.children.specs.Children.{keep, isChild}
-use Rattle.children.specs.ChildrenLaws.{tally, tally-all}
-use Rattle.gather.specs.Gather.{kept-first, kept-none}
-use Rattle.diagnostics.specs.Finding.{errorSpan, errorAt}
-use Rattle.diagnostics.specs.Codes as code
-use Rattle.diagnostics.specs.Contexts as context
-use Rattle.diagnostics.specs.declared.Raised.the-variants.{Clear}
-use Rattle.statements.specs.Statements.{checkFound, checkWithStatement, declaratorOf, declarators, checkInitialiser, checkLeft, checkForStatementLeft, checkUsing}
-use Rattle.trees.specs.Walk.{only}
+use Rattle.base_common.specs.Upto.{upto}
+use Rattle.base_common.specs.Tests.{within}
+use Rattle.table_records.specs.Table.{kindOf, count, extraOf, spanStartOf, spanEndOf}
+use Rattle.table_records.specs.Kinds as k
+use Rattle.table_records.specs.Extras as extra
+use Rattle.table_records.specs.declared.Found.{Found}
+use Rattle.table_records.specs.declared.Found.the-variants.{At, Nothing}
+use Rattle.table_children.specs.Children.{keep, isChild}
+use Rattle.table_children.specs.ChildrenLaws.{tally, tally-all}
+use Rattle.check_diagnostics.specs.Gather.{kept-first, kept-none}
+use Rattle.check_diagnostics.specs.Finding.{errorSpan, errorAt}
+use Rattle.check_diagnostics.specs.Codes as code
+use Rattle.check_diagnostics.specs.Contexts as context
+use Rattle.check_diagnostics.specs.declared.Raised.the-variants.{Clear}
+use Rattle.check_statements.specs.Statements.{checkFound, checkWithStatement, declaratorOf, declarators, checkInitialiser, checkLeft, checkForStatementLeft, checkUsing}
+use Rattle.ecma_trees.specs.Walk.{only}
 use Rattle.ecma_strict.specs.Nodes.{ofCheck}
 use Rattle.ecma_base.specs.Strict.{strictCode}
 use Rattle.ecma_strict.specs.Statements.{strictWith, declaratorsOf, initialized, plainName, single, annexHead, badHead, headOf, ofHead, initializedHead, heldUsing, badUsing}

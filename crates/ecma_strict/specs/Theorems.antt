@@ -9,23 +9,23 @@ use native.Mathlib.Nat.{eq-or-lt-of-le}
 use native.Mathlib.Omega.{arith}
 use borrow.Author.Tests.{ne-eqb, eqb-true, eqb-false}
 use lib.Dec.{eqb}
-use Rattle.common.specs.Upto.{upto}
-use Rattle.common.specs.Tests.{within}
-use Rattle.common.specs.Bools.{never, in-range, range-of}
-use Rattle.tables.specs.Table.{kindOf, count}
-use Rattle.tables.specs.Kinds as k
-use Rattle.diagnostics.specs.declared.Finding.{Finding}
-use Rattle.diagnostics.specs.Finding.{listed}
-use Rattle.statements.specs.Statements.{checkBody, checkConsequent, checkAlternate, checkFunctionDeclarationInLabeledStatement, checkWithStatement, checkForStatementLeft, checkForOfStatement, checkUsing, checkAwaitUsing}
-use Rattle.identifiers.specs.Identifiers.{checkIdentifier, checkBindingIdentifier, checkIdentifierReference, checkDirective}
-use Rattle.literals.specs.Literals.{checkNumberLiteral, checkStringLiteral}
-use Rattle.expressions.specs.Expressions.{checkUnaryExpression, inParameter, inBlock}
-use Rattle.checker.specs.Findings.{findingsAt, findingsOf}
-use Rattle.input.specs.Input.{WellFormed}
-use Rattle.verdict.specs.declared.Verdict.the-variants.{Passed}
-use Rattle.wellformed.specs.WellFormed.{inputRefusal}
-use Rattle.wellformed.specs.WellFormedLaws.{input-well-formed}
-use Rattle.trees.specs.Walk.{each, only}
+use Rattle.base_common.specs.Upto.{upto}
+use Rattle.base_common.specs.Tests.{within}
+use Rattle.base_common.specs.Bools.{never, in-range, range-of}
+use Rattle.table_records.specs.Table.{kindOf, count}
+use Rattle.table_records.specs.Kinds as k
+use Rattle.check_diagnostics.specs.declared.Finding.{Finding}
+use Rattle.check_diagnostics.specs.Finding.{listed}
+use Rattle.check_statements.specs.Statements.{checkBody, checkConsequent, checkAlternate, checkFunctionDeclarationInLabeledStatement, checkWithStatement, checkForStatementLeft, checkForOfStatement, checkUsing, checkAwaitUsing}
+use Rattle.check_identifiers.specs.Identifiers.{checkIdentifier, checkBindingIdentifier, checkIdentifierReference, checkDirective}
+use Rattle.check_literals.specs.Literals.{checkNumberLiteral, checkStringLiteral}
+use Rattle.check_expressions.specs.Expressions.{checkUnaryExpression, inParameter, inBlock}
+use Rattle.check_dispatch.specs.Findings.{findingsAt, findingsOf}
+use Rattle.refusal_input.specs.Input.{WellFormed}
+use Rattle.refusal_verdict.specs.declared.Verdict.the-variants.{Passed}
+use Rattle.refusal_wellformed.specs.WellFormed.{inputRefusal}
+use Rattle.refusal_wellformed.specs.WellFormedLaws.{input-well-formed}
+use Rattle.ecma_trees.specs.Walk.{each, only}
 use Rattle.ecma_dispatch.specs.WithCode.{withCode}
 use Rattle.ecma_dispatch.specs.Dispatch.{at2, at3, at4, at5, at6, at9, at10, at11, at12, at13, at14, at15, at16, at17, at24, at25, at31, at32, at33}
 use Rattle.ecma_dispatch.specs.NodesOf.{raised}

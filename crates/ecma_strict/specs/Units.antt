@@ -6,25 +6,25 @@ use mathlib.Core.Bool.{Bool, true, false, cond, not, _&&_, _||_}
 use native.Mathlib.Omega.{arith}
 use borrow.Author.Tests.{eq-eqb, eqb-true, not-true}
 use lib.Dec.{eqb}
-use Rattle.common.specs.Upto.{upto, any}
-use Rattle.common.specs.UptoLaws.{and-left, and-right}
-use Rattle.common.specs.Tests.{within}
-use Rattle.common.specs.Bools.{never, or-first, or-second, in-range, range-of}
-use Rattle.tables.specs.Table.{kindOf, parentOf, count, extraOf}
-use Rattle.tables.specs.declared.Found.the-variants.{At}
-use Rattle.children.specs.Children.{keep, children, valueOf, heldOf, functionBodyOf, isNode}
-use Rattle.children.specs.ChildrenLaws.{found-child}
-use Rattle.tables.specs.Kinds as k
-use Rattle.tables.specs.Extras as extra
-use Rattle.names.specs.Name.{nameIs}
-use Rattle.names.specs.Words as word
-use Rattle.scoping.specs.Scoping.{inStaticBlock}
-use Rattle.checker.specs.Findings.{findingsAt}
-use Rattle.input.specs.Input.{WellFormed}
-use Rattle.trees.specs.Rose.{partsOf, marksAll}
-use Rattle.trees.specs.Walk.{each, some, only}
-use Rattle.trees.specs.WalkLaws.{someAppend, someOnly, eachSame}
-use Rattle.trees.specs.Trail.{unitOf}
+use Rattle.base_common.specs.Upto.{upto, any}
+use Rattle.base_common.specs.UptoLaws.{and-left, and-right}
+use Rattle.base_common.specs.Tests.{within}
+use Rattle.base_common.specs.Bools.{never, or-first, or-second, in-range, range-of}
+use Rattle.table_records.specs.Table.{kindOf, parentOf, count, extraOf}
+use Rattle.table_records.specs.declared.Found.the-variants.{At}
+use Rattle.table_children.specs.Children.{keep, children, valueOf, heldOf, functionBodyOf, isNode}
+use Rattle.table_children.specs.ChildrenLaws.{found-child}
+use Rattle.table_records.specs.Kinds as k
+use Rattle.table_records.specs.Extras as extra
+use Rattle.table_names.specs.Name.{nameIs}
+use Rattle.table_names.specs.Words as word
+use Rattle.table_scoping.specs.Scoping.{inStaticBlock}
+use Rattle.check_dispatch.specs.Findings.{findingsAt}
+use Rattle.refusal_input.specs.Input.{WellFormed}
+use Rattle.ecma_trees.specs.Rose.{partsOf, marksAll}
+use Rattle.ecma_trees.specs.Walk.{each, some, only}
+use Rattle.ecma_trees.specs.WalkLaws.{someAppend, someOnly, eachSame}
+use Rattle.ecma_trees.specs.Trail.{unitOf}
 use Rattle.ecma_dispatch.specs.NodesOf.{raised}
 use Rattle.ecma_base.specs.Strict.{strictCode}
 use Rattle.ecma_base.specs.Telling.{ordinary}

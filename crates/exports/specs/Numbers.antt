@@ -1,10 +1,10 @@
 -- Document 01's numbers for each case of an answer: the refusal's number, 0 where there is none, its place, and the length that 10 and 12 give beside.
-use Rattle.rules.specs.declared.Checked.{Checked}
-use Rattle.rules.specs.declared.Checked.the-variants as checked
-use Rattle.routes.specs.declared.Coded.{Coded}
-use Rattle.routes.specs.declared.Coded.the-variants as coded
-use Rattle.viewer.specs.declared.Routed.{Routed}
-use Rattle.viewer.specs.declared.Routed.the-variants as routed
+use Rattle.call_check.specs.declared.Checked.{Checked}
+use Rattle.call_check.specs.declared.Checked.the-variants as checked
+use Rattle.call_routes.specs.declared.Coded.{Coded}
+use Rattle.call_routes.specs.declared.Coded.the-variants as coded
+use Rattle.route_viewer.specs.declared.Routed.{Routed}
+use Rattle.route_viewer.specs.declared.Routed.the-variants as routed
 use Rattle.exports.specs.declared.CheckAnswer.{CheckAnswer}
 use Rattle.exports.specs.declared.CodeAnswer.{CodeAnswer}
 use Rattle.exports.specs.declared.RouteAnswer.{RouteAnswer}

@@ -1,12 +1,12 @@
 // The calls for programs in C and Rust: numbers and slices in, document 01's numbers out.
 ghost use mathlib.Core.Path.{_≡_};
 ghost use lib.ListN.{length};
-ghost use Rattle.rules.specs.Check.{checkAnswer, checkSlice};
-ghost use Rattle.routes.specs.Calls.{codeAnswer, codeSlice, routeAnswer, routeSlice};
+ghost use Rattle.call_check.specs.Check.{checkAnswer, checkSlice};
+ghost use Rattle.call_routes.specs.Calls.{codeAnswer, codeSlice, routeAnswer, routeSlice};
 ghost use Rattle.exports.specs.Numbers.{checkNumbers, codeNumbers, routeNumbers};
-use routes::Coded;
-use rules::Checked;
-use viewer::Routed;
+use call_check::Checked;
+use call_routes::Coded;
+use route_viewer::Routed;
 
 // A check's answer: the refusal's number (0 where there is none) and place, how many findings were written, and after 10 the length needed.
 #[repr(C)]
@@ -74,7 +74,7 @@ pub extern "C" fn velkunshe_check(
     ensures { λ r. ⌜ r ≡ checkNumbers (checkAnswer «source_type» (now (nodes .entry)) (now (scopes .entry)) (now (source .entry)) (now (names .entry)) (length (now (findings .entry)))) ⌝ }
     ensures { λ _. ⌜ now (findings .exit) ≡ checkSlice «source_type» (now (nodes .entry)) (now (scopes .entry)) (now (source .entry)) (now (names .entry)) (now (findings .entry)) ⌝ }
 {
-    check_numbers(rules::check(source_type, nodes, scopes, source, names, findings))
+    check_numbers(call_check::check(source_type, nodes, scopes, source, names, findings))
 }
 
 fn code_numbers(answer: Coded) -> CodeAnswer
@@ -108,7 +108,7 @@ pub extern "C" fn velkunshe_code(
     ensures { λ r. ⌜ r ≡ codeNumbers (codeAnswer «source_type» (now (nodes .entry)) (now (scopes .entry)) (now (source .entry)) (now (names .entry)) unit (length (now (code .entry)))) ⌝ }
     ensures { λ _. ⌜ now (code .exit) ≡ codeSlice «source_type» (now (nodes .entry)) (now (scopes .entry)) (now (source .entry)) (now (names .entry)) unit (now (code .entry)) ⌝ }
 {
-    code_numbers(routes::code(source_type, nodes, scopes, source, names, unit, code))
+    code_numbers(call_routes::code(source_type, nodes, scopes, source, names, unit, code))
 }
 
 fn route_numbers(answer: Routed) -> RouteAnswer
@@ -159,7 +159,7 @@ pub extern "C" fn velkunshe_route(
     ensures { λ _. ⌜ now (code .exit) ≡ codeSlice «source_type» (now (nodes .entry)) (now (scopes .entry)) (now (source .entry)) (now (names .entry)) unit (now (code .entry)) ⌝ }
     ensures { λ _. ⌜ now (route .exit) ≡ routeSlice «source_type» (now (nodes .entry)) (now (scopes .entry)) (now (source .entry)) (now (names .entry)) unit (now (answers .entry)) (length (now (code .entry))) (now (route .entry)) ⌝ }
 {
-    route_numbers(routes::route(
+    route_numbers(call_routes::route(
         source_type,
         nodes,
         scopes,

@@ -7,11 +7,11 @@ use native.Mathlib.Numerals.{add-one}
 use native.Mathlib.Omega.{arith}
 use lib.ListN.{length, set, take, drop, length-drop, length-map}
 use lib.Seq.{length-take-le}
-use Rattle.common.specs.Upto.{all}
-use Rattle.common.specs.UptoLaws.{and-left, and-right}
-use Rattle.common.specs.Wrote.{Wrote}
-use Rattle.digits.specs.Writes.{wrote-one}
-use Rattle.digits.specs.Number.{isNumber, valueOf}
+use Rattle.base_common.specs.Upto.{all}
+use Rattle.base_common.specs.UptoLaws.{and-left, and-right}
+use Rattle.base_common.specs.Wrote.{Wrote}
+use Rattle.line_digits.specs.Writes.{wrote-one}
+use Rattle.line_digits.specs.Number.{isNumber, valueOf}
 use Rattle.line_fields.specs.Split.{fieldOf, nextOf, firsts, fieldsIn}
 use Rattle.line_fields.specs.SplitLaws.{onward-short, fields-turn, fields-end}
 

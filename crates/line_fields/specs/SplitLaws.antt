@@ -7,7 +7,7 @@ use native.Mathlib.Omega.{arith}
 use lib.Dec.{eqb}
 use lib.ListN.{length, getD, take, drop}
 use borrow.Author.Tests.{eq-eqb, ne-eqb, eqb-true}
-use Rattle.digits.specs.Lists.{drop-step, drop-end}
+use Rattle.line_digits.specs.Lists.{drop-step, drop-end}
 use Rattle.line_fields.specs.Split.{ahead, linesOf, fieldsOf, joined, before, onward, toFirst, fieldsIn}
 
 module _ (d : ℕ) where

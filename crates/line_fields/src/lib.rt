@@ -2,8 +2,8 @@
 ghost use mathlib.Core.Path.{_≡_};
 ghost use Prim.Native.Nat.{_≤_, _-_};
 ghost use mathlib.Core.List.{[]};
-ghost use Rattle.common.specs.Upto.{all};
-ghost use Rattle.digits.specs.Number.{isNumber};
+ghost use Rattle.base_common.specs.Upto.{all};
+ghost use Rattle.line_digits.specs.Number.{isNumber};
 ghost use Rattle.line_fields.specs.Split.{linesOf, before, onward, toFirst, fieldsIn, fieldOf, nextOf, firsts};
 ghost use lib.ListN.{length, drop, getD};
 
@@ -82,7 +82,7 @@ pub fn are_numbers(tail: &[u8], n: usize) -> bool
         if t.len() == 0 {
             return true;
         }
-        if !digits::is_number(field(t)) {
+        if !line_digits::is_number(field(t)) {
             return false;
         }
         let u = next(t);

@@ -2,7 +2,7 @@
 // says of each: its number and place, or "passed". A node is written as its kind, two digits of its parent and its role: 33_01_6; 1 before them is flag 4096.
 ghost use Prim.Native.Nat.{_<_};
 use libc::STDOUT_FILENO;
-use verdict::Verdict;
+use refusal_verdict::Verdict;
 
 fn say(label: &[u8], v: Verdict) {
     io::write_all(STDOUT_FILENO, label);
@@ -46,7 +46,7 @@ fn cut(
     }
     say(
         label,
-        input::refusal(
+        refusal_input::refusal(
             source_type,
             &nodes[..n],
             &scopes[..s],
@@ -394,7 +394,7 @@ fn scope_records() {
 fn chain(nodes: &mut [u32; 5140]) {
     let mut i: u32 = 1;
     while i < 514 {
-        let at = tables::wide(i) * 10;
+        let at = table_records::wide(i) * 10;
         nodes[at] = 55;
         nodes[at + 1] = i - 1;
         i += 1;

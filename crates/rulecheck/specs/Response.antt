@@ -4,17 +4,17 @@ use mathlib.Core.Bool.{cond}
 use mathlib.Core.List.{List, [], _∷_, _++_}
 use lib.Dec.{leb}
 use lib.ListN.{length}
-use Rattle.diagnostics.specs.declared.Finding.{Finding}
-use Rattle.diagnostics.specs.Finding.{numbers}
-use Rattle.verdict.specs.declared.Verdict.{Verdict}
-use Rattle.verdict.specs.declared.Verdict.the-variants.{Refused, Passed}
-use Rattle.wellformed.specs.WellFormed.{inputRefusal}
-use Rattle.checker.specs.Findings.{findingsOf}
-use Rattle.lines.specs.declared.Input.{Input}
-use Rattle.lines.specs.declared.Input.the-variants.{Tables, Unread}
-use Rattle.lines.specs.Format.{Room, Reading, readInput}
-use Rattle.print.specs.Print.{lineOf}
-use Rattle.answers.specs.Answer.{refusalText}
+use Rattle.check_diagnostics.specs.declared.Finding.{Finding}
+use Rattle.check_diagnostics.specs.Finding.{numbers}
+use Rattle.refusal_verdict.specs.declared.Verdict.{Verdict}
+use Rattle.refusal_verdict.specs.declared.Verdict.the-variants.{Refused, Passed}
+use Rattle.refusal_wellformed.specs.WellFormed.{inputRefusal}
+use Rattle.check_dispatch.specs.Findings.{findingsOf}
+use Rattle.line_input.specs.declared.Input.{Input}
+use Rattle.line_input.specs.declared.Input.the-variants.{Tables, Unread}
+use Rattle.line_input.specs.Format.{Room, Reading, readInput}
+use Rattle.line_print.specs.Print.{lineOf}
+use Rattle.line_answers.specs.Answer.{refusalText}
 
 -- "It prints F with the seven numbers": a line for each finding
 unfoldable pub linesFor : List Finding → List ℕ

@@ -1,5 +1,5 @@
 -- The text as the code comes to it: from the answer of `check` and its slice, and from the slices that were read.
-use Prim.Native.Nat.{ℕ, _+_, _*_, _≤_}
+use Prim.Native.Nat.{ℕ, _+_, _*_}
 use mathlib.Core.Path.{_≡_, refl, ap, sym, subst, _∙_}
 use mathlib.Core.Bool.{Bool, true, false, cond}
 use mathlib.Core.List.{List, [], _∷_, _++_}
@@ -8,23 +8,23 @@ use borrow.Author.Tests.{leb-true}
 use lib.Dec.{leb, eqb}
 use lib.ListN.{length, take, drop}
 use lib.Seq.{take-at}
-use Rattle.common.specs.Wrote.{put}
-use Rattle.diagnostics.specs.declared.Finding.{Finding}
-use Rattle.diagnostics.specs.Finding.{numbers, flat}
-use Rattle.verdict.specs.declared.Verdict.{Verdict}
-use Rattle.verdict.specs.declared.Verdict.the-variants as verdict
-use Rattle.wellformed.specs.WellFormed.{inputRefusal}
-use Rattle.checker.specs.Findings.{findingsOf}
-use Rattle.rules.specs.declared.Checked.{Checked}
-use Rattle.rules.specs.declared.Checked.the-variants.{Findings, Short}
-use Rattle.rules.specs.Check.{reportAnswer, reportSlice, answerBy, sliceBy, checkAnswer, checkSlice}
+use Rattle.base_common.specs.Wrote.{put}
+use Rattle.check_diagnostics.specs.declared.Finding.{Finding}
+use Rattle.check_diagnostics.specs.Finding.{numbers, flat}
+use Rattle.refusal_verdict.specs.declared.Verdict.{Verdict}
+use Rattle.refusal_verdict.specs.declared.Verdict.the-variants as verdict
+use Rattle.refusal_wellformed.specs.WellFormed.{inputRefusal}
+use Rattle.check_dispatch.specs.Findings.{findingsOf}
+use Rattle.call_check.specs.declared.Checked.{Checked}
+use Rattle.call_check.specs.declared.Checked.the-variants.{Findings, Short}
+use Rattle.call_check.specs.Check.{reportAnswer, reportSlice, answerBy, sliceBy, checkAnswer, checkSlice}
 use Rattle.line_fields.specs.Split.{linesOf}
-use Rattle.forms.specs.Forms.{kindIn, nodesIn, scopesIn, isJ, isX}
-use Rattle.lines.specs.declared.Input.{Input}
-use Rattle.lines.specs.declared.Input.the-variants.{Tables, Unread}
-use Rattle.lines.specs.Format.{Room, roomOf, Reading, stopped, tables, ssIn, nsIn, xIn, readBehind, readLines, readInput, front, Given}
-use Rattle.print.specs.Print.{lineOf}
-use Rattle.answers.specs.Answer.{findingLines, answerText, Counted, refusalText}
+use Rattle.line_forms.specs.Forms.{kindIn, nodesIn, scopesIn, isJ, isX}
+use Rattle.line_input.specs.declared.Input.{Input}
+use Rattle.line_input.specs.declared.Input.the-variants.{Tables, Unread}
+use Rattle.line_input.specs.Format.{Room, roomOf, Reading, stopped, tables, ssIn, nsIn, xIn, readBehind, readLines, readInput, front, Given}
+use Rattle.line_print.specs.Print.{lineOf}
+use Rattle.line_answers.specs.Answer.{findingLines, answerText, Counted, refusalText}
 use Rattle.rulecheck.specs.Response.{linesFor, verdictText, checkText, lent, response}
 
 -- the findings as they stand in the slice

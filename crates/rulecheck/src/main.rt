@@ -1,11 +1,11 @@
 // rulecheck: reads the lines of a rule's tables from standard input, checks them, and prints the findings or the refusal.
 ghost use mathlib.Core.Path.{_≡_};
 ghost use lib.ListN.{length, take};
-ghost use Rattle.lines.specs.Format.{front};
+ghost use Rattle.line_input.specs.Format.{front};
 ghost use Rattle.rulecheck.specs.Response.{checkText, response};
 use libc::STDIN_FILENO;
 use libc::STDOUT_FILENO;
-use lines::Input;
+use line_input::Input;
 
 // Writes the text of the tables, which stand at the front of each slice. Says where it ends.
 fn check_text(
@@ -24,15 +24,15 @@ fn check_text(
     requires { ⌜ (length (now findings) ≡ 57344) × (length (now out) ≡ 655360) ⌝ }
     ensures { λ r. ⌜ (r ≡ length (checkText kind (take n (now (nodes .entry))) (take s (now (scopes .entry))) (take b (now (source .entry))) (take m (now (names .entry))))) × (now (out .exit) ≡ front (checkText kind (take n (now (nodes .entry))) (take s (now (scopes .entry))) (take b (now (source .entry))) (take m (now (names .entry)))) (now (out .entry))) ⌝ }
 {
-    let answer = rules::check(
+    let answer = call_check::check(
         kind,
-        output::front_numbers(nodes, n),
-        output::front_numbers(scopes, s),
-        output::front(source, b),
-        output::front(names, m),
+        line_output::front_numbers(nodes, n),
+        line_output::front_numbers(scopes, s),
+        line_output::front(source, b),
+        line_output::front(names, m),
         findings,
     );
-    answers::answer_text(answer, findings, out)
+    line_answers::answer_text(answer, findings, out)
 }
 
 // Writes what is printed for the bytes `input`, with slices for the tables and for the findings. Says where it ends.
@@ -49,9 +49,9 @@ fn respond_by(
     requires { ⌜ (length (now findings) ≡ 57344) × (length (now out) ≡ 655360) ⌝ }
     ensures { λ r. ⌜ (r ≡ length (response (now (input .entry)))) × (now (out .exit) ≡ front (response (now (input .entry))) (now (out .entry))) ⌝ }
 {
-    let read = lines::read(input, nodes, scopes, source, names);
+    let read = line_input::read(input, nodes, scopes, source, names);
     match read {
-        Input::Unread(line) => answers::refusal_text(0, line, out),
+        Input::Unread(line) => line_answers::refusal_text(0, line, out),
         Input::Tables {
             kind,
             nodes: n,
@@ -100,8 +100,8 @@ fn run(input: &mut [u8], out: &mut [u8])
     requires { ⌜ length (now out) ≡ 655360 ⌝ }
 {
     let got = io::read_full(STDIN_FILENO, input);
-    let end = respond(output::front(input, got), out);
-    io::write_all(STDOUT_FILENO, output::front(out, end));
+    let end = respond(line_output::front(input, got), out);
+    io::write_all(STDOUT_FILENO, line_output::front(out, end));
 }
 
 fn main() {

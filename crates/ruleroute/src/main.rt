@@ -1,13 +1,13 @@
 // ruleroute: reads the lines of a rule's tables, a unit and answers from standard input, and prints the unit's route or the refusal.
 use libc::STDIN_FILENO;
-use lines::Route;
-use viewer::Routed;
+use line_input::Route;
+use route_viewer::Routed;
 
 // Prints the entry at i.
 fn print_entry(entries: &[u32], i: usize) {
     if i < entries.len() {
         let l = [entries[i]];
-        output::print_line(b'L', &l);
+        line_output::print_line(b'L', &l);
     }
 }
 
@@ -20,16 +20,16 @@ fn print_entries(entries: &[u32]) {
 }
 
 fn print_route(end: u32, count: usize, taken: u64, out: &[u32]) {
-    print_entries(output::front_numbers(out, count));
+    print_entries(line_output::front_numbers(out, count));
     let z = [end as u64, count as u64, taken];
-    output::print_words(b'Z', &z);
+    line_output::print_words(b'Z', &z);
 }
 
 fn print_routed(answer: Routed, out: &[u32]) {
     match answer {
         Routed::Route(end, count, taken) => print_route(end, count, taken, out),
-        Routed::Refused(number, place) => output::print_refusal(number, place),
-        Routed::Short(_) => output::print_refusal(12, 0),
+        Routed::Refused(number, place) => line_output::print_refusal(number, place),
+        Routed::Short(_) => line_output::print_refusal(12, 0),
     }
 }
 
@@ -45,7 +45,7 @@ fn route_by(
     code: &mut [u32],
     out: &mut [u32],
 ) {
-    let answer = routes::route(kind, nodes, scopes, source, names, unit, answers, code, out);
+    let answer = call_routes::route(kind, nodes, scopes, source, names, unit, answers, code, out);
     print_routed(answer, out);
 }
 
@@ -83,7 +83,7 @@ fn route_front(
     answers: &[u32],
 ) {
     match read {
-        Route::Unasked(line) => output::print_refusal(0, line),
+        Route::Unasked(line) => line_output::print_refusal(0, line),
         Route::Asked {
             kind,
             nodes: n,
@@ -94,12 +94,12 @@ fn route_front(
             answers: a,
         } => route(
             kind,
-            output::front_numbers(nodes, n),
-            output::front_numbers(scopes, s),
-            output::front(source, b),
-            output::front(names, m),
+            line_output::front_numbers(nodes, n),
+            line_output::front_numbers(scopes, s),
+            line_output::front(source, b),
+            line_output::front(names, m),
             unit,
-            output::front_numbers(answers, a),
+            line_output::front_numbers(answers, a),
         ),
     }
 }
@@ -113,7 +113,7 @@ fn run_by(
     names: &mut [u8],
     answers: &mut [u32],
 ) {
-    let read = lines::read_route(input, nodes, scopes, source, names, answers);
+    let read = line_input::read_route(input, nodes, scopes, source, names, answers);
     route_front(read, nodes, scopes, source, names, answers);
 }
 
@@ -135,7 +135,7 @@ fn run(input: &[u8]) {
 
 fn read_and_run(input: &mut [u8]) {
     let got = io::read_full(STDIN_FILENO, input);
-    run(output::front(input, got));
+    run(line_output::front(input, got));
 }
 
 fn main() {

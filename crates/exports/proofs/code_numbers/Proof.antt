@@ -1,11 +1,9 @@
 use Rattle.exports.specs.Numbers.{codeNumbers}
-use Rattle.routes.specs.declared.Coded.{Coded}
-use mathlib.Core.Path.{_≡_, ap, sym, _∙_}
+use Rattle.call_routes.specs.declared.Coded.{Coded}
+use mathlib.Core.Path.{ap, sym}
 use borrow.Author.Needs.{needs}
 use Rattle.exports.proofs.code_numbers.Statement.{statement}
 use Rattle.exports.proofs.code_numbers.Tie as tie
-use Rattle.exports.proofs.code_numbers.Reads as reads
-use Rattle.exports.proofs.code_numbers.Lts as lts
 
 enum-known-answer : tie.Need-enum-known-answer
 enum-known-answer c = search needs

@@ -1,13 +1,9 @@
 use Rattle.exports.specs.Numbers.{checkNumbers}
-use Rattle.rules.specs.declared.Checked.{Checked}
-use mathlib.Core.Path.{_≡_, ap, sym, _∙_}
+use Rattle.call_check.specs.declared.Checked.{Checked}
+use mathlib.Core.Path.{ap, _∙_}
 use borrow.Author.Needs.{needs}
 use Rattle.exports.proofs.velkunshe_check.Statement.{statement}
 use Rattle.exports.proofs.velkunshe_check.Tie as tie
-use Rattle.exports.proofs.velkunshe_check.Reads as reads
-use Rattle.exports.proofs.velkunshe_check.Lts as lts
-use Rattle.exports.proofs.check_numbers.Reads as check-numbers-reads
-use Rattle.rules.proofs.check.Reads as check-reads
 
 check-requires : tie.Need-check-requires
 check-requires c κs = search needs

@@ -1,13 +1,9 @@
 use Rattle.exports.specs.Numbers.{codeNumbers}
-use Rattle.routes.specs.declared.Coded.{Coded}
-use mathlib.Core.Path.{_≡_, ap, sym, _∙_}
+use Rattle.call_routes.specs.declared.Coded.{Coded}
+use mathlib.Core.Path.{ap, _∙_}
 use borrow.Author.Needs.{needs}
 use Rattle.exports.proofs.velkunshe_code.Statement.{statement}
 use Rattle.exports.proofs.velkunshe_code.Tie as tie
-use Rattle.exports.proofs.velkunshe_code.Reads as reads
-use Rattle.exports.proofs.velkunshe_code.Lts as lts
-use Rattle.exports.proofs.code_numbers.Reads as code-numbers-reads
-use Rattle.routes.proofs.code.Reads as code-reads
 
 code-requires : tie.Need-code-requires
 code-requires c κs = search needs

@@ -1,13 +1,9 @@
 use Rattle.exports.specs.Numbers.{routeNumbers}
-use Rattle.viewer.specs.declared.Routed.{Routed}
-use mathlib.Core.Path.{_≡_, ap, sym, _∙_}
+use Rattle.route_viewer.specs.declared.Routed.{Routed}
+use mathlib.Core.Path.{ap, _∙_}
 use borrow.Author.Needs.{needs}
 use Rattle.exports.proofs.velkunshe_route.Statement.{statement}
 use Rattle.exports.proofs.velkunshe_route.Tie as tie
-use Rattle.exports.proofs.velkunshe_route.Reads as reads
-use Rattle.exports.proofs.velkunshe_route.Lts as lts
-use Rattle.exports.proofs.route_numbers.Reads as route-numbers-reads
-use Rattle.routes.proofs.route.Reads as route-reads
 
 route-requires : tie.Need-route-requires
 route-requires c κs = search needs

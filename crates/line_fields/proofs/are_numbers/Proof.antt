@@ -2,8 +2,8 @@
 use borrow.Author.Tests.{not-true, not-false}
 use Rattle.line_fields.specs.Split.{firsts}
 use Rattle.line_fields.specs.FieldLaws.{numbers-on, numbers-bad, numbers-end, numbers-none}
-use Rattle.digits.specs.Number.{isNumber}
-use Rattle.common.specs.Upto.{all}
+use Rattle.line_digits.specs.Number.{isNumber}
+use Rattle.base_common.specs.Upto.{all}
 use native.Mathlib.Omega.{arith}
 use mathlib.Core.Path.{_≡_}
 use borrow.Author.Needs.{needs}

@@ -1,5 +1,5 @@
 -- `line_fields::behind` meets its contract.
-use Rattle.digits.specs.Lists.{part-from, drop-none}
+use Rattle.line_digits.specs.Lists.{part-from, drop-none}
 use mathlib.Core.Path.{sym}
 use borrow.Author.Needs.{needs}
 use Rattle.line_fields.proofs.behind.Statement.{statement}

@@ -1,6 +1,6 @@
 -- `line_fields::onward` meets its contract.
 use Rattle.line_fields.specs.SplitLaws.{drop-onward}
-use Rattle.digits.specs.Lists.{part-from}
+use Rattle.line_digits.specs.Lists.{part-from}
 use mathlib.Core.Path.{_∙_}
 use borrow.Author.Needs.{needs}
 use Rattle.line_fields.proofs.onward.Statement.{statement}

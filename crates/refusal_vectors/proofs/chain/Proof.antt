@@ -2,9 +2,6 @@ use Prim.Native.Nat.{_≤_, _-_}
 use borrow.Author.Needs.{needs}
 use Rattle.refusal_vectors.proofs.chain.Statement.{statement}
 use Rattle.refusal_vectors.proofs.chain.Tie as tie
-use Rattle.refusal_vectors.proofs.chain.Reads as reads
-use Rattle.refusal_vectors.proofs.chain.Lts as lts
-use Rattle.tables.proofs.wide.Reads as wide-reads
 
 abbrev Inv-loop : tie.InvT-loop
 Inv-loop nodes₀ i₀ nodes i = (1 ≤ i) × (i ≤ 514)
@@ -12,55 +9,42 @@ Inv-loop nodes₀ i₀ nodes i = (1 ≤ i) × (i ≤ 514)
 abbrev μ-loop : tie.MeasureT-loop
 μ-loop nodes₀ i₀ nodes i = 514 - i
 
--- src/main.rt:318:5
 loop-holds : tie.Need-loop-holds Inv-loop μ-loop
 loop-holds c = search needs
 
--- src/main.rt:319:18
 wide-requires : tie.Need-wide-requires Inv-loop μ-loop
 wide-requires c κs = search needs
 
--- src/main.rt:319:18
 mul-at : tie.Need-mul-at Inv-loop μ-loop
 mul-at c = search needs
 
--- src/main.rt:320:9
 mul-nodes : tie.Need-mul-nodes Inv-loop μ-loop
 mul-nodes c = search needs
 
--- src/main.rt:320:9
 element-write-nodes : tie.Need-element-write-nodes Inv-loop μ-loop
 element-write-nodes c = search needs
 
--- src/main.rt:321:25
 sub-nodes : tie.Need-sub-nodes Inv-loop μ-loop
 sub-nodes c = search needs
 
--- src/main.rt:321:15
 add-nodes : tie.Need-add-nodes Inv-loop μ-loop
 add-nodes c = search needs
 
--- src/main.rt:321:9
 mul-nodes-2 : tie.Need-mul-nodes-2 Inv-loop μ-loop
 mul-nodes-2 c = search needs
 
--- src/main.rt:321:9
 element-write-nodes-2 : tie.Need-element-write-nodes-2 Inv-loop μ-loop
 element-write-nodes-2 c = search needs
 
--- src/main.rt:322:9
 add-i : tie.Need-add-i Inv-loop μ-loop
 add-i c = search needs
 
--- src/main.rt:318:5
 loop-less : tie.Need-loop-less Inv-loop μ-loop
 loop-less c = search needs
 
--- src/main.rt:318:5
 loop-again : tie.Need-loop-again Inv-loop μ-loop
 loop-again c = search needs
 
--- src/main.rt:316:1
 returns : tie.Need-returns Inv-loop μ-loop
 returns c = search needs
 

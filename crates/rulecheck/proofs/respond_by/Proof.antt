@@ -1,6 +1,6 @@
 -- `rulecheck::respond_by` meets its contract.
 use mathlib.Core.Path.{sym}
-use Rattle.lines.specs.Format.{roomOf}
+use Rattle.line_input.specs.Format.{roomOf}
 use Rattle.rulecheck.specs.ResponseLaws.{room-lent, text-unread, text-tables, front-put, front-same}
 use borrow.Author.Needs.{needs}
 use Rattle.rulecheck.proofs.respond_by.Statement.{statement}

@@ -3,9 +3,6 @@ use lib.ListN.{length}
 use borrow.Author.Needs.{needs}
 use Rattle.ruleroute.proofs.print_entries.Statement.{statement}
 use Rattle.ruleroute.proofs.print_entries.Tie as tie
-use Rattle.ruleroute.proofs.print_entries.Reads as reads
-use Rattle.ruleroute.proofs.print_entries.Lts as lts
-use Rattle.ruleroute.proofs.print_entry.Reads as print-entry-reads
 
 abbrev Inv-loop : tie.InvT-loop
 Inv-loop entries i₀ i = i ≤ length entries
@@ -13,27 +10,21 @@ Inv-loop entries i₀ i = i ≤ length entries
 abbrev μ-loop : tie.MeasureT-loop
 μ-loop entries i₀ i = length entries - i
 
--- src/main.rt:16:5
 loop-holds : tie.Need-loop-holds Inv-loop μ-loop
 loop-holds c = search needs
 
--- src/main.rt:17:9
 print-entry-requires : tie.Need-print-entry-requires Inv-loop μ-loop
 print-entry-requires c κs = search needs
 
--- src/main.rt:18:9
 add-i : tie.Need-add-i Inv-loop μ-loop
 add-i c = search needs
 
--- src/main.rt:16:5
 loop-less : tie.Need-loop-less Inv-loop μ-loop
 loop-less c = search needs
 
--- src/main.rt:16:5
 loop-again : tie.Need-loop-again Inv-loop μ-loop
 loop-again c = search needs
 
--- src/main.rt:14:1
 returns : tie.Need-returns Inv-loop μ-loop
 returns c = search needs
 

@@ -1,0 +1,53 @@
+-- What `code` and `route` answer and leave, for every input and all slices.
+use Prim.Native.Nat.{ℕ, _*_}
+use mathlib.Core.List.{List}
+use mathlib.Core.Bool.{cond}
+use lib.Dec.{leb}
+use lib.ListN.{length}
+use Rattle.table_records.specs.Table.{count}
+use Rattle.refusal_verdict.specs.declared.Verdict.{Verdict}
+use Rattle.refusal_verdict.specs.declared.Verdict.the-variants as verdict
+use Rattle.refusal_wellformed.specs.WellFormed.{inputRefusal}
+use Rattle.route_completion.specs.Route.{route}
+use Rattle.code_flat.specs.Code.{unit}
+use Rattle.code_unit.specs.Unit.{unitOf}
+use Rattle.refusal_state.specs.Targets.{refusedOr, stateAnswer}
+use Rattle.call_routes.specs.declared.Coded.{Coded}
+use Rattle.call_routes.specs.declared.Coded.the-variants as coded
+use Rattle.code_stores.specs.Over.{over}
+use Rattle.route_viewer.specs.Shown.{shownAnswer, shownSlice}
+use Rattle.route_viewer.specs.declared.Routed.{Routed}
+use Rattle.route_viewer.specs.declared.Routed.the-variants as routed
+
+-- 11: "The code slice is shorter than 16 × the tree's nodes."
+unfoldable pub roomRefusal : List ℕ → ℕ → Verdict
+roomRefusal ns len = cond (leb (16 * count ns) len) verdict.Passed (verdict.Refused 11 0)
+
+-- "the code call 1-9 and 11"; len is the length of the code slice
+unfoldable pub codeRefusal : ℕ → List ℕ → List ℕ → List ℕ → List ℕ → ℕ → ℕ → Verdict
+codeRefusal sourceType ns ss source names u len =
+    refusedOr (inputRefusal sourceType ns ss source names) (refusedOr (stateAnswer sourceType ns ss source names u) (roomRefusal ns len))
+
+-- the answer, or the slice, of a call: by the refusal, or else
+abbrev pub unless : {A : Type 0} → Verdict → (ℕ → ℕ → A) → A → A
+unless (verdict.Refused number place) f a = f number place
+unless verdict.Passed f a = a
+
+-- the length of the unit's code
+unfoldable pub codeAnswer : ℕ → List ℕ → List ℕ → List ℕ → List ℕ → ℕ → ℕ → Coded
+codeAnswer sourceType ns ss source names u len =
+    unless (codeRefusal sourceType ns ss source names u len) coded.Refused (coded.Code (length (unit (unitOf ns names u))))
+
+-- the unit's code; a refusal leaves the slice as it was
+unfoldable pub codeSlice : ℕ → List ℕ → List ℕ → List ℕ → List ℕ → ℕ → List ℕ → List ℕ
+codeSlice sourceType ns ss source names u s =
+    unless (codeRefusal sourceType ns ss source names u (length s)) (λ number place. s) (over (unit (unitOf ns names u)) s)
+
+-- "the route call 1-9, 11 and 12": the route is the unit's by the completion rules. Of the code slice it leaves what the code call does, 12 or not.
+unfoldable pub routeAnswer : ℕ → List ℕ → List ℕ → List ℕ → List ℕ → ℕ → List ℕ → ℕ → ℕ → Routed
+routeAnswer sourceType ns ss source names u answers codeLen len =
+    unless (codeRefusal sourceType ns ss source names u codeLen) routed.Refused (shownAnswer (route (unitOf ns names u) answers) len)
+
+unfoldable pub routeSlice : ℕ → List ℕ → List ℕ → List ℕ → List ℕ → ℕ → List ℕ → ℕ → List ℕ → List ℕ
+routeSlice sourceType ns ss source names u answers codeLen s =
+    unless (codeRefusal sourceType ns ss source names u codeLen) (λ number place. s) (shownSlice (route (unitOf ns names u) answers) s)

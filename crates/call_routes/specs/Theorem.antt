@@ -1,0 +1,81 @@
+-- THE CLAIM OF ROUTES, over tables: for every tree and unit that is not refused, and every list of answers, the flat code, made before any answer
+-- is known, gives the list, the answers taken and the end of the standard's completion rules.
+use Prim.Native.Nat.{ℕ, _+_, _*_, _≤_, _<_}
+use mathlib.Core.Path.{_≡_, ap, sym, _∙_}
+use mathlib.Core.Bool.{true}
+use mathlib.Core.List.{List, _∷_}
+use lib.ListN.{length, drop}
+use Rattle.table_records.specs.Table.{kindOf, count}
+use Rattle.table_records.specs.Kinds as k
+use Rattle.table_records.specs.declared.Found.the-variants.{At}
+use Rattle.refusal_verdict.specs.declared.Verdict.the-variants.{Passed}
+use Rattle.refusal_wellformed.specs.WellFormed.{inputRefusal}
+use Rattle.route_completion.specs.Route.{route, parts, AllOnce}
+use Rattle.code_flat.specs.Code.{unit}
+use Rattle.code_flat.specs.Machine.{started, codeRoute}
+use Rattle.code_flat.specs.Own.{sUnit, total, shapesAll}
+use Rattle.code_flat.specs.Claims.{claims}
+use Rattle.code_unit.specs.Unit.{holderOf, unitOf}
+use Rattle.code_words.specs.Words.{on, off}
+use Rattle.code_words.specs.Made.{code-is, code-length}
+use Rattle.code_held.specs.Held.{good, unit-held, unit-once, unit-no-try}
+use Rattle.code_maker.specs.ReadyLaws as ready
+use Rattle.refusal_state.specs.Targets.{hasTarget, stateAnswer}
+use Rattle.refusal_state.specs.TargetsLaws.{state-passed, targets-found}
+use Rattle.code_scoped.specs.Passed.{passed-scoped}
+use Rattle.code_scoped.specs.NoTry.{no-try}
+use Rattle.refusal_wellformed.specs.WellFormedLaws.{input-well-formed}
+use Rattle.call_routes.specs.CallsLaws.{unit-kind}
+
+-- What holds of the unit u and the answers.
+pub record Routes (ns names : List ℕ) (u : ℕ) (answers : List ℕ) : Type 0 where
+  -- The run of the code lists the same statements in the same order, takes as many answers, and ends with the same number as the completion rules say,
+  pub same : codeRoute (unit (unitOf ns names u)) answers ≡ route (unitOf ns names u) answers
+  -- .. and leaves the answers that follow those taken.
+  pub left : started (unit (unitOf ns names u)) answers .rest ≡ drop (route (unitOf ns names u) answers .taken) answers
+  -- "Ends: 0 fell through, 1 returned, 2 thrown, 3 answers spent"
+  pub ends : route (unitOf ns names u) answers .end ≤ 3
+  -- "Cut behind each entry that takes an answer, no part of the list has a statement twice."
+  pub once : AllOnce (parts (started (unit (unitOf ns names u)) answers .nodes))
+  -- The code's length is the sum of a number for each node of the unit, by its kind, at most 16; it is made without the answers.
+  pub long : length (unit (unitOf ns names u)) ≡ total (sUnit ∷ shapesAll (unitOf ns names u))
+  pub small : length (unit (unitOf ns names u)) ≤ 16 * length (sUnit ∷ shapesAll (unitOf ns names u))
+  -- "The code takes at most 16 numbers per node of the unit": the same sum over the table's own nodes. b holds the unit's statements; each node j of them
+  -- (`on ns b j`) adds the number of its kind (`ownBy`, at most 10), every other node of the table 0, and the unit itself 8.
+  pub rows : (b : ℕ) → holderOf ns u ≡ At (record { 0 = b }) → length (unit (unitOf ns names u)) ≡ off ns b (count ns) + 8
+  -- "The unit holds a Try outside nested functions, arrows and classes": refusal 8 has turned those down, so that no node that the code has words for is a Try.
+  pub noTry : (b j : ℕ) → holderOf ns u ≡ At (record { 0 = b }) → j < count ns → on ns b j ≡ true → kindOf ns j ≡ k.Try → ⊥
+
+-- Every Break and Continue of the tree has its target inside its nearest unit.
+abbrev pub Targeted : List ℕ → List ℕ → Type 0
+Targeted ns names = (n : ℕ) → n < count ns → k.Break ≤ kindOf ns n → kindOf ns n ≤ k.Continue → hasTarget ns names n ≡ true
+
+module _ (sourceType : ℕ) (ns ss source names : List ℕ) (u : ℕ)
+    -- the tables are well-formed (1 to 6), u is a unit (7) without try (8), and the tree has no findings (9)
+    (formed : inputRefusal sourceType ns ss source names ≡ Passed) (passed : stateAnswer sourceType ns ss source names u ≡ Passed)
+  where
+    -- With no findings every break and continue has its target: the second half of refusal 9 is never met.
+    pub targeted : Targeted ns names
+    targeted =
+        let w = input-well-formed sourceType ns ss source names formed in
+        let s = state-passed sourceType ns ss source names u passed in
+        targets-found sourceType ns ss source names (w .input .tree) (s .clear)
+
+    -- THE THEOREM
+    pub routes : (answers : List ℕ) → Routes ns names u answers
+    routes answers =
+        let w = input-well-formed sourceType ns ss source names formed in
+        let s = state-passed sourceType ns ss source names u passed in
+        let c = claims (unitOf ns names u) (unit-no-try ns names u) answers in
+        record {
+          same = c .same;
+          left = c .left;
+          ends = c .ends (passed-scoped sourceType ns ss source names u (good sourceType ns ss source names w) passed);
+          once = c .once (unit-once sourceType ns ss source names w u (s .below) (unit-kind (kindOf ns u) (s .unit)));
+          long = c .long;
+          small = c .small;
+          rows = λ b e.
+              let h = unit-held sourceType ns ss source names w u (s .below) (unit-kind (kindOf ns u) (s .unit)) (record { 0 = b }) e in
+              ap (λ x. length (unit x)) (ready.unit-held ns names u b e) ∙ ap length (sym (code-is ns names b h)) ∙ code-length ns names b h;
+          noTry = no-try ns (w .input .tree) u (s .noTry);
+        }

@@ -1,0 +1,136 @@
+-- Every row of document 01's table holds.
+use Prim.Native.Nat.{ℕ, _*_, _/_, _≤_}
+use mathlib.Core.Path.{_≡_, refl, ap, sym, _∙_}
+use mathlib.Core.List.{List, [], _∷_, _++_, flatMap}
+use mathlib.Core.Bool.{xor}
+use native.Mathlib.Omega.{arith}
+use borrow.Author.Tests.{le-leb}
+use lib.ListN.{length, drop}
+use Rattle.base_common.specs.Upto.{range, upto}
+use Rattle.base_walk.specs.Above.{climb, above}
+use Rattle.table_names.specs.Name.{same, nameOf}
+use Rattle.refusal_verdict.specs.First.{first}
+use Rattle.table_children.specs.Children.{keep, children, howMany, isChild, firstNode}
+use Rattle.table_ancestry.specs.Ancestry.{nearestOf}
+use Rattle.check_diagnostics.specs.Finding.{flat}
+use Rattle.refusal_fields.specs.Fields.{wrongTable, wrongSizes, listedFlags, mostExtra, listedExtra, unlistedAt, strayAt}
+use Rattle.refusal_tree.specs.Tree.{misplacedAt}
+use Rattle.refusal_scopes.specs.Scopes.{brokenAt, chainOn, misscopedAt}
+use Rattle.refusal_standing.specs.Standing.{isStatement, mayBeStatement, isHolder, strayStatement, strayHeld, strayAlternate, strayInSwitch, strayCase, strayInTry, strayClause, strayInClause, strayFunctionBody, strayClassBody, strayElement, strayValue, misplacedStatement, misplacedPart, misplacedElement, misplaced, misplacedChildAt}
+use Rattle.refusal_counts.specs.Counts.{isDefault, defaults, wrongBody, wrongAlternate, wrongDefault, wrongTry, wrongClause, wrongLabel, wrongFunction, wrongClass, wrongValue, wrongElement, wrongStatement, wrongPart, wrongHome, wrongCountAt}
+use Rattle.refusal_shape.specs.Shape.{misshapenAt}
+use Rattle.refusal_input.specs.Input.{refusalOf}
+use Rattle.refusal_wellformed.specs.WellFormed.{inputRefusal}
+use Rattle.check_literals.specs.Escapes.{escapeOf, badEscape}
+use Rattle.check_literals.specs.Literals.{sourceText, checkStringLiteral, checkNumberLiteral}
+use Rattle.check_identifiers.specs.Identifiers.{isStrictWord, checkIdentifier, checkBindingIdentifier, checkIdentifierReference, checkDirective}
+use Rattle.check_jumps.specs.Jumps.{walkUp, sameLabel, under, plainContinueAt, continueTo, labelledContinueAt, labeledAt}
+use Rattle.check_statements.specs.Statements.{checkFunctionDeclaration, checkLabeledItem}
+use Rattle.check_class_table.specs.Classes.{currentClass, classesOf}
+use Rattle.check_class_table.specs.Elements.{elementName, elementSpan, hasBody, enters, elements, privates}
+use Rattle.check_duplicates.specs.Duplicates.{lastOf, sideOf, previousOn, previousOf, isDuplicate, redeclaration, duplicateBy, duplicatesIn, duplicateElements}
+use Rattle.check_classes.specs.ClassChecks.{references, undeclaredIn, requireClassName, constructors, constructorSpan, checkClass}
+use Rattle.check_supers.specs.Super.{failsAt}
+use Rattle.check_dispatch.specs.Findings.{nameFindings, loopFindings, jumpFindings, literalFindings, expressionFindings, findingsAt, findingsOf}
+use Rattle.check_diagnostics.specs.FindingLaws.{length-flat}
+use Rattle.check_diagnostics.specs.declared.Finding.{Finding}
+use Rattle.refusal_verdict.specs.declared.Verdict.{Verdict}
+use Rattle.refusal_verdict.specs.declared.Verdict.the-variants.{Passed}
+use Rattle.call_check.specs.Check.{reportAnswer, reportSlice, answerBy, sliceBy, checkAnswer, checkSlice}
+use Rattle.call_check.specs.CheckLaws.{answer-room}
+use Rattle.call_check.specs.declared.Checked.the-variants.{Findings}
+use Rattle.table_records.specs.Table.{count}
+use Rattle.route_completion.specs.Sem.{exec, turns, rounds}
+use Rattle.route_completion.specs.Route.{Route, asks, route as ruledRoute}
+use Rattle.code_unit.specs.Unit.{shapeBy, isPart, parts, nameId, stmtAt, bodyOf, holderOf, unitOf}
+use Rattle.route_viewer.specs.Shown.{shownAnswer, shownSlice}
+use Rattle.route_viewer.specs.declared.Routed.the-variants as routed
+use Rattle.refusal_state.specs.Targets.{namesUnit, inUnit, tryIn, holdsTry, seek, plainBreak, namedBreak, plainContinue, namedContinue, hasTarget, lostAt, statePlace, unitRefusal, refusedOr, stateAnswer}
+use Rattle.call_routes.specs.Calls.{roomRefusal, codeRefusal, unless, routeAnswer, routeSlice}
+use Rattle.call_routes.specs.CallsLaws.{room-enough, code-route}
+use Rattle.call_rows.specs.Rows.{CheckRow, RouteRow, Row, check, route, Checks, Shows, Holds, Each, rows}
+
+-- what the call does with a row that no refusal turns down
+module _ (r : CheckRow) (passed : inputRefusal (r .sourceType) (r .nodes) (r .scopes) (r .source) (r .names) ≡ Passed)
+    (found : flat (findingsOf (r .sourceType) (r .nodes) (r .scopes) (r .source) (r .names)) ≡ r .finds)
+  where
+    abbrev fs : List Finding
+    fs = findingsOf (r .sourceType) (r .nodes) (r .scopes) (r .source) (r .names)
+
+    many : length (r .finds) ≡ 7 * length fs
+    many = ap length (sym found) ∙ length-flat fs
+
+    answers : (s : List ℕ) → length (r .finds) ≤ length s → checkAnswer (r .sourceType) (r .nodes) (r .scopes) (r .source) (r .names) (length s) ≡ Findings (length (r .finds) / 7)
+    unfolding checkAnswer
+    answers s h =
+        let m = many in
+        let e : length fs ≡ length (r .finds) / 7 = omega arith in
+        ap (λ (v : Verdict). answerBy v (reportAnswer fs (length s))) passed ∙ answer-room fs s (omega arith) ∙ ap (λ (n : ℕ). Findings n) e
+
+    writes : (s : List ℕ) → length (r .finds) ≤ length s → checkSlice (r .sourceType) (r .nodes) (r .scopes) (r .source) (r .names) s ≡ r .finds ++ drop (length (r .finds)) s
+    unfolding checkSlice reportSlice
+    writes s h =
+        let m = many in
+        let room : 7 * length fs ≤ length s = omega arith in
+        ap (λ (v : Verdict). sliceBy v s (reportSlice fs s)) passed ∙ rw (le-leb (7 * length fs) (length s) room, found, ← m)
+
+    checks : Checks r
+    checks = record { found = found; answer = answers; slice = writes }
+
+-- what the call does with a route row that no refusal turns down
+module _ (r : RouteRow) (passed : inputRefusal (r .sourceType) (r .nodes) (r .scopes) (r .source) (r .names) ≡ Passed)
+    (sound : stateAnswer (r .sourceType) (r .nodes) (r .scopes) (r .source) (r .names) (r .unit) ≡ Passed)
+    (ruled : ruledRoute (unitOf (r .nodes) (r .names) (r .unit)) (r .answers) ≡ r .shows)
+  where
+    unrefused : (c : List ℕ) → 16 * count (r .nodes) ≤ length c → codeRefusal (r .sourceType) (r .nodes) (r .scopes) (r .source) (r .names) (r .unit) (length c) ≡ Passed
+    unfolding codeRefusal
+    unrefused c h =
+        ap (λ (v : Verdict). refusedOr v (refusedOr (stateAnswer (r .sourceType) (r .nodes) (r .scopes) (r .source) (r .names) (r .unit)) (roomRefusal (r .nodes) (length c)))) passed
+        ∙ ap (λ (v : Verdict). refusedOr v (roomRefusal (r .nodes) (length c))) sound
+        ∙ sym (room-enough (r .nodes) (length c) h)
+
+    told : (c s : List ℕ) → 16 * count (r .nodes) ≤ length c → length (r .shows .list) ≤ length s
+        → routeAnswer (r .sourceType) (r .nodes) (r .scopes) (r .source) (r .names) (r .unit) (r .answers) (length c) (length s)
+        ≡ routed.Route (r .shows .end) (length (r .shows .list)) (r .shows .taken)
+    unfolding routeAnswer shownAnswer
+    told c s h g =
+        ap (λ (v : Verdict). unless v routed.Refused (shownAnswer (ruledRoute (unitOf (r .nodes) (r .names) (r .unit)) (r .answers)) (length s))) (unrefused c h)
+        ∙ ap (λ (x : Route). shownAnswer x (length s)) ruled
+        ∙ rw (le-leb (length (r .shows .list)) (length s) g)
+
+    kept : (c s : List ℕ) → 16 * count (r .nodes) ≤ length c → length (r .shows .list) ≤ length s
+        → routeSlice (r .sourceType) (r .nodes) (r .scopes) (r .source) (r .names) (r .unit) (r .answers) (length c) s ≡ r .shows .list ++ drop (length (r .shows .list)) s
+    unfolding routeSlice shownSlice
+    kept c s h g =
+        ap (λ (v : Verdict). unless v (λ number place. s) (shownSlice (ruledRoute (unitOf (r .nodes) (r .names) (r .unit)) (r .answers)) s)) (unrefused c h)
+        ∙ ap (λ (x : Route). shownSlice x s) ruled
+        ∙ rw (le-leb (length (r .shows .list)) (length s) g)
+
+    shows : Shows r
+    shows = record { ruled = ruled; coded = code-route (r .nodes) (r .names) (r .unit) (r .answers) ∙ ruled; answer = told; slice = kept }
+
+-- what is computed of a row
+abbrev Computed : Row → Type 0
+Computed (check r) =
+    (inputRefusal (r .sourceType) (r .nodes) (r .scopes) (r .source) (r .names) ≡ Passed)
+    × (flat (findingsOf (r .sourceType) (r .nodes) (r .scopes) (r .source) (r .names)) ≡ r .finds)
+Computed (route r) =
+    (inputRefusal (r .sourceType) (r .nodes) (r .scopes) (r .source) (r .names) ≡ Passed)
+    × (stateAnswer (r .sourceType) (r .nodes) (r .scopes) (r .source) (r .names) (r .unit) ≡ Passed)
+    × (ruledRoute (unitOf (r .nodes) (r .names) (r .unit)) (r .answers) ≡ r .shows)
+
+holds : (r : Row) → Computed r → Holds r
+holds (check r) c = checks r (c .0) (c .1)
+holds (route r) c = shows r (c .0) (c .1) (c .2)
+
+each : (rs : List Row) → Each Computed rs → Each Holds rs
+each [] c = tt
+each (r ∷ rs) c = (holds r (c .0), each rs (c .1))
+
+computed : Each Computed rows
+unfolding rows upto range above climb first keep children howMany isChild wrongTable wrongSizes listedFlags mostExtra listedExtra unlistedAt strayAt misplacedAt brokenAt chainOn misscopedAt isStatement mayBeStatement isHolder strayStatement strayHeld strayAlternate strayInSwitch strayCase strayInTry strayClause strayInClause strayFunctionBody strayClassBody strayElement strayValue misplacedStatement misplacedPart misplacedElement misplaced misplacedChildAt isDefault defaults wrongBody wrongAlternate wrongDefault wrongTry wrongClause wrongLabel wrongFunction wrongClass wrongValue wrongElement wrongStatement wrongPart wrongHome wrongCountAt misshapenAt refusalOf failsAt inputRefusal same nameOf firstNode nearestOf flat flatMap xor escapeOf badEscape sourceText checkStringLiteral checkNumberLiteral isStrictWord checkIdentifier checkBindingIdentifier checkIdentifierReference checkDirective walkUp sameLabel under plainContinueAt continueTo labelledContinueAt labeledAt checkFunctionDeclaration checkLabeledItem currentClass classesOf elementName elementSpan hasBody enters elements privates lastOf sideOf previousOn previousOf isDuplicate redeclaration duplicateBy duplicatesIn duplicateElements references undeclaredIn requireClassName constructors constructorSpan checkClass nameFindings loopFindings jumpFindings literalFindings expressionFindings findingsAt findingsOf exec turns rounds asks shapeBy isPart parts nameId stmtAt bodyOf holderOf unitOf namesUnit inUnit tryIn holdsTry seek plainBreak namedBreak plainContinue namedContinue hasTarget lostAt statePlace unitRefusal stateAnswer
+computed =
+    ((refl, refl), ((refl, refl), ((refl, refl), ((refl, refl), ((refl, refl), ((refl, refl), ((refl, refl), ((refl, refl), ((refl, refl), ((refl, refl), ((refl, refl), ((refl, refl), ((refl, refl), ((refl, refl), ((refl, refl), ((refl, refl, refl), ((refl, refl, refl), ((refl, refl, refl), tt))))))))))))))))))
+
+pub rows-hold : Each Holds rows
+rows-hold = each rows computed

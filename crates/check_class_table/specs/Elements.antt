@@ -1,0 +1,110 @@
+-- The elements of a class: `Element` and `ClassTableBuilder::declare_class_body`. An element has the number of its node.
+use Prim.Native.Nat.{ℕ}
+use mathlib.Core.List.{List, [], _∷_}
+use mathlib.Core.Bool.{Bool, false, not, _&&_}
+use lib.Dec.{eqb}
+use Rattle.base_common.specs.Upto.{any}
+use Rattle.base_common.specs.Tests.{within}
+use Rattle.table_records.specs.Table.{kindOf, parentOf, spanStartOf, spanEndOf, flagsOf, extraOf, nameLenOf, hasFlag}
+use Rattle.table_records.specs.Kinds as k
+use Rattle.table_records.specs.Extras as extra
+use Rattle.table_records.specs.NodeFlag as flag
+use Rattle.table_records.specs.declared.Found.{Found}
+use Rattle.table_records.specs.declared.Found.the-variants.{At, Nothing}
+use Rattle.table_names.specs.Name.{same, nameOf}
+use Rattle.table_children.specs.Children.{keep, children, keyOf, valueOf, functionBodyOf}
+use Rattle.table_ancestry.specs.Ancestry.{isAt}
+use Rattle.check_class_table.specs.declared.Span.{Span}
+use Rattle.check_class_table.specs.Classes.{outerClasses}
+
+-- the span of a part: "a missing one has span 0,0"
+abbrev pub spanAt : List ℕ → Found → Span
+spanAt ns (At m) = record { start = spanStartOf ns (m .0); end = spanEndOf ns (m .0) }
+spanAt ns Nothing = record { start = 0; end = 0 }
+
+-- the name of a part: "Length 0 means no name"
+abbrev pub nameAt : List ℕ → List ℕ → Found → List ℕ
+nameAt ns names (At m) = nameOf ns names (m .0)
+nameAt ns names Nothing = []
+
+abbrev pub hasNameAt : List ℕ → Found → Bool
+hasNameAt ns (At m) = not (eqb (nameLenOf ns (m .0)) 0)
+hasNameAt ns Nothing = false
+
+-- an element's key has a name
+abbrev pub hasName : List ℕ → ℕ → Bool
+hasName ns e = hasNameAt ns (keyOf ns e)
+
+-- whether a function has a body
+abbrev pub hasBodyAt : List ℕ → Found → Bool
+hasBodyAt ns (At f) = isAt (functionBodyOf ns (f .0))
+hasBodyAt ns Nothing = false
+
+-- an element's name, span and tests: "Elements and properties have their name at the key node"
+unfoldable pub elementName : List ℕ → List ℕ → ℕ → List ℕ
+elementName ns names e = nameAt ns names (keyOf ns e)
+
+unfoldable pub elementSpan : List ℕ → ℕ → Span
+elementSpan ns e = spanAt ns (keyOf ns e)
+
+abbrev pub isStatic : List ℕ → ℕ → Bool
+isStatic ns e = hasFlag (flagsOf ns e) flag.Static
+
+abbrev pub isPrivate : List ℕ → ℕ → Bool
+isPrivate ns e = hasFlag (flagsOf ns e) flag.PrivateKey
+
+abbrev pub isMethod : List ℕ → ℕ → Bool
+isMethod ns e = eqb (kindOf ns e) k.MethodDefinition
+
+-- a MethodDefinition with this extra number
+abbrev pub isMethodOf : List ℕ → ℕ → ℕ → Bool
+isMethodOf ns e x = isMethod ns e && eqb (extraOf ns e) x
+
+abbrev pub isGetter : List ℕ → ℕ → Bool
+isGetter ns e = isMethodOf ns e extra.Get
+
+abbrev pub isSetter : List ℕ → ℕ → Bool
+isSetter ns e = isMethodOf ns e extra.Set
+
+abbrev pub isConstructor : List ℕ → ℕ → Bool
+isConstructor ns e = isMethodOf ns e extra.Constructor
+
+-- the function that is a method's value has a body
+unfoldable pub hasBody : List ℕ → ℕ → Bool
+hasBody ns e = hasBodyAt ns (valueOf ns e)
+
+-- "constructors, bodiless methods and nameless keys enter no element"
+unfoldable pub enters : List ℕ → ℕ → Bool
+enters ns e = not (isConstructor ns e) && (not (isMethod ns e && not (hasBody ns e)) && hasName ns e)
+
+-- MethodDefinition, PropertyDefinition or AccessorProperty
+abbrev pub isDefinition : List ℕ → ℕ → Bool
+isDefinition ns e = within (kindOf ns e) k.MethodDefinition k.AccessorProperty
+
+-- the elements of class c, in order
+unfoldable pub elements : List ℕ → ℕ → List ℕ
+elements ns c = keep (enters ns) (keep (isDefinition ns) (children ns c))
+
+-- its private elements
+unfoldable pub privates : List ℕ → ℕ → List ℕ
+privates ns c = keep (isPrivate ns) (elements ns c)
+
+-- class c has a private element of this name: `has_private_definition`, and whether `get_element_ids` finds any
+unfoldable pub hasPrivate : List ℕ → List ℕ → ℕ → List ℕ → Bool
+hasPrivate ns names c name = any (λ e. same (elementName ns names e) name) (privates ns c)
+
+-- class c or a class around it has
+unfoldable pub isDeclared : List ℕ → List ℕ → ℕ → List ℕ → Bool
+isDeclared ns names c name = any (λ d. hasPrivate ns names d name) (c ∷ outerClasses ns c)
+
+-- The same as tests of a node: e is a definition in the body of class c with a private key
+unfoldable pub isPrivateDefinition : List ℕ → ℕ → ℕ → Bool
+isPrivateDefinition ns c e = eqb (parentOf ns e) c && (isPrivate ns e && isDefinition ns e)
+
+-- .. it is a private element of class c
+unfoldable pub isPrivateElement : List ℕ → ℕ → ℕ → Bool
+isPrivateElement ns c e = isPrivateDefinition ns c e && enters ns e
+
+-- .. it is one of this name
+unfoldable pub isPrivateNamed : List ℕ → List ℕ → ℕ → List ℕ → ℕ → Bool
+isPrivateNamed ns names c name e = isPrivateDefinition ns c e && (same (elementName ns names e) name && enters ns e)

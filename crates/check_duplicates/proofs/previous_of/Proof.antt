@@ -1,0 +1,59 @@
+use Prim.Native.Nat.{_≤_, _-_}
+use mathlib.Core.List.{_∷_, []}
+use mathlib.Core.Path.{_≡_}
+use native.Mathlib.Omega.{arith}
+use Rattle.check_class_table.specs.Elements.{elementName}
+use Rattle.check_duplicates.specs.DuplicatesLaws.{scan, scan-turn, scan-end, scan-places}
+use Rattle.check_duplicates.specs.Duplicates.{previousOn}
+use borrow.Author.Needs.{needs}
+use Rattle.check_duplicates.proofs.previous_of.Statement.{statement}
+use Rattle.check_duplicates.proofs.previous_of.Tie as tie
+
+abbrev Inv-loop : tie.InvT-loop
+Inv-loop nodes names c e name previous₀ i₀ previous i = (i ≤ e .0) × (name ≡ elementName nodes names (e .0)) × (scan nodes names (c .0) (elementName nodes names (e .0)) (e .0) previous i ≡ previousOn nodes names (c .0) (e .0) 0 ∷ previousOn nodes names (c .0) (e .0) 1 ∷ [])
+
+abbrev μ-loop : tie.MeasureT-loop
+μ-loop nodes names c e name previous₀ i₀ previous i = e .0 - i
+
+element-name-requires : tie.Need-element-name-requires Inv-loop μ-loop
+element-name-requires c κs = search needs
+
+add-i : tie.Need-add-i Inv-loop μ-loop
+add-i c = search needs
+
+loop-holds : tie.Need-loop-holds Inv-loop μ-loop
+loop-holds c = let a = c .before .before .before .before .args in
+    let h = c .before .before .before .before .pre .1 .1 .0 in
+    (search needs, c .before .element-name .ensures, scan-places (a .nodes .now) (a .names .now) (a .c .0) (a .e .0) (omega arith))
+
+see-requires : tie.Need-see-requires Inv-loop μ-loop
+see-requires c κs = (c .before .before .before .before .before .before .before .pre .0, (c .before .before .before .before .before .before .before .pre .1 .0, omega arith))
+
+add-i-2 : tie.Need-add-i-2 Inv-loop μ-loop
+add-i-2 c = search needs
+
+loop-less : tie.Need-loop-less Inv-loop μ-loop
+loop-less c = search needs
+
+loop-again : tie.Need-loop-again Inv-loop μ-loop
+loop-again c = let a = c .before .before .before .before .before .before .before .before .args in
+    (omega arith, c .before .before .before .loop .inv .1, cc (scan-turn (a .nodes .now) (a .names .now) (a .c .0) (elementName (a .nodes .now) (a .names .now) (a .e .0)) (a .e .0) (c .before .before .before .loop .previous) (c .before .before .before .loop .i) (c .before .if1 .taken)))
+
+returns : tie.Need-returns Inv-loop μ-loop
+returns c = let a = c .before .before .before .before .before .before .before .args in
+    cc (scan-end (a .nodes .now) (a .names .now) (a .c .0) (elementName (a .nodes .now) (a .names .now) (a .e .0)) (a .e .0) (c .before .before .loop .previous) (c .before .before .loop .i) (c .if1 .left))
+
+pub previous-of-spec : {M : Type 1} → statement M
+previous-of-spec =
+    tie.close
+    (tie.spec
+    Inv-loop
+    μ-loop
+    element-name-requires
+    add-i
+    loop-holds
+    see-requires
+    add-i-2
+    loop-less
+    loop-again
+    returns)

@@ -1,0 +1,324 @@
+// Where `super` may stand: what one scope and one class say to check_super's search.
+ghost use mathlib.Core.Path.{_≡_};
+ghost use Prim.Native.Nat.{_<_};
+ghost use Rattle.table_records.specs.Table.{count, countScopes, scopeNodeOf};
+ghost use Rattle.table_records.specs.Facts.{Tree};
+ghost use Rattle.table_children.specs.Children.{below};
+ghost use Rattle.check_supers.specs.Super.{isCall, ifCall, placeOf, partOf, isValueOf, isMethodLike, heritageUse, firstClass, dummyUse, derivedUse, objectUse, methodUse, functionUse, isClassScope, atClass, stepAt, classAfter, leaveClass};
+use table_records::Found;
+use table_records::NodeId;
+use table_records::ScopeId;
+use table_records::extras;
+use table_records::kinds;
+use table_records::node_flag;
+use table_records::scope_flag;
+
+// What the search finds of a `super`: that it is legal, or illegal, or a call in the constructor of this class, which has no heritage; or that the Rust fails.
+pub enum Reach {
+    Legal,
+    Illegal,
+    Underived(NodeId),
+    Fails,
+}
+
+// Where a node stands in the class element around it.
+pub enum ElementPart {
+    Value,
+    Key,
+    NoElement,
+}
+
+// What one scope of the search says: it ends, or it goes on outside the class, or just on.
+pub enum Step {
+    Stop(Reach),
+    Leave,
+    On,
+}
+
+// Whether a `super` is called.
+pub fn is_call(nodes: &[u32], n: NodeId) -> bool
+    requires { ⌜ Tree (now nodes) ⌝ }
+    requires { ⌜ n .0 < count (now nodes) ⌝ }
+    ensures { λ r. ⌜ r ≡ isCall (now (nodes .entry)) (n .0) ⌝ }
+{
+    base_common::within(
+        table_ancestry::parent_kind(nodes, n),
+        kinds::CALL,
+        kinds::NEW,
+    )
+}
+
+// Where a property may be taken of `super`, and `super` may not be called.
+fn if_call(call: bool) -> Reach
+    ensures { λ r. ⌜ r ≡ ifCall call ⌝ }
+{
+    if call {
+        return Reach::Illegal;
+    }
+    Reach::Legal
+}
+
+// Whether x is the value of a.
+fn is_value_of(nodes: &[u32], a: NodeId, x: NodeId) -> bool
+    requires { ⌜ Tree (now nodes) ⌝ }
+    requires { ⌜ a .0 < count (now nodes) ⌝ }
+    ensures { λ r. ⌜ r ≡ isValueOf (now (nodes .entry)) (a .0) (x .0) ⌝ }
+{
+    let Found::At(v) = table_children::value_of(nodes, a) else {
+        return false;
+    };
+    v.0 == x.0
+}
+
+// The part of the class element a in which its child x stands.
+fn part_of(nodes: &[u32], a: NodeId, x: NodeId) -> ElementPart
+    requires { ⌜ Tree (now nodes) ⌝ }
+    requires { ⌜ a .0 < count (now nodes) ⌝ }
+    ensures { λ r. ⌜ r ≡ partOf (now (nodes .entry)) (a .0) (x .0) ⌝ }
+{
+    if table_records::kind(nodes, a) == kinds::METHOD_DEFINITION {
+        return ElementPart::Key;
+    }
+    if is_value_of(nodes, a, x) {
+        return ElementPart::Value;
+    }
+    ElementPart::Key
+}
+
+// The part of the nearest class element above it in which a node stands.
+fn element_part(nodes: &[u32], start: NodeId) -> ElementPart
+    requires { ⌜ Tree (now nodes) ⌝ }
+    requires { ⌜ start .0 < count (now nodes) ⌝ }
+    ensures { λ r. ⌜ r ≡ placeOf (now (nodes .entry)) (start .0) ⌝ }
+{
+    let mut x = start;
+    loop {
+        if x.0 == 0 {
+            break ElementPart::NoElement;
+        }
+        let a = table_ancestry::up(nodes, x);
+        if base_common::within(
+            table_records::kind(nodes, a),
+            kinds::METHOD_DEFINITION,
+            kinds::ACCESSOR_PROPERTY,
+        ) {
+            break part_of(nodes, a, x);
+        }
+        x = a;
+    }
+}
+
+// A call in the constructor of the class with this ClassBody.
+fn heritage_use(nodes: &[u32], b: NodeId) -> Reach
+    requires { ⌜ Tree (now nodes) ⌝ }
+    requires { ⌜ b .0 < count (now nodes) ⌝ }
+    ensures { λ r. ⌜ r ≡ heritageUse (now (nodes .entry)) (b .0) ⌝ }
+{
+    let class = table_records::parent(nodes, b);
+    if table_records::has_flag(table_records::flags(nodes, class), node_flag::HERITAGE) {
+        return Reach::Legal;
+    }
+    Reach::Underived(class)
+}
+
+// The first ClassBody of the table: class number 0.
+fn first_class(nodes: &[u32]) -> Found
+    requires { ⌜ Tree (now nodes) ⌝ }
+    ensures { λ r. ⌜ r ≡ firstClass (now (nodes .entry)) ⌝ }
+    ensures { λ r. ⌜ below (now (nodes .entry)) r ⌝ }
+{
+    let mut i: u32 = 0;
+    while table_records::is_node(nodes, i) {
+        if table_records::kind(nodes, NodeId(i)) == kinds::CLASS_BODY {
+            return Found::At(NodeId(i));
+        }
+        i += 1;
+    }
+    Found::Nothing
+}
+
+// A call in a constructor while no class is current: class number 0 must be around the Super.
+fn dummy_use(nodes: &[u32], n: NodeId) -> Reach
+    requires { ⌜ Tree (now nodes) ⌝ }
+    requires { ⌜ n .0 < count (now nodes) ⌝ }
+    ensures { λ r. ⌜ r ≡ dummyUse (now (nodes .entry)) (n .0) (firstClass (now (nodes .entry))) ⌝ }
+{
+    let Found::At(b) = first_class(nodes) else {
+        return Reach::Fails;
+    };
+    let class = table_records::parent(nodes, b);
+    if table_ancestry::is_on_path(nodes, class.0, n) {
+        return heritage_use(nodes, b);
+    }
+    Reach::Fails
+}
+
+// A call in a constructor: of the class with this ClassBody.
+fn derived_use(nodes: &[u32], n: NodeId, class: Found) -> Reach
+    requires { ⌜ Tree (now nodes) ⌝ }
+    requires { ⌜ n .0 < count (now nodes) ⌝ }
+    requires { ⌜ below (now nodes) class ⌝ }
+    ensures { λ r. ⌜ r ≡ derivedUse (now (nodes .entry)) (n .0) class ⌝ }
+{
+    let Found::At(b) = class else {
+        return dummy_use(nodes, n);
+    };
+    heritage_use(nodes, b)
+}
+
+// Whether a property of an object is a method, getter or setter.
+fn is_method_like(nodes: &[u32], p: NodeId) -> bool
+    requires { ⌜ p .0 < count (now nodes) ⌝ }
+    ensures { λ r. ⌜ r ≡ isMethodLike (now (nodes .entry)) (p .0) ⌝ }
+{
+    base_common::or(
+        table_records::has_flag(table_records::flags(nodes, p), node_flag::METHOD),
+        table_records::extra(nodes, p) != extras::INIT,
+    )
+}
+
+// A `super` in the function f, which is the value of a property of an object, or not.
+fn object_use(nodes: &[u32], call: bool, p: NodeId, f: NodeId) -> Reach
+    requires { ⌜ Tree (now nodes) ⌝ }
+    requires { ⌜ p .0 < count (now nodes) ⌝ }
+    ensures { λ r. ⌜ r ≡ objectUse (now (nodes .entry)) call (p .0) (f .0) ⌝ }
+{
+    if is_method_like(nodes, p) {
+        if is_value_of(nodes, p, f) {
+            return if_call(call);
+        }
+        return Reach::Illegal;
+    }
+    Reach::Illegal
+}
+
+// A `super` in the function f, which is the value of a method of a class, or not.
+fn method_use(nodes: &[u32], n: NodeId, call: bool, class: Found, p: NodeId, f: NodeId) -> Reach
+    requires { ⌜ Tree (now nodes) ⌝ }
+    requires { ⌜ n .0 < count (now nodes) ⌝ }
+    requires { ⌜ below (now nodes) class ⌝ }
+    requires { ⌜ p .0 < count (now nodes) ⌝ }
+    ensures { λ r. ⌜ r ≡ methodUse (now (nodes .entry)) (n .0) call class (p .0) (f .0) ⌝ }
+{
+    if !is_value_of(nodes, p, f) {
+        return Reach::Illegal;
+    }
+    if !call {
+        return Reach::Legal;
+    }
+    if table_records::extra(nodes, p) != extras::CONSTRUCTOR {
+        return Reach::Illegal;
+    }
+    derived_use(nodes, n, class)
+}
+
+// A `super` in the function f.
+fn function_use(nodes: &[u32], n: NodeId, call: bool, class: Found, f: NodeId) -> Reach
+    requires { ⌜ Tree (now nodes) ⌝ }
+    requires { ⌜ n .0 < count (now nodes) ⌝ }
+    requires { ⌜ below (now nodes) class ⌝ }
+    requires { ⌜ f .0 < count (now nodes) ⌝ }
+    ensures { λ r. ⌜ r ≡ functionUse (now (nodes .entry)) (n .0) call class (f .0) ⌝ }
+{
+    if f.0 == 0 {
+        return Reach::Fails;
+    }
+    let p = table_ancestry::up(nodes, f);
+    let k = table_records::kind(nodes, p);
+    if k == kinds::OBJECT_PROPERTY {
+        return object_use(nodes, call, p, f);
+    }
+    if k == kinds::METHOD_DEFINITION {
+        return method_use(nodes, n, call, class, p, f);
+    }
+    Reach::Illegal
+}
+
+// Whether s is the scope of the class with this ClassBody.
+fn is_class_scope(nodes: &[u32], class: Found, s: ScopeId) -> bool
+    requires { ⌜ Tree (now nodes) ⌝ }
+    requires { ⌜ below (now nodes) class ⌝ }
+    ensures { λ r. ⌜ r ≡ isClassScope (now (nodes .entry)) class (s .0) ⌝ }
+{
+    let Found::At(b) = class else {
+        return false;
+    };
+    let c = table_records::parent(nodes, b);
+    s.0 == table_records::extra(nodes, c)
+}
+
+// What the scope of the class says.
+fn at_class(nodes: &[u32], call: bool, start: NodeId) -> Step
+    requires { ⌜ Tree (now nodes) ⌝ }
+    requires { ⌜ start .0 < count (now nodes) ⌝ }
+    ensures { λ r. ⌜ r ≡ atClass call (placeOf (now (nodes .entry)) (start .0)) ⌝ }
+{
+    let part = element_part(nodes, start);
+    match part {
+        ElementPart::Value => Step::Stop(if_call(call)),
+        ElementPart::Key => Step::Leave,
+        ElementPart::NoElement => Step::Stop(Reach::Fails),
+    }
+}
+
+// What the scope s of the search says.
+pub fn step_at(
+    nodes: &[u32],
+    scopes: &[u32],
+    n: NodeId,
+    call: bool,
+    class: Found,
+    start: NodeId,
+    s: ScopeId,
+) -> Step
+    requires { ⌜ Tree (now nodes) ⌝ }
+    requires { ⌜ n .0 < count (now nodes) ⌝ }
+    requires { ⌜ below (now nodes) class ⌝ }
+    requires { ⌜ start .0 < count (now nodes) ⌝ }
+    requires { ⌜ s .0 < countScopes (now scopes) ⌝ }
+    requires { ⌜ scopeNodeOf (now scopes) (s .0) < count (now nodes) ⌝ }
+    ensures { λ r. ⌜ r ≡ stepAt (now (nodes .entry)) (now (scopes .entry)) (n .0) call class (start .0) (s .0) ⌝ }
+{
+    if is_class_scope(nodes, class, s) {
+        return at_class(nodes, call, start);
+    }
+    let flags = table_records::scope_flags(scopes, s);
+    if table_records::has_flag(flags, scope_flag::STATIC_BLOCK_SCOPE) {
+        return Step::Stop(if_call(call));
+    }
+    if !table_records::has_flag(flags, scope_flag::FUNCTION_SCOPE) {
+        return Step::On;
+    }
+    if table_records::has_flag(flags, scope_flag::ARROW_SCOPE) {
+        return Step::On;
+    }
+    let f = table_records::scope_node(scopes, s);
+    Step::Stop(function_use(nodes, n, call, class, f))
+}
+
+// The class in which the search goes on after a step.
+pub fn class_after(nodes: &[u32], class: Found, step: Step) -> Found
+    requires { ⌜ Tree (now nodes) ⌝ }
+    requires { ⌜ below (now nodes) class ⌝ }
+    ensures { λ r. ⌜ r ≡ classAfter (now (nodes .entry)) class step ⌝ }
+    ensures { λ r. ⌜ below (now (nodes .entry)) r ⌝ }
+{
+    match step {
+        Step::Leave => leave_class(nodes, class),
+        Step::On => class,
+        Step::Stop(_) => class,
+    }
+}
+
+// The class around a class.
+fn leave_class(nodes: &[u32], class: Found) -> Found
+    requires { ⌜ Tree (now nodes) ⌝ }
+    requires { ⌜ below (now nodes) class ⌝ }
+    ensures { λ r. ⌜ r ≡ leaveClass (now (nodes .entry)) class ⌝ }
+    ensures { λ r. ⌜ below (now (nodes .entry)) r ⌝ }
+{
+    let Found::At(b) = class else {
+        return Found::Nothing;
+    };
+    table_ancestry::nearest(nodes, b, kinds::CLASS_BODY, kinds::CLASS_BODY)
+}

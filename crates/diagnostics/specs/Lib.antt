@@ -1,4 +1,0 @@
-pub mod Codes
-pub mod Contexts
-pub mod Finding
-pub mod FindingLaws

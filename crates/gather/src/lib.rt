@@ -1,1 +1,0 @@
-// Laws of checks that raise several findings, one node after the other: see specs/.

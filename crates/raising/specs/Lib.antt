@@ -1,2 +1,0 @@
-pub mod Raises
-pub mod RaisesLaws

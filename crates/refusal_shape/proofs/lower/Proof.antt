@@ -1,0 +1,46 @@
+use borrow.Author.Tests.{le-leb, lt-leb}
+use Rattle.refusal_shape.specs.Shape.{lower}
+use borrow.Author.Needs.{needs}
+use Rattle.refusal_shape.proofs.lower.Statement.{statement}
+use Rattle.refusal_shape.proofs.lower.Tie as tie
+
+enum-known-a : tie.Need-enum-known-a
+enum-known-a c = search needs
+
+enum-told : tie.Need-enum-told
+enum-told c = search needs
+
+returns : tie.Need-returns
+unfolding lower
+returns c = rw (c .enum-told .given .1)
+
+enum-known-b : tie.Need-enum-known-b
+enum-known-b c = search needs
+
+enum-told-2 : tie.Need-enum-told-2
+enum-told-2 c = search needs
+
+returns-2 : tie.Need-returns-2
+unfolding lower
+returns-2 c = rw (c .before .before .before .a .given .1, c .enum-told2 .given .1)
+
+returns-3 : tie.Need-returns-3
+unfolding lower
+returns-3 c = rw (c .before .before .before .before .before .a .given .1, c .before .before .b .given .1, le-leb _ _ (c .if1 .taken))
+
+returns-4 : tie.Need-returns-4
+unfolding lower
+returns-4 c = rw (c .before .before .before .before .before .a .given .1, c .before .before .b .given .1, lt-leb _ _ (c .if1 .left))
+
+pub lower-spec : {M : Type 1} → statement M
+lower-spec =
+    tie.close
+    (tie.spec
+    enum-known-a
+    enum-told
+    returns
+    enum-known-b
+    enum-told-2
+    returns-2
+    returns-3
+    returns-4)

@@ -1,0 +1,24 @@
+use Rattle.refusal_standing.specs.Standing.{isStatement}
+use borrow.Author.Needs.{needs}
+use Rattle.refusal_standing.proofs.is_statement.Statement.{statement}
+use Rattle.refusal_standing.proofs.is_statement.Tie as tie
+
+within-requires : tie.Need-within-requires
+within-requires c κs = search needs
+
+within-requires-2 : tie.Need-within-requires-2
+within-requires-2 c κs = search needs
+
+or-requires : tie.Need-or-requires
+or-requires c κs = search needs
+
+or-requires-2 : tie.Need-or-requires-2
+or-requires-2 c κs = search needs
+
+returns : tie.Need-returns
+unfolding isStatement
+returns c = cc
+
+pub is-statement-spec : {M : Type 1} → statement M
+is-statement-spec =
+    tie.close (tie.spec within-requires within-requires-2 or-requires or-requires-2 returns)
