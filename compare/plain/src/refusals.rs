@@ -217,8 +217,8 @@ fn wrong_count(t: &Tables, n: usize) -> bool {
         FOR..=DO_WHILE | WITH => with_role(BODY) != 1,
         // "If one and at most one with role 4".
         IF => with_role(BODY) != 1 || with_role(ALTERNATE) > 1,
-        // "at most one with flag 4096".
-        SWITCH => count(&|c| t.kind(c) == SWITCH_CASE && t.has(c, IS_DEFAULT)) > 1,
+        // "Switch holds only SwitchCase with role 3, at most one with flag 4096": of those with role 3.
+        SWITCH => count(&|c| t.kind(c) == SWITCH_CASE && t.role(c) == BODY && t.has(c, IS_DEFAULT)) > 1,
         // "Try holds one Block with role 3, at most one CatchClause with role 4, one Block with role 5, and at least
         // one of the last two": counted by role, as a child of another kind is misplaced; "at most" goes for the second
         // Block too.
