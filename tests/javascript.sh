@@ -1,5 +1,7 @@
 #!/usr/bin/env bash
 # Rules that others wrote, and engines that others built, with the proved programs as checker and router.
+# Texts that are expected have backquotes.
+# shellcheck disable=SC2016
 # shellcheck source=tests/lib.bash
 source "$(dirname "$0")/lib.bash" || exit 1
 
