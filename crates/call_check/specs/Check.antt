@@ -8,7 +8,7 @@ use Rattle.check_diagnostics.specs.declared.Finding.{Finding}
 use Rattle.check_diagnostics.specs.Finding.{flat}
 use Rattle.refusal_verdict.specs.declared.Verdict.{Verdict}
 use Rattle.refusal_verdict.specs.declared.Verdict.the-variants as verdict
-use Rattle.refusal_wellformed.specs.WellFormed.{inputRefusal}
+use Rattle.refusal_input.specs.Input.{inputRefusal}
 use Rattle.check_dispatch.specs.Findings.{findingsOf}
 use Rattle.call_check.specs.declared.Checked.{Checked}
 use Rattle.call_check.specs.declared.Checked.the-variants.{Findings, Refused, Short}

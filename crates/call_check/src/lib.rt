@@ -50,7 +50,7 @@ pub fn check(
     ensures { λ r. ⌜ r ≡ checkAnswer «source_type» (now (nodes .entry)) (now (scopes .entry)) (now (source .entry)) (now (names .entry)) (length (now (findings .entry))) ⌝ }
     ensures { λ _. ⌜ now (findings .exit) ≡ checkSlice «source_type» (now (nodes .entry)) (now (scopes .entry)) (now (source .entry)) (now (names .entry)) (now (findings .entry)) ⌝ }
 {
-    let verdict = refusal_wellformed::refusal(source_type, nodes, scopes, source, names);
+    let verdict = refusal_input::refusal(source_type, nodes, scopes, source, names);
     match verdict {
         Verdict::Refused(number, place) => Checked::Refused(number, place),
         Verdict::Passed => report(source_type, nodes, scopes, source, names, findings),

@@ -21,10 +21,10 @@ use Rattle.check_identifiers.specs.Identifiers.{checkIdentifier, checkBindingId
 use Rattle.check_literals.specs.Literals.{checkNumberLiteral, checkStringLiteral}
 use Rattle.check_expressions.specs.Expressions.{checkUnaryExpression, inParameter, inBlock}
 use Rattle.check_dispatch.specs.Findings.{findingsAt, findingsOf}
-use Rattle.refusal_input.specs.Input.{WellFormed}
+use Rattle.refusal_input.specs.WellFormed.{WellFormed}
 use Rattle.refusal_verdict.specs.declared.Verdict.the-variants.{Passed}
-use Rattle.refusal_wellformed.specs.WellFormed.{inputRefusal}
-use Rattle.refusal_wellformed.specs.WellFormedLaws.{input-well-formed}
+use Rattle.refusal_input.specs.Input.{inputRefusal}
+use Rattle.refusal_input.specs.InputLaws.{input-well-formed}
 use Rattle.ecma_trees.specs.Walk.{each, only}
 use Rattle.ecma_dispatch.specs.WithCode.{withCode}
 use Rattle.ecma_dispatch.specs.Dispatch.{at2, at3, at4, at5, at6, at9, at10, at11, at12, at13, at14, at15, at16, at17, at24, at25, at31, at32, at33}

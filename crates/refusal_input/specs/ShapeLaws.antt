@@ -17,7 +17,8 @@ use Rattle.refusal_standing.specs.Standing.{misplacedChildAt}
 use Rattle.refusal_standing.specs.StandingLaws.{placed-of}
 use Rattle.refusal_counts.specs.Counts.{wrongCountAt}
 use Rattle.refusal_counts.specs.CountsLaws.{counted-of}
-use Rattle.refusal_shape.specs.Shape.{misshapenAt, lower, Shaped}
+use Rattle.refusal_input.specs.Input.{misshapenAt, lower}
+use Rattle.refusal_input.specs.WellFormed.{Shaped}
 
 -- a place from i on is not below i
 lower-first : (i : ℕ) (r : Place) → ((j : ℕ) → r ≡ Here j → i ≤ j) → lower (Here i) r ≡ Here i

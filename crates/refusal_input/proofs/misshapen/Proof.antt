@@ -1,7 +1,7 @@
-use Rattle.refusal_shape.specs.ShapeLaws.{misshapen-first}
+use Rattle.refusal_input.specs.ShapeLaws.{misshapen-first}
 use borrow.Author.Needs.{needs}
-use Rattle.refusal_shape.proofs.misshapen.Statement.{statement}
-use Rattle.refusal_shape.proofs.misshapen.Tie as tie
+use Rattle.refusal_input.proofs.misshapen.Statement.{statement}
+use Rattle.refusal_input.proofs.misshapen.Tie as tie
 
 misplaced-child-requires : tie.Need-misplaced-child-requires
 misplaced-child-requires c κs = search needs

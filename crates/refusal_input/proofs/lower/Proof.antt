@@ -1,8 +1,8 @@
 use borrow.Author.Tests.{le-leb, lt-leb}
-use Rattle.refusal_shape.specs.Shape.{lower}
+use Rattle.refusal_input.specs.Input.{lower}
 use borrow.Author.Needs.{needs}
-use Rattle.refusal_shape.proofs.lower.Statement.{statement}
-use Rattle.refusal_shape.proofs.lower.Tie as tie
+use Rattle.refusal_input.proofs.lower.Statement.{statement}
+use Rattle.refusal_input.proofs.lower.Tie as tie
 
 enum-known-a : tie.Need-enum-known-a
 enum-known-a c = search needs
