@@ -41,7 +41,7 @@ extern "C" {
 /* refusal: 0, or why the input was turned down (1 to 6), or 10 where the findings slice is too short.
  * place: the node or scope of refusals 2 to 6, else 0.
  * findings: how many were written, seven numbers each (code, node, first span's start and end, second span's start and end, context),
- *   from the slice's start.
+ *   from the slice's start; 0 after a refusal.
  * needed: after 10 the length that the findings slice must have, else 0. */
 struct velkunshe_check_answer {
     uint32_t refusal;
@@ -62,7 +62,7 @@ struct velkunshe_check_answer velkunshe_check(
 /* refusal: 0, or 1 to 6; 7: the unit is no node of kind 0 to 3; 8: it holds a try; 9: the rule has findings, or a jump without a target;
  *   11: the code slice is shorter than 16 numbers for each node of the tree.
  * place: the node or scope of refusals 2 to 6, the unit of 7 and 8, the first finding's node or the jump of 9, else 0.
- * length: how many numbers of code were written, from the slice's start. */
+ * length: how many numbers of code were written, from the slice's start; 0 after a refusal. */
 struct velkunshe_code_answer {
     uint32_t refusal;
     uint32_t place;
@@ -82,10 +82,10 @@ struct velkunshe_code_answer velkunshe_code(
 
 /* refusal: as of velkunshe_code, or 12 where the route slice is too short.
  * place: as of velkunshe_code; 0 with 12.
- * entries: how many nodes were listed, from the route slice's start.
+ * entries: how many nodes were listed, from the route slice's start; 0 after a refusal.
  * needed: after 12 the length that the route slice must have, else 0.
- * taken: how many answers were taken.
- * end: 0 fell through, 1 returned, 2 thrown, 3 answers spent. */
+ * taken: how many answers were taken; 0 after a refusal.
+ * end: 0 fell through, 1 returned, 2 thrown, 3 answers spent; 0 after a refusal. */
 struct velkunshe_route_answer {
     uint32_t refusal;
     uint32_t place;

@@ -1,20 +1,10 @@
 #!/usr/bin/env bash
 # The static library from C and from Rust: include/velkunshe.h on the worked example, and the Rust crate's tests with its documentation's.
-set -u
-cd "$(dirname "$0")/.." || exit 1
-export PATH="$PATH:/opt/rattle/bin:${HOME:-/root}/.cargo/bin"
-passed=0
-failed=0
-ok() { passed=$((passed + 1)); }
-bad() { failed=$((failed + 1)); echo "FAILED: $1"; }
+# shellcheck source=tests/lib.bash
+source "$(dirname "$0")/lib.bash" || exit 1
 
-tools/setup cargo cc || { echo "0 passed, 1 failed"; exit 1; }
-mkdir -p target
-if ! rt staticlib exports >target/staticlib.log 2>&1; then
-    tail -n 20 target/staticlib.log
-    echo "0 passed, 1 failed"
-    exit 1
-fi
+needs cargo cc
+static_library || give_up
 
 work=$(mktemp -d)
 if cc -std=c99 -Wall -Wextra -Werror -pedantic -O2 -Iinclude bindings/c/example.c target/staticlib/libexports.a -o "$work/example" &&
@@ -31,5 +21,4 @@ while read -r p f; do
 done < <(sed -nE 's/^test result: .* ([0-9]+) passed; ([0-9]+) failed;.*/\1 \2/p' "$work/cargo")
 if sed -n '/Doc-tests/,$p' "$work/cargo" | grep -qE '^test result: ok\. [1-9]'; then ok; else bad "the documentation's example"; fi
 rm -rf "$work"
-echo "$passed passed, $failed failed"
-[ "$failed" -eq 0 ]
+finish

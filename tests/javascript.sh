@@ -1,21 +1,21 @@
 #!/usr/bin/env bash
 # Rules that others wrote, and engines that others built, with the proved programs as checker and router.
-set -u
-cd "$(dirname "$0")/.." || exit 1
-passed=0
-failed=0
+# shellcheck source=tests/lib.bash
+source "$(dirname "$0")/lib.bash" || exit 1
+
+# Here a check names itself first, and shows the end of what the command says.
 check() {
     local name=$1
     shift
     echo "-- $name"
-    if "$@" | tail -n 12; [ "${PIPESTATUS[0]}" -eq 0 ]; then passed=$((passed + 1)); else failed=$((failed + 1)); echo "FAILED: $name"; fi
+    if "$@" | tail -n 12; [ "${PIPESTATUS[0]}" -eq 0 ]; then ok; else bad "$name"; fi
 }
 unrun() { echo "-- $1: NOT RUN, $2"; }
 
-# says WANTED COMMAND..: all that the command says; WANTED in printf's notation
+# says WANTED COMMAND..: all that the command says; WANTED with printf's escapes
 says() {
     local want got
-    want=$(printf "$1")
+    want=$(printf '%b' "$1")
     shift
     got=$("$@" 2>&1)
     [ "$got" = "$want" ] || { echo "$got"; return 1; }
@@ -35,7 +35,7 @@ differences() { sed -n '/^# The texts of docs.DIFFERENCES/,$p' tools/examples.tx
 lines() { tools/treemaker --route 0 "$1" rules/while-switch.js | target/bin/ruleroute; }
 appended() { { tools/treemaker rules/while-switch.js && echo U,0 && echo A,1,0; } | target/bin/ruleroute; }
 
-tools/setup rulecheck ruleroute node || { echo "0 passed, 1 failed"; exit 1; }
+needs rulecheck ruleroute node
 
 check "the rule that comes with the repository" says 'F,22,4,0,1,14,15,0\nE,1' ./check-rule rules/block-label.js
 check "a rule without errors" says 'E,0' ./check-rule rules/office-hours.js
@@ -71,5 +71,4 @@ check "V8's routes" says '1000 units (618 programs, 195 functions, 93 arrows, 94
 check "V8's routes, with try" says '200 units (115 programs, 48 functions, 21 arrows, 16 static blocks), 800 runs: 459 fell through, 4 returned, 15 threw, 138 spent their answers, 184 turned down for a try; 2325 entries, 1105 answers taken, longest list 52; 0 disagree' \
     tools/v8-routes 200 4 --try --quiet
 if tools/setup chromium; then check "pages in Chromium" tools/pages 60 5; else unrun "pages in Chromium" "it can't be installed"; fi
-echo "$passed passed, $failed failed"
-[ "$failed" -eq 0 ]
+finish

@@ -1,18 +1,16 @@
 #!/usr/bin/env bash
 # rulecheck on lines that can't be read, at the limits, and on what document 01 leaves open; the answers are written by hand.
-set -u
-cd "$(dirname "$0")/.." || exit 1
-passed=0
-failed=0
+# shellcheck source=tests/lib.bash
+source "$(dirname "$0")/lib.bash" || exit 1
 
-# is NAME INPUT EXPECTED: both in printf's notation
+# is NAME INPUT EXPECTED: both with printf's escapes
 is() {
     local got
-    got=$(printf "$2" | target/bin/rulecheck)
-    if [ "$got" = "$(printf "$3")" ]; then passed=$((passed + 1)); else failed=$((failed + 1)); echo "FAILED: $1: $got"; fi
+    got=$(printf '%b' "$2" | target/bin/rulecheck)
+    if [ "$got" = "$(printf '%b' "$3")" ]; then ok; else bad "$1: $got"; fi
 }
 
-tools/setup rulecheck || { echo "0 passed, 1 failed"; exit 1; }
+needs rulecheck
 
 program='J,0,1,1\nS,0,2,0\nN,0,0,0,0,0,0,0,0,\n'
 long=$(head -c 1024 /dev/zero | tr '\0' a)
@@ -53,5 +51,4 @@ is "a search that ends above the Program" "J,0,3,1\nS,0,4,0\n$at_super" 'R,6,2'
 is "a super outside any function" "J,0,3,1\nS,0,2,0\n$at_super" 'F,30,2,0,0,0,0,0\nE,1'
 # 6 at a Super: its scope is the class's, and no class element stands above it
 is "a search without an element" 'J,0,6,1\nS,0,2,0\nN,0,0,0,0,0,0,0,0,\nN,26,0,3,0,0,0,0,0,\nN,27,1,0,0,0,0,0,0,\nN,3,2,0,0,0,0,0,0,\nN,22,3,3,0,0,0,0,0,\nN,37,4,0,0,0,0,0,0,\nX,\n' 'R,6,5'
-echo "$passed passed, $failed failed"
-[ "$failed" -eq 0 ]
+finish

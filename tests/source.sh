@@ -1,15 +1,7 @@
 #!/usr/bin/env bash
-# What the source says of itself: the layout, no hole or axiom in a proof, no division or remainder in a walk up.
-set -u
-cd "$(dirname "$0")/.." || exit 1
-export PATH="$PATH:/opt/rattle/bin"
-passed=0
-failed=0
-check() {
-    local what=$1
-    shift
-    if "$@"; then passed=$((passed + 1)); else failed=$((failed + 1)); echo "FAILED: $what"; fi
-}
+# What the source says of itself: the layout, no hole or axiom in a proof, no division or remainder in a walk up, shell scripts without warnings.
+# shellcheck source=tests/lib.bash
+source "$(dirname "$0")/lib.bash" || exit 1
 
 formatted() { rt fmt --check >/dev/null 2>&1; }
 
@@ -34,10 +26,16 @@ small_functions() {
     awk 'FNR==1{n=0} /^(pub )?fn |^    pub fn /{name=$0; n=1; next} n{n++} /^}/{if(n>70){print FILENAME": "name" ("n" lines)"; bad=1} n=0} END{exit bad}' crates/*/src/*.rt
 }
 
+shell_scripts() {
+    local scripts
+    mapfile -t scripts < <({ grep -rlE '^#!.*bash' --exclude-dir=target --exclude-dir=.git . && echo ./tests/lib.bash; } | sort)
+    [ "${#scripts[@]}" -ge 10 ] && tools/setup shellcheck && shellcheck -x "${scripts[@]}"
+}
+
 check "every file in rt's layout" formatted
 check "every crate listed in crates.txt" listed
 check "no hole and no axiom" no_holes
 check "no division or remainder in a walk up" no_division
 check "no long function" small_functions
-echo "$passed passed, $failed failed"
-[ "$failed" -eq 0 ]
+check "no warning of shellcheck" shell_scripts
+finish

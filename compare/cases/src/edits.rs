@@ -161,6 +161,32 @@ fn rename(rng: &mut Rng, t: &mut OwnedTables, n: usize) {
     }
 }
 
+/// The children of some nodes in another order.
+pub fn reorder(rng: &mut Rng, t: &mut OwnedTables) {
+    let mut children = vec![Vec::new(); count(t)];
+    (1..count(t)).rev().for_each(|n| children[parent(t, n)].push(n));
+    // Old numbers in the new order; what is open lies last child first.
+    let (mut order, mut open) = (Vec::new(), vec![0]);
+    while let Some(n) = open.pop() {
+        order.push(n);
+        if rng.once_in(2) {
+            for i in (1..children[n].len()).rev() {
+                children[n].swap(i, rng.below(i + 1));
+            }
+        }
+        open.extend(&children[n]);
+    }
+    let mut number = vec![0; order.len()];
+    for (new, &old) in order.iter().enumerate() {
+        number[old] = new as u32;
+    }
+    let record = |&old: &usize| t.nodes[10 * old..10 * old + 10].iter().copied();
+    let mut nodes: Vec<u32> = order.iter().flat_map(record).collect();
+    nodes.chunks_mut(10).for_each(|r| r[1] = number[r[1] as usize]);
+    t.nodes = nodes;
+    t.scopes.chunks_mut(3).for_each(|s| s[2] = number[s[2] as usize]);
+}
+
 /// Scopes of any kind: each node gets one that it may have.
 pub fn rescope(rng: &mut Rng, t: &mut OwnedTables) {
     let scopes = 1 + rng.below(6);
@@ -179,13 +205,13 @@ pub fn rescope(rng: &mut Rng, t: &mut OwnedTables) {
         let flags = rng.pick(&[0, 0, 1, 2, 4, 4, 5, 5, 12, 16, 17, 20, 31, 3]);
         t.scopes.extend([parent, flags, node as u32]);
     }
-    for n in 0..nodes {
+    for (n, path) in paths.iter().enumerate() {
         let fits = |s: usize| {
             let mut chain = vec![s];
             while chain[chain.len() - 1] != 0 {
                 chain.push(t.scopes[3 * chain[chain.len() - 1]] as usize);
             }
-            chain.iter().all(|&s| paths[n].contains(&(t.scopes[3 * s + 2] as usize)))
+            chain.iter().all(|&s| path.contains(&(t.scopes[3 * s + 2] as usize)))
         };
         let fit: Vec<usize> = (0..scopes).filter(|&s| fits(s)).collect();
         // The innermost more often than another.

@@ -3,11 +3,14 @@
 //!     compare run CASES SEED        compare, and print the counts
 //!     compare show SEED INDEX       the lines of one case
 //!     compare vectors DIR CASES SEED   write NAME.in and NAME.out for rulecheck and ruleroute
+//!     compare stored FILE           the codes and routes of the file, as the plain version and the library give them now
+//!     compare store FILE TREES SEED    write such a file, by the proved library alone
 
 mod counts;
 #[cfg(feature = "proved")]
 mod proved;
 mod second;
+mod stored;
 
 use std::panic;
 
@@ -27,6 +30,9 @@ fn main() {
         Some("run") => run(number(1), number(2)),
         Some("show") => show(number(1), number(2)),
         Some("vectors") => vectors(args.get(1).unwrap_or_else(usage), number(2), number(3)),
+        Some("stored") => stored::check(args.get(1).unwrap_or_else(usage)),
+        #[cfg(feature = "proved")]
+        Some("store") => stored::write(args.get(1).unwrap_or_else(usage), number(2), number(3)),
         _ => usage(),
     }
 }
@@ -42,7 +48,8 @@ fn quiet() {
 }
 
 fn usage<T>() -> T {
-    eprintln!("compare run CASES SEED | show SEED INDEX | vectors DIR CASES SEED");
+    eprintln!("compare run CASES SEED | show SEED INDEX | vectors DIR CASES SEED | stored FILE");
+    eprintln!("with the feature proved also: compare store FILE TREES SEED");
     std::process::exit(2)
 }
 
@@ -202,12 +209,13 @@ fn routes(t: &Tables, rng: &mut Rng, counts: &mut Counts) -> Result<(), String> 
 /// Tables as rulecheck's lines, where they can be written so.
 fn lines(tables: &OwnedTables) -> Option<Vec<u8>> {
     let t = tables.lend();
-    let whole = t.nodes.len() % 10 == 0 && t.scopes.len() % 3 == 0 && t.node_count() <= 1024 && t.scope_count() <= 1024;
+    let whole = t.nodes.len().is_multiple_of(10) && t.scopes.len().is_multiple_of(3);
+    let small = t.node_count() <= 1024 && t.scope_count() <= 1024;
     let named = |n: usize| {
         let end = u64::from(t.name_start(n)) + u64::from(t.name_length(n));
         end <= t.names.len() as u64 && !t.name(n).contains(&b'\n')
     };
-    (whole && (0..t.node_count()).all(named)).then(|| tables.lines())
+    (whole && small && (0..t.node_count()).all(named)).then(|| tables.lines())
 }
 
 fn show(seed: u64, index: u64) {

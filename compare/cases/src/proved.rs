@@ -8,6 +8,7 @@ use plain::{Refusal, Route, Tables};
 use velkunshe::{End, Rule};
 
 use crate::counts::Counts;
+use crate::stored::RouteAnswer;
 use crate::{answers, same};
 
 /// What an entry holds that nothing was written to.
@@ -114,11 +115,28 @@ fn route(
 }
 
 fn shown(route: velkunshe::Shown) -> Route {
-    let end = match route.end {
+    Route { entries: route.entries, end: end_number(route.end), answers_taken: route.taken as usize }
+}
+
+fn end_number(end: End) -> u32 {
+    match end {
         End::FellThrough => 0,
         End::Returned => 1,
         End::Thrown => 2,
         End::AnswersSpent => 3,
-    };
-    Route { entries: route.entries, end, answers_taken: route.taken as usize }
+    }
+}
+
+/// The code of a unit.
+pub fn code_of(t: &Tables, unit: u32) -> Result<Vec<u32>, Refusal> {
+    let mut made = vec![UNTOUCHED; 16 * t.node_count()];
+    let length = velkunshe::code(&rule(t), unit, &mut made).map_err(refusal)?;
+    made.truncate(length);
+    Ok(made)
+}
+
+/// The route of a unit.
+pub fn route_of(t: &Tables, unit: u32, answers: &[u32]) -> RouteAnswer {
+    let route = velkunshe::route_of(&rule(t), unit, answers).map_err(refusal)?;
+    Ok((route.nodes, end_number(route.end), route.taken as usize))
 }

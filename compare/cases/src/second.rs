@@ -136,9 +136,9 @@ fn shaped(t: &Tables, n: usize) -> bool {
         let found = count(&|c| of_kind.is_none_or(|k| k == field(c, 0)) && with_role.is_none_or(|r| r == field(c, 2)));
         (least..=most).contains(&found)
     });
-    let one_default = kind != 14 || count(&|c| field(c, 0) == 15 && field(c, 6) & 4096 != 0) < 2;
-    let some_way_out =
-        kind != 16 || count(&|c| field(c, 2) == 4 || field(c, 2) == 5) > 0;
+    let is_default = |c: usize| field(c, 0) == 15 && field(c, 2) == 3 && field(c, 6) & 4096 != 0;
+    let one_default = kind != 14 || count(&is_default) < 2;
+    let some_way_out = kind != 16 || count(&|c| field(c, 2) == 4 || field(c, 2) == 5) > 0;
     let placed = n == 0 || may_stand(field(field(n, 1) as usize, 0), kind, field(n, 2));
     placed && counted && one_default && some_way_out
 }

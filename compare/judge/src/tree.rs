@@ -9,10 +9,13 @@ use oxc_span::Span;
 use oxc_str::Ident;
 use oxc_syntax::{node::NodeId, number::NumberBase, operator::UnaryOperator, reference::ReferenceId, scope::ScopeId};
 
+/// What an arena holds, and what frees it.
+type Item = (*mut u8, unsafe fn(*mut u8));
+
 /// Keeps the nodes of one tree at their places until it is dropped.
 #[derive(Default)]
 pub struct Arena {
-    items: RefCell<Vec<(*mut u8, unsafe fn(*mut u8))>>,
+    items: RefCell<Vec<Item>>,
 }
 
 impl Arena {

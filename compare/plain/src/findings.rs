@@ -241,10 +241,10 @@ impl Checker<'_, '_> {
                 }
             }
             b"implements" | b"interface" | b"let" | b"package" | b"private" | b"protected" | b"public" | b"static"
-            | b"yield" => {
-                if t.strict(n) {
-                    self.raise(code::RESERVED_WORD, t.span(n), NO_SPAN, self.strict_context(n));
-                }
+            | b"yield"
+                if t.strict(n) =>
+            {
+                self.raise(code::RESERVED_WORD, t.span(n), NO_SPAN, self.strict_context(n));
             }
             _ => {}
         }

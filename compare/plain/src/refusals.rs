@@ -33,7 +33,7 @@ pub fn refusal_before_walks(t: &Tables) -> Option<InputRefusal> {
 }
 
 /// 1. A table is empty or no whole number of records; more than 65,535 records; source or names above 1,048,576
-/// bytes; source type above 1.
+///    bytes; source type above 1.
 pub fn wrong_sizes(t: &Tables) -> bool {
     let wrong =
         |length: usize, width: usize| length == 0 || !length.is_multiple_of(width) || length / width > MOST_RECORDS;
@@ -47,7 +47,7 @@ pub fn wrong_sizes(t: &Tables) -> bool {
 /// 2. A node's kind, role, flag sum or extra not listed.
 pub fn unlisted(t: &Tables) -> Option<usize> {
     // The twelve flags are the powers of two from 2 to 4096; their sums are the even numbers up to 8190.
-    let listed_flags = |flags: u32| flags % 2 == 0 && flags <= 8190;
+    let listed_flags = |flags: u32| flags.is_multiple_of(2) && flags <= 8190;
     // A class's scope is tested by 5; the length of a string's value may be any number.
     let listed_extra = |kind: u32, extra: u32| match kind {
         VARIABLE_DECLARATION | NUMERIC_LITERAL => extra <= 4,
@@ -66,7 +66,7 @@ pub fn unlisted(t: &Tables) -> Option<usize> {
 }
 
 /// 3. Node 0 is no Program or has a parent other than 0; Program elsewhere; a later node's parent is neither the
-/// node before it nor an ancestor of that; depth above 512 (node 0 has depth 0).
+///    node before it nor an ancestor of that; depth above 512 (node 0 has depth 0).
 pub fn misplaced(t: &Tables) -> Option<usize> {
     if t.kind(0) != PROGRAM || t.parent(0) != 0 {
         return Some(0);
@@ -97,8 +97,8 @@ pub fn stray(t: &Tables) -> Option<usize> {
 }
 
 /// 5. A scope that is missing (kind 26's extra included); scope flags above 31; scope 0's parent not 0; another's
-/// parent not smaller; a scope's node that is neither the using node nor its ancestor, for any scope in that node's
-/// chain. All scope records come before any node.
+///    parent not smaller; a scope's node that is neither the using node nor its ancestor, for any scope in that node's
+///    chain. All scope records come before any node.
 pub fn misscoped(t: &Tables) -> Option<usize> {
     let scopes = t.scope_count();
     let broken =
@@ -217,8 +217,8 @@ fn wrong_count(t: &Tables, n: usize) -> bool {
         FOR..=DO_WHILE | WITH => with_role(BODY) != 1,
         // "If one and at most one with role 4".
         IF => with_role(BODY) != 1 || with_role(ALTERNATE) > 1,
-        // "at most one with flag 4096".
-        SWITCH => count(&|c| t.kind(c) == SWITCH_CASE && t.has(c, IS_DEFAULT)) > 1,
+        // "Switch holds only SwitchCase with role 3, at most one with flag 4096": of those with role 3.
+        SWITCH => count(&|c| t.kind(c) == SWITCH_CASE && t.role(c) == BODY && t.has(c, IS_DEFAULT)) > 1,
         // "Try holds one Block with role 3, at most one CatchClause with role 4, one Block with role 5, and at least
         // one of the last two": counted by role, as a child of another kind is misplaced; "at most" goes for the second
         // Block too.

@@ -233,6 +233,8 @@ fn refusal_6_shape() {
     passes(&["14,0,3"]);
     passes(&["14,0,3", "55,1,1", "15,1,3,4096", "22,3,3", "15,1,3"]);
     refused(&["14,0,3", "15,1,3,4096", "15,1,3,4096"], 1);
+    // A case that the Switch doesn't hold is misplaced, and none of its defaults.
+    refused(&["14,0,3", "15,1,3,4096", "15,1,0,4096"], 3);
     refused(&["14,0,3", "15,1,0"], 2);
     refused(&["14,0,3", "55,1,3"], 2);
     refused(&["15,0,3"], 1);
