@@ -1,5 +1,5 @@
 #!/usr/bin/env bash
-# The judges in Rust: their own tests, seeded tables on which they and the proved library must agree, and rulecheck and ruleroute on lines whose answers the plain version wrote.
+# The judges in Rust: their own tests, seeded tables on which they and the proved library must agree, codes and routes as they were stored, and rulecheck and ruleroute on lines whose answers the plain version wrote.
 # shellcheck source=tests/lib.bash
 source "$(dirname "$0")/lib.bash" || exit 1
 
@@ -11,15 +11,27 @@ if cargo test --profile checked --offline -q --features cases/proved >/dev/null 
 answer=$($compare run 20000 2027)
 if [ "$(tail -n 1 <<<"$answer")" = "20000 cases, 0 differences" ] && grep -q "^route calls of the proved library" <<<"$answer"; then ok; else bad "compare run 20000 2027: $answer"; fi
 
-vectors=$(mktemp -d)
-$compare vectors "$vectors" 400 11 >/dev/null
+work=$(mktemp -d)
+stored=compare/stored/routes.txt
+if answer=$($compare stored $stored) && [ "$(tail -n 1 <<<"$answer")" = "1200 trees, 2248 units, 9587 routes, plain and proved: 0 differences" ]; then ok; else bad "$stored: $answer"; fi
+# changed LETTER TOLD: a copy with one number of its hundredth line of that letter changed must be told, by one difference for each who differs
+changed() {
+    awk -v letter="$1" 'index($0, letter ",") == 1 && ++seen == 100 { sub(/[0-9]+$/, "77") } { print }' $stored >"$work/changed"
+    answer=$($compare stored "$work/changed") && { bad "a stored $1 changed: not told"; return; }
+    if [ "$(grep -c '^difference' <<<"$answer")" -eq "$2" ]; then ok; else bad "a stored $1 changed: $answer"; fi
+}
+changed C 1
+changed L 2
+changed Z 2
+
+$compare vectors "$work/vectors" 400 11 >/dev/null
 seen=0
-for input in "$vectors"/*.in; do
+for input in "$work"/vectors/*.in; do
     [ -e "$input" ] || continue
     case "$input" in *.route.in) program=ruleroute ;; *) program=rulecheck ;; esac
     seen=$((seen + 1))
     if "target/bin/$program" <"$input" | cmp -s - "${input%.in}.out"; then ok; else bad "$input"; fi
 done
 [ "$seen" -ge 800 ] || bad "only $seen vectors"
-[ "$failed" -gt 0 ] || rm -rf "$vectors"
+[ "$failed" -gt 0 ] || rm -rf "$work"
 finish

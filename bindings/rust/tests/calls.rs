@@ -89,6 +89,23 @@ fn routes() {
     assert_eq!(of(&[]), (vec![], End::AnswersSpent, 0));
 }
 
+/// The numbers that docs/CODE.md explains.
+#[test]
+fn flat_code() {
+    let mut made = vec![0; CODE * ROUTED.node_count()];
+    let length = code(&ROUTED, 0, &mut made).unwrap();
+    let expected = [
+        2, 3, 0, 3, 3, 10, 7, 2, 34, 0, // while
+        2, 13, 0, // its block
+        4, 6, 20, 17, 2, 29, 0, // switch
+        7, 0, 24, 0, // case
+        1, 10, 2, 3, 0, // continue
+        1, 12, 2, 3, 0, // x
+        6, 0, 6, 1, 6, 2, 6, 5, // the ends
+    ];
+    assert_eq!(made[..length], expected);
+}
+
 #[test]
 fn route_slices_of_every_length() {
     let mut expected = vec![77; CODE * ROUTED.node_count() + 2];

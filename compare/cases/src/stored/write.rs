@@ -6,6 +6,9 @@ use cases::{edits, grammar};
 use super::*;
 use crate::proved;
 
+/// Of so many trees the one with the most ways through it is taken.
+const TRIES: usize = 4;
+
 /// So many trees with their units, as the proved library answers them.
 pub fn write(path: &str, trees: u64, seed: u64) {
     let mut rng = Rng::new(seed);
@@ -21,8 +24,8 @@ pub fn write(path: &str, trees: u64, seed: u64) {
 /// A tree with units that stay what they are: document 02 changes the routes of declared classes with static blocks,
 /// and turns down a return in such a block.
 fn tree(rng: &mut Rng) -> Option<Tree> {
-    let size = rng.pick(&[8, 16, 24, 24, 32, 32, 40, 60]);
-    let mut tables = grammar::tables(rng, size, true);
+    let size = rng.pick(&[16, 24, 40, 60, 80, 100]);
+    let mut tables = (0..TRIES).map(|_| grammar::tables(rng, size, true)).max_by_key(ways).expect("some tries");
     if rng.once_in(2) {
         edits::reorder(rng, &mut tables);
     }
@@ -37,6 +40,14 @@ fn tree(rng: &mut Rng) -> Option<Tree> {
     let units = numbers.filter_map(|n| unit(rng, &t, n as u32)).collect::<Vec<Unit>>();
     tree.units = units;
     Some(tree).filter(|tree| !tree.units.is_empty())
+}
+
+/// How many statements jump or hold others, and how many nodes are not needed for that.
+fn ways(tables: &OwnedTables) -> i64 {
+    let t = tables.lend();
+    let jumps = |n: usize| matches!(t.kind(n), BREAK..=THROW) && nearest_unit(&t, n) != STATIC_BLOCK;
+    let count = |fits: &dyn Fn(usize) -> bool| (0..t.node_count()).filter(|&n| fits(n)).count() as i64;
+    20 * count(&jumps) + 5 * count(&|n| matches!(t.kind(n), BLOCK..=SWITCH_CASE)) - t.node_count() as i64
 }
 
 fn nearest_unit(t: &Tables, n: usize) -> u32 {
