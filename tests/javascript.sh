@@ -37,8 +37,47 @@ appended() { { tools/treemaker rules/while-switch.js && echo U,0 && echo A,1,0; 
 
 needs rulecheck ruleroute node
 
-check "the rule that comes with the repository" says 'F,22,4,0,1,14,15,0\nE,1' ./check-rule rules/block-label.js
-check "a rule without errors" says 'E,0' ./check-rule rules/office-hours.js
+check "the rule that comes with the repository" says 'F,22,4,0,1,14,15,0\nE,1' ./check-rule --lines rules/block-label.js
+check "a rule without errors" says 'E,0' ./check-rule --lines rules/office-hours.js
+check "a finding for people" says 'rules/block-label.js:1:1  `continue` names a label that is on no loop  [22]
+  1 | a: { continue a; }
+    | ^             ~
+  put the label on the loop, or write `break`
+1 finding in 1 file' ./check-rule rules/block-label.js
+
+# status WANTED COMMAND..: the status of a command, whatever it prints
+status() {
+    local want=$1 got
+    shift
+    "$@" >/dev/null 2>&1
+    got=$?
+    [ "$got" -eq "$want" ] || { echo "status $got, not $want: $*"; return 1; }
+}
+# text_status_of WANTED ENDING TEXT PROGRAM ARGUMENTS..: of a rule with this text
+text_status_of() {
+    local want=$1 ending=$2 text=$3 program=$4 rule was
+    shift 4
+    rule=$(mktemp "--suffix=$ending")
+    printf '%b' "$text" >"$rule"
+    status "$want" "$program" "$rule" "$@"
+    was=$?
+    rm -f "$rule"
+    return $was
+}
+text_status() { text_status_of "$1" "$2" "$3" ./check-rule; }
+to_full_disk() { ./check-rule rules/office-hours.js >/dev/full; }
+to_closed() { ./check-rule rules/office-hours.js >&-; }
+check "status 0: clean" status 0 ./check-rule rules/office-hours.js
+check "status 1: findings" status 1 ./check-rule rules/block-label.js
+check "status 1: findings in one of several" status 1 ./check-rule rules
+check "status 1: a name declared twice, which document 01 leaves out" text_status 1 .js 'let a; let a;'
+check "status 1: no assignment target" text_status 1 .mjs '1 = 2;'
+check "status 2: no such file" status 2 ./check-rule rules/none.js
+check "status 2: an ending that doesn't tell what it is" text_status 2 .JS 'a;'
+check "status 2: no UTF-8" text_status 2 .js '\xff'
+check "status 2: outside the grammar" text_status 2 .js 'if ('
+check "status 2: the output's disk is full" status 2 to_full_disk
+check "status 2: the output is closed" status 2 to_closed
 check "a text for each code" tools/examples
 
 check "a route: the answers go to a continue" says 'L,3\nL,6\nL,10\nL,3\nZ,0,4,3' lines 1,0,0
@@ -57,7 +96,16 @@ check "the route of a function" says 'route of the function at line 3 with answe
 2  line  5  for (const day of now.days)  0: no more turns
 3  line 16  return false;
 it returned after 3 entries and 2 answers; left over: 4' ./show-route rules/office-hours.js 0,0,4 --line 3
-check "no route of a rule with an error" says 'routeview: no route: the rule has an early error, or a jump without a target (line 1)' ./show-route rules/block-label.js ''
+check "no route of a rule with an error" says 'show-route: no route: the rule has an early error, or a jump without a target: check it first (line 1)' ./show-route rules/block-label.js ''
+check "the question that waits" says 'route of the program with answers 1, 5
+1  line 1  while(t)   1: another turn
+2  line 1  switch(s)  5: no case
+3  line 1  x;
+it stopped for want of an answer after 3 entries and 2 answers; line 1 asks next: while(t)' ./show-route rules/while-switch.js 'y 5'
+check "the units of a rule" says '0  program  line 1, column 1
+3  function opens  line 3, column 1' ./show-route rules/office-hours.js --units
+check "a page is not written over a rule" status 2 ./show-route rules/office-hours.js '' -o rules/office-hours.js
+check "no route of a rule that the engine refuses" text_status_of 2 .js 'let a; let a;' ./show-route ''
 
 if [ -d ../shared/test262 ]; then check "test262" tools/test262; else unrun "test262" "its files are not beside the repository"; fi
 check "the conditions of the theorems, on trees of texts" tools/conditions 4000 3 rules

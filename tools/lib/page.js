@@ -3,6 +3,7 @@
 // they were taken, and the end in words. No script, nothing from elsewhere.
 
 const { K, R } = require('./kinds.js');
+const { Lines, shown, shownLines } = require('./place.js');
 
 const LOOPS = [K.For, K.ForIn, K.ForOf, K.While, K.DoWhile];
 const ENDS = ['fell through its last statement', 'returned', 'threw', 'stopped for want of an answer'];
@@ -10,11 +11,11 @@ const UNITS = ['the program', 'the function', 'the arrow function', 'the static 
 
 const takesAnswer = (kind) => kind === K.If || kind === K.Switch || LOOPS.includes(kind);
 
-const escape = (s) => s.replace(/[&<>"]/g, (c) => ({ '&': '&amp;', '<': '&lt;', '>': '&gt;', '"': '&quot;' }[c]));
+const escape = (s) => shownLines(s).replace(/[&<>"]/g, (c) => ({ '&': '&amp;', '<': '&lt;', '>': '&gt;', '"': '&quot;' }[c]));
 
 class Page {
   constructor(tree, unit, answers, route) {
-    Object.assign(this, { tree, unit, answers, route });
+    Object.assign(this, { tree, unit, answers, route, lines: new Lines(tree.source.toString('utf8')) });
     this.children = tree.nodes.map(() => []);
     tree.nodes.forEach((n, i) => { if (i > 0) this.children[n.parent].push(i); });
   }
@@ -85,7 +86,7 @@ class Page {
     return `${answer}: ${n.flags & 4096 ? 'default' : `case ${this.text(this.tree.nodes[test].start, this.tree.nodes[test].end)}`}`;
   }
 
-  lineOf(byte) { return this.text(0, byte).split('\n').length; }
+  lineOf(byte) { return this.lines.at(byte).line; }
 
   // the text in pieces: shown statements with their marks, and what is between
   source(steps) {
@@ -113,7 +114,7 @@ class Page {
   // a step's statement in short, and the line on which it is shown
   shown({ node }) {
     const [from, to] = this.headOf(node)[0];
-    const text = this.text(from, to).replace(/\s+/g, ' ').trim();
+    const text = shown(this.text(from, to).replace(/\s+/g, ' ').trim());
     return { line: this.lineOf(from), text: text.length > 60 ? `${text.slice(0, 59)}…` : text };
   }
 
@@ -130,6 +131,13 @@ class Page {
     return UNITS[kind] + (this.unit === 0 ? '' : ` at line ${this.lineOf(start)}`);
   }
 
+  // where the answers were spent: the statement that asks next
+  waits() {
+    if (this.route.asks === undefined) return '';
+    const { line, text } = this.shown({ node: this.route.asks });
+    return `; line ${line} asks next: ${text}`;
+  }
+
   left() { return this.answers.slice(this.route.taken); }
   counted() { return `${count(this.route.list.length, 'entry', 'entries')} and ${count(this.route.taken, 'answer')}`; }
 
@@ -140,7 +148,7 @@ class Page {
     const lines = rows.map((r) => `${r.number.padStart(a)}  line ${String(r.line).padStart(b)}  ${r.text.padEnd(c)}  ${r.words}`.trimEnd());
     const left = this.left().length > 0 ? `; left over: ${this.left().join(', ')}` : '';
     return `route of ${this.unitWords()} with answers ${this.answers.join(', ') || 'none'}\n${lines.map((l) => `${l}\n`).join('')}`
-      + `it ${ENDS[this.route.end]} after ${this.counted()}${left}\n`;
+      + `it ${ENDS[this.route.end]} after ${this.counted()}${left}${this.waits()}\n`;
   }
 
   html(title) {
@@ -153,7 +161,7 @@ class Page {
 <style>${STYLE}</style></head><body>
 <h1>${escape(title)}</h1>
 <p>Route of ${this.unitWords()} with answers <code>${this.answers.join(', ') || 'none'}</code>.
-It <b>${ENDS[end]}</b> after ${this.counted()}${left.length > 0 ? `; left over: <code>${left.join(', ')}</code>` : ''}.</p>
+It <b>${ENDS[end]}</b> after ${this.counted()}${left.length > 0 ? `; left over: <code>${left.join(', ')}</code>` : ''}${escape(this.waits())}.</p>
 <main><pre>
 ${this.source(steps)}</pre>
 <table><thead><tr><th></th><th>line</th><th>statement</th><th>answer</th></tr></thead><tbody>

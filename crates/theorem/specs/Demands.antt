@@ -1,0 +1,59 @@
+-- THE THREE DEMANDS AS ONE STATEMENT. Each field is a sentence of the demands with its theorem; docs/CLAIMS.md says the same in words. What is not here is not claimed.
+-- `statement` of a call is its contract as it stands above the function in crates/exports/src/lib.rt: that the call, on any memory, ends, does nothing undefined and meets its `ensures`.
+use Prim.Native.Nat.{ℕ}
+use mathlib.Core.Path.{_≡_}
+use mathlib.Core.List.{List}
+use Rattle.refusal_verdict.specs.declared.Verdict.the-variants.{Passed}
+use Rattle.refusal_input.specs.Input.{inputRefusal}
+use Rattle.refusal_state.specs.Targets.{stateAnswer}
+use Rattle.ecma_base.specs.Telling.{Telling}
+use Rattle.ecma_standard.specs.Standard.{Standard, standard262}
+use Rattle.ecma_standard.specs.Findings.{Broken, findings262}
+use Rattle.call_routes.specs.Theorem.{Routes, Targeted, routes, targeted}
+use Rattle.call_rows.specs.Rows.{rows, Each, Holds}
+use Rattle.call_rows.specs.RowsHold.{rows-hold}
+use Rattle.exports.proofs.velkunshe_check.Statement as check-call
+use Rattle.exports.proofs.velkunshe_check.Met as check-proved
+use Rattle.exports.proofs.velkunshe_code.Statement as code-call
+use Rattle.exports.proofs.velkunshe_code.Met as code-proved
+use Rattle.exports.proofs.velkunshe_route.Statement as route-call
+use Rattle.exports.proofs.velkunshe_route.Met as route-proved
+use Rattle.code_machine.proofs.run.Statement as machine-run
+use Rattle.code_machine.proofs.run.Met as run-proved
+
+pub record Demands : Type 2 where
+  -- 1. "If the tables, texts, answers and lent slices hold any numbers at all, then every public call ends and does nothing undefined": no contract here has a `requires`;
+  -- "document 01's refusals come on their conditions and not otherwise, and what each leaves is fixed there": the answers and slices are equal to `checkAnswer`, `checkSlice`
+  -- (crates/call_check/specs/Check.antt), `codeAnswer`, `codeSlice`, `routeAnswer` and `routeSlice` (crates/call_routes/specs/Calls.antt), to the last number.
+  pub check : {M : Type 1} → check-call.statement M
+  pub code : {M : Type 1} → code-call.statement M
+  pub route : {M : Type 1} → route-call.statement M
+  -- "A run reads the code and the answers, never the tables": the machine is lent nothing else, and is total on any list of numbers as code.
+  pub machine : {M : Type 1} → machine-run.statement M
+  -- 2. "On well-formed tables .. the findings .. save on the conditions listed in docs/DIFFERENCES.md, are proved against definitions from ECMA-262 with Annex B: one where a rule is
+  -- broken, none elsewhere": each code by the standard's own rule, for every telling of the functions that are async or generators; ..
+  pub standard : (told : Telling) (t : ℕ) (ns ss source names : List ℕ) → inputRefusal t ns ss source names ≡ Passed → Standard told t ns ss source names
+  -- .. and by the changed rule of DIFFERENCES.md, of all well-formed tables.
+  pub changed : (t : ℕ) (ns ss source names : List ℕ) → inputRefusal t ns ss source names ≡ Passed → Broken t ns ss source names
+  -- 3. "For every well-formed tree without findings, whose breaks and continues all have the target that ECMA-262 asks for inside their own unit": those without findings have it.
+  pub targets : (t : ℕ) (ns ss source names : List ℕ) (u : ℕ) → inputRefusal t ns ss source names ≡ Passed → stateAnswer t ns ss source names u ≡ Passed → Targeted ns names
+  -- "every unit of it without `try` and every list of answers, empty, too short or too long included: the flat jump code .. lists the same statements in the same order, takes the same
+  -- answers and no more, and ends with the same number as a run of that unit on those answers by the standard's completion rules .. no part, the first and the last included, has a
+  -- statement twice."
+  pub routes : (t : ℕ) (ns ss source names : List ℕ) (u : ℕ) → inputRefusal t ns ss source names ≡ Passed → stateAnswer t ns ss source names u ≡ Passed
+      → (answers : List ℕ) → Routes ns names u answers
+  -- Document 01's rows, of the calls.
+  pub rowsHold : Each Holds rows
+
+pub demands : Demands
+demands = record {
+  check = check-proved.met;
+  code = code-proved.met;
+  route = route-proved.met;
+  machine = run-proved.met;
+  standard = standard262;
+  changed = findings262;
+  targets = λ t ns ss source names u f p. targeted t ns ss source names u f p;
+  routes = λ t ns ss source names u f p. routes t ns ss source names u f p;
+  rowsHold = rows-hold;
+}

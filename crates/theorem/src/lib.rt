@@ -1,0 +1,1 @@
+// The three demands as one statement: see specs/Demands.antt.
