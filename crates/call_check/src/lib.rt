@@ -1,4 +1,4 @@
-// The public call `check`: refusals 1 to 6 and 10, or the findings.
+// The public call `check`: the refusals of the input (1 to 6, 13, 14) and 10, or the findings.
 ghost use mathlib.Core.Path.{_≡_};
 ghost use Prim.Native.Nat.{_*_, _≤_};
 ghost use lib.ListN.{length};

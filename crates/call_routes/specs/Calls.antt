@@ -24,7 +24,7 @@ use Rattle.route_viewer.specs.declared.Routed.the-variants as routed
 unfoldable pub roomRefusal : List ℕ → ℕ → Verdict
 roomRefusal ns len = cond (leb (16 * count ns) len) verdict.Passed (verdict.Refused refusal.CodeSlice 0)
 
--- "the code call 1-9 and 11"; len is the length of the code slice
+-- "the code call 1-9 and 11"; 13 and 14 "in every call that gives 6"; len is the length of the code slice
 unfoldable pub codeRefusal : ℕ → List ℕ → List ℕ → List ℕ → List ℕ → ℕ → ℕ → Verdict
 codeRefusal sourceType ns ss source names u len =
     refusedOr (inputRefusal sourceType ns ss source names) (refusedOr (stateAnswer sourceType ns ss source names u) (roomRefusal ns len))

@@ -51,7 +51,7 @@ abbrev pub Targeted : List ℕ → List ℕ → Type 0
 Targeted ns names = (n : ℕ) → n < count ns → k.Break ≤ kindOf ns n → kindOf ns n ≤ k.Continue → hasTarget ns names n ≡ true
 
 module _ (sourceType : ℕ) (ns ss source names : List ℕ) (u : ℕ)
-    -- the tables are well-formed (1 to 6), u is a unit (7) without try (8), and the tree has no findings (9)
+    -- the tables are well-formed (1 to 6, 13, 14), u is a unit (7) without try (8), and the tree has no findings (9)
     (formed : inputRefusal sourceType ns ss source names ≡ Passed) (passed : stateAnswer sourceType ns ss source names u ≡ Passed)
   where
     -- With no findings every break and continue has its target: the second half of refusal 9 is never met.

@@ -1,4 +1,4 @@
-// The public calls `code` and `route`: refusals 1 to 9, 11 and 12, or the flat code of a unit, or its route.
+// The public calls `code` and `route`: refusals 1 to 9 and 11 to 14, or the flat code of a unit, or its route.
 ghost use mathlib.Core.Path.{_≡_};
 ghost use Prim.Native.Nat.{_*_, _≤_};
 ghost use lib.ListN.{length, take};

@@ -320,6 +320,6 @@ earlyErrors t ns ss source names w = record {
   awaitOrYieldInParameters = wholeIs 33 t ns ss source names (λ n. only (awaitInParameterSaid ns n) n) refl (code33 t ns ss source names w);
 }
 
--- Tables that none of the refusals 1 to 6 turns down are well-formed.
+-- The same of tables that no refusal of the input turns down.
 pub earlyErrorsOf : (t : ℕ) (ns ss source names : List ℕ) → inputRefusal t ns ss source names ≡ Passed → EarlyErrors t ns ss source names
 earlyErrorsOf t ns ss source names e = earlyErrors t ns ss source names (input-well-formed t ns ss source names e)

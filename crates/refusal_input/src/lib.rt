@@ -1,40 +1,15 @@
-// The refusals of the input, 1 to 6: the lowest number, then the lowest place. Well-formed tables are those that pass.
+// The refusals of the input: 1, 2, 3, 4, 5 (scope records, then nodes), 13, 14, 6. The first of them that applies is given, at its lowest place. Well-formed
+// tables are those that pass.
 ghost use mathlib.Core.Path.{_≡_};
 ghost use Rattle.table_records.specs.Table.{count};
 ghost use Rattle.table_records.specs.Facts.{Tree, Chained, Scoped};
 ghost use Rattle.check_supers.specs.Super.{failsAt};
 ghost use Rattle.refusal_verdict.specs.First.{first};
-ghost use Rattle.refusal_input.specs.Input.{misshapenAt, lower, shapeRefusal, inputRefusal};
+ghost use Rattle.refusal_input.specs.Input.{shapeRefusal, inputRefusal};
 use refusal_verdict::Place;
 use refusal_verdict::Verdict;
 use refusal_verdict::refusals;
 use table_records::NodeId;
-
-fn lower(a: Place, b: Place) -> Place
-    ensures { λ r. ⌜ r ≡ lower a b ⌝ }
-{
-    let Place::Here(i) = a else {
-        return b;
-    };
-    let Place::Here(j) = b else {
-        return a;
-    };
-    if i <= j {
-        return a;
-    }
-    b
-}
-
-// The lowest node that is a misplaced child, or a parent with a wrong count.
-fn misshapen(nodes: &[u32]) -> Place
-    requires { ⌜ Tree (now nodes) ⌝ }
-    ensures { λ r. ⌜ r ≡ first (misshapenAt (now (nodes .entry))) 0 (count (now (nodes .entry))) ⌝ }
-{
-    lower(
-        refusal_standing::misplaced_child(nodes),
-        refusal_counts::wrong_count(nodes),
-    )
-}
 
 // The lowest Super whose search the Rust ends in a failure.
 fn failing(nodes: &[u32], scopes: &[u32]) -> Place
@@ -54,18 +29,21 @@ fn failing(nodes: &[u32], scopes: &[u32]) -> Place
     Place::Nowhere
 }
 
-// The refusal of a tree by its shape.
+// 13, 14 and 6, each over the whole tree.
 fn shape_refusal(nodes: &[u32], scopes: &[u32]) -> Verdict
     requires { ⌜ Tree (now nodes) ⌝ }
     requires { ⌜ Chained (now scopes) ⌝ }
     requires { ⌜ Scoped (now nodes) (now scopes) ⌝ }
     ensures { λ r. ⌜ r ≡ shapeRefusal (now (nodes .entry)) (now (scopes .entry)) ⌝ }
 {
-    if let Place::Here(a) = misshapen(nodes) {
-        return Verdict::Refused(refusals::SHAPE, a);
+    if let Place::Here(a) = refusal_standing::misplaced_child(nodes) {
+        return Verdict::Refused(refusals::MISPLACED, a);
     }
-    if let Place::Here(b) = failing(nodes, scopes) {
-        return Verdict::Refused(refusals::SHAPE, b);
+    if let Place::Here(b) = refusal_counts::wrong_count(nodes) {
+        return Verdict::Refused(refusals::WRONG_COUNT, b);
+    }
+    if let Place::Here(d) = failing(nodes, scopes) {
+        return Verdict::Refused(refusals::WALK, d);
     }
     Verdict::Passed
 }

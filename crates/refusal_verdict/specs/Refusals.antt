@@ -1,4 +1,4 @@
--- The refusals, numbered as document 01 does.
+-- The refusals, numbered as documents 01 and 02 do.
 use Prim.Native.Nat.{ℕ}
 
 -- 1. A table or a text is too short, too long or not whole; no such source type.
@@ -21,9 +21,9 @@ Bytes = 4
 abbrev pub Scopes : ℕ
 Scopes = 5
 
--- 6. The tree's shape; a walk from a Super that the Rust ends in a failure.
-abbrev pub Shape : ℕ
-Shape = 6
+-- 6. A walk from a Super that the Rust ends in a failure.
+abbrev pub Walk : ℕ
+Walk = 6
 
 -- 7. What is named as unit is none.
 abbrev pub Unit : ℕ
@@ -48,3 +48,11 @@ CodeSlice = 11
 -- 12. The route slice is too short.
 abbrev pub RouteSlice : ℕ
 RouteSlice = 12
+
+-- 13. A node under a parent that may not hold it, or of a kind or role that this parent doesn't take.
+abbrev pub Misplaced : ℕ
+Misplaced = 13
+
+-- 14. A child missing or too many, at the parent.
+abbrev pub WrongCount : ℕ
+WrongCount = 14

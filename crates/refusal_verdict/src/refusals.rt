@@ -1,4 +1,5 @@
-// The refusals, numbered as document 01 does.
+// The refusals, numbered as documents 01 and 02 do. They are looked for in another order: 1, 2, 3, 4, 5 (scope records, then nodes), 13, 14, 6, and
+// then as each call says.
 
 // 1. A table or a text is too short, too long or not whole; no such source type.
 pub const SIZES: u32 = 1;
@@ -15,8 +16,8 @@ pub const BYTES: u32 = 4;
 // 5. A scope is missing, broken, or not of the node that uses it.
 pub const SCOPES: u32 = 5;
 
-// 6. The tree's shape; a walk from a Super that the Rust ends in a failure.
-pub const SHAPE: u32 = 6;
+// 6. A walk from a Super that the Rust ends in a failure.
+pub const WALK: u32 = 6;
 
 // 7. What is named as unit is none.
 pub const UNIT: u32 = 7;
@@ -35,3 +36,9 @@ pub const CODE_SLICE: u32 = 11;
 
 // 12. The route slice is too short.
 pub const ROUTE_SLICE: u32 = 12;
+
+// 13. A node under a parent that may not hold it, or of a kind or role that this parent doesn't take.
+pub const MISPLACED: u32 = 13;
+
+// 14. A child missing or too many, at the parent.
+pub const WRONG_COUNT: u32 = 14;
