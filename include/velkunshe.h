@@ -21,6 +21,16 @@
  *     call returns.
  *   - A slice that is written to overlaps no other argument. Those that are only read may overlap one another.
  * A call with a null or misaligned pointer, or a wrong length, is undefined, as in C itself.
+ *
+ * Refusals of the tables, in the order in which they are looked for; the first that applies is given, at its lowest place:
+ *   1   a table is empty, not whole or too long, a text is too long, or there is no such source type (place 0)
+ *   2   a node's kind, role, flags or extra is not listed
+ *   3   the nodes are no tree in preorder, or it is deeper than 512
+ *   4   a span or a name lies outside its bytes
+ *   5   a scope is missing, broken, or does not belong to the node that uses it (place: a scope; where all are whole, a node)
+ *   13  a node stands under a parent that may not hold it, or has a kind or role that this parent doesn't take
+ *   14  a node has too few or too many children of some sort
+ *   6   the Rust fails in its search from a super (place: the super)
  */
 #ifndef VELKUNSHE_H
 #define VELKUNSHE_H
@@ -38,8 +48,8 @@ extern "C" {
 #define VELKUNSHE_FINDING 7
 #define VELKUNSHE_CODE 16
 
-/* refusal: 0, or why the input was turned down (1 to 6), or 10 where the findings slice is too short.
- * place: the node or scope of refusals 2 to 6, else 0.
+/* refusal: 0, or why the tables were turned down (1 to 6, 13, 14), or 10 where the findings slice is too short.
+ * place: the node or scope of refusals 2 to 6, 13 and 14, else 0.
  * findings: how many were written, seven numbers each (code, node, first span's start and end, second span's start and end, context),
  *   from the slice's start; 0 after a refusal.
  * needed: after 10 the length that the findings slice must have, else 0. */
@@ -59,9 +69,9 @@ struct velkunshe_check_answer velkunshe_check(
     const uint8_t *names, size_t names_length,
     uint32_t *findings, size_t findings_length);
 
-/* refusal: 0, or 1 to 6; 7: the unit is no node of kind 0 to 3; 8: it holds a try; 9: the rule has findings, or a jump without a target;
+/* refusal: 0, or 1 to 6, 13, 14; 7: the unit is no node of kind 0 to 3; 8: it holds a try; 9: the rule has findings, or a jump without a target;
  *   11: the code slice is shorter than 16 numbers for each node of the tree.
- * place: the node or scope of refusals 2 to 6, the unit of 7 and 8, the first finding's node or the jump of 9, else 0.
+ * place: the node or scope of refusals 2 to 6, 13 and 14, the unit of 7 and 8, the first finding's node or the jump of 9, else 0.
  * length: how many numbers of code were written, from the slice's start; 0 after a refusal. */
 struct velkunshe_code_answer {
     uint32_t refusal;

@@ -51,4 +51,35 @@ is "a search that ends above the Program" "J,0,3,1\nS,0,4,0\n$at_super" 'R,6,2'
 is "a super outside any function" "J,0,3,1\nS,0,2,0\n$at_super" 'F,30,2,0,0,0,0,0\nE,1'
 # 6 at a Super: its scope is the class's, and no class element stands above it
 is "a search without an element" 'J,0,6,1\nS,0,2,0\nN,0,0,0,0,0,0,0,0,\nN,26,0,3,0,0,0,0,0,\nN,27,1,0,0,0,0,0,0,\nN,3,2,0,0,0,0,0,0,\nN,22,3,3,0,0,0,0,0,\nN,37,4,0,0,0,0,0,0,\nX,\n' 'R,6,5'
+
+# tree FLAGS NODE..: the lines of a tree with one scope, of these flags; a node is kind,parent,role
+tree() {
+    local flags=$1
+    shift
+    printf '%s' "J,0,$(($# + 1)),1\nS,0,$flags,0\nN,0,0,0,0,0,0,0,0,\n"
+    printf 'N,%s,0,0,0,0,0,\\n' "$@"
+    printf '%s' 'X,\n'
+}
+# 13 at the child, 14 at the parent, each over the whole tree at its lowest node, after 5 and before 6
+is "a Block that isn't held" "$(tree 2 5,0,0)" 'R,13,1'
+is "a statement under a Function" "$(tree 2 1,0,3 20,1,3)" 'R,13,2'
+is "an expression that is held" "$(tree 2 10,0,3 55,1,3)" 'R,13,2'
+is "an alternate of a While" "$(tree 2 10,0,3 22,1,3 22,1,4)" 'R,13,3'
+is "a Block in a Switch" "$(tree 2 14,0,3 5,1,3)" 'R,13,2'
+is "a While for a Try's Block" "$(tree 2 16,0,3 10,1,3 22,2,3 5,1,5)" 'R,13,2'
+is "a method's value that is no Function" "$(tree 2 26,0,3 27,1,0 28,2,0 55,3,2 55,3,1)" 'R,13,5'
+is "a While without a statement" "$(tree 2 10,0,3)" 'R,14,1'
+is "a While with two" "$(tree 2 10,0,3 22,1,3 22,1,3)" 'R,14,1'
+is "a Try with neither catch nor finally" "$(tree 2 16,0,3 5,1,3)" 'R,14,1'
+is "a CatchClause without a Block" "$(tree 2 16,0,3 5,1,3 17,1,4)" 'R,14,3'
+is "a Labeled without a label" "$(tree 2 6,0,3 22,1,3)" 'R,14,1'
+is "a class without a body" "$(tree 2 26,0,3)" 'R,14,1'
+is "the lowest of 13" "$(tree 2 5,0,0 5,0,0)" 'R,13,1'
+is "the lowest of 14" "$(tree 2 10,0,3 10,0,3)" 'R,14,1'
+is "13 before 14 at a lower node" "$(tree 2 10,0,3 5,0,0)" 'R,13,2'
+is "13 at the child before 14 at its parent" "$(tree 2 10,0,3 22,1,3 55,1,3)" 'R,13,3'
+is "5 before 13 and 14" 'J,0,4,1\nS,0,2,0\nN,0,0,0,0,0,0,0,0,\nN,5,0,0,0,0,0,0,0,\nN,10,0,3,0,0,0,0,0,\nN,55,0,0,0,0,1,0,0,\nX,\n' 'R,5,3'
+is "13 before 6" "$(tree 4 22,0,3 37,1,0 5,0,0)" 'R,13,3'
+is "14 before 6" "$(tree 4 22,0,3 37,1,0 10,0,3)" 'R,14,3'
+is "6 alone" "$(tree 4 22,0,3 37,1,0)" 'R,6,2'
 finish

@@ -48,7 +48,7 @@ const REFUSALS = {
   3: 'the nodes are no tree in preorder, or it is deeper than 512',
   4: 'a span or name of this node lies outside of its bytes',
   5: 'a scope is missing, broken, or does not belong to the node that uses it',
-  6: 'the search from this `super` has no end',
+  6: 'the Rust fails in its search from this `super`',
   7: 'this number names no program, function, arrow or static block',
   8: 'the unit holds a try',
   9: 'the rule has an early error, or a jump without a target: check it first',

@@ -1,5 +1,5 @@
 'use strict';
-// Refusals 2 to 6 of document 01 over a made tree (6 without the walk from a Super), as a test of the tree maker.
+// Refusals 2, 3, 4, 5, 13 and 14 of a made tree, in this order, as a test of the tree maker. (6, a walk from a Super, is left to the checker.)
 // Gives null, or the refusal's number, the place and a word.
 
 const { K, R, F } = require('./kinds.js');
@@ -54,13 +54,15 @@ function misplaced(n, p, i) {
   }
   if (n.kind === K.SwitchCase && !(p.kind === K.Switch && n.role === R.body)) return true;
   if (p.kind === K.Switch && held(n.role) && n.kind !== K.SwitchCase) return true;
-  if (n.role === R.alternate && HOLDER.has(p.kind) && p.kind !== K.If && p.kind !== K.Try) return true;
-  if (n.role === R.finally && HOLDER.has(p.kind) && p.kind !== K.Try) return true;
+  if (n.role === R.alternate && p.kind !== K.If && p.kind !== K.Try) return true;
+  if (n.role === R.finally && p.kind !== K.Try) return true;
   if (p.kind === K.Try && held(n.role)) {
     const want = n.role === R.alternate ? K.CatchClause : K.Block;
     if (n.kind !== want) return true;
   }
-  if (n.kind === K.CatchClause && p.kind !== K.Try) return true;
+  if (n.kind === K.CatchClause && !(p.kind === K.Try && n.role === R.alternate)) return true;
+  if (p.kind === K.CatchClause && held(n.role) && n.kind !== K.Block) return true;
+  if (p.kind === K.MethodDefinition && n.role === R.value && n.kind !== K.Function) return true;
   if (n.kind === K.FunctionBody && p.kind !== K.Function && p.kind !== K.Arrow) return true;
   if (n.kind === K.ClassBody && p.kind !== K.Class) return true;
   return (n.kind === K.StaticBlock || (n.kind >= 28 && n.kind <= 30)) && p.kind !== K.ClassBody;
@@ -77,28 +79,32 @@ function miscounted(n, kids) {
     if (role(R.body) !== 1 || role(R.alternate) > 1 || role(R.finally) > 1) return true;
     if (role(R.alternate) + role(R.finally) === 0) return true;
   }
-  if (n.kind === K.CatchClause && (role(R.body) !== 1 || count((k) => k.role === R.body && k.kind === K.Block) !== 1)) return true;
+  if (n.kind === K.CatchClause && role(R.body) !== 1) return true;
   const labels = count((k) => k.role === R.label && k.kind === K.LabelIdentifier);
   if (n.kind === K.Labeled && labels !== 1) return true;
   if ((n.kind === K.Break || n.kind === K.Continue) && labels > 1) return true;
   if ((n.kind === K.Function || n.kind === K.Arrow) && kind(K.FunctionBody) > 1) return true;
   if (n.kind === K.Class && kind(K.ClassBody) !== 1) return true;
   if (n.kind >= 28 && n.kind <= 30 && (role(R.key) !== 1 || role(R.value) > 1)) return true;
-  return n.kind === K.MethodDefinition && count((k) => k.role === R.value && k.kind === K.Function) !== 1;
+  return n.kind === K.MethodDefinition && role(R.value) !== 1;
 }
 
-function wrongShape(tree) {
+function wrongPlace(tree) {
+  return firstNode(tree, (n, i) => misplaced(n, tree.nodes[n.parent], i));
+}
+
+function wrongCount(tree) {
   const { nodes } = tree;
   const kids = nodes.map(() => []);
   nodes.forEach((n, i) => { if (i > 0) kids[n.parent].push(n); });
-  return firstNode(tree, (n, i) => misplaced(n, nodes[n.parent], i) || miscounted(n, kids[i]));
+  return firstNode(tree, (n, i) => miscounted(n, kids[i]));
 }
 
 function firstNode(tree, test) { return tree.nodes.findIndex(test); }
 
 function refusalOf(tree) {
   const strays = (t) => firstNode(t, (n) => n.start > n.end || n.end > t.source.length);
-  const tests = [[2, wrongFields], [3, wrongTree], [4, strays], [5, wrongScope], [6, wrongShape]];
+  const tests = [[2, wrongFields], [3, wrongTree], [4, strays], [5, wrongScope], [13, wrongPlace], [14, wrongCount]];
   for (const [number, test] of tests) {
     const place = test(tree);
     if (place >= 0) return { number, place };

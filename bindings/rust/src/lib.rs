@@ -130,9 +130,10 @@ impl<'a> Rule<'a> {
 /// Why a call turned its input down. The slices are then as they were, but that after 12 the code slice holds the code.
 #[derive(Clone, Copy, Debug, PartialEq, Eq)]
 pub struct Refusal {
-    /// 1 to 6: the tables; 7, 8: the unit; 9: the rule has findings; 10, 11, 12: the findings, code or route slice is too short.
+    /// 1 to 6, 13, 14: the tables, looked at in the order 1, 2, 3, 4, 5, 13, 14, 6; 7, 8: the unit; 9: the rule has findings; 10, 11, 12:
+    /// the findings, code or route slice is too short.
     pub number: u32,
-    /// The node or scope that 2 to 6 speak of, the unit of 7 and 8, the node of 9, else 0.
+    /// The lowest node or scope that 2 to 6, 13 and 14 speak of, the unit of 7 and 8, the node of 9, else 0.
     pub place: u32,
     /// After 10 and 12: the length that the slice must have.
     pub needed: Option<u64>,
@@ -152,13 +153,15 @@ impl fmt::Display for Refusal {
             3 => "the nodes are no tree in preorder, or it is deeper than 512",
             4 => "a span or a name lies outside its bytes",
             5 => "a scope is missing, broken, or does not belong to the node that uses it",
-            6 => "a node stands where it may not, or has too few or too many children",
+            6 => "the Rust fails in its search from this super",
             7 => "the unit is no Program, Function, Arrow or StaticBlock",
             8 => "the unit holds a try",
             9 => "the rule has findings, or a jump without a target",
             10 => "the findings slice is too short",
             11 => "the code slice is shorter than 16 numbers a node",
             12 => "the route slice is too short",
+            13 => "the node stands under a parent that may not hold it, or has a kind or role that this parent doesn't take",
+            14 => "the node has too few or too many children of some sort",
             _ => "turned down",
         };
         write!(f, "refusal {} at {}: {why}", self.number, self.place)?;
@@ -195,7 +198,7 @@ impl Finding {
 ///
 /// # Errors
 ///
-/// Refusals 1 to 6, and 10 with the length needed where `out` is shorter than 7 × findings.
+/// Refusals 1 to 6, 13 and 14, and 10 with the length needed where `out` is shorter than 7 × findings.
 pub fn check(rule: &Rule, out: &mut [u32]) -> Result<usize, Refusal> {
     // SAFETY: pointers and lengths of live slices; `out` is borrowed alone.
     let answer = unsafe {
@@ -223,7 +226,7 @@ pub fn check(rule: &Rule, out: &mut [u32]) -> Result<usize, Refusal> {
 ///
 /// # Errors
 ///
-/// Refusals 1 to 6.
+/// Refusals 1 to 6, 13 and 14.
 pub fn findings(rule: &Rule) -> Result<Vec<Finding>, Refusal> {
     let mut numbers = Vec::new();
     if let Err(refusal) = check(rule, &mut numbers) {
@@ -276,7 +279,7 @@ pub struct Route {
 ///
 /// # Errors
 ///
-/// Refusals 1 to 9, and 11 where `out` is shorter than 16 × the tree's nodes.
+/// Refusals 1 to 9, 13 and 14, and 11 where `out` is shorter than 16 × the tree's nodes.
 pub fn code(rule: &Rule, unit: u32, out: &mut [u32]) -> Result<usize, Refusal> {
     // SAFETY: pointers and lengths of live slices; `out` is borrowed alone.
     let answer = unsafe {
@@ -306,7 +309,7 @@ pub fn code(rule: &Rule, unit: u32, out: &mut [u32]) -> Result<usize, Refusal> {
 ///
 /// # Errors
 ///
-/// Refusals 1 to 9, 11 where `code` is shorter than 16 × the tree's nodes, and 12 with the length needed where `out` is shorter than the
+/// Refusals 1 to 9, 13 and 14, 11 where `code` is shorter than 16 × the tree's nodes, and 12 with the length needed where `out` is shorter than the
 /// route.
 pub fn route(rule: &Rule, unit: u32, answers: &[u32], code: &mut [u32], out: &mut [u32]) -> Result<Shown, Refusal> {
     // SAFETY: pointers and lengths of live slices; `code` and `out` are each borrowed alone.
@@ -346,7 +349,7 @@ pub fn route(rule: &Rule, unit: u32, answers: &[u32], code: &mut [u32], out: &mu
 ///
 /// # Errors
 ///
-/// Refusals 1 to 9.
+/// Refusals 1 to 9, 13 and 14.
 pub fn route_of(rule: &Rule, unit: u32, answers: &[u32]) -> Result<Route, Refusal> {
     let mut code = vec![0; CODE * rule.node_count()];
     let mut nodes = Vec::new();

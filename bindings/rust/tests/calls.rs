@@ -76,6 +76,11 @@ fn refusals() {
     assert_eq!(refused(Rule { nodes: &[5, 0, 0, 0, 0, 0, 0, 0, 0, 0], ..EMPTY }), (3, 0));
     assert_eq!(refused(Rule { nodes: &[0, 0, 0, 0, 1, 0, 0, 0, 0, 0], ..EMPTY }), (4, 0));
     assert_eq!(refused(Rule { scopes: &[1, 2, 0], ..EMPTY }), (5, 0));
+    // Two Whiles without a statement, then a Block that isn't held: the Block, though the Whiles are lower; without it the first While.
+    let node = |kind, role| [kind, 0, role, 0, 0, 0, 0, 0, 0, 0];
+    let nodes = [node(0, 0), node(10, 3), node(10, 3), node(5, 0)].concat();
+    assert_eq!(refused(Rule { nodes: &nodes, ..EMPTY }), (13, 3));
+    assert_eq!(refused(Rule { nodes: &nodes[..30], ..EMPTY }), (14, 1));
     let text = findings(&Rule { nodes: &[], ..EMPTY }).unwrap_err().to_string();
     assert!(text.starts_with("refusal 1 at 0: "));
 }

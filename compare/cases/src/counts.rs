@@ -6,21 +6,30 @@ use plain::{Refusal, Route};
 
 use crate::Sort;
 
+/// One more than the highest number of a refusal.
+const NUMBERS: usize = 15;
+
+/// The refusals of the input, in the order in which they are looked for.
+const OF_INPUT: [usize; 8] = [1, 2, 3, 4, 5, 13, 14, 6];
+
 pub struct Counts {
     pub differences: usize,
-    /// Super's walks at which the crate's text ends in a panic.
+    /// Super's walks at which the crate's text ends in a panic: refusal 6.
     pub stuck: u64,
+    /// Trees with a misplaced child that have a wrong count too, and those of them where it is at a lower node.
+    pub both: u64,
+    pub lower: u64,
     /// Entries of all routes.
     pub entries: u64,
     cases: [u64; 5],
-    refusals: [[u64; 5]; 7],
+    refusals: [[u64; 5]; NUMBERS],
     clean: u64,
     codes: [[u64; 5]; 34],
     contexts: [u64; 5],
     ends: [u64; 4],
-    route_refusals: [u64; 13],
+    route_refusals: [u64; NUMBERS],
     /// Calls of the proved library, check, code and route, by refusal; 0 is success.
-    proved: [[u64; 13]; 3],
+    proved: [[u64; NUMBERS]; 3],
 }
 
 impl Counts {
@@ -28,15 +37,17 @@ impl Counts {
         Counts {
             differences: 0,
             stuck: 0,
+            both: 0,
+            lower: 0,
             entries: 0,
             cases: [0; 5],
-            refusals: [[0; 5]; 7],
+            refusals: [[0; 5]; NUMBERS],
             clean: 0,
             codes: [[0; 5]; 34],
             contexts: [0; 5],
             ends: [0; 4],
-            route_refusals: [0; 13],
-            proved: [[0; 13]; 3],
+            route_refusals: [0; NUMBERS],
+            proved: [[0; NUMBERS]; 3],
         }
     }
 
@@ -60,7 +71,7 @@ impl Counts {
     pub fn unseen(&self) -> (Vec<usize>, Vec<usize>) {
         let none = |row: &[u64; 5]| row.iter().sum::<u64>() == 0;
         let codes = (1..34).filter(|&code| none(&self.codes[code])).collect();
-        (codes, (1..7).filter(|&number| none(&self.refusals[number])).collect())
+        (codes, OF_INPUT.into_iter().filter(|&number| none(&self.refusals[number])).collect())
     }
 
     pub fn route(&mut self, answer: &Result<Route, Refusal>) {
@@ -106,19 +117,24 @@ impl fmt::Display for Counts {
         )?;
         row(f, "cases", &self.cases)?;
         row(f, "well-formed", &self.refusals[0])?;
-        for number in 1..7 {
+        for number in OF_INPUT {
             row(f, &format!("refusal {number}"), &self.refusals[number])?;
         }
         for code in 1..34 {
             row(f, &format!("code {code}"), &self.codes[code])?;
         }
-        writeln!(f, "well-formed without findings {}, of refusal 6 at a Super {}", self.clean, self.stuck)?;
+        writeln!(
+            f,
+            "well-formed without findings {}; panics of the crate's text, at a Super, {}",
+            self.clean, self.stuck
+        )?;
+        writeln!(f, "of refusal 13 with a wrong count beside it {}, at a lower node {}", self.both, self.lower)?;
         writeln!(f, "contexts 0 to 4: {:?}", self.contexts)?;
         writeln!(f, "routes by end 0 to 3: {:?}, entries {}", self.ends, self.entries)?;
         writeln!(f, "routes refused by 7, 8, 9: {:?}", &self.route_refusals[7..10])?;
         if cfg!(feature = "proved") {
             for (call, calls) in ["check", "code", "route"].iter().zip(&self.proved) {
-                writeln!(f, "{call} calls of the proved library by refusal 0 to 12: {calls:?}")?;
+                writeln!(f, "{call} calls of the proved library by refusal 0 to 14: {calls:?}")?;
             }
         }
         let (codes, refusals) = self.unseen();

@@ -134,6 +134,12 @@ fn compare_all(cases: u64, seed: u64) -> Counts {
 fn compare(t: &Tables, sort: Sort, rng: &mut Rng, counts: &mut Counts) -> Result<(), String> {
     let refusal = plain::input_refusal(t).map(|r| (r.number, r.place));
     counts.refusal(sort, refusal.map_or(0, |r| r.0));
+    if let Some((13, child)) = refusal
+        && let Some(parent) = plain::refusals::wrong_count(t)
+    {
+        counts.both += 1;
+        counts.lower += u64::from(parent < child);
+    }
     // The plain version says of itself where Super's walks begin to matter.
     let before_walks = plain::refusals::refusal_before_walks(t).map(|r| (r.number, r.place));
     // It goes over all nodes for each node.

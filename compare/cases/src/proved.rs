@@ -54,7 +54,7 @@ fn check(t: &Tables, length: usize, counts: &mut Counts) -> Result<(), String> {
     same(&format!("findings slice of {length}, plain and proved"), &expected, &found)
 }
 
-/// Both calls on a unit, or on a number that is none. What 1 to 9 turn down is so whatever the slices are, and is tried
+/// Both calls on a unit, or on a number that is none. What 1 to 9, 13 and 14 turn down is so whatever the slices are, and is tried
 /// with two lengths only.
 fn unit(t: &Tables, unit: u32, answers: &[u32], counts: &mut Counts) -> Result<(), String> {
     let room = 16 * t.node_count();

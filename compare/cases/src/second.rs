@@ -1,10 +1,11 @@
-//! A second reading of document 01 where the crate's text says nothing: refusals 1 to 6 but for Super's walks, and
-//! routes. Written another way round than `plain`, to find slips: each rule is a test of one node by lists that are
-//! made anew each time, shape is two tables, and a route goes from statement to statement without a stack.
+//! A second reading of documents 01 and 02 where the crate's text says nothing: the refusals of the input but for
+//! Super's walks, and routes. Written another way round than `plain`, to find slips: each rule is a test of one node by lists that are
+//! made anew each time, shape is two tables (Blocks, a CatchClause and a Function are counted by kind and role, where
+//! `plain` counts by role), and a route goes from statement to statement without a stack.
 
 use plain::Tables;
 
-/// The lowest refusal, but for Super's walks.
+/// The refusal of the input, but for Super's walks.
 pub fn refusal(t: &Tables) -> Option<(u32, usize)> {
     let sizes = [(t.nodes.len(), 10), (t.scopes.len(), 3)];
     let too_long = |bytes: &[u8]| bytes.len() > 1 << 20;
@@ -21,7 +22,8 @@ pub fn refusal(t: &Tables) -> Option<(u32, usize)> {
         .or_else(|| lowest(4, 0..nodes, &|n| !inside(t, n)))
         .or_else(|| lowest(5, 0..scopes, &|s| !scope_fits(t, s)))
         .or_else(|| lowest(5, 0..nodes, &|n| !scoped(t, n)))
-        .or_else(|| lowest(6, 0..nodes, &|n| !shaped(t, n)))
+        .or_else(|| lowest(13, 1..nodes, &|n| !placed(t, n)))
+        .or_else(|| lowest(14, 0..nodes, &|n| !counted(t, n)))
 }
 
 fn listed(r: &[u32]) -> bool {
@@ -114,20 +116,25 @@ type Count = (&'static [u32], Option<u32>, Option<u32>, usize, usize);
 const COUNTS: [Count; 13] = [
     (&[6, 7, 8, 9, 10, 11, 12, 13], None, Some(3), 1, 1),
     (&[12], None, Some(4), 0, 1),
-    (&[16], None, Some(3), 1, 1),
-    (&[16], None, Some(4), 0, 1),
-    (&[16], None, Some(5), 0, 1),
-    (&[17], None, Some(3), 1, 1),
+    (&[16], Some(5), Some(3), 1, 1),
+    (&[16], Some(17), Some(4), 0, 1),
+    (&[16], Some(5), Some(5), 0, 1),
+    (&[17], Some(5), Some(3), 1, 1),
     (&[6], Some(33), Some(6), 1, 1),
     (&[18, 19], Some(33), Some(6), 0, 1),
     (&[1, 2], Some(4), None, 0, 1),
     (&[26], Some(27), None, 1, 1),
     (&[28, 29, 30], None, Some(2), 1, 1),
     (&[28, 29, 30], None, Some(1), 0, 1),
-    (&[28], None, Some(1), 1, 1),
+    (&[28], Some(1), Some(1), 1, 1),
 ];
 
-fn shaped(t: &Tables, n: usize) -> bool {
+fn placed(t: &Tables, n: usize) -> bool {
+    let field = |n: usize, i: usize| t.nodes[10 * n + i];
+    may_stand(field(field(n, 1) as usize, 0), field(n, 0), field(n, 2))
+}
+
+fn counted(t: &Tables, n: usize) -> bool {
     let field = |n: usize, i: usize| t.nodes[10 * n + i];
     let children: Vec<usize> = (1..t.nodes.len() / 10).filter(|&c| field(c, 1) as usize == n).collect();
     let count = |fits: &dyn Fn(usize) -> bool| children.iter().filter(|&&c| fits(c)).count();
@@ -139,8 +146,7 @@ fn shaped(t: &Tables, n: usize) -> bool {
     let is_default = |c: usize| field(c, 0) == 15 && field(c, 2) == 3 && field(c, 6) & 4096 != 0;
     let one_default = kind != 14 || count(&is_default) < 2;
     let some_way_out = kind != 16 || count(&|c| field(c, 2) == 4 || field(c, 2) == 5) > 0;
-    let placed = n == 0 || may_stand(field(field(n, 1) as usize, 0), kind, field(n, 2));
-    placed && counted && one_default && some_way_out
+    counted && one_default && some_way_out
 }
 
 /// Where a run is: before a statement, at the answer of one, behind one.

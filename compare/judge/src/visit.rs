@@ -31,8 +31,8 @@ pub enum Verdict {
     Broken(u32),
 }
 
-/// The findings of tables that pass refusals 1 to 5 and the shape part of 6. Panics are caught: the caller may want
-/// to silence the panic hook.
+/// The findings of tables that pass refusals 1 to 5, 13 and 14. Panics are caught: the caller may want to silence
+/// the panic hook.
 pub fn judge(source_type: u32, nodes: &[u32], scopes: &[u32], source: &[u8], names: &[u8]) -> Verdict {
     let arena = Arena::default();
     let kinds = build(&arena, nodes, source, names);

@@ -1,5 +1,5 @@
-//! The three calls with their refusals: 1-6 and 10; 1-9 and 11; 1-9, 11 and 12. A refusal leaves every slice
-//! unchanged; success changes no entry past the last one written.
+//! The three calls with their refusals: those of the input (1-6, 13, 14), then 10; 7-9 and 11; 7-9, 11 and 12. A
+//! refusal leaves every slice unchanged; success changes no entry past the last one written.
 
 use crate::findings::findings;
 use crate::refusals::input_refusal;

@@ -1,5 +1,6 @@
-//! Document 01, "Turned down: the input". One function for each number; the lowest number wins, then the lowest
-//! place. Each sentence of refusal 6 is quoted above the lines that read it.
+//! Document 01, "Turned down: the input", and document 02, request 4. One function for each number, looked for in the
+//! order 1, 2, 3, 4, 5 (scope records, then nodes), 13, 14, 6; the first that applies is given, at its lowest place.
+//! Each sentence of document 01's refusal 6 is quoted above the lines of 13 and 14 that read it.
 
 use crate::supers;
 use crate::tables::*;
@@ -17,8 +18,8 @@ pub const MOST_DEPTH: usize = 512;
 
 /// Tables are well-formed exactly if this gives nothing.
 ///
-/// 6: "Shape, at the lowest node. .. Else, at its Super, a walk that the Rust ends in `unreachable!` or a failed
-/// `unwrap`." Else: the walks are looked at only where no node is out of shape.
+/// 6: "the walks that the Rust ends in a failure", at the Super. They are looked at only where no child is misplaced
+/// and no count is wrong.
 pub fn input_refusal(t: &Tables) -> Option<InputRefusal> {
     refusal_before_walks(t).or_else(|| supers::lowest_stuck(t).map(|place| InputRefusal { number: 6, place }))
 }
@@ -28,8 +29,11 @@ pub fn refusal_before_walks(t: &Tables) -> Option<InputRefusal> {
     if wrong_sizes(t) {
         return Some(InputRefusal { number: 1, place: 0 });
     }
-    let place_of = [unlisted, misplaced, stray, misscoped, misshapen];
-    (2..).zip(place_of).find_map(|(number, f)| f(t).map(|place| InputRefusal { number, place }))
+    let place_of = [unlisted, misplaced, stray, misscoped, misplaced_child, wrong_count];
+    [2, 3, 4, 5, 13, 14]
+        .into_iter()
+        .zip(place_of)
+        .find_map(|(number, f)| f(t).map(|place| InputRefusal { number, place }))
 }
 
 /// 1. A table is empty or no whole number of records; more than 65,535 records; source or names above 1,048,576
@@ -126,9 +130,14 @@ fn subtree_ends(t: &Tables) -> Vec<usize> {
     ends
 }
 
-/// 6. Shape, at the lowest node (misplaced child, or parent with a wrong count).
-pub fn misshapen(t: &Tables) -> Option<usize> {
-    (0..t.node_count()).find(|&n| misplaced_child(t, n) || wrong_count(t, n))
+/// 13. "A node under a parent that may not hold it, or of a kind or role that this parent doesn't take".
+pub fn misplaced_child(t: &Tables) -> Option<usize> {
+    (1..t.node_count()).find(|&n| is_misplaced(t, n))
+}
+
+/// 14. "A child missing or too many .., at the parent".
+pub fn wrong_count(t: &Tables) -> Option<usize> {
+    (0..t.node_count()).find(|&n| has_wrong_count(t, n))
 }
 
 /// "Kinds 5-14, 16 and 18-22": always statements.
@@ -147,10 +156,7 @@ fn is_holder(kind: u32) -> bool {
 }
 
 /// The node stands where it may not, or with a role that its parent doesn't take.
-fn misplaced_child(t: &Tables, n: usize) -> bool {
-    if n == 0 {
-        return false;
-    }
+fn is_misplaced(t: &Tables, n: usize) -> bool {
     let (kind, role, parent) = (t.kind(n), t.role(n), t.kind(t.parent(n)));
     let held = (BODY..=FINALLY).contains(&role);
     // "Kinds 5-14, 16 and 18-22 have role 3, 4 or 5 under a holder: 0, 3-13, 15-17."
@@ -205,7 +211,7 @@ fn misplaced_child(t: &Tables, n: usize) -> bool {
 }
 
 /// The node has too few or too many children of some sort.
-fn wrong_count(t: &Tables, n: usize) -> bool {
+fn has_wrong_count(t: &Tables, n: usize) -> bool {
     let count = |fits: &dyn Fn(usize) -> bool| t.children(n).filter(|&c| fits(c)).count();
     let with_role = |role: u32| count(&|c| t.role(c) == role);
     let of_kind = |kind: u32| count(&|c| t.kind(c) == kind);

@@ -203,10 +203,18 @@ fn refusals_2_to_5() {
     assert_eq!(shape(&["26,0,3,32,1", "27,1,0"]), "R,5,1\n");
 }
 
+/// Request 4 of document 02: 13 at the child, 14 at the parent.
+fn refused(number: u32, nodes: &[&str], place: usize) {
+    assert_eq!(shape(nodes), format!("R,{number},{place}\n"), "{nodes:?}");
+}
+
+fn passes(nodes: &[&str]) {
+    assert!(shape(nodes).contains("E,"), "{nodes:?}");
+}
+
 #[test]
-fn refusal_6_shape() {
-    let refused = |nodes: &[&str], place: usize| assert_eq!(shape(nodes), format!("R,6,{place}\n"), "{nodes:?}");
-    let passes = |nodes: &[&str]| assert!(shape(nodes).contains("E,"), "{nodes:?}");
+fn refusal_13() {
+    let refused = |nodes: &[&str], place: usize| refused(13, nodes, place);
     // Statements under holders, with roles 3 to 5.
     refused(&["5,0,0"], 1);
     refused(&["55,0,0", "22,1,3"], 2);
@@ -219,41 +227,53 @@ fn refusal_6_shape() {
     refused(&["23,0,3"], 1);
     passes(&["22,0,3", "55,1,3"]);
     refused(&["22,0,3", "55,1,4"], 2);
-    // Exactly one held statement.
-    refused(&["10,0,3"], 1);
-    refused(&["10,0,3", "22,1,3", "22,1,3"], 1);
     refused(&["10,0,3", "55,1,3"], 2);
-    passes(&["10,0,3", "55,1,1", "22,1,3"]);
-    refused(&["12,0,3", "22,1,4"], 1);
-    passes(&["12,0,3", "22,1,3", "22,1,4"]);
-    refused(&["12,0,3", "22,1,3", "22,1,4", "22,1,4"], 1);
     refused(&["12,0,3", "22,1,3", "22,1,5"], 3);
     refused(&["13,0,3", "22,1,3", "22,1,4"], 3);
-    // Switch.
-    passes(&["14,0,3"]);
-    passes(&["14,0,3", "55,1,1", "15,1,3,4096", "22,3,3", "15,1,3"]);
-    refused(&["14,0,3", "15,1,3,4096", "15,1,3,4096"], 1);
-    // A case that the Switch doesn't hold is misplaced, and none of its defaults.
+    // Switch. A case that it doesn't hold is misplaced, and none of its defaults.
     refused(&["14,0,3", "15,1,3,4096", "15,1,0,4096"], 3);
     refused(&["14,0,3", "15,1,0"], 2);
     refused(&["14,0,3", "55,1,3"], 2);
     refused(&["15,0,3"], 1);
     refused(&["15,0,0"], 1);
     // Try.
+    refused(&["16,0,3", "22,1,3", "5,1,5"], 2);
+    refused(&["16,0,3", "5,1,3", "5,1,4", "5,1,5"], 3);
+    refused(&["16,0,3", "5,1,3", "17,1,5", "5,3,3"], 3);
+    refused(&["16,0,3", "5,1,3", "17,1,4", "22,3,3"], 4);
+    refused(&["17,0,4", "5,1,3"], 1);
+    // Functions and classes.
+    refused(&["4,0,0"], 1);
+    refused(&["27,0,0"], 1);
+    passes(&["26,0,3", "27,1,0", "3,2,0", "22,3,3"]);
+    refused(&["3,0,0"], 1);
+    refused(&["28,0,0", "55,1,2", "1,1,1"], 1);
+    refused(&["26,0,3", "27,1,0", "28,2,0", "55,3,2", "55,3,1"], 5);
+}
+
+#[test]
+fn refusal_14() {
+    let refused = |nodes: &[&str], place: usize| refused(14, nodes, place);
+    // Exactly one held statement.
+    refused(&["10,0,3"], 1);
+    refused(&["10,0,3", "22,1,3", "22,1,3"], 1);
+    passes(&["10,0,3", "55,1,1", "22,1,3"]);
+    refused(&["12,0,3", "22,1,4"], 1);
+    passes(&["12,0,3", "22,1,3", "22,1,4"]);
+    refused(&["12,0,3", "22,1,3", "22,1,4", "22,1,4"], 1);
+    // Switch.
+    passes(&["14,0,3"]);
+    passes(&["14,0,3", "55,1,1", "15,1,3,4096", "22,3,3", "15,1,3"]);
+    refused(&["14,0,3", "15,1,3,4096", "15,1,3,4096"], 1);
+    // Try.
     passes(&["16,0,3", "5,1,3", "17,1,4", "5,3,3"]);
     passes(&["16,0,3", "5,1,3", "5,1,5"]);
     passes(&["16,0,3", "5,1,3", "17,1,4", "5,3,3", "5,1,5"]);
     refused(&["16,0,3", "5,1,3"], 1);
     refused(&["16,0,3", "5,1,5"], 1);
-    refused(&["16,0,3", "22,1,3", "5,1,5"], 2);
-    refused(&["16,0,3", "5,1,3", "22,1,3", "5,1,5"], 1);
-    refused(&["16,0,3", "5,1,3", "5,1,4", "5,1,5"], 3);
-    refused(&["16,0,3", "5,1,3", "17,1,5", "5,3,3", "5,1,5"], 1);
-    refused(&["16,0,3", "5,1,3", "17,1,5", "5,3,3"], 3);
+    refused(&["16,0,3", "5,1,3", "5,1,3", "5,1,5"], 1);
     refused(&["16,0,3", "5,1,3", "17,1,4"], 3);
-    refused(&["16,0,3", "5,1,3", "17,1,4", "5,3,3", "22,3,3"], 3);
-    refused(&["16,0,3", "5,1,3", "17,1,4", "22,3,3"], 4);
-    refused(&["17,0,4", "5,1,3"], 1);
+    refused(&["16,0,3", "5,1,3", "17,1,4", "5,3,3", "5,3,3"], 3);
     refused(&["16,0,3", "5,1,3", "5,1,5", "5,1,5"], 1);
     // Labels.
     passes(&["6,0,3", "33,1,6", "22,1,3"]);
@@ -264,25 +284,38 @@ fn refusal_6_shape() {
     refused(&["10,0,3", "18,1,3", "33,2,6", "33,2,6"], 2);
     passes(&["10,0,3", "18,1,3", "55,2,6"]);
     // Functions and classes.
-    refused(&["4,0,0"], 1);
     refused(&["1,0,3", "4,1,3", "4,1,3"], 1);
     passes(&["1,0,3", "4,1,3"]);
     refused(&["26,0,3"], 1);
-    refused(&["27,0,0"], 1);
     refused(&["26,0,3", "27,1,0", "27,1,0"], 1);
-    passes(&["26,0,3", "27,1,0", "3,2,0", "22,3,3"]);
-    refused(&["3,0,0"], 1);
-    refused(&["28,0,0", "55,1,2", "1,1,1"], 1);
     refused(&["26,0,3", "27,1,0", "28,2,0", "55,3,2"], 3);
-    refused(&["26,0,3", "27,1,0", "28,2,0", "55,3,2", "55,3,1"], 5);
     refused(&["26,0,3", "27,1,0", "28,2,0", "1,3,1"], 3);
     passes(&["26,0,3", "27,1,0", "28,2,0", "55,3,2", "1,3,1"]);
     passes(&["26,0,3", "27,1,0", "29,2,0", "55,3,2"]);
     refused(&["26,0,3", "27,1,0", "30,2,0", "55,3,2", "55,3,1", "55,3,1"], 3);
 }
 
+/// "13 .., then 14 .., each over the whole tree, after 5 and before 6".
 #[test]
-fn refusal_6_super() {
+fn order_of_13_14_and_6() {
+    // A parent with a wrong count, and a misplaced child further down: of it, and of another.
+    refused(13, &["16,0,3", "5,1,3", "22,1,3", "5,1,5"], 3);
+    refused(13, &["16,0,3", "5,1,3", "17,1,5", "5,3,3", "5,1,5"], 3);
+    refused(13, &["10,0,3", "22,1,3", "55,1,3"], 3);
+    refused(13, &["10,0,3", "5,0,0"], 2);
+    // A scope that is missing comes before both.
+    refused(5, &["26,0,3,32,1", "4,1,0", "10,0,3", "5,0,0"], 1);
+    // A Super whose walk fails comes behind both: the Program's scope is a function's.
+    let at_super = |more: &[&str]| {
+        let nodes = ["0,0,0,0,0,0,0,0,", "22,0,3,0,0,0,0,0,", "37,1,0,0,0,0,0,0,"];
+        check(0, &["0,4,0"], &[&nodes, more].concat(), "")
+    };
+    assert_eq!(at_super(&["10,0,3,0,0,0,0,0,"]), "R,14,3\n");
+    assert_eq!(at_super(&["10,0,3,0,0,0,0,0,", "5,0,0,0,0,0,0,0,"]), "R,13,4\n");
+}
+
+#[test]
+fn refusal_6() {
     // A function scope whose node is the Program: nothing is above it.
     let nodes = ["0,0,0,0,0,0,0,0,", "22,0,3,0,0,0,0,0,", "37,1,0,0,0,0,0,0,"];
     assert_eq!(check(0, &["0,4,0"], &nodes, ""), "R,6,2\n");

@@ -8,7 +8,7 @@ use Rattle.check_diagnostics.specs.declared.Finding.{Finding}
 use Rattle.check_diagnostics.specs.Finding.{flat}
 use Rattle.refusal_verdict.specs.declared.Verdict.{Verdict}
 use Rattle.refusal_verdict.specs.declared.Verdict.the-variants as verdict
-use Rattle.refusal_wellformed.specs.WellFormed.{inputRefusal}
+use Rattle.refusal_input.specs.Input.{inputRefusal}
 use Rattle.check_dispatch.specs.Findings.{findingsOf}
 use Rattle.call_check.specs.declared.Checked.{Checked}
 use Rattle.call_check.specs.declared.Checked.the-variants.{Findings, Refused, Short}
@@ -29,7 +29,7 @@ abbrev pub sliceBy : Verdict → List ℕ → List ℕ → List ℕ
 sliceBy (verdict.Refused number place) refused passed = refused
 sliceBy verdict.Passed refused passed = passed
 
--- "The check gives 1-6 and 10"
+-- "The check gives 1-6 and 10"; 13 and 14 "in every call that gives 6"
 unfoldable pub checkAnswer : ℕ → List ℕ → List ℕ → List ℕ → List ℕ → ℕ → Checked
 checkAnswer sourceType ns ss source names len =
     answerBy (inputRefusal sourceType ns ss source names) (reportAnswer (findingsOf sourceType ns ss source names) len)

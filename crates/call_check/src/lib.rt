@@ -1,4 +1,4 @@
-// The public call `check`: refusals 1 to 6 and 10, or the findings.
+// The public call `check`: the refusals of the input (1 to 6, 13, 14) and 10, or the findings.
 ghost use mathlib.Core.Path.{_≡_};
 ghost use Prim.Native.Nat.{_*_, _≤_};
 ghost use lib.ListN.{length};
@@ -50,7 +50,7 @@ pub fn check(
     ensures { λ r. ⌜ r ≡ checkAnswer «source_type» (now (nodes .entry)) (now (scopes .entry)) (now (source .entry)) (now (names .entry)) (length (now (findings .entry))) ⌝ }
     ensures { λ _. ⌜ now (findings .exit) ≡ checkSlice «source_type» (now (nodes .entry)) (now (scopes .entry)) (now (source .entry)) (now (names .entry)) (now (findings .entry)) ⌝ }
 {
-    let verdict = refusal_wellformed::refusal(source_type, nodes, scopes, source, names);
+    let verdict = refusal_input::refusal(source_type, nodes, scopes, source, names);
     match verdict {
         Verdict::Refused(number, place) => Checked::Refused(number, place),
         Verdict::Passed => report(source_type, nodes, scopes, source, names, findings),

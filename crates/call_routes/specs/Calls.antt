@@ -5,9 +5,10 @@ use mathlib.Core.Bool.{cond}
 use lib.Dec.{leb}
 use lib.ListN.{length}
 use Rattle.table_records.specs.Table.{count}
+use Rattle.refusal_verdict.specs.Refusals as refusal
 use Rattle.refusal_verdict.specs.declared.Verdict.{Verdict}
 use Rattle.refusal_verdict.specs.declared.Verdict.the-variants as verdict
-use Rattle.refusal_wellformed.specs.WellFormed.{inputRefusal}
+use Rattle.refusal_input.specs.Input.{inputRefusal}
 use Rattle.route_completion.specs.Route.{route}
 use Rattle.code_flat.specs.Code.{unit}
 use Rattle.code_unit.specs.Unit.{unitOf}
@@ -21,9 +22,9 @@ use Rattle.route_viewer.specs.declared.Routed.the-variants as routed
 
 -- 11: "The code slice is shorter than 16 × the tree's nodes."
 unfoldable pub roomRefusal : List ℕ → ℕ → Verdict
-roomRefusal ns len = cond (leb (16 * count ns) len) verdict.Passed (verdict.Refused 11 0)
+roomRefusal ns len = cond (leb (16 * count ns) len) verdict.Passed (verdict.Refused refusal.CodeSlice 0)
 
--- "the code call 1-9 and 11"; len is the length of the code slice
+-- "the code call 1-9 and 11"; 13 and 14 "in every call that gives 6"; len is the length of the code slice
 unfoldable pub codeRefusal : ℕ → List ℕ → List ℕ → List ℕ → List ℕ → ℕ → ℕ → Verdict
 codeRefusal sourceType ns ss source names u len =
     refusedOr (inputRefusal sourceType ns ss source names) (refusedOr (stateAnswer sourceType ns ss source names u) (roomRefusal ns len))

@@ -10,11 +10,12 @@ use lib.ListN.{length, take, drop, length-append}
 use lib.Seq.{take-at}
 use Rattle.base_common.specs.UptoLaws.{and-right}
 use Rattle.table_records.specs.Table.{kindOf, count}
+use Rattle.refusal_verdict.specs.Refusals as refusal
 use Rattle.refusal_verdict.specs.declared.Verdict.{Verdict}
 use Rattle.refusal_verdict.specs.declared.Verdict.the-variants.{Refused, Passed}
-use Rattle.refusal_input.specs.Input.{WellFormed}
-use Rattle.refusal_wellformed.specs.WellFormed.{inputRefusal}
-use Rattle.refusal_wellformed.specs.WellFormedLaws.{input-well-formed}
+use Rattle.refusal_input.specs.WellFormed.{WellFormed}
+use Rattle.refusal_input.specs.Input.{inputRefusal}
+use Rattle.refusal_input.specs.InputLaws.{input-well-formed}
 use Rattle.route_completion.specs.Route.{route}
 use Rattle.code_flat.specs.Code.{unit}
 use Rattle.code_flat.specs.Machine.{codeRoute}
@@ -36,7 +37,7 @@ both (Refused k p) w e = (e, refused-never k p w e)
 both Passed w e = (refl, e)
 
 -- 11 applies, or does not
-pub room-short : (ns : List ℕ) (len : ℕ) → len < 16 * count ns → Refused 11 0 ≡ roomRefusal ns len
+pub room-short : (ns : List ℕ) (len : ℕ) → len < 16 * count ns → Refused refusal.CodeSlice 0 ≡ roomRefusal ns len
 unfolding roomRefusal
 room-short ns len h = rw (lt-leb (16 * count ns) len h)
 
@@ -48,7 +49,7 @@ pub room-passed : (ns : List ℕ) (len : ℕ) → roomRefusal ns len ≡ Passed 
 unfolding roomRefusal
 room-passed ns len e = leb-true (16 * count ns) len (go (leb (16 * count ns) len) e)
   where
-    go : (x : Bool) → cond x Passed (Refused 11 0) ≡ Passed → x ≡ true
+    go : (x : Bool) → cond x Passed (Refused refusal.CodeSlice 0) ≡ Passed → x ≡ true
     go true e = refl
     go false e = let z : _≡_ {A = ℕ} 0 1 = cc in absurd (omega arith)
 

@@ -9,7 +9,7 @@ use Rattle.table_records.specs.Table.{kindOf, count}
 use Rattle.table_records.specs.Kinds as k
 use Rattle.table_records.specs.declared.Found.the-variants.{At}
 use Rattle.refusal_verdict.specs.declared.Verdict.the-variants.{Passed}
-use Rattle.refusal_wellformed.specs.WellFormed.{inputRefusal}
+use Rattle.refusal_input.specs.Input.{inputRefusal}
 use Rattle.route_completion.specs.Route.{route, parts, AllOnce}
 use Rattle.code_flat.specs.Code.{unit}
 use Rattle.code_flat.specs.Machine.{started, codeRoute}
@@ -24,7 +24,7 @@ use Rattle.refusal_state.specs.Targets.{hasTarget, stateAnswer}
 use Rattle.refusal_state.specs.TargetsLaws.{state-passed, targets-found}
 use Rattle.code_scoped.specs.Passed.{passed-scoped}
 use Rattle.code_scoped.specs.NoTry.{no-try}
-use Rattle.refusal_wellformed.specs.WellFormedLaws.{input-well-formed}
+use Rattle.refusal_input.specs.InputLaws.{input-well-formed}
 use Rattle.call_routes.specs.CallsLaws.{unit-kind}
 
 -- What holds of the unit u and the answers.
@@ -51,7 +51,7 @@ abbrev pub Targeted : List ℕ → List ℕ → Type 0
 Targeted ns names = (n : ℕ) → n < count ns → k.Break ≤ kindOf ns n → kindOf ns n ≤ k.Continue → hasTarget ns names n ≡ true
 
 module _ (sourceType : ℕ) (ns ss source names : List ℕ) (u : ℕ)
-    -- the tables are well-formed (1 to 6), u is a unit (7) without try (8), and the tree has no findings (9)
+    -- the tables are well-formed (1 to 6, 13, 14), u is a unit (7) without try (8), and the tree has no findings (9)
     (formed : inputRefusal sourceType ns ss source names ≡ Passed) (passed : stateAnswer sourceType ns ss source names u ≡ Passed)
   where
     -- With no findings every break and continue has its target: the second half of refusal 9 is never met.

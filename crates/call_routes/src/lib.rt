@@ -1,10 +1,10 @@
-// The public calls `code` and `route`: refusals 1 to 9, 11 and 12, or the flat code of a unit, or its route.
+// The public calls `code` and `route`: refusals 1 to 9 and 11 to 14, or the flat code of a unit, or its route.
 ghost use mathlib.Core.Path.{_≡_};
 ghost use Prim.Native.Nat.{_*_, _≤_};
 ghost use lib.ListN.{length, take};
 ghost use Rattle.table_records.specs.Table.{count};
 ghost use Rattle.table_records.specs.Facts.{Tree};
-ghost use Rattle.refusal_input.specs.Input.{WellFormed};
+ghost use Rattle.refusal_input.specs.WellFormed.{WellFormed};
 ghost use Rattle.route_completion.specs.Route.{route as routeOf};
 ghost use Rattle.code_flat.specs.Code.{unit as codeOf};
 ghost use Rattle.code_stores.specs.Over.{over};
@@ -14,6 +14,7 @@ ghost use Rattle.code_maker.specs.Ready.{Ready};
 ghost use Rattle.refusal_state.specs.Targets.{refusedOr, stateAnswer};
 ghost use Rattle.call_routes.specs.Calls.{roomRefusal, codeRefusal, codeAnswer, codeSlice, routeAnswer, routeSlice};
 use refusal_verdict::Verdict;
+use refusal_verdict::refusals;
 use route_viewer::Routed;
 use table_records::NodeId;
 
@@ -29,7 +30,7 @@ fn room_refusal(nodes: &[u32], len: usize) -> Verdict
     ensures { λ r. ⌜ r ≡ roomRefusal (now (nodes .entry)) len ⌝ }
 {
     if len < 16 * table_records::wide(table_records::size(nodes)) {
-        return Verdict::Refused(11, 0);
+        return Verdict::Refused(refusals::CODE_SLICE, 0);
     }
     Verdict::Passed
 }
@@ -66,7 +67,7 @@ fn refusal(
 ) -> Verdict
     ensures { λ r. ⌜ r ≡ codeRefusal «source_type» (now (nodes .entry)) (now (scopes .entry)) (now (source .entry)) (now (names .entry)) unit len ⌝ }
 {
-    let verdict = refusal_wellformed::refusal(source_type, nodes, scopes, source, names);
+    let verdict = refusal_input::refusal(source_type, nodes, scopes, source, names);
     match verdict {
         Verdict::Refused(_, _) => verdict,
         Verdict::Passed => later_refusal(source_type, nodes, scopes, source, names, unit, len),

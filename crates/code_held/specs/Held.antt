@@ -18,7 +18,7 @@ use Rattle.table_children.specs.ChildrenLaws.{found-child, number}
 use Rattle.route_completion.specs.Tree.{NoTryAll}
 use Rattle.route_completion.specs.Route.{Once, nodesOfAll}
 use Rattle.code_unit.specs.Unit.{holderOf, unitBy, unitOf}
-use Rattle.refusal_input.specs.Input.{WellFormed}
+use Rattle.refusal_input.specs.WellFormed.{WellFormed}
 use Rattle.code_words.specs.Held.{Good, Held}
 use Rattle.code_held.specs.Kinds.{Holds, block-shape}
 use Rattle.code_held.specs.Parts.{shaped-parts}

@@ -20,7 +20,7 @@ use Rattle.table_records.specs.declared.Found.the-variants.{At}
 use Rattle.table_children.specs.Children.{keep, children, isNode}
 use Rattle.table_ancestry.specs.AncestryLaws.{parent-in}
 use Rattle.refusal_fields.specs.Fields.{Listed}
-use Rattle.refusal_shape.specs.Shape.{Shaped}
+use Rattle.refusal_input.specs.WellFormed.{Shaped}
 use Rattle.ecma_trees.specs.Trail.{unitOf}
 use Rattle.ecma_classes.specs.ListLaws.{in-kept, upto-in}
 use Rattle.ecma_classes.specs.ClassElements.{elementsIn, classElements, namesConstructor, constructorTwice, isConstructorKind, constructorMethod, isFirstConstructor}

@@ -26,7 +26,7 @@ use Rattle.table_children.specs.ChildrenLaws.{keep-keep, found-child, tally, ta
 use Rattle.table_ancestry.specs.Ancestry.{nearestOf}
 use Rattle.table_ancestry.specs.AncestryLaws.{ancestors-up, ancestors-root}
 use Rattle.refusal_fields.specs.Fields.{Listed}
-use Rattle.refusal_shape.specs.Shape.{Shaped}
+use Rattle.refusal_input.specs.WellFormed.{Shaped}
 use Rattle.ecma_trees.specs.Rose.{Rose, Roses, node, rnil, rcons, treeOf}
 use Rattle.ecma_trees.specs.Walk.{each, walk, walkAll, some, only}
 use Rattle.ecma_trees.specs.WalkLaws.{foldIs, someAppend, someOnly}

@@ -22,7 +22,7 @@ use Rattle.check_diagnostics.specs.Contexts as context
 use Rattle.check_class_table.specs.Classes.{classesOf}
 use Rattle.check_duplicates.specs.Duplicates.{duplicatesIn, duplicateElements}
 use Rattle.check_dispatch.specs.Findings.{findingsAt, findingsOf}
-use Rattle.refusal_input.specs.Input.{WellFormed}
+use Rattle.refusal_input.specs.WellFormed.{WellFormed}
 use Rattle.ecma_dispatch.specs.WithCode.{withCode}
 use Rattle.ecma_dispatch.specs.Dispatch.{wholeOne, wholeOther}
 use Rattle.ecma_dispatch.specs.NodesOf.{raised}

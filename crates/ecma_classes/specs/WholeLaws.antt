@@ -20,7 +20,7 @@ use Rattle.table_records.specs.declared.Found.the-variants.{At, Nothing}
 use Rattle.table_children.specs.Children.{keep, classBodyOf, found}
 use Rattle.check_class_table.specs.ClassesLaws.{within-one, over}
 use Rattle.refusal_fields.specs.Fields.{Listed}
-use Rattle.refusal_shape.specs.Shape.{Shaped}
+use Rattle.refusal_input.specs.WellFormed.{Shaped}
 use Rattle.ecma_trees.specs.Walk.{some, only}
 use Rattle.ecma_trees.specs.WalkLaws.{someAppend, someEach, someOnly}
 use Rattle.ecma_trees.specs.Trail.{unitOf}

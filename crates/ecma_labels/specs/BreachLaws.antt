@@ -11,7 +11,7 @@ use Rattle.base_common.specs.Upto.{upto}
 use Rattle.base_common.specs.Bools.{in-range, range-of}
 use Rattle.table_records.specs.Table.{kindOf, count}
 use Rattle.table_records.specs.Facts.{Tree}
-use Rattle.refusal_shape.specs.Shape.{Shaped}
+use Rattle.refusal_input.specs.WellFormed.{Shaped}
 use Rattle.ecma_trees.specs.Rose.{Roses, node, partsOf, treeOf}
 use Rattle.ecma_trees.specs.Walk.{each, some, Says, only}
 use Rattle.ecma_trees.specs.Unit.{lists, broken}

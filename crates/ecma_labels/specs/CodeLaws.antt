@@ -17,7 +17,7 @@ use Rattle.table_records.specs.declared.Found.{Found}
 use Rattle.table_records.specs.declared.Found.the-variants.{At, Nothing}
 use Rattle.table_names.specs.Name.{nameOf, has}
 use Rattle.table_children.specs.Children.{keep, labelOf}
-use Rattle.refusal_shape.specs.Shape.{Shaped}
+use Rattle.refusal_input.specs.WellFormed.{Shaped}
 use Rattle.check_diagnostics.specs.declared.Raised.{Raised}
 use Rattle.check_diagnostics.specs.declared.Raised.the-variants.{Clear}
 use Rattle.check_diagnostics.specs.Finding.{listed, errorAt, errorBetween}

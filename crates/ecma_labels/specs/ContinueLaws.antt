@@ -14,7 +14,7 @@ use Rattle.table_records.specs.declared.Found.the-variants.{At, Nothing}
 use Rattle.table_names.specs.Name.{same, nameOf, has}
 use Rattle.table_names.specs.NameLaws.{same-eq}
 use Rattle.table_children.specs.Children.{labelOf}
-use Rattle.refusal_shape.specs.Shape.{Shaped}
+use Rattle.refusal_input.specs.WellFormed.{Shaped}
 use Rattle.check_diagnostics.specs.declared.Raised.{Raised}
 use Rattle.check_diagnostics.specs.declared.Raised.the-variants.{Error, Clear}
 use Rattle.check_diagnostics.specs.Finding.{errorAt, errorBetween}

@@ -19,7 +19,7 @@ use Rattle.table_records.specs.declared.Found.the-variants.{At, Nothing}
 use Rattle.table_names.specs.Name.{same, nameOf, has}
 use Rattle.table_names.specs.NameLaws.{same-eq}
 use Rattle.table_children.specs.Children.{labelOf}
-use Rattle.refusal_shape.specs.Shape.{Shaped}
+use Rattle.refusal_input.specs.WellFormed.{Shaped}
 use Rattle.check_dispatch.specs.Findings.{findingsAt}
 use Rattle.ecma_dispatch.specs.NodesOf.{raised}
 use Rattle.ecma_trees.specs.Rose.{partsOf}

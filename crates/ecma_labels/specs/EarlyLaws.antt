@@ -11,7 +11,7 @@ use native.Mathlib.Omega.{arith}
 use Rattle.base_common.specs.Upto.{upto}
 use Rattle.table_records.specs.Table.{count}
 use Rattle.table_records.specs.Facts.{Tree}
-use Rattle.refusal_shape.specs.Shape.{Shaped}
+use Rattle.refusal_input.specs.WellFormed.{Shaped}
 use Rattle.check_diagnostics.specs.declared.Finding.{Finding}
 use Rattle.check_dispatch.specs.Findings.{findingsAt}
 use Rattle.ecma_dispatch.specs.WithCode.{withCode}

@@ -16,7 +16,7 @@ use Rattle.table_records.specs.declared.Found.the-variants.{At, Nothing}
 use Rattle.table_children.specs.Children.{isChild, fits, firstNode, nextChild, howMany, labelOf, heldOf}
 use Rattle.table_children.specs.ChildrenLaws.{tally, tally-all, tally-turn, node-on, node-stop}
 use Rattle.refusal_standing.specs.Standing.{isStatement, isHolder}
-use Rattle.refusal_shape.specs.Shape.{Shaped}
+use Rattle.refusal_input.specs.WellFormed.{Shaped}
 use Rattle.ecma_trees.specs.Rose.{Roses, node, rnil, rcons, idx, foldParts, partsOf}
 use Rattle.ecma_trees.specs.RoseLaws.{foldPartsIs, partsPlaced, PlacedAll}
 use Rattle.ecma_trees.specs.Walk.{only}

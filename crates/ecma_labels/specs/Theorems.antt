@@ -14,7 +14,7 @@ use Rattle.table_records.specs.Table.{kindOf, count}
 use Rattle.table_records.specs.Kinds as k
 use Rattle.table_ancestry.specs.AncestryLaws.{ancestors-root}
 use Rattle.table_children.specs.Children.{keep}
-use Rattle.refusal_input.specs.Input.{WellFormed}
+use Rattle.refusal_input.specs.WellFormed.{WellFormed}
 use Rattle.check_diagnostics.specs.declared.Finding.{Finding}
 use Rattle.check_dispatch.specs.Findings.{findingsAt, findingsOf}
 use Rattle.ecma_dispatch.specs.WithCode.{withCode}

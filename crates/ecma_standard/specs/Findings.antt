@@ -1,4 +1,4 @@
--- THE FINDINGS BY THE RULES THAT THE RUST KEEPS, all codes together: of tables that none of refusals 1 to 6 turns down, the nodes that raise each code, in order, are those at which the rule is
+-- THE FINDINGS BY THE RULES THAT THE RUST KEEPS, all codes together: of well-formed tables, the nodes that raise each code, in order, are those at which the rule is
 -- broken, one finding for each breach. 4, 15, 17, 18, 23, 26 and 31 are the standard's own rules; the others are the changed rules that docs/DIFFERENCES.md names with what differs. Standard.antt states the
 -- same by the standard's rules. 28 to 30 are stated of all such tables by the Rust's search through the scopes, and by the units in the tree where the scopes follow the tree.
 -- Spans, contexts and the order between codes are those of `findingsOf` (crates/check_dispatch), which the calls equal to the last number.
@@ -10,8 +10,8 @@ use Rattle.base_common.specs.Upto.{upto}
 use Rattle.table_records.specs.Table.{count}
 use Rattle.table_children.specs.Children.{keep}
 use Rattle.refusal_verdict.specs.declared.Verdict.the-variants.{Passed}
-use Rattle.refusal_wellformed.specs.WellFormed.{inputRefusal}
-use Rattle.refusal_wellformed.specs.WellFormedLaws.{input-well-formed}
+use Rattle.refusal_input.specs.Input.{inputRefusal}
+use Rattle.refusal_input.specs.InputLaws.{input-well-formed}
 use Rattle.check_dispatch.specs.Findings.{findingsOf}
 use Rattle.ecma_dispatch.specs.WithCode.{withCode}
 use Rattle.ecma_dispatch.specs.NodesOf.{raised}

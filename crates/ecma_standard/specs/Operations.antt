@@ -14,8 +14,8 @@ use Rattle.table_records.specs.declared.Found.the-variants.{At}
 use Rattle.table_children.specs.Children.{functionBodyOf, classBodyOf}
 use Rattle.check_diagnostics.specs.declared.Finding.{Finding}
 use Rattle.refusal_verdict.specs.declared.Verdict.the-variants.{Passed}
-use Rattle.refusal_wellformed.specs.WellFormed.{inputRefusal}
-use Rattle.refusal_wellformed.specs.WellFormedLaws.{input-well-formed}
+use Rattle.refusal_input.specs.Input.{inputRefusal}
+use Rattle.refusal_input.specs.InputLaws.{input-well-formed}
 use Rattle.check_dispatch.specs.Findings.{findingsAt, findingsOf}
 use Rattle.ecma_trees.specs.Rose.{partsOf, marksAll}
 use Rattle.ecma_trees.specs.Walk.{each, some, Says}

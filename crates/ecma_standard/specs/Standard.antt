@@ -1,4 +1,4 @@
--- THE FINDINGS AGAINST THE RULES OF ECMA-262 THEMSELVES, all codes together: of tables that none of refusals 1 to 6 turns down, for every telling of the functions that are async or generators.
+-- THE FINDINGS AGAINST THE RULES OF ECMA-262 THEMSELVES, all codes together: of well-formed tables, for every telling of the functions that are async or generators.
 -- Where a field has a condition, that is a named one (Changed.antt of each crate; docs/DIFFERENCES.md has a row for each, and a text where there is one); where it does not hold the Rust keeps another rule, which
 -- Findings.antt states of all tables. Operations.antt has the standard's operations of units.
 use Prim.Native.Nat.{ℕ, _<_}
@@ -14,8 +14,8 @@ use Rattle.table_records.specs.Kinds as k
 use Rattle.table_children.specs.Children.{keep, found}
 use Rattle.check_diagnostics.specs.declared.Finding.{Finding}
 use Rattle.refusal_verdict.specs.declared.Verdict.the-variants.{Passed}
-use Rattle.refusal_wellformed.specs.WellFormed.{inputRefusal}
-use Rattle.refusal_wellformed.specs.WellFormedLaws.{input-well-formed}
+use Rattle.refusal_input.specs.Input.{inputRefusal}
+use Rattle.refusal_input.specs.InputLaws.{input-well-formed}
 use Rattle.check_dispatch.specs.Findings.{findingsAt, findingsOf}
 use Rattle.ecma_trees.specs.Walk.{some, only, Says}
 use Rattle.ecma_trees.specs.Unit.{homeOf}

@@ -21,7 +21,7 @@ use Rattle.table_children.specs.Children.{keep, howMany, isChild, firstNode, he
 use Rattle.table_children.specs.ChildrenLaws.{child-other, tally, tally-all}
 use Rattle.refusal_fields.specs.Fields.{Listed}
 use Rattle.refusal_standing.specs.Standing.{isStatement}
-use Rattle.refusal_shape.specs.Shape.{Shaped}
+use Rattle.refusal_input.specs.WellFormed.{Shaped}
 use Rattle.ecma_trees.specs.Rose.{Rose, Roses, node, rnil, rcons, idx, partsOf, foldParts}
 use Rattle.ecma_trees.specs.RoseLaws.{Under, Placed, PlacedAll, Whole, WholeAll, partsPlaced, partsWhole, foldPartsIs}
 use Rattle.ecma_base.specs.Contains.{contains, containsAny, containsIn}

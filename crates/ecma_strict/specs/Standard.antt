@@ -12,7 +12,7 @@ use Rattle.table_records.specs.Table.{kindOf, parentOf, count, extraOf}
 use Rattle.table_records.specs.Kinds as k
 use Rattle.table_records.specs.Extras as extra
 use Rattle.check_dispatch.specs.Findings.{findingsAt}
-use Rattle.refusal_input.specs.Input.{WellFormed}
+use Rattle.refusal_input.specs.WellFormed.{WellFormed}
 use Rattle.ecma_trees.specs.Walk.{some, only}
 use Rattle.ecma_trees.specs.Trail.{unitOf}
 use Rattle.ecma_dispatch.specs.NodesOf.{raised}

@@ -21,10 +21,10 @@ use Rattle.check_identifiers.specs.Identifiers.{checkIdentifier, checkBindingId
 use Rattle.check_literals.specs.Literals.{checkNumberLiteral, checkStringLiteral}
 use Rattle.check_expressions.specs.Expressions.{checkUnaryExpression, inParameter, inBlock}
 use Rattle.check_dispatch.specs.Findings.{findingsAt, findingsOf}
-use Rattle.refusal_input.specs.Input.{WellFormed}
+use Rattle.refusal_input.specs.WellFormed.{WellFormed}
 use Rattle.refusal_verdict.specs.declared.Verdict.the-variants.{Passed}
-use Rattle.refusal_wellformed.specs.WellFormed.{inputRefusal}
-use Rattle.refusal_wellformed.specs.WellFormedLaws.{input-well-formed}
+use Rattle.refusal_input.specs.Input.{inputRefusal}
+use Rattle.refusal_input.specs.InputLaws.{input-well-formed}
 use Rattle.ecma_trees.specs.Walk.{each, only}
 use Rattle.ecma_dispatch.specs.WithCode.{withCode}
 use Rattle.ecma_dispatch.specs.Dispatch.{at2, at3, at4, at5, at6, at9, at10, at11, at12, at13, at14, at15, at16, at17, at24, at25, at31, at32, at33}
@@ -320,6 +320,6 @@ earlyErrors t ns ss source names w = record {
   awaitOrYieldInParameters = wholeIs 33 t ns ss source names (λ n. only (awaitInParameterSaid ns n) n) refl (code33 t ns ss source names w);
 }
 
--- Tables that none of the refusals 1 to 6 turns down are well-formed.
+-- The same of tables that no refusal of the input turns down.
 pub earlyErrorsOf : (t : ℕ) (ns ss source names : List ℕ) → inputRefusal t ns ss source names ≡ Passed → EarlyErrors t ns ss source names
 earlyErrorsOf t ns ss source names e = earlyErrors t ns ss source names (input-well-formed t ns ss source names e)

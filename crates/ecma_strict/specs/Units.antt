@@ -20,7 +20,7 @@ use Rattle.table_names.specs.Name.{nameIs}
 use Rattle.table_names.specs.Words as word
 use Rattle.table_scoping.specs.Scoping.{inStaticBlock}
 use Rattle.check_dispatch.specs.Findings.{findingsAt}
-use Rattle.refusal_input.specs.Input.{WellFormed}
+use Rattle.refusal_input.specs.WellFormed.{WellFormed}
 use Rattle.ecma_trees.specs.Rose.{partsOf, marksAll}
 use Rattle.ecma_trees.specs.Walk.{each, some, only}
 use Rattle.ecma_trees.specs.WalkLaws.{someAppend, someOnly, eachSame}

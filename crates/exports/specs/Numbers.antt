@@ -3,6 +3,7 @@ use Rattle.call_check.specs.declared.Checked.{Checked}
 use Rattle.call_check.specs.declared.Checked.the-variants as checked
 use Rattle.call_routes.specs.declared.Coded.{Coded}
 use Rattle.call_routes.specs.declared.Coded.the-variants as coded
+use Rattle.refusal_verdict.specs.Refusals as refusals
 use Rattle.route_viewer.specs.declared.Routed.{Routed}
 use Rattle.route_viewer.specs.declared.Routed.the-variants as routed
 use Rattle.exports.specs.declared.CheckAnswer.{CheckAnswer}
@@ -12,7 +13,7 @@ use Rattle.exports.specs.declared.RouteAnswer.{RouteAnswer}
 abbrev pub checkNumbers : Checked → CheckAnswer
 checkNumbers (checked.Findings n) = record { refusal = 0; place = 0; findings = n; needed = 0 }
 checkNumbers (checked.Refused number place) = record { refusal = number; place = place; findings = 0; needed = 0 }
-checkNumbers (checked.Short needed) = record { refusal = 10; place = 0; findings = 0; needed = needed }
+checkNumbers (checked.Short needed) = record { refusal = refusals.FindingsSlice; place = 0; findings = 0; needed = needed }
 
 abbrev pub codeNumbers : Coded → CodeAnswer
 codeNumbers (coded.Code n) = record { refusal = 0; place = 0; length = n }
@@ -21,4 +22,4 @@ codeNumbers (coded.Refused number place) = record { refusal = number; place = pl
 abbrev pub routeNumbers : Routed → RouteAnswer
 routeNumbers (routed.Route end entries taken) = record { refusal = 0; place = 0; entries = entries; needed = 0; taken = taken; end = end }
 routeNumbers (routed.Refused number place) = record { refusal = number; place = place; entries = 0; needed = 0; taken = 0; end = 0 }
-routeNumbers (routed.Short needed) = record { refusal = 12; place = 0; entries = 0; needed = needed; taken = 0; end = 0 }
+routeNumbers (routed.Short needed) = record { refusal = refusals.RouteSlice; place = 0; entries = 0; needed = needed; taken = 0; end = 0 }

@@ -6,6 +6,7 @@ ghost use Rattle.call_routes.specs.Calls.{codeAnswer, codeSlice, routeAnswer, r
 ghost use Rattle.exports.specs.Numbers.{checkNumbers, codeNumbers, routeNumbers};
 use call_check::Checked;
 use call_routes::Coded;
+use refusal_verdict::refusals;
 use route_viewer::Routed;
 
 // A check's answer: the refusal's number (0 where there is none) and place, how many findings were written, and after 10 the length needed.
@@ -53,7 +54,7 @@ fn check_numbers(answer: Checked) -> CheckAnswer
             needed: 0,
         },
         Checked::Short(needed) => CheckAnswer {
-            refusal: 10,
+            refusal: refusals::FINDINGS_SLICE,
             place: 0,
             findings: 0,
             needed: needed as u64,
@@ -132,7 +133,7 @@ fn route_numbers(answer: Routed) -> RouteAnswer
             end: 0,
         },
         Routed::Short(needed) => RouteAnswer {
-            refusal: 12,
+            refusal: refusals::ROUTE_SLICE,
             place: 0,
             entries: 0,
             needed: needed,

@@ -4,6 +4,7 @@ use Prim.Native.Nat.{ℕ, zero, suc, _*_, _≤_}
 use mathlib.Core.List.{List, [], _∷_, _++_}
 use lib.ListN.{length, take, drop}
 use Rattle.line_print.specs.Print.{lineOf}
+use Rattle.refusal_verdict.specs.Refusals as refusal
 use Rattle.call_check.specs.declared.Checked.{Checked}
 use Rattle.call_check.specs.declared.Checked.the-variants.{Findings, Refused, Short}
 
@@ -24,7 +25,7 @@ refusalText number place = lineOf 82 (number ∷ place ∷ [])
 unfoldable pub answerText : Checked → List ℕ → List ℕ
 answerText (Findings n) l = findingsText n l
 answerText (Refused number place) l = refusalText number place
-answerText (Short needed) l = refusalText 10 0
+answerText (Short needed) l = refusalText refusal.FindingsSlice 0
 
 -- the findings that an answer counts stand in a slice of this length
 abbrev pub Counted : Checked → ℕ → Type 0

@@ -10,6 +10,7 @@ use Rattle.base_common.specs.WroteLaws.{wrote-start, wrote-put, length-put}
 use Rattle.line_digits.specs.Writes.{put-put}
 use Rattle.line_print.specs.Print.{lineOf}
 use Rattle.line_print.specs.PrintLaws.{line-numbers}
+use Rattle.refusal_verdict.specs.Refusals as refusal
 use Rattle.call_check.specs.declared.Checked.{Checked}
 use Rattle.call_check.specs.declared.Checked.the-variants.{Findings, Refused, Short}
 use Rattle.line_answers.specs.Answer.{findingLines, findingsText, refusalText, answerText, Counted}
@@ -119,6 +120,6 @@ module _ (r : Checked) (l : List ℕ) where
   unfolding answerText
   text-refused number place e = rw e
 
-  pub text-short : (needed : ℕ) → r ≡ Short needed → answerText r l ≡ refusalText 10 0
+  pub text-short : (needed : ℕ) → r ≡ Short needed → answerText r l ≡ refusalText refusal.FindingsSlice 0
   unfolding answerText
   text-short needed e = rw e

@@ -6,6 +6,7 @@ ghost use Rattle.base_common.specs.Wrote.{put};
 ghost use Rattle.line_print.specs.Print.{lineOf};
 ghost use Rattle.line_answers.specs.Answer.{findingLines, findingsText, refusalText, answerText, Counted};
 use call_check::Checked;
+use refusal_verdict::refusals;
 
 // Writes the line of the finding that starts at `at`, from place w on. Says where it ends.
 fn put_finding(findings: &[u32], at: usize, out: &mut [u8], w: usize) -> usize
@@ -62,6 +63,6 @@ pub fn answer_text(answer: Checked, findings: &[u32], out: &mut [u8]) -> usize
     match answer {
         Checked::Findings(count) => findings_text(findings, count, out),
         Checked::Refused(number, place) => refusal_text(number, place, out),
-        Checked::Short(_) => refusal_text(10, 0, out),
+        Checked::Short(_) => refusal_text(refusals::FINDINGS_SLICE, 0, out),
     }
 }

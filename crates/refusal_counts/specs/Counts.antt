@@ -1,5 +1,5 @@
--- Which node has a wrong number of children: document 01, refusal 6, "parent with a wrong count". Each sentence stands above the definition that
--- writes it down. That a child with a role is of the kind that the sentence names is the business of "misplaced child".
+-- Refusal 14, a wrong count: document 02, "A child missing or too many", at the parent. Each sentence of document 01 (its refusal 6, "parent with a wrong count") stands above the
+-- definition that writes it down. That a child with a role is of the kind that the sentence names is the business of 13, which comes first over the whole tree.
 use Prim.Native.Nat.{ℕ, _+_, _≤_, _<_}
 use mathlib.Core.Path.{_≡_}
 use mathlib.Core.List.{List}

@@ -1,4 +1,4 @@
-// Refusal 6, "parent with a wrong count": a child missing or too many. A count reads the nodes below the node, and only where its kind has a count.
+// Refusal 14, a wrong count: a child missing or too many. A count reads the nodes below the node, and only where its kind has a count.
 ghost use mathlib.Core.Path.{_≡_};
 ghost use Prim.Native.Nat.{_<_};
 ghost use Rattle.table_records.specs.Table.{count};

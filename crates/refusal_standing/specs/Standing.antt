@@ -1,4 +1,5 @@
--- Which child is misplaced: document 01, refusal 6, "misplaced child". Each sentence stands above the definition that writes it down.
+-- Refusal 13, a misplaced child: document 02, "A node under a parent that may not hold it, or of a kind or role that this parent doesn't take". Each sentence of document 01
+-- (its refusal 6, "misplaced child") stands above the definition that writes it down.
 -- A child is judged by its kind, its role and the kind of its parent, called `above`.
 use Prim.Native.Nat.{ℕ, _≤_, _<_}
 use mathlib.Core.Path.{_≡_}

@@ -1,4 +1,4 @@
-// Refusal 6, "misplaced child": where a node of a kind and a role may stand. `above` is the kind of its parent.
+// Refusal 13, a misplaced child: where a node of a kind and a role may stand. `above` is the kind of its parent.
 ghost use mathlib.Core.Path.{_≡_};
 ghost use Prim.Native.Nat.{_<_};
 ghost use Rattle.table_records.specs.Table.{count};

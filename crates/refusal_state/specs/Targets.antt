@@ -13,6 +13,7 @@ use Rattle.refusal_verdict.specs.declared.Place.{Place}
 use Rattle.refusal_verdict.specs.declared.Place.the-variants.{Here}
 use Rattle.refusal_verdict.specs.declared.Verdict.{Verdict}
 use Rattle.refusal_verdict.specs.declared.Verdict.the-variants.{Refused, Passed}
+use Rattle.refusal_verdict.specs.Refusals as refusal
 use Rattle.refusal_verdict.specs.Verdict.{orNext}
 use Rattle.check_diagnostics.specs.declared.Finding.{Finding}
 use Rattle.check_jumps.specs.Jumps.{isUnit, isIteration, isBreakable, whenFound, sameLabel, labeledItem}
@@ -82,11 +83,11 @@ statePlace sourceType ns ss source names = findingOr (findingsOf sourceType ns s
 
 -- 7, 8 and 9 in their order: "The lowest number wins"; "7 and 8 give the unit's number".
 unfoldable pub unitRefusal : List ℕ → ℕ → Verdict
-unitRefusal ns u = cond (namesUnit ns u) (cond (holdsTry ns u) (Refused 8 u) Passed) (Refused 7 u)
+unitRefusal ns u = cond (namesUnit ns u) (cond (holdsTry ns u) (Refused refusal.Try u) Passed) (Refused refusal.Unit u)
 
 abbrev pub refusedOr : Verdict → Verdict → Verdict
 refusedOr (Refused number place) r = Refused number place
 refusedOr Passed r = r
 
 unfoldable pub stateAnswer : ℕ → List ℕ → List ℕ → List ℕ → List ℕ → ℕ → Verdict
-stateAnswer sourceType ns ss source names u = refusedOr (unitRefusal ns u) (orNext 9 (statePlace sourceType ns ss source names) Passed)
+stateAnswer sourceType ns ss source names u = refusedOr (unitRefusal ns u) (orNext refusal.Findings (statePlace sourceType ns ss source names) Passed)

@@ -28,6 +28,7 @@ use Rattle.refusal_verdict.specs.declared.Place.{Place}
 use Rattle.refusal_verdict.specs.declared.Place.the-variants.{Here, Nowhere}
 use Rattle.refusal_verdict.specs.declared.Verdict.{Verdict}
 use Rattle.refusal_verdict.specs.declared.Verdict.the-variants.{Refused, Passed}
+use Rattle.refusal_verdict.specs.Refusals as refusal
 use Rattle.refusal_verdict.specs.Verdict.{orNext}
 use Rattle.refusal_verdict.specs.VerdictLaws.{no-pass, passed}
 use Rattle.check_diagnostics.specs.declared.Finding.{Finding}
@@ -293,19 +294,19 @@ unit-passed : (ns : List ℕ) (u : ℕ) → unitRefusal ns u ≡ Passed → (nam
 unfolding unitRefusal
 unit-passed ns u = go (namesUnit ns u) (holdsTry ns u)
   where
-    go : (x y : Bool) → cond x (cond y (Refused 8 u) Passed) (Refused 7 u) ≡ Passed → (x ≡ true) × (y ≡ false)
-    go true true e = no-pass 8 u e
+    go : (x y : Bool) → cond x (cond y (Refused refusal.Try u) Passed) (Refused refusal.Unit u) ≡ Passed → (x ≡ true) × (y ≡ false)
+    go true true e = no-pass refusal.Try u e
     go true false e = (refl, refl)
-    go false y e = no-pass 7 u e
+    go false y e = no-pass refusal.Unit u e
 
 pub state-passed : (sourceType : ℕ) (ns ss source names : List ℕ) (u : ℕ) → stateAnswer sourceType ns ss source names u ≡ Passed → Sound sourceType ns ss source names u
 unfolding stateAnswer statePlace namesUnit
 state-passed sourceType ns ss source names u e =
-    let w = refused-or (unitRefusal ns u) (orNext 9 (statePlace sourceType ns ss source names) Passed) e in
+    let w = refused-or (unitRefusal ns u) (orNext refusal.Findings (statePlace sourceType ns ss source names) Passed) e in
     let v = unit-passed ns u (w .0) in
     record {
       below = ltb-true u (count ns) (and-left (ltb u (count ns)) (isUnit (kindOf ns u)) (v .0));
       unit = and-right (ltb u (count ns)) (isUnit (kindOf ns u)) (v .0);
       noTry = v .1;
-      clear = no-finding (findingsOf sourceType ns ss source names) (first (lostAt ns names) 0 (count ns)) (passed 9 (statePlace sourceType ns ss source names) Passed (w .1) .0);
+      clear = no-finding (findingsOf sourceType ns ss source names) (first (lostAt ns names) 0 (count ns)) (passed refusal.Findings (statePlace sourceType ns ss source names) Passed (w .1) .0);
     }

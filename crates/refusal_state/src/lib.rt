@@ -8,6 +8,7 @@ use base_common::or;
 use base_common::within;
 use refusal_verdict::Place;
 use refusal_verdict::Verdict;
+use refusal_verdict::refusals;
 use table_records::NodeId;
 use table_records::kinds;
 
@@ -90,10 +91,10 @@ pub fn unit_refusal(nodes: &[u32], u: u32) -> Verdict
     ensures { λ r. ⌜ r ≡ unitRefusal (now (nodes .entry)) u ⌝ }
 {
     if !names_unit(nodes, u) {
-        return Verdict::Refused(7, u);
+        return Verdict::Refused(refusals::UNIT, u);
     }
     if holds_try(nodes, NodeId(u)) {
-        return Verdict::Refused(8, u);
+        return Verdict::Refused(refusals::TRY, u);
     }
     Verdict::Passed
 }
@@ -135,7 +136,7 @@ pub fn state_refusal(
     match verdict {
         Verdict::Refused(_, _) => verdict,
         Verdict::Passed => match state_place(source_type, nodes, scopes, source, names) {
-            Place::Here(n) => Verdict::Refused(9, n),
+            Place::Here(n) => Verdict::Refused(refusals::FINDINGS, n),
             Place::Nowhere => Verdict::Passed,
         },
     }

@@ -1,5 +1,5 @@
-// Refusals 1 to 6 on tables made by hand, each sentence of document 01 with one that just passes and one that just fails. `stdout` has what document 01
-// says of each: its number and place, or "passed". A node is written as its kind, two digits of its parent and its role: 33_01_6; 1 before them is flag 4096.
+// The refusals of the input on tables made by hand, each sentence of documents 01 and 02 with one that just passes and one that just fails. `stdout` has
+// what they say of each: its number and place, or "passed". A node is written as its kind, two digits of its parent and its role: 33_01_6; 1 before them is flag 4096.
 ghost use Prim.Native.Nat.{_<_};
 use libc::STDOUT_FILENO;
 use refusal_verdict::Verdict;
@@ -186,18 +186,50 @@ fn scopes_of_nodes() {
     change(b"class scope missing", &[26_00_3, 27_01_0], 1, 7, 2);
 }
 
-// The lowest number wins, then the lowest place.
+// 1, 2, 3, 4, 5, 13, 14, 6: each over the whole tree, at its lowest place.
 fn order() {
     shape(b"2 at 2 before 3 at 1", &[0_00_0, 56_00_0]);
     shape(b"2 at 1 before 2 at 2", &[56_00_0, 56_00_0]);
     change(b"3 before 4", &[55_00_0, 0_00_0], 1, 4, 5);
-    change(b"4 before 6", &[10_00_3, 55_00_0], 2, 4, 5);
-    change(b"5 before 6", &[10_00_3, 55_00_0], 2, 5, 2);
-    shape(b"6 at the lowest node", &[55_00_0, 10_00_3, 5_00_0, 5_00_0]);
-    shape(b"a child before a later parent", &[5_00_0, 10_00_3]);
+    change(b"4 before 14", &[10_00_3, 55_00_0], 2, 4, 5);
+    change(b"5 before 13", &[5_00_0, 55_00_0], 2, 5, 2);
+    change(b"5 before 14", &[10_00_3, 55_00_0], 2, 5, 2);
 }
 
-// 6. Kinds 5-14, 16 and 18-22 have role 3, 4 or 5 under a holder: 0, 3-13, 15-17.
+fn order_of_shape() {
+    shape(
+        b"13 at 3 before 13 at 4 and 14 at 2",
+        &[55_00_0, 10_00_3, 5_00_0, 5_00_0],
+    );
+    shape(b"13 at 1 before 14 at 2", &[5_00_0, 10_00_3]);
+    shape(
+        b"13 at a child before 14 at its parent",
+        &[10_00_3, 22_01_3, 55_01_3],
+    );
+    shape(b"14 at 2 before 14 at 3", &[55_00_0, 10_00_3, 10_00_3]);
+    judge(b"13 before 6", &[22_00_3, 37_01_0, 5_00_0], 170, 0, 1, 4);
+    judge(b"14 before 6", &[22_00_3, 37_01_0, 10_00_3], 170, 0, 1, 4);
+}
+
+// 6. A walk that the Rust ends in a failure, at its Super: above the Program, whose scope is here a function's; at a class's scope without an element.
+fn walks() {
+    shape(b"Super outside any function", &[22_00_3, 37_01_0]);
+    judge(b"above the Program", &[22_00_3, 37_01_0], 170, 0, 1, 4);
+    judge(
+        b"the lower of two",
+        &[22_00_3, 37_01_0, 37_01_0],
+        170,
+        0,
+        1,
+        4,
+    );
+    shape(
+        b"class scope without an element",
+        &[26_00_3, 27_01_0, 3_02_0, 22_03_3, 37_04_0],
+    );
+}
+
+// 13. Kinds 5-14, 16 and 18-22 have role 3, 4 or 5 under a holder: 0, 3-13, 15-17.
 fn statements() {
     shape(b"Block, role 3", &[5_00_3]);
     shape(b"Block, role 2", &[5_00_2]);
@@ -211,7 +243,7 @@ fn statements() {
     shape(b"under an expression", &[55_00_0, 19_01_3]);
 }
 
-// 6. Kinds 1, 24, 26, 53 and 54 may, and are statements then. No other kind has these roles there, but 17 under Try.
+// 13. Kinds 1, 24, 26, 53 and 54 may, and are statements then. No other kind has these roles there, but 17 under Try.
 fn other_kinds() {
     shape(b"Function held", &[1_00_3]);
     shape(b"Function not held", &[1_00_0]);
@@ -225,7 +257,7 @@ fn other_kinds() {
     shape(b"expression held by one", &[55_00_0, 55_01_3]);
 }
 
-// 6. Kinds 6-11 and 13 hold exactly one statement with role 3, If one and at most one with role 4; else only Try holds roles 4 and 5.
+// 14, and 13 at the last. Kinds 6-11 and 13 hold exactly one statement with role 3, If one and at most one with role 4; else only Try holds roles 4 and 5.
 fn bodies() {
     shape(b"While with a body", &[10_00_3, 22_01_3]);
     shape(b"While without", &[10_00_3]);
@@ -245,7 +277,7 @@ fn bodies() {
     shape(b"expression with role 4", &[55_00_0, 55_01_4]);
 }
 
-// 6. Switch holds only SwitchCase with role 3, at most one with flag 4096. A SwitchCase stands only there.
+// 13, 14. Switch holds only SwitchCase with role 3, at most one with flag 4096. A SwitchCase stands only there.
 fn switches() {
     shape(b"Switch with no case", &[14_00_3]);
     shape(b"one default", &[14_00_3, 15_01_3, 1_15_01_3]);
@@ -260,7 +292,7 @@ fn switches() {
     shape(b"case with role 0", &[14_00_3, 15_01_0]);
 }
 
-// 6. Try holds one Block with role 3, at most one CatchClause with role 4, one Block with role 5, and at least one of the last two.
+// 13, 14. Try holds one Block with role 3, at most one CatchClause with role 4, one Block with role 5, and at least one of the last two.
 fn tries() {
     shape(b"with a catch", &[16_00_3, 5_01_3, 17_01_4, 5_03_3]);
     shape(b"with a finally", &[16_00_3, 5_01_3, 5_01_5]);
@@ -278,7 +310,7 @@ fn tries() {
     shape(b"with a statement as finally", &[16_00_3, 5_01_3, 22_01_5]);
 }
 
-// 6. CatchClause, only there, holds one Block.
+// 13, 14. CatchClause, only there, holds one Block.
 fn clauses() {
     shape(b"under Program", &[17_00_4, 5_01_3]);
     shape(b"with role 3", &[16_00_3, 5_01_3, 17_01_3, 5_03_3, 5_01_5]);
@@ -291,7 +323,7 @@ fn clauses() {
     shape(b"with a statement", &[16_00_3, 5_01_3, 17_01_4, 22_03_3]);
 }
 
-// 6. Labeled has one label of kind 33, Break and Continue at most one.
+// 14. Labeled has one label of kind 33, Break and Continue at most one.
 fn labels() {
     shape(b"Labeled with one", &[6_00_3, 33_01_6, 22_01_3]);
     shape(b"Labeled with none", &[6_00_3, 22_01_3]);
@@ -308,7 +340,7 @@ fn labels() {
     shape(b"Continue with two", &[19_00_3, 33_01_6, 33_01_6]);
 }
 
-// 6. FunctionBody stands only under kind 1 or 2, at most one each.
+// 13, 14. FunctionBody stands only under kind 1 or 2, at most one each.
 fn functions() {
     shape(b"Function with a body", &[1_00_3, 4_01_0]);
     shape(b"Arrow with a body", &[2_00_0, 4_01_0]);
@@ -321,7 +353,7 @@ fn functions() {
     shape(b"Arrow with two", &[2_00_0, 4_01_0, 4_01_0]);
 }
 
-// 6. Class has one ClassBody, found only there. Kinds 28-30 and 3 stand only under ClassBody.
+// 13, 14. Class has one ClassBody, found only there. Kinds 28-30 and 3 stand only under ClassBody.
 fn classes() {
     shape(b"Class with a body", &[26_00_0, 27_01_0]);
     shape(b"Class without", &[26_00_0]);
@@ -337,7 +369,7 @@ fn classes() {
     shape(b"static block under Program", &[3_00_0]);
 }
 
-// 6. 28-30 have one key and at most one value, 28 one Function as value.
+// 14, and 13 at the last. 28-30 have one key and at most one value, 28 one Function as value.
 fn elements() {
     shape(
         b"property without value",
@@ -453,6 +485,8 @@ fn main() {
     scope_records();
     scopes_of_nodes();
     order();
+    order_of_shape();
+    walks();
     statements();
     other_kinds();
     bodies();

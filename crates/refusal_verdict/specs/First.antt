@@ -17,8 +17,3 @@ pub record Lowest (p : ℕ → Bool) (i n k : ℕ) : Type 0 where
   pub below : k < n
   pub holds : p k ≡ true
   pub lower : (j : ℕ) → i ≤ j → j < k → p j ≡ false
-
--- the first place, or else the second
-abbrev pub orElse : Place → Place → Place
-orElse (Here k) r = Here k
-orElse Nowhere r = r

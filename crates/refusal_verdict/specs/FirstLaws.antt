@@ -8,6 +8,8 @@ use borrow.Author.Tests.{leb-true, leb-false}
 use native.Mathlib.Nat.{eq-or-lt-of-le}
 use native.Mathlib.Omega.{arith}
 use Rattle.base_common.specs.UptoLaws.{fold-turn, fold-end}
+use Rattle.base_common.specs.Bools.{never}
+use Rattle.refusal_verdict.specs.declared.Place.{Place}
 use Rattle.refusal_verdict.specs.declared.Place.the-variants.{Here, Nowhere}
 use Rattle.refusal_verdict.specs.First.{first, Lowest}
 
@@ -69,3 +71,11 @@ module _ (p : ℕ → Bool) (n : ℕ) where
   -- a place: the lowest at which the test holds
   pub first-here : (i k : ℕ) → first p i n ≡ Here k → Lowest p i n k
   first-here i k e = here-by n i k (omega arith) e
+
+  -- the test says false everywhere: no place
+  pub first-nowhere : (i : ℕ) → ((j : ℕ) → i ≤ j → j < n → p j ≡ false) → first p i n ≡ Nowhere
+  first-nowhere i f = go (first p i n) refl
+    where
+      go : (r : Place) → first p i n ≡ r → r ≡ Nowhere
+      go (Here k) e = let w = first-here i k e in never (sym (w .holds) ∙ f k (w .from) (w .below))
+      go Nowhere e = refl

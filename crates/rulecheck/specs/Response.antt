@@ -6,9 +6,10 @@ use lib.Dec.{leb}
 use lib.ListN.{length}
 use Rattle.check_diagnostics.specs.declared.Finding.{Finding}
 use Rattle.check_diagnostics.specs.Finding.{numbers}
+use Rattle.refusal_verdict.specs.Refusals as refusal
 use Rattle.refusal_verdict.specs.declared.Verdict.{Verdict}
 use Rattle.refusal_verdict.specs.declared.Verdict.the-variants.{Refused, Passed}
-use Rattle.refusal_wellformed.specs.WellFormed.{inputRefusal}
+use Rattle.refusal_input.specs.Input.{inputRefusal}
 use Rattle.check_dispatch.specs.Findings.{findingsOf}
 use Rattle.line_input.specs.declared.Input.{Input}
 use Rattle.line_input.specs.declared.Input.the-variants.{Tables, Unread}
@@ -28,7 +29,7 @@ foundText fs = linesFor fs ++ lineOf 69 (length fs ∷ [])
 -- "or only R with number and place" (refusalText); the program has room for 57,344 numbers, and more findings than these hold are refusal 10, place 0
 unfoldable pub verdictText : Verdict → List Finding → List ℕ
 verdictText (Refused number place) fs = refusalText number place
-verdictText Passed fs = cond (leb (7 * length fs) 57344) (foundText fs) (refusalText 10 0)
+verdictText Passed fs = cond (leb (7 * length fs) 57344) (foundText fs) (refusalText refusal.FindingsSlice 0)
 
 -- the text of tables that are read
 unfoldable pub checkText : ℕ → List ℕ → List ℕ → List ℕ → List ℕ → List ℕ

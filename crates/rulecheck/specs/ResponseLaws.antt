@@ -11,9 +11,10 @@ use lib.Seq.{take-at}
 use Rattle.base_common.specs.Wrote.{put}
 use Rattle.check_diagnostics.specs.declared.Finding.{Finding}
 use Rattle.check_diagnostics.specs.Finding.{numbers, flat}
+use Rattle.refusal_verdict.specs.Refusals as refusal
 use Rattle.refusal_verdict.specs.declared.Verdict.{Verdict}
 use Rattle.refusal_verdict.specs.declared.Verdict.the-variants as verdict
-use Rattle.refusal_wellformed.specs.WellFormed.{inputRefusal}
+use Rattle.refusal_input.specs.Input.{inputRefusal}
 use Rattle.check_dispatch.specs.Findings.{findingsOf}
 use Rattle.call_check.specs.declared.Checked.{Checked}
 use Rattle.call_check.specs.declared.Checked.the-variants.{Findings, Short}
@@ -40,7 +41,7 @@ module _ (fs : List Finding) (s : List ℕ) (h : length s ≡ 57344) where
   report-text = rw h (go (leb (7 * length fs) 57344))
     where
       go : (t : Bool) → answerText (cond t (Findings (length fs)) (Short (7 * length fs))) (cond t (flat fs ++ drop (7 * length fs) s) s)
-          ≡ cond t (linesFor fs ++ lineOf 69 (length fs ∷ [])) (refusalText 10 0)
+          ≡ cond t (linesFor fs ++ lineOf 69 (length fs ∷ [])) (refusalText refusal.FindingsSlice 0)
       go true = ap (λ (x : List ℕ). x ++ lineOf 69 (length fs ∷ [])) (lines-flat fs (drop (7 * length fs) s))
       go false = refl
 

@@ -1,6 +1,7 @@
 // ruleroute: reads the lines of a rule's tables, a unit and answers from standard input, and prints the unit's route or the refusal.
 use libc::STDIN_FILENO;
 use line_input::Route;
+use refusal_verdict::refusals;
 use route_viewer::Routed;
 
 // Prints the entry at i.
@@ -29,7 +30,7 @@ fn print_routed(answer: Routed, out: &[u32]) {
     match answer {
         Routed::Route(end, count, taken) => print_route(end, count, taken, out),
         Routed::Refused(number, place) => line_output::print_refusal(number, place),
-        Routed::Short(_) => line_output::print_refusal(12, 0),
+        Routed::Short(_) => line_output::print_refusal(refusals::ROUTE_SLICE, 0),
     }
 }
 

@@ -4,7 +4,7 @@ use Prim.Native.Nat.{ℕ}
 use mathlib.Core.Path.{_≡_}
 use mathlib.Core.List.{List}
 use Rattle.refusal_verdict.specs.declared.Verdict.the-variants.{Passed}
-use Rattle.refusal_wellformed.specs.WellFormed.{inputRefusal}
+use Rattle.refusal_input.specs.Input.{inputRefusal}
 use Rattle.refusal_state.specs.Targets.{stateAnswer}
 use Rattle.ecma_base.specs.Telling.{Telling}
 use Rattle.ecma_standard.specs.Standard.{Standard, standard262}

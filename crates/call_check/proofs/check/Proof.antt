@@ -1,6 +1,6 @@
 use Rattle.call_check.specs.Check.{reportAnswer, reportSlice, answerBy, sliceBy, checkAnswer, checkSlice}
 use Rattle.check_dispatch.specs.Findings.{findingsOf}
-use Rattle.refusal_wellformed.specs.WellFormedLaws.{input-well-formed}
+use Rattle.refusal_input.specs.InputLaws.{input-well-formed}
 use Rattle.refusal_verdict.specs.declared.Verdict.{Verdict}
 use lib.ListN.{length}
 use mathlib.Core.Path.{ap, sym, _∙_}

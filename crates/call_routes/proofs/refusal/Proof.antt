@@ -1,4 +1,4 @@
-use Rattle.refusal_wellformed.specs.WellFormedLaws.{input-well-formed}
+use Rattle.refusal_input.specs.InputLaws.{input-well-formed}
 use Rattle.call_routes.specs.Calls.{roomRefusal}
 use Rattle.refusal_state.specs.Targets.{refusedOr, stateAnswer}
 use Rattle.refusal_verdict.specs.declared.Verdict.{Verdict}

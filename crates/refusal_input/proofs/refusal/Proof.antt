@@ -1,6 +1,6 @@
-use Rattle.refusal_input.specs.Input.{refusalOf}
+use Rattle.refusal_input.specs.Input.{tablesOr, inputRefusal}
 use Rattle.refusal_fields.specs.FieldsLaws.{sizes-of}
-use Rattle.refusal_scopes.specs.ScopesLaws.{chained-of}
+use Rattle.refusal_scopes.specs.ScopesLaws.{chained-of, scoped-of}
 use Rattle.refusal_tree.specs.TreeLaws.{tree-of}
 use mathlib.Core.Path.{sym, _∙_}
 use borrow.Author.Needs.{needs}
@@ -11,7 +11,7 @@ wrong-sizes-requires : tie.Need-wrong-sizes-requires
 wrong-sizes-requires c κs = search needs
 
 returns : tie.Need-returns
-unfolding refusalOf
+unfolding inputRefusal tablesOr
 returns c = rw (sym (c .before .wrong-sizes .ensures) ∙ c .if1 .taken)
 
 unlisted-requires : tie.Need-unlisted-requires
@@ -23,7 +23,7 @@ enum-known-a : tie.Need-enum-known-a
 enum-known-a c = search needs
 
 returns-2 : tie.Need-returns-2
-unfolding refusalOf
+unfolding inputRefusal tablesOr
 returns-2 c = rw (sym (c .before .before .before .before .before .wrong-sizes .ensures) ∙ c .before .before .before .before .if1 .left, sym (c .before .before .before .unlisted .ensures) ∙ c .before .a .given .1)
 
 enum-told : tie.Need-enum-told
@@ -38,7 +38,7 @@ enum-known-b : tie.Need-enum-known-b
 enum-known-b c = search needs
 
 returns-3 : tie.Need-returns-3
-unfolding refusalOf
+unfolding inputRefusal tablesOr
 returns-3 c = rw (sym (c .before .before .before .before .before .before .before .before .wrong-sizes .ensures) ∙ c .before .before .before .before .before .before .before .if1 .left, sym (c .before .before .before .before .before .before .unlisted .ensures) ∙ c .before .before .before .before .enum-told .given .1, sym (c .before .before .before .misplaced .ensures) ∙ c .before .b .given .1)
 
 enum-told-2 : tie.Need-enum-told-2
@@ -53,7 +53,7 @@ enum-known-d : tie.Need-enum-known-d
 enum-known-d c = search needs
 
 returns-4 : tie.Need-returns-4
-unfolding refusalOf
+unfolding inputRefusal tablesOr
 returns-4 c = rw (sym (c .before .before .before .before .before .before .before .before .before .before .before .wrong-sizes .ensures) ∙ c .before .before .before .before .before .before .before .before .before .before .if1 .left, sym (c .before .before .before .before .before .before .before .before .before .unlisted .ensures) ∙ c .before .before .before .before .before .before .before .enum-told .given .1, sym (c .before .before .before .before .before .before .misplaced .ensures) ∙ c .before .before .before .before .enum-told2 .given .1, sym (c .before .before .before .stray .ensures) ∙ c .before .d .given .1)
 
 enum-told-3 : tie.Need-enum-told-3
@@ -68,7 +68,7 @@ enum-known-e : tie.Need-enum-known-e
 enum-known-e c = search needs
 
 returns-5 : tie.Need-returns-5
-unfolding refusalOf
+unfolding inputRefusal tablesOr
 returns-5 c = rw (sym (c .before .before .before .before .before .before .before .before .before .before .before .before .before .before .wrong-sizes .ensures) ∙ c .before .before .before .before .before .before .before .before .before .before .before .before .before .if1 .left, sym (c .before .before .before .before .before .before .before .before .before .before .before .before .unlisted .ensures) ∙ c .before .before .before .before .before .before .before .before .before .before .enum-told .given .1, sym (c .before .before .before .before .before .before .before .before .before .misplaced .ensures) ∙ c .before .before .before .before .before .before .before .enum-told2 .given .1, sym (c .before .before .before .before .before .before .stray .ensures) ∙ c .before .before .before .before .enum-told3 .given .1, sym (c .before .before .before .broken .ensures) ∙ c .before .e .given .1)
 
 enum-told-4 : tie.Need-enum-told-4
@@ -83,30 +83,21 @@ enum-known-f : tie.Need-enum-known-f
 enum-known-f c = search needs
 
 returns-6 : tie.Need-returns-6
-unfolding refusalOf
+unfolding inputRefusal tablesOr
 returns-6 c = rw (sym (c .before .before .before .before .before .before .before .before .before .before .before .before .before .before .before .before .before .wrong-sizes .ensures) ∙ c .before .before .before .before .before .before .before .before .before .before .before .before .before .before .before .before .if1 .left, sym (c .before .before .before .before .before .before .before .before .before .before .before .before .before .before .before .unlisted .ensures) ∙ c .before .before .before .before .before .before .before .before .before .before .before .before .before .enum-told .given .1, sym (c .before .before .before .before .before .before .before .before .before .before .before .before .misplaced .ensures) ∙ c .before .before .before .before .before .before .before .before .before .before .enum-told2 .given .1, sym (c .before .before .before .before .before .before .before .before .before .stray .ensures) ∙ c .before .before .before .before .before .before .before .enum-told3 .given .1, sym (c .before .before .before .before .before .before .broken .ensures) ∙ c .before .before .before .before .enum-told4 .given .1, sym (c .before .before .before .misscoped .ensures) ∙ c .before .f .given .1)
 
 enum-told-5 : tie.Need-enum-told-5
 enum-told-5 c = search needs
 
-misshapen-requires : tie.Need-misshapen-requires
-misshapen-requires c κs = let x = c .before .before .before .before .before .before .before .before .before .before .before .before .before .before .before .before .before .before .before .before .before .args in
+shape-refusal-requires : tie.Need-shape-refusal-requires
+shape-refusal-requires c κs = let x = c .before .before .before .before .before .before .before .before .before .before .before .before .before .before .before .before .before .before .before .before .before .args in
     let s = (sizes-of (x .source-type) (x .nodes .now) (x .scopes .now) (x .source .now) (x .names .now) (sym (c .before .before .before .before .before .before .before .before .before .before .before .before .before .before .before .before .wrong-sizes .ensures) ∙ c .before .before .before .before .before .before .before .before .before .before .before .before .before .before .before .if1 .left)) in
-    tree-of (x .nodes .now) (s .nodes) (sym (c .before .before .before .before .before .before .before .before .before .before .before .misplaced .ensures) ∙ c .before .before .before .before .before .before .before .before .before .enum-told2 .given .1)
-
-enum-known-g : tie.Need-enum-known-g
-enum-known-g c = search needs
+    let h = chained-of (x .scopes .now) (s .scopes) (sym (c .before .before .before .before .before .broken .ensures) ∙ c .before .before .before .enum-told4 .given .1) in
+    (tree-of (x .nodes .now) (s .nodes) (sym (c .before .before .before .before .before .before .before .before .before .before .before .misplaced .ensures) ∙ c .before .before .before .before .before .before .before .before .before .enum-told2 .given .1), (h, scoped-of (x .nodes .now) (x .scopes .now) h (sym (c .before .before .misscoped .ensures) ∙ c .enum-told5 .given .1)))
 
 returns-7 : tie.Need-returns-7
-unfolding refusalOf
-returns-7 c = rw (sym (c .before .before .before .before .before .before .before .before .before .before .before .before .before .before .before .before .before .before .before .before .wrong-sizes .ensures) ∙ c .before .before .before .before .before .before .before .before .before .before .before .before .before .before .before .before .before .before .before .if1 .left, sym (c .before .before .before .before .before .before .before .before .before .before .before .before .before .before .before .before .before .before .unlisted .ensures) ∙ c .before .before .before .before .before .before .before .before .before .before .before .before .before .before .before .before .enum-told .given .1, sym (c .before .before .before .before .before .before .before .before .before .before .before .before .before .before .before .misplaced .ensures) ∙ c .before .before .before .before .before .before .before .before .before .before .before .before .before .enum-told2 .given .1, sym (c .before .before .before .before .before .before .before .before .before .before .before .before .stray .ensures) ∙ c .before .before .before .before .before .before .before .before .before .before .enum-told3 .given .1, sym (c .before .before .before .before .before .before .before .before .before .broken .ensures) ∙ c .before .before .before .before .before .before .before .enum-told4 .given .1, sym (c .before .before .before .before .before .before .misscoped .ensures) ∙ c .before .before .before .before .enum-told5 .given .1, sym (c .before .before .before .misshapen .ensures) ∙ c .before .g .given .1)
-
-enum-told-6 : tie.Need-enum-told-6
-enum-told-6 c = search needs
-
-returns-8 : tie.Need-returns-8
-unfolding refusalOf
-returns-8 c = rw (sym (c .before .before .before .before .before .before .before .before .before .before .before .before .before .before .before .before .before .before .before .wrong-sizes .ensures) ∙ c .before .before .before .before .before .before .before .before .before .before .before .before .before .before .before .before .before .before .if1 .left, sym (c .before .before .before .before .before .before .before .before .before .before .before .before .before .before .before .before .before .unlisted .ensures) ∙ c .before .before .before .before .before .before .before .before .before .before .before .before .before .before .before .enum-told .given .1, sym (c .before .before .before .before .before .before .before .before .before .before .before .before .before .before .misplaced .ensures) ∙ c .before .before .before .before .before .before .before .before .before .before .before .before .enum-told2 .given .1, sym (c .before .before .before .before .before .before .before .before .before .before .before .stray .ensures) ∙ c .before .before .before .before .before .before .before .before .before .enum-told3 .given .1, sym (c .before .before .before .before .before .before .before .before .broken .ensures) ∙ c .before .before .before .before .before .before .enum-told4 .given .1, sym (c .before .before .before .before .before .misscoped .ensures) ∙ c .before .before .before .enum-told5 .given .1, sym (c .before .before .misshapen .ensures) ∙ c .enum-told6 .given .1)
+unfolding inputRefusal tablesOr
+returns-7 c = rw (sym (c .before .before .before .before .before .before .before .before .before .before .before .before .before .before .before .before .before .wrong-sizes .ensures) ∙ c .before .before .before .before .before .before .before .before .before .before .before .before .before .before .before .before .if1 .left, sym (c .before .before .before .before .before .before .before .before .before .before .before .before .before .before .before .unlisted .ensures) ∙ c .before .before .before .before .before .before .before .before .before .before .before .before .before .enum-told .given .1, sym (c .before .before .before .before .before .before .before .before .before .before .before .before .misplaced .ensures) ∙ c .before .before .before .before .before .before .before .before .before .before .enum-told2 .given .1, sym (c .before .before .before .before .before .before .before .before .before .stray .ensures) ∙ c .before .before .before .before .before .before .before .enum-told3 .given .1, sym (c .before .before .before .before .before .before .broken .ensures) ∙ c .before .before .before .before .enum-told4 .given .1, sym (c .before .before .before .misscoped .ensures) ∙ c .before .enum-told5 .given .1) (c .shape-refusal .ensures)
 
 pub refusal-spec : {M : Type 1} → statement M
 refusal-spec =
@@ -134,8 +125,5 @@ refusal-spec =
     enum-known-f
     returns-6
     enum-told-5
-    misshapen-requires
-    enum-known-g
-    returns-7
-    enum-told-6
-    returns-8)
+    shape-refusal-requires
+    returns-7)

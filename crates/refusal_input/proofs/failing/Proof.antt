@@ -6,8 +6,8 @@ use native.Mathlib.Omega.{arith}
 use mathlib.Core.Path.{_≡_, sym, _∙_}
 use Prim.Native.Nat.{_≤_, _-_}
 use borrow.Author.Needs.{needs}
-use Rattle.refusal_wellformed.proofs.failing.Statement.{statement}
-use Rattle.refusal_wellformed.proofs.failing.Tie as tie
+use Rattle.refusal_input.proofs.failing.Statement.{statement}
+use Rattle.refusal_input.proofs.failing.Tie as tie
 
 abbrev Inv-loop : tie.InvT-loop
 Inv-loop nodes scopes size i₀ i = (i ≤ size) × (size ≡ count nodes) × (first (failsAt nodes scopes) i (count nodes) ≡ first (failsAt nodes scopes) 0 (count nodes))

@@ -1,2 +1,0 @@
-pub mod WellFormed
-pub mod WellFormedLaws
