@@ -21,6 +21,9 @@ says() {
     [ "$got" = "$want" ] || { echo "$got"; return 1; }
 }
 
+# what the command writes to standard output alone
+quiet() { "$@" 2>/dev/null; }
+
 # each text of the input is told in docs/DIFFERENCES.md
 told() {
     local text ok=0
@@ -39,6 +42,10 @@ tools/setup rulecheck ruleroute node || { echo "0 passed, 1 failed"; exit 1; }
 
 check "the rule that comes with the repository" says 'F,22,4,0,1,14,15,0\nE,1' ./check-rule rules/block-label.js
 check "a rule without errors" says 'E,0' ./check-rule rules/office-hours.js
+check "an escape in a string, pointed at" says 'F,9,6,27,76,39,41,0\nE,1\nrules/old-escape.js:2:26: the escape \\0 may not stand in strict code
+const note = '"'Open from 8\\\\07230 to 17\\\\07230; ring at gate \\\\8.'"';
+                         ^^' ./check-rule rules/old-escape.js
+check "its lines alone on standard output" says 'F,9,6,27,76,39,41,0\nE,1' quiet ./check-rule rules/old-escape.js
 check "a text for each code" tools/examples
 
 check "a route: the answers go to a continue" says 'L,3\nL,6\nL,10\nL,3\nZ,0,4,3' lines 1,0,0
