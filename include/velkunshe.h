@@ -51,7 +51,8 @@ extern "C" {
 /* refusal: 0, or why the tables were turned down (1 to 6, 13, 14), or 10 where the findings slice is too short.
  * place: the node or scope of refusals 2 to 6, 13 and 14, else 0.
  * findings: how many were written, seven numbers each (code, node, first span's start and end, second span's start and end, context),
- *   from the slice's start; 0 after a refusal.
+ *   from the slice's start; 0 after a refusal. The second span is 0,0 where there is none; for codes 9 and 11 at a string (kind 36) it is the backslash and
+ *   the byte after it of the first escape that strict code may not have.
  * needed: after 10 the length that the findings slice must have, else 0. */
 struct velkunshe_check_answer {
     uint32_t refusal;

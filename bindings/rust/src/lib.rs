@@ -180,7 +180,7 @@ pub struct Finding {
     pub node: u32,
     /// A byte range of the source.
     pub first: (u32, u32),
-    /// A second one, or 0,0.
+    /// A second one, or 0,0. For codes 9 and 11 at a string: the backslash of the escape at fault and the byte after it.
     pub second: (u32, u32),
     /// 0 none, 1 strict code, 2 in a class, 3 in a module, 4 `await` in a module.
     pub context: u32,

@@ -42,7 +42,7 @@ const NUMBERS: [(&str, u32); 12] = [
     ("1", 0),
 ];
 /// A raw string and the length of its value.
-const STRINGS: [(&str, u32); 22] = [
+const STRINGS: [(&str, u32); 24] = [
     ("''", 0),
     ("'x'", 1),
     (r"'\0'", 1),
@@ -65,6 +65,8 @@ const STRINGS: [(&str, u32); 22] = [
     (r"'\n0123456789\1'", 12),
     (r"'\u{41}\\8\8'", 4),
     (r"'\0\1'", 2),
+    (r"'\1\8'", 2),
+    (r"'x\9\07\8'", 4),
 ];
 
 pub struct Grammar<'r> {

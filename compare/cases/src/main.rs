@@ -151,7 +151,7 @@ fn compare(t: &Tables, sort: Sort, rng: &mut Rng, counts: &mut Counts) -> Result
         let verdict = judge(t.source_type, t.nodes, t.scopes, t.source, t.names);
         let plain = match refusal {
             Some((_, place)) => Verdict::Stuck(place as u32),
-            None => Verdict::Findings(plain::findings(t).iter().map(plain::Finding::numbers).collect()),
+            None => Verdict::Findings(plain::findings(t).iter().map(|f| as_the_crate(t, f)).collect()),
         };
         same("findings, plain and the crate's text", &plain, &verdict)?;
         if let Verdict::Findings(found) = &verdict {
@@ -167,6 +167,15 @@ fn compare(t: &Tables, sort: Sort, rng: &mut Rng, counts: &mut Counts) -> Result
     #[cfg(feature = "proved")]
     proved::compare(t, rng, counts)?;
     Ok(())
+}
+
+/// The crate's text gives no second span for an escape of a string (codes 9 and 11), so that one is not compared with it.
+fn as_the_crate(t: &Tables, f: &plain::Finding) -> [u32; 7] {
+    let mut numbers = f.numbers();
+    if matches!(f.code, 9 | 11) && t.kind(f.node as usize) == plain::tables::STRING_LITERAL {
+        numbers[4..6].fill(0);
+    }
+    numbers
 }
 
 fn same<T: PartialEq + std::fmt::Debug>(what: &str, a: &T, b: &T) -> Result<(), String> {

@@ -335,13 +335,20 @@ impl Checker<'_, '_> {
             }
             match raw.get(i + 1) {
                 Some(b'0') if raw.get(i + 2).is_some_and(u8::is_ascii_digit) => {
-                    return self.error(code::LEGACY_OCTAL, t.span(n));
+                    return self.error_at_escape(code::LEGACY_OCTAL, n, i);
                 }
-                Some(b'1'..=b'7') => return self.error(code::LEGACY_OCTAL, t.span(n)),
-                Some(b'8' | b'9') => return self.error(code::ESCAPE_8_OR_9, t.span(n)),
+                Some(b'1'..=b'7') => return self.error_at_escape(code::LEGACY_OCTAL, n, i),
+                Some(b'8' | b'9') => return self.error_at_escape(code::ESCAPE_8_OR_9, n, i),
                 _ => i += 2,
             }
         }
+    }
+
+    /// The second span is the backslash, at offset `i` of the string, and the byte after it.
+    fn error_at_escape(&mut self, code: u32, n: usize, i: usize) {
+        let span = self.t.span(n);
+        let backslash = span.0 + i as u32;
+        self.error_at_two(code, span, (backslash, backslash + 2));
     }
 
     // Directives and declarations.

@@ -78,16 +78,19 @@ fn literal(kind: u32, extra: usize, raw: &str) -> String {
 #[test]
 fn literals() {
     let found = |code: u32, raw: &str| format!("F,{code},2,0,{},0,0,0\nE,1\n", raw.len());
+    let escape = |code: u32, raw: &str, i: usize| format!("F,{code},2,0,{},{i},{},0\nE,1\n", raw.len(), i + 2);
     assert_eq!(literal(36, 1, r"'\0'"), "E,0\n");
-    assert_eq!(literal(36, 2, r"'\08'"), found(9, r"'\08'"));
-    assert_eq!(literal(36, 1, r"'\8'"), found(11, r"'\8'"));
+    assert_eq!(literal(36, 2, r"'\08'"), escape(9, r"'\08'", 1));
+    assert_eq!(literal(36, 1, r"'\8'"), escape(11, r"'\8'", 1));
     assert_eq!(literal(36, 2, r"'\\1'"), "E,0\n");
     assert_eq!(literal(35, 3, "07"), found(9, "07"));
     assert_eq!(literal(35, 0, "08"), found(10, "08"));
     assert_eq!(literal(35, 1, "0.5"), "E,0\n");
     // The Rust scans nothing where raw length is value length plus 2.
     assert_eq!(literal(36, 2, r"'\8'"), "E,0\n");
-    assert_eq!(literal(36, 1, r"'0123456789abcdef\9'"), found(11, r"'0123456789abcdef\9'"));
+    assert_eq!(literal(36, 1, r"'0123456789abcdef\9'"), escape(11, r"'0123456789abcdef\9'", 17));
+    // The first of several, and none behind an escaped backslash.
+    assert_eq!(literal(36, 9, r"'\x41\\9\123\8'"), escape(9, r"'\x41\\9\123\8'", 8));
 }
 
 /// `class C { get #x() {} static set #x(v) {} }`, the setter static or not.

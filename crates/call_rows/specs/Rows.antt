@@ -103,7 +103,7 @@ nulEight =
       scopes = 0 ∷ 3 ∷ 0 ∷ [];
       source = bytes "'\\08'";
       names = bytes "\\08";
-      finds = 9 ∷ 2 ∷ 0 ∷ 5 ∷ 0 ∷ 0 ∷ 0 ∷ [];
+      finds = 9 ∷ 2 ∷ 0 ∷ 5 ∷ 1 ∷ 3 ∷ 0 ∷ [];
     }
 
 -- `'\8'`: 11
@@ -119,7 +119,7 @@ eight =
       scopes = 0 ∷ 3 ∷ 0 ∷ [];
       source = bytes "'\\8'";
       names = bytes "\\8";
-      finds = 11 ∷ 2 ∷ 0 ∷ 4 ∷ 0 ∷ 0 ∷ 0 ∷ [];
+      finds = 11 ∷ 2 ∷ 0 ∷ 4 ∷ 1 ∷ 3 ∷ 0 ∷ [];
     }
 
 -- `'\\1'`: none

@@ -1,18 +1,19 @@
 -- Laws of the scan, as a loop over the places meets it.
-use Prim.Native.Nat.{ℕ, zero, suc, _+_, _≤_, _<_}
+use Prim.Native.Nat.{ℕ, zero, suc, _+_, _-_, _≤_, _<_}
 use mathlib.Core.Path.{_≡_, refl, _∙_}
 use mathlib.Core.List.{List, [], _∷_}
-use mathlib.Core.Bool.{Bool, true, false, _&&_}
+use mathlib.Core.Bool.{Bool, true, false, cond, _&&_}
 use borrow.Author.Tests.{eq-eqb, ne-eqb}
 use lib.Dec.{eqb}
-use lib.ListN.{length, getD, drop, length-drop}
+use lib.ListN.{length, getD, take, drop, length-take, length-drop}
 use lib.Seq.{drop-cons}
 use native.Mathlib.Numerals.{add-one, add-two}
 use native.Mathlib.Omega.{arith}
-use Rattle.check_literals.specs.Escapes.{backslash, digitNext, isDigit, isFine, escapeOf, orElse, badEscape}
-use Rattle.check_literals.specs.Literals.{leadingZero}
+use Rattle.table_records.specs.Table.{spanStartOf, spanEndOf}
+use Rattle.check_literals.specs.Escapes.{backslash, digitNext, isDigit, isLegacyOctal, isNonOctalDecimal, isFine, escapeOf, orElse, badEscape}
+use Rattle.check_literals.specs.Literals.{sourceText, leadingZero}
 use Rattle.check_literals.specs.declared.Escape.{Escape}
-use Rattle.check_literals.specs.declared.Escape.the-variants.{Fine}
+use Rattle.check_literals.specs.declared.Escape.the-variants.{LegacyOctal, NonOctalDecimal, Fine}
 
 nothing-left : (i : ℕ) (l : List ℕ) → length l ≤ i → drop i l ≡ []
 nothing-left zero [] h = refl
@@ -60,6 +61,54 @@ short i (b ∷ c ∷ l) h = absurd (omega arith)
 -- where fewer than two bytes are left there is no escape
 pub scan-end : (l : List ℕ) (i : ℕ) → length l ≤ i + 1 → badEscape i (drop i l) ≡ Fine
 scan-end l i h = short i (drop i l) (omega (arith, length-drop i l))
+
+-- an escape ends within m bytes
+abbrev Ends : ℕ → Escape → Type 0
+Ends m (LegacyOctal j) = j + 2 ≤ m
+Ends m (NonOctalDecimal j) = j + 2 ≤ m
+Ends m Fine = Unit {0}
+
+ends-or : (i m : ℕ) (x y : Bool) (rest : Escape) → i + 2 ≤ m → Ends m rest → Ends m (orElse (cond x (LegacyOctal i) (cond y (NonOctalDecimal i) Fine)) rest)
+ends-or i m true y rest h r = h
+ends-or i m false true rest h r = h
+ends-or i m false false rest h r = r
+
+ends-if : (x : Bool) (m : ℕ) (e f : Escape) → Ends m e → Ends m f → Ends m (cond x e f)
+ends-if true m e f a b = a
+ends-if false m e f a b = b
+
+ends-by : (m k : ℕ) (e : Escape) → k ≡ m → Ends k e → Ends m e
+ends-by m k (LegacyOctal j) q h = omega arith
+ends-by m k (NonOctalDecimal j) q h = omega arith
+ends-by m k Fine q h = h
+
+bad-ends : (i : ℕ) (l : List ℕ) → Ends (i + length l) (badEscape i l)
+unfolding badEscape escapeOf
+bad-ends i [] = tt
+bad-ends i (b ∷ []) = tt
+bad-ends i (b ∷ c ∷ l) =
+    let m = i + length (b ∷ c ∷ l) in
+    ends-if (eqb b backslash) m (orElse (escapeOf i c l) (badEscape (i + 2) l)) (badEscape (i + 1) (c ∷ l))
+    (ends-or i m (isLegacyOctal c l) (isNonOctalDecimal c) (badEscape (i + 2) l) (omega arith) (ends-by m (i + 2 + length l) (badEscape (i + 2) l) (omega arith) (bad-ends (i + 2) l)))
+    (ends-by m (i + 1 + length (c ∷ l)) (badEscape (i + 1) (c ∷ l)) (omega arith) (bad-ends (i + 1) (c ∷ l)))
+
+-- the escape of a string ends within its span
+abbrev pub Spanned : List ℕ → ℕ → Escape → Type 0
+Spanned ns n (LegacyOctal i) = spanStartOf ns n + i + 2 ≤ spanEndOf ns n
+Spanned ns n (NonOctalDecimal i) = spanStartOf ns n + i + 2 ≤ spanEndOf ns n
+Spanned ns n Fine = Unit {0}
+
+pub escape-spanned : (ns source : List ℕ) (n : ℕ) (e : Escape) → e ≡ badEscape 0 (sourceText ns source n) → Spanned ns n e
+unfolding sourceText
+escape-spanned ns source n e q = go e (rw (← q) at (bad-ends 0 (sourceText ns source n)))
+  where
+    short : length (sourceText ns source n) ≤ spanEndOf ns n - spanStartOf ns n
+    short = omega (arith, length-take (spanEndOf ns n - spanStartOf ns n) (drop (spanStartOf ns n) source))
+
+    go : (e : Escape) → Ends (0 + length (sourceText ns source n)) e → Spanned ns n e
+    go (LegacyOctal i) h = omega (arith, short)
+    go (NonOctalDecimal i) h = omega (arith, short)
+    go Fine h = h
 
 -- a leading zero, by places
 pub zero-short : (l : List ℕ) → length l < 2 → leadingZero l ≡ false

@@ -11,7 +11,7 @@ use Rattle.check_diagnostics.specs.Finding.{errorAt}
 use Rattle.check_diagnostics.specs.Codes as code
 use Rattle.check_diagnostics.specs.Contexts as context
 use Rattle.check_diagnostics.specs.declared.Raised.{Raised}
-use Rattle.check_diagnostics.specs.declared.Raised.the-variants.{Clear}
+use Rattle.check_diagnostics.specs.declared.Raised.the-variants.{Error, Clear}
 use Rattle.table_scoping.specs.Scoping.{isStrict}
 use Rattle.check_literals.specs.Escapes.{digitNext, badEscape}
 use Rattle.check_literals.specs.declared.Escape.{Escape}
@@ -29,10 +29,15 @@ isChecked ns ss n = isStrict ns ss n && not (eqb (kindOf ns (parentOf ns n)) k.J
 abbrev pub isScanned : List ℕ → List ℕ → ℕ → Bool
 isScanned ns source n = not (eqb (length (sourceText ns source n)) (extraOf ns n + 2))
 
+-- raised at the string n; the second span is the backslash at offset i of its text and the byte after it, as source offsets
+abbrev pub errorEscape : List ℕ → ℕ → ℕ → ℕ → Raised
+errorEscape ns code n i =
+    Error (record { code = code; node = record { 0 = n }; start = spanStartOf ns n; end = spanEndOf ns n; start2 = spanStartOf ns n + i; end2 = spanStartOf ns n + i + 2; context = context.none })
+
 -- what a scan gives
 abbrev pub escapeFinding : List ℕ → ℕ → Escape → Raised
-escapeFinding ns n (LegacyOctal i) = errorAt ns code.legacyOctal n n context.none
-escapeFinding ns n (NonOctalDecimal i) = errorAt ns code.nonOctalDecimalEscapeSequence n n context.none
+escapeFinding ns n (LegacyOctal i) = errorEscape ns code.legacyOctal n i
+escapeFinding ns n (NonOctalDecimal i) = errorEscape ns code.nonOctalDecimalEscapeSequence n i
 escapeFinding ns n Fine = Clear
 
 unfoldable pub checkStringLiteral : List ℕ → List ℕ → List ℕ → ℕ → Raised

@@ -1,14 +1,15 @@
 // Strings and numbers as they stand in the source: escapes and leading zeros that strict code may not have.
 ghost use mathlib.Core.Path.{_≡_};
-ghost use Prim.Native.Nat.{_+_, _<_};
+ghost use Prim.Native.Nat.{_+_, _<_, _≤_};
 ghost use lib.ListN.{length, getD, drop};
 ghost use Rattle.base_common.specs.Tests.{within};
-ghost use Rattle.table_records.specs.Table.{count};
+ghost use Rattle.table_records.specs.Table.{count, spanStartOf, spanEndOf};
 ghost use Rattle.table_records.specs.Facts.{Tree, Scoped, Sourced};
 ghost use Rattle.check_literals.specs.Escapes.{digitNext, isFine, escapeOf, badEscape};
-ghost use Rattle.check_literals.specs.Literals.{sourceText, leadingZero, checkStringLiteral, checkNumberLiteral};
+ghost use Rattle.check_literals.specs.Literals.{sourceText, leadingZero, errorEscape, checkStringLiteral, checkNumberLiteral};
 use base_common::and;
 use base_common::or;
+use check_diagnostics::Finding;
 use check_diagnostics::Raised;
 use check_diagnostics::codes;
 use check_diagnostics::contexts;
@@ -100,6 +101,26 @@ fn source_text<'a>(nodes: &[u32], source: &'a [u8], n: NodeId) -> &'a [u8]
     &source[start..end]
 }
 
+// A finding at the string n whose second span is the backslash at offset i of its text and the byte after it.
+fn error_escape(nodes: &[u32], code: u32, n: NodeId, i: usize) -> Raised
+    requires { ⌜ n .0 < count (now nodes) ⌝ }
+    requires { ⌜ spanStartOf (now nodes) (n .0) + i + 2 ≤ spanEndOf (now nodes) (n .0) ⌝ }
+    ensures { λ r. ⌜ r ≡ errorEscape (now (nodes .entry)) code (n .0) i ⌝ }
+{
+    let start = table_records::span_start(nodes, n);
+    let end = table_records::span_end(nodes, n);
+    let backslash = start + i as u32;
+    Raised::Error(Finding {
+        code: code,
+        node: n,
+        start: start,
+        end: end,
+        start2: backslash,
+        end2: backslash + 2,
+        context: contexts::NONE,
+    })
+}
+
 // A string of strict code has no legacy escape.
 pub fn check_string_literal(nodes: &[u32], scopes: &[u32], source: &[u8], n: NodeId) -> Raised
     requires { ⌜ Tree (now nodes) ⌝ }
@@ -121,19 +142,12 @@ pub fn check_string_literal(nodes: &[u32], scopes: &[u32], source: &[u8], n: Nod
     }
     let e = first_bad_escape(raw);
     match e {
-        Escape::LegacyOctal(_) => check_diagnostics::error_at(
-            nodes,
-            codes::LEGACY_OCTAL,
-            n,
-            n,
-            contexts::NONE,
-        ),
-        Escape::NonOctalDecimal(_) => check_diagnostics::error_at(
+        Escape::LegacyOctal(i) => error_escape(nodes, codes::LEGACY_OCTAL, n, i),
+        Escape::NonOctalDecimal(i) => error_escape(
             nodes,
             codes::NON_OCTAL_DECIMAL_ESCAPE_SEQUENCE,
             n,
-            n,
-            contexts::NONE,
+            i,
         ),
         Escape::Fine => Raised::Clear,
     }

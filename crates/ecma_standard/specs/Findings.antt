@@ -1,7 +1,7 @@
 -- THE FINDINGS BY THE RULES THAT THE RUST KEEPS, all codes together: of well-formed tables, the nodes that raise each code, in order, are those at which the rule is
 -- broken, one finding for each breach. 4, 15, 17, 18, 23, 26 and 31 are the standard's own rules; the others are the changed rules that docs/DIFFERENCES.md names with what differs. Standard.antt states the
 -- same by the standard's rules. 28 to 30 are stated of all such tables by the Rust's search through the scopes, and by the units in the tree where the scopes follow the tree.
--- Spans, contexts and the order between codes are those of `findingsOf` (crates/check_dispatch), which the calls equal to the last number.
+-- The second span of 9 and 11 at a string is stated by the standard too (`strict .stringSpans`). Other spans, contexts and the order between codes are those of `findingsOf` (crates/check_dispatch), which the calls equal to the last number.
 use Prim.Native.Nat.{ℕ}
 use mathlib.Core.Path.{_≡_}
 use mathlib.Core.List.{List, _++_, flatMap}

@@ -32,6 +32,8 @@ use Rattle.ecma_labels.specs.Breaches.{duplicateLabelAt, undefinedBreakAt, unde
 use Rattle.ecma_labels.specs.Findings.{labelFindings, withCodes}
 use Rattle.ecma_labels.specs.Theorems as labels
 use Rattle.ecma_strict.specs.Literals.{strictOctal, strictNonOctal, strictOctalEscape, strictNonOctalEscape, numericLiteral, stringLiteral}
+use Rattle.ecma_strict.specs.EscapeSpans.{StringTold, NumberTold}
+use Rattle.ecma_strict.specs.EscapeSpansLaws.{stringTold, numberTold}
 use Rattle.ecma_strict.specs.Delete.{deletesName, deletesPrivate}
 use Rattle.ecma_strict.specs.Statements.{strictWith, initializedHead, usingDeclaration, badUsing}
 use Rattle.ecma_strict.specs.Identifiers.{identifier, identifierError, bindsEval, assignsEval, useStrictThere}
@@ -88,6 +90,9 @@ module _ (told : Telling) (t : ℕ) (ns ss source names : List ℕ) where
     pub octal : RuleOn (λ n. (numericLiteral ns n ≡ true → BaseTold ns source n) × (stringLiteral ns n ≡ true → EscapesTold ns source n)) 9 (λ n. strictOctal ns ss source n || strictOctalEscape ns ss source n)
     pub leadingZero : RuleOn (λ n. numericLiteral ns n ≡ true → BaseTold ns source n) 10 (strictNonOctal ns ss source)
     pub nonOctalEscape : RuleOn (λ n. stringLiteral ns n ≡ true → EscapesTold ns source n) 11 (strictNonOctalEscape ns ss source)
+    -- the second spans of 9 to 11, without a condition: at a string the first escape that 12.9.4.1 forbids, which gave the code; at a number none
+    pub stringSpans : (n : ℕ) → n < count ns → kindOf ns n ≡ k.StringLiteral → StringTold ns ss source n (findingsAt t ns ss source names n)
+    pub numberSpans : (n : ℕ) → n < count ns → kindOf ns n ≡ k.NumericLiteral → NumberTold ns n (findingsAt t ns ss source names n)
     pub useStrict : RuleOn (λ n. kindOf ns n ≡ k.Directive → DirectiveTold ns ss n) 12 (useStrictThere ns names)
     pub usingDeclared : RuleOn (λ n. usingDeclaration ns n ≡ true → UsingTold ns ss n) 13 (badUsing t ns)
     pub awaitUsingInBlock : RuleOn (λ n. awaitUsing ns n ≡ true → BlockTold ns ss n) 14 (λ n. awaitUsing ns n && awaitInBlock ns n)
@@ -164,6 +169,8 @@ standard262 told t ns ss source names e =
         octal = λ n h q. rules.standard9 t ns ss source names w n h (q .0) (q .1);
         leadingZero = λ n h q. rules.standard10 t ns ss source names w n h q;
         nonOctalEscape = λ n h q. rules.standard11 t ns ss source names w n h q;
+        stringSpans = λ n h q. stringTold t ns ss source names n q;
+        numberSpans = λ n h q. numberTold t ns ss source names n q;
         useStrict = λ n h q. rules.standard12 t ns ss source names w n h q;
         usingDeclared = λ n h q. rules.standard13 t ns ss source names w n h q;
         awaitUsingInBlock = λ n h q. rules.standard14 t ns ss source names w n h q;

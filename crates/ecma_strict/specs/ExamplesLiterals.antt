@@ -3,6 +3,7 @@ use Prim.Native.Nat.{ℕ}
 use mathlib.Core.Path.{_≡_, refl}
 use mathlib.Core.List.{List, [], _∷_, map}
 use mathlib.Core.Bool.{Bool, true, false}
+use lib.ListN.{length}
 use Rattle.table_names.specs.Name.{same, nameOf}
 use Rattle.base_walk.specs.Above.{above, climb}
 use Rattle.base_common.specs.Upto.{upto, range}
@@ -10,7 +11,7 @@ use Rattle.table_children.specs.Children.{keep, children, isChild, firstNode}
 use Rattle.ecma_trees.specs.Rose.{kids, others, forest, partsOf}
 use Rattle.ecma_trees.specs.Trail as trails
 use Rattle.ecma_base.specs.Scopes.{followsAt, flaggedAt, classAt, scopesFollow}
-use Rattle.ecma_strict.specs.Literals.{textOf, legacyOctalInteger, octalsThenNonOctal, nonOctalDecimalInteger, legacyOctalEscape, nonOctalDecimalEscape, escapes, strictOctalEscape, strictNonOctalEscape}
+use Rattle.ecma_strict.specs.Literals.{textOf, legacyOctalInteger, octalsThenNonOctal, nonOctalDecimalInteger, legacyOctalEscape, nonOctalDecimalEscape, escapes, strictOctalEscape, strictNonOctalEscape, escaped, forbiddenEscape}
 use Rattle.ecma_strict.specs.Delete.{ultimately, privateReference, deletesPrivate}
 use Rattle.ecma_strict.specs.Changed.{octalFirst, nonOctalFirst, firstOctalEscape, firstNonOctalEscape, deletesPrivateAnywhere}
 use Rattle.ecma_strict.specs.ExampleTrees.{Tree}
@@ -58,6 +59,33 @@ numbersHold = refl
 pub numbersHoldToo : map (λ r. nonOctalDecimalInteger (r .text)) numbers ≡ map (λ r. r .nonOctal) numbers
 unfolding nonOctalDecimalInteger octalsThenNonOctal
 numbersHoldToo = refl
+
+-- 12.9.4.1: strings, and the offsets of the escapes in them that strict code may not have
+pub record Escaped : Type 0 where
+  pub text : List ℕ
+  pub at : List ℕ
+
+abbrev pub strings : List Escaped
+strings =
+    -- '\0'
+    record { text = 39 ∷ 92 ∷ 48 ∷ 39 ∷ []; at = [] }
+    -- '\08'
+    ∷ record { text = 39 ∷ 92 ∷ 48 ∷ 56 ∷ 39 ∷ []; at = 1 ∷ [] }
+    -- '\8'
+    ∷ record { text = 39 ∷ 92 ∷ 56 ∷ 39 ∷ []; at = 1 ∷ [] }
+    -- 'a\123'
+    ∷ record { text = 39 ∷ 97 ∷ 92 ∷ 49 ∷ 50 ∷ 51 ∷ 39 ∷ []; at = 2 ∷ [] }
+    -- '\\1': an escaped backslash begins no escape
+    ∷ record { text = 39 ∷ 92 ∷ 92 ∷ 49 ∷ 39 ∷ []; at = [] }
+    -- '\\\1'
+    ∷ record { text = 39 ∷ 92 ∷ 92 ∷ 92 ∷ 49 ∷ 39 ∷ []; at = 3 ∷ [] }
+    -- '\x41\1\9'
+    ∷ record { text = 39 ∷ 92 ∷ 120 ∷ 52 ∷ 49 ∷ 92 ∷ 49 ∷ 92 ∷ 57 ∷ 39 ∷ []; at = 5 ∷ 7 ∷ [] }
+    ∷ []
+
+pub stringsHold : map (λ r. keep (forbiddenEscape (r .text)) (upto 0 (length (r .text)))) strings ≡ map (λ r. r .at) strings
+unfolding forbiddenEscape escaped legacyOctalEscape nonOctalDecimalEscape keep upto range
+stringsHold = refl
 
 -- `"use strict"; "\1\8";`
 abbrev twoEscapesTree : Tree

@@ -10,6 +10,8 @@ pub mod Identifiers
 pub mod Functions
 pub mod Changed
 pub mod LiteralsLaws
+pub mod EscapeSpans
+pub mod EscapeSpansLaws
 pub mod DeleteLaws
 pub mod StatementsLaws
 pub mod IdentifiersLaws

@@ -1,9 +1,10 @@
 -- ECMA-262, 12.9.3 Numeric Literals and 12.9.4 String Literals, with 12.9.3.1 and 12.9.4.1 Static Semantics: Early Errors: what strict mode code may not have. A literal's text is the bytes of its span.
-use Prim.Native.Nat.{ℕ, _-_}
+use Prim.Native.Nat.{ℕ, zero, suc, _-_, _<_}
+use mathlib.Core.Path.{_≡_}
 use mathlib.Core.List.{List, [], _∷_}
-use mathlib.Core.Bool.{Bool, false, cond, not, _&&_, _||_}
+use mathlib.Core.Bool.{Bool, true, false, cond, not, _&&_, _||_}
 use lib.Dec.{eqb}
-use lib.ListN.{take, drop}
+use lib.ListN.{getD, take, drop}
 use Rattle.base_common.specs.Upto.{all, any}
 use Rattle.base_common.specs.Tests.{within}
 use Rattle.table_records.specs.Table.{kindOf, parentOf, spanStartOf, spanEndOf}
@@ -89,3 +90,19 @@ strictOctalEscape ns ss source n = stringLiteral ns n && (strictCode ns ss n && 
 -- 12.9.4.1: EscapeSequence :: NonOctalDecimalEscapeSequence: the same
 unfoldable pub strictNonOctalEscape : List ℕ → List ℕ → List ℕ → ℕ → Bool
 strictNonOctalEscape ns ss source n = stringLiteral ns n && (strictCode ns ss n && any nonOctalDecimalEscape (escapes (textOf ns source n)))
+
+-- WHICH ESCAPE, by offsets in the text
+-- 12.9.4: a character of a string is a SourceCharacter other than a backslash, or a backslash with the EscapeSequence (or the line end) that it begins: so what stands at an offset is escaped if a backslash stands right before it that is
+-- not escaped itself. (The further characters of an EscapeSequence, digits and braces, are no backslashes.)
+unfoldable pub escaped : List ℕ → ℕ → Bool
+escaped text zero = false
+escaped text (suc i) = eqb (getD text i 0) 92 && not (escaped text i)
+
+-- 12.9.4.1: the backslash at offset i begins a LegacyOctalEscapeSequence or a NonOctalDecimalEscapeSequence, which strict code may not have
+unfoldable pub forbiddenEscape : List ℕ → ℕ → Bool
+forbiddenEscape text i = escaped text (suc i) && (legacyOctalEscape (drop (suc i) text) || nonOctalDecimalEscape (drop (suc i) text))
+
+-- the first of them
+pub record FirstForbidden (text : List ℕ) (i : ℕ) : Type 0 where
+  pub here : forbiddenEscape text i ≡ true
+  pub before : (j : ℕ) → j < i → forbiddenEscape text j ≡ false

@@ -20,7 +20,7 @@ use Rattle.check_diagnostics.specs.declared.Raised.{Raised}
 use Rattle.check_diagnostics.specs.declared.Raised.the-variants.{Clear}
 use Rattle.check_literals.specs.declared.Escape.the-variants.{LegacyOctal, NonOctalDecimal, Fine}
 use Rattle.check_literals.specs.Escapes.{digitNext, isLegacyOctal, isNonOctalDecimal, escapeOf, orElse, badEscape}
-use Rattle.check_literals.specs.Literals.{sourceText, leadingZero, escapeFinding, checkStringLiteral, checkNumberLiteral}
+use Rattle.check_literals.specs.Literals.{sourceText, isChecked, isScanned, leadingZero, escapeFinding, checkStringLiteral, checkNumberLiteral}
 use Rattle.ecma_trees.specs.Walk.{only}
 use Rattle.ecma_strict.specs.Nodes.{ofCheck}
 use Rattle.ecma_base.specs.Strict.{strictCode}
@@ -124,7 +124,7 @@ nonOctalAgrees ns ss source n w =
 
 -- STRINGS
 -- the five productions of LegacyOctalEscapeSequence: a 0 before a digit, or one of 1 to 7
-legacyIs : (c : ℕ) (l : List ℕ) → legacyOctalEscape (c ∷ l) ≡ isLegacyOctal c l
+pub legacyIs : (c : ℕ) (l : List ℕ) → legacyOctalEscape (c ∷ l) ≡ isLegacyOctal c l
 unfolding legacyOctalEscape
 legacyIs c l = go (eqb c 48) refl
   where
@@ -172,27 +172,31 @@ legacyIs c l = go (eqb c 48) refl
     go true q = zero (eqb-true c 48 q)
     go false q = other q
 
--- what is raised for a string, by its first escape of either kind
+-- what is raised for a string, by its first escape of either kind, but for the second span (EscapeSpansLaws.antt)
 abbrev pub byFirst : List ℕ → ℕ → List (List ℕ) → Raised
 byFirst ns n es = cond (octalFirst es) (errorAt ns code.legacyOctal n n context.none) (cond (nonOctalFirst es) (errorAt ns code.nonOctalDecimalEscapeSequence n n context.none) Clear)
 
-scanIs : (ns : List ℕ) (n i : ℕ) (l : List ℕ) → escapeFinding ns n (badEscape i l) ≡ byFirst ns n (escapes l)
+scanIs : (c : ℕ) (ns : List ℕ) (n i : ℕ) (l : List ℕ) → ofCheck c (escapeFinding ns n (badEscape i l)) ≡ ofCheck c (byFirst ns n (escapes l))
 unfolding badEscape escapes octalFirst nonOctalFirst escapeOf nonOctalDecimalEscape
-scanIs ns n i [] = refl
-scanIs ns n i (b ∷ []) = refl
-scanIs ns n i (b ∷ c ∷ l) = go (eqb b 92) (scanIs ns n (i + 1) (c ∷ l)) (scanIs ns n (i + 2) l)
+scanIs x ns n i [] = refl
+scanIs x ns n i (b ∷ []) = refl
+scanIs x ns n i (b ∷ c ∷ l) = go (eqb b 92) (scanIs x ns n (i + 1) (c ∷ l)) (scanIs x ns n (i + 2) l)
   where
-    by : (x y : Bool) → escapeFinding ns n (badEscape (i + 2) l) ≡ byFirst ns n (escapes l)
-        → escapeFinding ns n (orElse (cond x (LegacyOctal i) (cond y (NonOctalDecimal i) Fine)) (badEscape (i + 2) l))
-        ≡ cond (x || (not y && octalFirst (escapes l))) (errorAt ns code.legacyOctal n n context.none) (cond (y || (not x && nonOctalFirst (escapes l))) (errorAt ns code.nonOctalDecimalEscapeSequence n n context.none) Clear)
-    by true y h = refl
+    by : (o d : Bool) → ofCheck x (escapeFinding ns n (badEscape (i + 2) l)) ≡ ofCheck x (byFirst ns n (escapes l))
+        → ofCheck x (escapeFinding ns n (orElse (cond o (LegacyOctal i) (cond d (NonOctalDecimal i) Fine)) (badEscape (i + 2) l)))
+        ≡ ofCheck x (cond (o || (not d && octalFirst (escapes l))) (errorAt ns code.legacyOctal n n context.none) (cond (d || (not o && nonOctalFirst (escapes l))) (errorAt ns code.nonOctalDecimalEscapeSequence n n context.none) Clear))
+    by true d h = refl
     by false true h = refl
     by false false h = h
 
-    go : (x : Bool) → escapeFinding ns n (badEscape (i + 1) (c ∷ l)) ≡ byFirst ns n (escapes (c ∷ l)) → escapeFinding ns n (badEscape (i + 2) l) ≡ byFirst ns n (escapes l)
-        → escapeFinding ns n (cond x (orElse (escapeOf i c l) (badEscape (i + 2) l)) (badEscape (i + 1) (c ∷ l))) ≡ byFirst ns n (cond x ((c ∷ l) ∷ escapes l) (escapes (c ∷ l)))
+    go : (z : Bool) → ofCheck x (escapeFinding ns n (badEscape (i + 1) (c ∷ l))) ≡ ofCheck x (byFirst ns n (escapes (c ∷ l))) → ofCheck x (escapeFinding ns n (badEscape (i + 2) l)) ≡ ofCheck x (byFirst ns n (escapes l))
+        → ofCheck x (escapeFinding ns n (cond z (orElse (escapeOf i c l) (badEscape (i + 2) l)) (badEscape (i + 1) (c ∷ l)))) ≡ ofCheck x (byFirst ns n (cond z ((c ∷ l) ∷ escapes l) (escapes (c ∷ l))))
     go true p h = rw (legacyIs c l) (by (isLegacyOctal c l) (isNonOctalDecimal c) h)
     go false p h = p
+
+ofChecked : (c : ℕ) (b : Bool) (x y : Raised) → ofCheck c x ≡ ofCheck c y → ofCheck c (cond b x Clear) ≡ ofCheck c (cond b y Clear)
+ofChecked c true x y e = e
+ofChecked c false x y e = refl
 
 stringBy : (j s p o d : Bool) (x y : Raised) → cond ((s && not j) && not p) (cond o x (cond d y Clear)) Clear ≡ cond (not j && (s && (not p && o))) x (cond (not j && (s && (not p && d))) y Clear)
 stringBy true true p o d x y = refl
@@ -202,14 +206,16 @@ stringBy false true false o d x y = refl
 stringBy false false p o d x y = refl
 
 -- CODES 9 AND 11: a string raises just what the changed rules say
-pub stringIs : (ns ss source : List ℕ) (n : ℕ) → kindOf ns n ≡ k.StringLiteral
-    → checkStringLiteral ns ss source n
-    ≡ cond (firstOctalEscape ns ss source n) (errorAt ns code.legacyOctal n n context.none) (cond (firstNonOctalEscape ns ss source n) (errorAt ns code.nonOctalDecimalEscapeSequence n n context.none) Clear)
+pub stringIs : (c : ℕ) (ns ss source : List ℕ) (n : ℕ) → kindOf ns n ≡ k.StringLiteral
+    → ofCheck c (checkStringLiteral ns ss source n)
+    ≡ ofCheck c (cond (firstOctalEscape ns ss source n) (errorAt ns code.legacyOctal n n context.none) (cond (firstNonOctalEscape ns ss source n) (errorAt ns code.nonOctalDecimalEscapeSequence n n context.none) Clear))
 unfolding checkStringLiteral sourceText textOf firstOctalEscape firstNonOctalEscape
-stringIs ns ss source n q =
-    rw (eq-eqb (kindOf ns n) k.StringLiteral q, scanIs ns n 0 (textOf ns source n))
+stringIs c ns ss source n q =
+    ofChecked c (isChecked ns ss n && isScanned ns source n) (escapeFinding ns n (badEscape 0 (sourceText ns source n))) (byFirst ns n (escapes (textOf ns source n))) (scanIs c ns n 0 (textOf ns source n))
+    ∙ rw (eq-eqb (kindOf ns n) k.StringLiteral q)
+    (ap (ofCheck c)
     (stringBy (eqb (kindOf ns (parentOf ns n)) k.JSXAttribute) (strictCode ns ss n) (looksPlain ns source n) (octalFirst (escapes (textOf ns source n))) (nonOctalFirst (escapes (textOf ns source n)))
-    (errorAt ns code.legacyOctal n n context.none) (errorAt ns code.nonOctalDecimalEscapeSequence n n context.none))
+    (errorAt ns code.legacyOctal n n context.none) (errorAt ns code.nonOctalDecimalEscapeSequence n n context.none)))
 
 -- a string without escapes of the other kind: the first is any
 octalOnly : (es : List (List ℕ)) → any nonOctalDecimalEscape es ≡ false → octalFirst es ≡ any legacyOctalEscape es
@@ -369,12 +375,12 @@ module _ (ns ss source : List ℕ) (n : ℕ) where
 
   -- 9 at a string
   pub stringOctal : kindOf ns n ≡ k.StringLiteral → ofCheck code.legacyOctal (checkStringLiteral ns ss source n) ≡ only (firstOctalEscape ns ss source n) n
-  stringOctal q = ap (ofCheck 9) (stringIs ns ss source n q) ∙ firstOf 9 (spanStartOf ns n) (spanEndOf ns n) (spanStartOf ns n) (spanEndOf ns n) n 11 (firstOctalEscape ns ss source n) (firstNonOctalEscape ns ss source n) refl
+  stringOctal q = stringIs 9 ns ss source n q ∙ firstOf 9 (spanStartOf ns n) (spanEndOf ns n) (spanStartOf ns n) (spanEndOf ns n) n 11 (firstOctalEscape ns ss source n) (firstNonOctalEscape ns ss source n) refl
 
   -- 11 at a string
   pub stringNonOctal : kindOf ns n ≡ k.StringLiteral → ofCheck code.nonOctalDecimalEscapeSequence (checkStringLiteral ns ss source n) ≡ only (firstNonOctalEscape ns ss source n) n
   unfolding firstOctalEscape firstNonOctalEscape
   stringNonOctal q =
-      ap (ofCheck 11) (stringIs ns ss source n q)
+      stringIs 11 ns ss source n q
       ∙ secondOf 11 (spanStartOf ns n) (spanEndOf ns n) (spanStartOf ns n) (spanEndOf ns n) n 9 (firstOctalEscape ns ss source n) (firstNonOctalEscape ns ss source n) refl
       (apart (stringLiteral ns n) (strictCode ns ss n) (not (looksPlain ns source n)) (octalFirst (escapes (textOf ns source n))) (nonOctalFirst (escapes (textOf ns source n))) (firstApart (escapes (textOf ns source n))))

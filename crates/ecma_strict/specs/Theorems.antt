@@ -33,6 +33,8 @@ use Rattle.ecma_dispatch.specs.NodesOfLaws.{raisedNil, raisedAgain, raisedAppen
 use Rattle.ecma_base.specs.Strict.{strictCode}
 use Rattle.ecma_strict.specs.Nodes.{ofCheck}
 use Rattle.ecma_strict.specs.NodesLaws.{raisedBy, raisedListed, atListed, atWith, atTwo, atTwoListed, atTwoMixed, wholeIs}
+use Rattle.ecma_strict.specs.EscapeSpans.{StringTold, NumberTold}
+use Rattle.ecma_strict.specs.EscapeSpansLaws.{stringTold, numberTold}
 use Rattle.ecma_strict.specs.LiteralsLaws.{numberOctal, numberNonOctal, stringOctal, stringNonOctal}
 use Rattle.ecma_strict.specs.Delete.{deletesName}
 use Rattle.ecma_strict.specs.DeleteLaws.{deleteName, deletePrivate}
@@ -285,6 +287,9 @@ pub record EarlyErrors (t : ℕ) (ns ss source names : List ℕ) : Type 0 where
   pub legacyOctal : Exactly 9 t ns ss source names (λ n. only (toldOctal ns ss source n || firstOctalEscape ns ss source n) n)
   pub leadingZero : Exactly 10 t ns ss source names (λ n. only (toldNonOctal ns ss source n) n)
   pub nonOctalEscape : Exactly 11 t ns ss source names (λ n. only (firstNonOctalEscape ns ss source n) n)
+  -- the second spans of 9 to 11, whatever the tables tell: at a string the first escape that 12.9.4.1 forbids, at a number none
+  pub stringSpans : (n : ℕ) → kindOf ns n ≡ k.StringLiteral → StringTold ns ss source n (findingsAt t ns ss source names n)
+  pub numberSpans : (n : ℕ) → kindOf ns n ≡ k.NumericLiteral → NumberTold ns n (findingsAt t ns ss source names n)
   pub useStrict : Exactly 12 t ns ss source names (λ n. only (useStrictScoped ns ss names n) n)
   pub usingInScript : Exactly 13 t ns ss source names (λ n. only (topUsing t ns ss n) n)
   pub awaitUsingInBlock : Exactly 14 t ns ss source names (λ n. only (awaitUsing ns n && scopedInBlock ns ss n) n)
@@ -307,6 +312,8 @@ earlyErrors t ns ss source names w = record {
   legacyOctal = wholeIs 9 t ns ss source names (λ n. only (toldOctal ns ss source n || firstOctalEscape ns ss source n) n) refl (code9 t ns ss source names w);
   leadingZero = wholeIs 10 t ns ss source names (λ n. only (toldNonOctal ns ss source n) n) refl (code10 t ns ss source names w);
   nonOctalEscape = wholeIs 11 t ns ss source names (λ n. only (firstNonOctalEscape ns ss source n) n) refl (code11 t ns ss source names w);
+  stringSpans = stringTold t ns ss source names;
+  numberSpans = numberTold t ns ss source names;
   useStrict = wholeIs 12 t ns ss source names (λ n. only (useStrictScoped ns ss names n) n) refl (code12 t ns ss source names w);
   usingInScript = wholeIs 13 t ns ss source names (λ n. only (topUsing t ns ss n) n) refl (code13 t ns ss source names w);
   awaitUsingInBlock = wholeIs 14 t ns ss source names (λ n. only (awaitUsing ns n && scopedInBlock ns ss n) n) refl (code14 t ns ss source names w);
