@@ -24,7 +24,7 @@ use Rattle.check_class_table.specs.Elements as e
 use Rattle.check_classes.specs.ClassChecks.{requireClassName, constructors, firstPair, secondBy, secondConstructor}
 use Rattle.check_dispatch.specs.Findings.{findingsAt}
 use Rattle.ecma_dispatch.specs.WithCode.{withCode}
-use Rattle.ecma_dispatch.specs.Dispatch.{at26, at27}
+use Rattle.ecma_dispatch.specs.Dispatch.{atCode}
 use Rattle.ecma_dispatch.specs.NodesOf.{nodesOf, raised}
 use Rattle.ecma_classes.specs.RaisingLaws.{keep-same, keep-alike}
 use Rattle.ecma_dispatch.specs.NodesOfLaws.{raisedAgain}
@@ -76,7 +76,7 @@ module _ (t : ℕ) (ns ss source names : List ℕ) (n : ℕ) where
   -- 26: one finding at a class declaration that lacks its name
   pub class-name : raised 26 (findingsAt t ns ss source names n) ≡ only (nameMissing ns n) n
   unfolding nodesOf withCode
-  class-name = sym (raisedAgain 26 (findingsAt t ns ss source names n)) ∙ rw (at26 t ns ss source names n) (go (eqb (kindOf ns n) k.Class) refl)
+  class-name = sym (raisedAgain 26 (findingsAt t ns ss source names n)) ∙ rw (atCode 26 t ns ss source names n) (go (eqb (kindOf ns n) k.Class) refl)
     where
       go : (b : Bool) → eqb (kindOf ns n) k.Class ≡ b → raised 26 (cond b (listed (requireClassName ns n)) []) ≡ only (nameMissing ns n) n
       go true e = require-by ns n e
@@ -85,7 +85,7 @@ module _ (t : ℕ) (ns ss source names : List ℕ) (n : ℕ) where
   -- 27: one finding at a class with more than one constructor that has a body
   pub second-constructor : raised 27 (findingsAt t ns ss source names n) ≡ only (builtTwice ns n) n
   unfolding builtTwice classElements nodesOf withCode
-  second-constructor = sym (raisedAgain 27 (findingsAt t ns ss source names n)) ∙ rw (at27 t ns ss source names n) (go (eqb (kindOf ns n) k.Class))
+  second-constructor = sym (raisedAgain 27 (findingsAt t ns ss source names n)) ∙ rw (atCode 27 t ns ss source names n) (go (eqb (kindOf ns n) k.Class))
     where
       go : (b : Bool) → raised 27 (cond b (listed (secondConstructor ns n)) []) ≡ only (b && ltb 1 (length (keep (isConstructor ns) (elementsIn ns (classBodyOf ns n))))) n
       go true = second-by ns n (classBodyOf ns n)

@@ -23,7 +23,7 @@ use Rattle.ecma_trees.specs.Walk.{each, some, only}
 use Rattle.check_expressions.specs.Expressions.{properties, isPlain, ifProto, protoKey, toList, protoKeys, repeatsAfter, repeats, checkObjectExpression}
 use Rattle.check_dispatch.specs.Findings.{findingsAt}
 use Rattle.ecma_dispatch.specs.WithCode.{withCode}
-use Rattle.ecma_dispatch.specs.Dispatch.{at1}
+use Rattle.ecma_dispatch.specs.Dispatch.{atCode}
 use Rattle.ecma_dispatch.specs.NodesOf.{nodesOf, raised}
 use Rattle.ecma_classes.specs.RaisingLaws.{keep-upto, keep-alike}
 use Rattle.ecma_dispatch.specs.NodesOfLaws.{raisedAgain}
@@ -114,7 +114,7 @@ module _ (ns names : List ℕ) where
   -- 1 at an Object: a finding for each such property but the first
   pub proto-again : Listed ns → (t : ℕ) (ss source : List ℕ) (n : ℕ) → raised 1 (findingsAt t ns ss source names n) ≡ times n (protoAgain ns names n)
   unfolding nodesOf withCode
-  proto-again w t ss source n = sym (raisedAgain 1 (findingsAt t ns ss source names n)) ∙ rw (at1 t ns ss source names n) (go (eqb (kindOf ns n) k.Object) refl)
+  proto-again w t ss source n = sym (raisedAgain 1 (findingsAt t ns ss source names n)) ∙ rw (atCode 1 t ns ss source names n) (go (eqb (kindOf ns n) k.Object) refl)
     where
       go : (b : Bool) → eqb (kindOf ns n) k.Object ≡ b → raised 1 (cond b (checkObjectExpression ns names n) []) ≡ times n (protoAgain ns names n)
       go true e = objects w n e

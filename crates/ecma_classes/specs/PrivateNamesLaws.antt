@@ -43,7 +43,7 @@ use Rattle.check_class_table.specs.Elements.{elementName, privates, hasPrivate,
 use Rattle.check_classes.specs.ClassChecks.{outsideBy, privateOutside, isClass, references, undeclaredAt, undeclaredIn, undeclaredBy, privateUndeclared}
 use Rattle.check_dispatch.specs.Findings.{findingsAt}
 use Rattle.ecma_dispatch.specs.WithCode.{withCode}
-use Rattle.ecma_dispatch.specs.Dispatch.{at7, at8}
+use Rattle.ecma_dispatch.specs.Dispatch.{atCode}
 use Rattle.ecma_dispatch.specs.NodesOf.{nodesOf, raised}
 use Rattle.ecma_classes.specs.RaisingLaws.{keep-upto, flat-upto, keep-from}
 use Rattle.ecma_dispatch.specs.NodesOfLaws.{raisedAgain}
@@ -165,7 +165,7 @@ module _ (t : ℕ) (ns ss source names : List ℕ) (n : ℕ) where
 
   pub private-outside : raised 7 (findingsAt t ns ss source names n) ≡ only (isOutside ns n) n
   unfolding isOutside nodesOf withCode
-  private-outside = sym (raisedAgain 7 (findingsAt t ns ss source names n)) ∙ rw (at7 t ns ss source names n) (go (eqb (kindOf ns n) k.PrivateIdentifier) refl)
+  private-outside = sym (raisedAgain 7 (findingsAt t ns ss source names n)) ∙ rw (atCode 7 t ns ss source names n) (go (eqb (kindOf ns n) k.PrivateIdentifier) refl)
     where
       go : (b : Bool) → eqb (kindOf ns n) k.PrivateIdentifier ≡ b → raised 7 (cond b (listed (privateOutside ns n)) []) ≡ only (b && not (found (bodyAround ns n))) n
       go true q = rw (current-is ns n q) (outside-raised (bodyAround ns n))
@@ -336,7 +336,7 @@ module _ (ns names : List ℕ) (w : Tree ns) where
   pub private-undeclared : (t : ℕ) (ss source : List ℕ) (n : ℕ)
       → withCode 8 (findingsAt t ns ss source names n)
       ≡ cond (eqb (kindOf ns n) k.Class) (flatMap (λ m. listed (errorAt ns code.privateFieldUndeclared n m context.none)) (keep (λ m. sameNode (bodyAround ns m) (classBodyOf ns n)) (invalidInTable ns names))) []
-  private-undeclared t ss source n = at8 t ns ss source names n ∙ go (eqb (kindOf ns n) k.Class) refl
+  private-undeclared t ss source n = atCode 8 t ns ss source names n ∙ go (eqb (kindOf ns n) k.Class) refl
     where
       go : (b : Bool) → eqb (kindOf ns n) k.Class ≡ b → cond b (privateUndeclared ns names n) [] ≡ cond b (flatMap (error8 n) (keep (λ m. sameNode (bodyAround ns m) (classBodyOf ns n)) (invalidInTable ns names))) []
       go true e = ap (undeclaredBy ns names n) (at-class n e) ∙ in-found n (classBodyOf ns n) refl

@@ -16,7 +16,7 @@ use Rattle.check_supers.specs.declared.Reach.{Reach}
 use Rattle.check_supers.specs.declared.Reach.the-variants.{Legal, Illegal, Underived, Fails}
 use Rattle.check_dispatch.specs.Findings.{findingsAt}
 use Rattle.ecma_dispatch.specs.WithCode.{withCode}
-use Rattle.ecma_dispatch.specs.Dispatch.{at28, at29, at30}
+use Rattle.ecma_dispatch.specs.Dispatch.{atCode}
 use Rattle.ecma_dispatch.specs.NodesOf.{nodesOf, raised}
 use Rattle.ecma_dispatch.specs.NodesOfLaws.{raisedAgain}
 use Rattle.ecma_classes.specs.ScopesFitLaws.{ScopesFit}
@@ -68,7 +68,7 @@ module _ (ns : List ℕ) (n : ℕ) where
 module _ (t : ℕ) (ns ss source names : List ℕ) (n : ℕ) where
   pub bare-by-scopes : raised 28 (findingsAt t ns ss source names n) ≡ only (bareByScopes ns ss n) n
   unfolding bareByScopes nodesOf withCode checkSuper
-  bare-by-scopes = sym (raisedAgain 28 (findingsAt t ns ss source names n)) ∙ rw (at28 t ns ss source names n) (go (eqb (kindOf ns n) k.Super))
+  bare-by-scopes = sym (raisedAgain 28 (findingsAt t ns ss source names n)) ∙ rw (atCode 28 t ns ss source names n) (go (eqb (kindOf ns n) k.Super))
     where
       go : (b : Bool) → raised 28 (cond b (withCode 28 (listed (checkSuper ns ss n))) []) ≡ only (b && isUnderived (reachOf ns ss n)) n
       go true = raisedAgain 28 (listed (checkSuper ns ss n)) ∙ reached28 ns n (reachOf ns ss n)
@@ -76,7 +76,7 @@ module _ (t : ℕ) (ns ss source names : List ℕ) (n : ℕ) where
 
   pub stray-by-scopes : raised 29 (findingsAt t ns ss source names n) ≡ only (strayByScopes ns ss n) n
   unfolding strayByScopes isTableCall nodesOf withCode checkSuper
-  stray-by-scopes = sym (raisedAgain 29 (findingsAt t ns ss source names n)) ∙ rw (at29 t ns ss source names n) (go (eqb (kindOf ns n) k.Super))
+  stray-by-scopes = sym (raisedAgain 29 (findingsAt t ns ss source names n)) ∙ rw (atCode 29 t ns ss source names n) (go (eqb (kindOf ns n) k.Super))
     where
       go : (b : Bool) → raised 29 (cond b (withCode 29 (listed (checkSuper ns ss n))) []) ≡ only ((b && isCall ns n) && isIllegal (reachOf ns ss n)) n
       go true = raisedAgain 29 (listed (checkSuper ns ss n)) ∙ reached29 ns n (reachOf ns ss n)
@@ -84,7 +84,7 @@ module _ (t : ℕ) (ns ss source names : List ℕ) (n : ℕ) where
 
   pub property-by-scopes : raised 30 (findingsAt t ns ss source names n) ≡ only (propertyByScopes ns ss n) n
   unfolding propertyByScopes isTableProperty nodesOf withCode checkSuper
-  property-by-scopes = sym (raisedAgain 30 (findingsAt t ns ss source names n)) ∙ rw (at30 t ns ss source names n) (go (eqb (kindOf ns n) k.Super))
+  property-by-scopes = sym (raisedAgain 30 (findingsAt t ns ss source names n)) ∙ rw (atCode 30 t ns ss source names n) (go (eqb (kindOf ns n) k.Super))
     where
       go : (b : Bool) → raised 30 (cond b (withCode 30 (listed (checkSuper ns ss n))) []) ≡ only ((b && not (isCall ns n)) && isIllegal (reachOf ns ss n)) n
       go true = raisedAgain 30 (listed (checkSuper ns ss n)) ∙ reached30 ns n (reachOf ns ss n)

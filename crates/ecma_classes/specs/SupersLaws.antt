@@ -27,7 +27,7 @@ use Rattle.check_supers.specs.declared.Reach.{Reach}
 use Rattle.check_supers.specs.declared.Reach.the-variants.{Legal, Illegal, Underived}
 use Rattle.check_dispatch.specs.Findings.{findingsAt}
 use Rattle.ecma_dispatch.specs.WithCode.{withCode}
-use Rattle.ecma_dispatch.specs.Dispatch.{at28, at29, at30}
+use Rattle.ecma_dispatch.specs.Dispatch.{atCode}
 use Rattle.ecma_dispatch.specs.NodesOf.{nodesOf, raised}
 use Rattle.ecma_base.specs.Telling.{Telling, asyncOrGenerator}
 use Rattle.ecma_dispatch.specs.NodesOfLaws.{raisedAgain}
@@ -216,7 +216,7 @@ module _ (ns ss : List ℕ) (tree : Tree ns) (chained : Chained ss) (scoped : Sc
   module _ (t : ℕ) (source names : List ℕ) where
     pub super-bare : raised 28 (findingsAt t ns ss source names n) ≡ only (tableBare ns n) n
     unfolding isBare isTableCall nodesOf withCode
-    super-bare = sym (raisedAgain 28 (findingsAt t ns ss source names n)) ∙ rw (at28 t ns ss source names n) (go (eqb (kindOf ns n) k.Super) refl)
+    super-bare = sym (raisedAgain 28 (findingsAt t ns ss source names n)) ∙ rw (atCode 28 t ns ss source names n) (go (eqb (kindOf ns n) k.Super) refl)
       where
         go : (b : Bool) → eqb (kindOf ns n) k.Super ≡ b
             → raised 28 (cond b (withCode 28 (listed (checkSuper ns ss n))) []) ≡ only ((b && isCall ns n) && (isConstructorMethod ns (isTableConstructor ns) (unitOf ns (begins ns) n) && not (hasHeritage ns (unitOf ns (begins ns) n)))) n
@@ -225,7 +225,7 @@ module _ (ns ss : List ℕ) (tree : Tree ns) (chained : Chained ss) (scoped : Sc
 
     pub super-call : raised 29 (findingsAt t ns ss source names n) ≡ only (tableStray ns n) n
     unfolding isTableCall nodesOf withCode
-    super-call = sym (raisedAgain 29 (findingsAt t ns ss source names n)) ∙ rw (at29 t ns ss source names n) (go (eqb (kindOf ns n) k.Super) refl)
+    super-call = sym (raisedAgain 29 (findingsAt t ns ss source names n)) ∙ rw (atCode 29 t ns ss source names n) (go (eqb (kindOf ns n) k.Super) refl)
       where
         go : (b : Bool) → eqb (kindOf ns n) k.Super ≡ b
             → raised 29 (cond b (withCode 29 (listed (checkSuper ns ss n))) []) ≡ only ((b && isCall ns n) && not (isConstructorMethod ns (isTableConstructor ns) (unitOf ns (begins ns) n))) n
@@ -234,7 +234,7 @@ module _ (ns ss : List ℕ) (tree : Tree ns) (chained : Chained ss) (scoped : Sc
 
     pub super-property : raised 30 (findingsAt t ns ss source names n) ≡ only (tableProperty ns n) n
     unfolding isTableProperty nodesOf withCode
-    super-property = sym (raisedAgain 30 (findingsAt t ns ss source names n)) ∙ rw (at30 t ns ss source names n) (go (eqb (kindOf ns n) k.Super) refl)
+    super-property = sym (raisedAgain 30 (findingsAt t ns ss source names n)) ∙ rw (atCode 30 t ns ss source names n) (go (eqb (kindOf ns n) k.Super) refl)
       where
         go : (b : Bool) → eqb (kindOf ns n) k.Super ≡ b
             → raised 30 (cond b (withCode 30 (listed (checkSuper ns ss n))) []) ≡ only ((b && not (isCall ns n)) && barsProperty ns (unitOf ns (begins ns) n)) n

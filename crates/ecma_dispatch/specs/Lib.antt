@@ -1,6 +1,8 @@
 pub mod WithCode
 pub mod WithCodeLaws
 pub mod CheckCodes
+pub mod Table
+pub mod TableLaws
 pub mod ByKind
 pub mod Dispatch
 pub mod NodesOf

@@ -103,21 +103,25 @@ module _ (cs : List ℕ) where
   codedFlatMap g h [] = codedNil
   codedFlatMap g h (a ∷ l) = codedAppend (g a) (flatMap g l) (h a) (codedFlatMap g h l)
 
--- fewer codes are codes among more
-inMore : (cs ds : List ℕ) → all (λ c. member c ds) cs ≡ true → (c : ℕ) → member c cs ≡ true → member c ds ≡ true
-inMore [] ds e c q = never (sym q)
-inMore (x ∷ cs) ds e c q = by (eqb c x) refl (inMore cs ds (and-right (member x ds) (all (λ c. member c ds) cs) e) c) q
+-- what holds of the codes holds of each finding's
+ofEach : (p : ℕ → Bool) (cs : List ℕ) → all p cs ≡ true → (c : ℕ) → member c cs ≡ true → p c ≡ true
+ofEach p [] e c q = never (sym q)
+ofEach p (x ∷ cs) e c q = by (eqb c x) refl (ofEach p cs (and-right (p x) (all p cs) e) c) q
   where
-    by : (b : Bool) → eqb c x ≡ b → (member c cs ≡ true → member c ds ≡ true) → (b || member c cs) ≡ true → member c ds ≡ true
-    by true h r q = subst (λ y. member y ds ≡ true) (sym (eqb-true c x h)) (and-left (member x ds) (all (λ c. member c ds) cs) e)
+    by : (b : Bool) → eqb c x ≡ b → (member c cs ≡ true → p c ≡ true) → (b || member c cs) ≡ true → p c ≡ true
+    by true h r q = subst (λ y. p y ≡ true) (sym (eqb-true c x h)) (and-left (p x) (all p cs) e)
     by false h r q = r q
 
-pub codedMore : (cs ds : List ℕ) → all (λ c. member c ds) cs ≡ true → {fs : List Finding} → Coded cs fs → Coded ds fs
-codedMore cs ds e {fs} w = record { each = go fs (w .each) }
+pub eachCode : (p : ℕ → Bool) (cs : List ℕ) → all p cs ≡ true → {fs : List Finding} → Coded cs fs → all (λ f. p (f .code)) fs ≡ true
+eachCode p cs e {fs} w = go fs (w .each)
   where
-    go : (fs : List Finding) → all (λ f. member (f .code) cs) fs ≡ true → all (λ f. member (f .code) ds) fs ≡ true
+    go : (fs : List Finding) → all (λ f. member (f .code) cs) fs ≡ true → all (λ f. p (f .code)) fs ≡ true
     go [] h = refl
-    go (f ∷ fs) h = rw (inMore cs ds e (f .code) (and-left (member (f .code) cs) (all (λ f. member (f .code) cs) fs) h)) (go fs (and-right (member (f .code) cs) (all (λ f. member (f .code) cs) fs) h))
+    go (f ∷ fs) h = rw (ofEach p cs e (f .code) (and-left (member (f .code) cs) (all (λ f. member (f .code) cs) fs) h)) (go fs (and-right (member (f .code) cs) (all (λ f. member (f .code) cs) fs) h))
+
+-- fewer codes are codes among more
+pub codedMore : (cs ds : List ℕ) → all (λ c. member c ds) cs ≡ true → {fs : List Finding} → Coded cs fs → Coded ds fs
+codedMore cs ds e {fs} w = record { each = eachCode (λ c. member c ds) cs e w }
 
 -- what a check raises has one of these codes
 unfoldable pub fine : List ℕ → Raised → Bool

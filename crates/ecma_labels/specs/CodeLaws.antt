@@ -27,7 +27,7 @@ use Rattle.check_dispatch.specs.Findings.{findingsAt, findingsOf}
 use Rattle.ecma_dispatch.specs.WithCode.{withCode}
 use Rattle.ecma_dispatch.specs.NodesOf.{nodesOf, raised}
 use Rattle.ecma_dispatch.specs.NodesOfLaws.{nodesNil, nodesWhole}
-use Rattle.ecma_dispatch.specs.Dispatch.{at18, at19, at20, at21, at22, at23}
+use Rattle.ecma_dispatch.specs.Dispatch.{atCode}
 use Rattle.ecma_trees.specs.Walk.{only}
 use Rattle.ecma_trees.specs.Unit.{homeOf}
 use Rattle.ecma_labels.specs.Labels.{isIteration, isUnit, unlabelled, contains, lacks}
@@ -193,7 +193,7 @@ module _ (ns names : List ℕ) (t : Tree ns) where
     -- 18: 14.9.1
     pub code18 : (j : ℕ) → j < count ns → raised 18 (findingsAt sourceType ns ss source names j) ≡ only (breakNotNestedAt ns names j) j
     unfolding breakNotNestedAt
-    code18 j h = ap nodesOf (at18 sourceType ns ss source names j) ∙ go (eqb (kindOf ns j) 18) refl
+    code18 j h = ap nodesOf (atCode 18 sourceType ns ss source names j) ∙ go (eqb (kindOf ns j) 18) refl
       where
         go : (b : Bool) → eqb (kindOf ns j) 18 ≡ b → nodesOf (cond b (withCode 18 (listed (checkBreakStatement ns names j))) []) ≡ only (b && (unlabelled (labelAt ns names j) && not (inBreakable ns names j))) j
         go true q =
@@ -204,7 +204,7 @@ module _ (ns names : List ℕ) (t : Tree ns) where
     -- 19: no label of the name around it in the program; 20: none in its function, arrow or static block
     pub code19 : (j : ℕ) → j < count ns → raised 19 (findingsAt sourceType ns ss source names j) ≡ only (noLabelAt ns names j && inProgram ns names j) j
     unfolding noLabelAt
-    code19 j h = ap nodesOf (at19 sourceType ns ss source names j) ∙ go (eqb (kindOf ns j) 18) refl (eqb (kindOf ns j) 19) refl
+    code19 j h = ap nodesOf (atCode 19 sourceType ns ss source names j) ∙ go (eqb (kindOf ns j) 18) refl (eqb (kindOf ns j) 19) refl
       where
         go : (b : Bool) → eqb (kindOf ns j) 18 ≡ b → (c : Bool) → eqb (kindOf ns j) 19 ≡ c
             → nodesOf (cond b (withCode 19 (listed (checkBreakStatement ns names j))) (cond c (withCode 19 (listed (checkContinueStatement ns names j))) []))
@@ -221,7 +221,7 @@ module _ (ns names : List ℕ) (t : Tree ns) where
 
     pub code20 : (j : ℕ) → j < count ns → raised 20 (findingsAt sourceType ns ss source names j) ≡ only (noLabelAt ns names j && not (inProgram ns names j)) j
     unfolding noLabelAt
-    code20 j h = ap nodesOf (at20 sourceType ns ss source names j) ∙ go (eqb (kindOf ns j) 18) refl (eqb (kindOf ns j) 19) refl
+    code20 j h = ap nodesOf (atCode 20 sourceType ns ss source names j) ∙ go (eqb (kindOf ns j) 18) refl (eqb (kindOf ns j) 19) refl
       where
         go : (b : Bool) → eqb (kindOf ns j) 18 ≡ b → (c : Bool) → eqb (kindOf ns j) 19 ≡ c
             → nodesOf (cond b (withCode 20 (listed (checkBreakStatement ns names j))) (cond c (withCode 20 (listed (checkContinueStatement ns names j))) []))
@@ -239,7 +239,7 @@ module _ (ns names : List ℕ) (t : Tree ns) where
     -- 21: 14.8.1, of `continue ;`
     pub code21 : (j : ℕ) → j < count ns → raised 21 (findingsAt sourceType ns ss source names j) ≡ only (plainContinueNotNestedAt ns names j) j
     unfolding plainContinueNotNestedAt
-    code21 j h = ap nodesOf (at21 sourceType ns ss source names j) ∙ go (eqb (kindOf ns j) 19) refl
+    code21 j h = ap nodesOf (atCode 21 sourceType ns ss source names j) ∙ go (eqb (kindOf ns j) 19) refl
       where
         go : (b : Bool) → eqb (kindOf ns j) 19 ≡ b → nodesOf (cond b (withCode 21 (listed (checkContinueStatement ns names j))) []) ≡ only (b && (unlabelled (labelAt ns names j) && not (inLoop ns names j))) j
         go true q = continue21 j (later j 18 (eqb-true (kindOf ns j) 19 q)) h
@@ -248,7 +248,7 @@ module _ (ns names : List ℕ) (t : Tree ns) where
     -- 22: a label of the name, but on no loop
     pub code22 : Shaped ns → (j : ℕ) → j < count ns → raised 22 (findingsAt sourceType ns ss source names j) ≡ only (noLoopAt ns names j) j
     unfolding noLoopAt undefinedNearestAt
-    code22 w j h = ap nodesOf (at22 sourceType ns ss source names j) ∙ go (eqb (kindOf ns j) 19) refl
+    code22 w j h = ap nodesOf (atCode 22 sourceType ns ss source names j) ∙ go (eqb (kindOf ns j) 19) refl
       where
         go : (b : Bool) → eqb (kindOf ns j) 19 ≡ b
             → nodesOf (cond b (withCode 22 (listed (checkContinueStatement ns names j))) [])
@@ -259,7 +259,7 @@ module _ (ns names : List ℕ) (t : Tree ns) where
     -- 23: 8.3.1
     pub code23 : (j : ℕ) → j < count ns → raised 23 (findingsAt sourceType ns ss source names j) ≡ only (duplicateLabelAt ns names j) j
     unfolding duplicateLabelAt
-    code23 j h = ap nodesOf (at23 sourceType ns ss source names j) ∙ go (eqb (kindOf ns j) 6) refl
+    code23 j h = ap nodesOf (atCode 23 sourceType ns ss source names j) ∙ go (eqb (kindOf ns j) 6) refl
       where
         go : (b : Bool) → eqb (kindOf ns j) 6 ≡ b → nodesOf (cond b (listed (checkLabeledStatement ns names j)) []) ≡ only (b && contains ns names (labelSetAt ns names j) (labelAt ns names j)) j
         go true q = labelIs ns names t j (later j 5 (eqb-true (kindOf ns j) 6 q)) h

@@ -7,7 +7,8 @@ use mathlib.Core.List.{List, [], _∷_, _++_, flatMap}
 use mathlib.Core.Logic.{_↔_}
 use mathlib.Core.Bool.{Bool, true, false, not, _&&_, _||_}
 use lib.Dec.{ltb}
-use Rattle.base_common.specs.Upto.{upto, any}
+use Rattle.base_common.specs.Upto.{upto, all, any}
+use Rattle.base_common.specs.Tests.{within}
 use Rattle.base_walk.specs.On.{member}
 use Rattle.table_records.specs.Table.{kindOf, count}
 use Rattle.table_records.specs.Kinds as k
@@ -24,7 +25,7 @@ use Rattle.ecma_dispatch.specs.NodesOf.{nodesOf, raised}
 use Rattle.ecma_base.specs.Telling.{Telling}
 use Rattle.ecma_base.specs.Scopes.{scopesFollow}
 use Rattle.ecma_base.specs.Strict.{strictCode}
-use Rattle.ecma_dispatch.specs.Dispatch.{wholeOther}
+use Rattle.ecma_dispatch.specs.Dispatch.{wholeOther, codesListed}
 use Rattle.ecma_standard.specs.Operations.{Operations, operations262}
 use Rattle.ecma_labels.specs.Changed.{LabelsOnce, ContinuePlain}
 use Rattle.ecma_labels.specs.Labels.{isUnit, labelErrors}
@@ -141,6 +142,8 @@ module _ (told : Telling) (t : ℕ) (ns ss source names : List ℕ) where
     pub classes : Classes
     -- the findings of the tree with a code but 1 are those of its nodes, in order
     pub whole : (c : ℕ) → member c (1 ∷ []) ≡ false → withCode c findings ≡ flatMap (λ n. withCode c (findingsAt t ns ss source names n)) nodes
+    -- and every finding has one of these codes
+    pub codes : all (λ f. within (f .code) 1 33) findings ≡ true
     pub operations : Operations told t ns ss source names
 
 noName : (t : ℕ) (ns ss names : List ℕ) (n : ℕ) → identifier ns n ≡ false → reservedName t ns ss names n ≡ false
@@ -199,5 +202,6 @@ standard262 told t ns ss source names e =
         super = λ f s m c. classes.super-clean t ns ss source names w f s told m c;
       };
       whole = wholeOther t ns ss source names;
+      codes = codesListed t ns ss source names;
       operations = operations262 told t ns ss source names e;
     }

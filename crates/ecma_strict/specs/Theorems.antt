@@ -27,7 +27,7 @@ use Rattle.refusal_input.specs.Input.{inputRefusal}
 use Rattle.refusal_input.specs.InputLaws.{input-well-formed}
 use Rattle.ecma_trees.specs.Walk.{each, only}
 use Rattle.ecma_dispatch.specs.WithCode.{withCode}
-use Rattle.ecma_dispatch.specs.Dispatch.{at2, at3, at4, at5, at6, at9, at10, at11, at12, at13, at14, at15, at16, at17, at24, at25, at31, at32, at33}
+use Rattle.ecma_dispatch.specs.Dispatch.{atCode, at2, at3, at15, at16, at33}
 use Rattle.ecma_dispatch.specs.NodesOf.{raised}
 use Rattle.ecma_dispatch.specs.NodesOfLaws.{raisedNil, raisedAgain, raisedAppend}
 use Rattle.ecma_base.specs.Strict.{strictCode}
@@ -94,21 +94,21 @@ module _ (t : ℕ) (ns ss source names : List ℕ) (w : WellFormed t ns ss sourc
       (checkBindingIdentifier t ns ss names n) (checkIdentifierReference t ns ss names n)
       (λ e. bindingIs ns (w .input .tree) n t ss names h (eqb-true (kindOf ns n) 31 e) ∙ left (bindsEval ns ss names n) (assignsEval ns ss names n) n (rw (apart (kindOf ns n) 31 32 e refl)))
       (λ e f. referenceIs ns (w .input .tree) n (w .shaped .placed) t ss names h (eqb-true (kindOf ns n) 32 f) ∙ right (bindsEval ns ss names n) (assignsEval ns ss names n) n (rw e))
-      (λ e f. rw (e, f)) (at4 t ns ss source names n)
+      (λ e f. rw (e, f)) (atCode 4 t ns ss source names n)
 
   -- 5 (changed: letAgrees): `let` bound by a lexical declaration (14.3.1.1)
   pub code5 : raised 5 at ≡ only (letBoundSaid ns ss names n) n
   unfolding letBoundSaid
   code5 =
       atWith 5 n at (eqb (kindOf ns n) k.BindingIdentifier) (letBoundSaid ns ss names n) (checkBindingIdentifier t ns ss names n)
-      (λ e. letBoundIs ns (w .input .tree) n t ss names h (eqb-true (kindOf ns n) 31 e)) (λ e. rw e) (at5 t ns ss source names n)
+      (λ e. letBoundIs ns (w .input .tree) n t ss names h (eqb-true (kindOf ns n) 31 e)) (λ e. rw e) (atCode 5 t ns ss source names n)
 
   -- 6 (changed: argumentsAgree): `arguments` in a field or a static block (15.7.1)
   pub code6 : raised 6 at ≡ only (argumentsSaid ns ss names n) n
   unfolding argumentsSaid
   code6 =
       atWith 6 n at (eqb (kindOf ns n) k.IdentifierReference) (argumentsSaid ns ss names n) (checkIdentifierReference t ns ss names n)
-      (λ e. argumentsSaidIs ns (w .input .tree) n (w .shaped .placed) t ss names h (eqb-true (kindOf ns n) 32 e)) (λ e. rw e) (at6 t ns ss source names n)
+      (λ e. argumentsSaidIs ns (w .input .tree) n (w .shaped .placed) t ss names h (eqb-true (kindOf ns n) 32 e)) (λ e. rw e) (atCode 6 t ns ss source names n)
 
   -- 9 (changed: octalAgrees, octalEscapeAgrees): LegacyOctalIntegerLiteral, LegacyOctalEscapeSequence in strict code (12.9.3.1, 12.9.4.1)
   pub code9 : raised 9 at ≡ only (toldOctal ns ss source n || firstOctalEscape ns ss source n) n
@@ -118,41 +118,41 @@ module _ (t : ℕ) (ns ss source names : List ℕ) (w : WellFormed t ns ss sourc
       (checkNumberLiteral ns ss source n) (checkStringLiteral ns ss source n)
       (λ e. numberOctal ns ss source n (eqb-true (kindOf ns n) 35 e) ∙ left (toldOctal ns ss source n) (firstOctalEscape ns ss source n) n (rw (apart (kindOf ns n) 35 36 e refl)))
       (λ e f. stringOctal ns ss source n (eqb-true (kindOf ns n) 36 f) ∙ right (toldOctal ns ss source n) (firstOctalEscape ns ss source n) n (rw e))
-      (λ e f. rw (e, f)) (at9 t ns ss source names n)
+      (λ e f. rw (e, f)) (atCode 9 t ns ss source names n)
 
   -- 10 (changed: nonOctalAgrees): NonOctalDecimalIntegerLiteral in strict code (12.9.3.1)
   pub code10 : raised 10 at ≡ only (toldNonOctal ns ss source n) n
   unfolding toldNonOctal
   code10 =
       atWith 10 n at (eqb (kindOf ns n) k.NumericLiteral) (toldNonOctal ns ss source n) (checkNumberLiteral ns ss source n)
-      (λ e. numberNonOctal ns ss source n (eqb-true (kindOf ns n) 35 e)) (λ e. rw e) (at10 t ns ss source names n)
+      (λ e. numberNonOctal ns ss source n (eqb-true (kindOf ns n) 35 e)) (λ e. rw e) (atCode 10 t ns ss source names n)
 
   -- 11 (changed: nonOctalEscapeAgrees): NonOctalDecimalEscapeSequence in strict code (12.9.4.1)
   pub code11 : raised 11 at ≡ only (firstNonOctalEscape ns ss source n) n
   unfolding firstNonOctalEscape
   code11 =
       atWith 11 n at (eqb (kindOf ns n) k.StringLiteral) (firstNonOctalEscape ns ss source n) (checkStringLiteral ns ss source n)
-      (λ e. stringNonOctal ns ss source n (eqb-true (kindOf ns n) 36 e)) (λ e. rw e) (at11 t ns ss source names n)
+      (λ e. stringNonOctal ns ss source n (eqb-true (kindOf ns n) 36 e)) (λ e. rw e) (atCode 11 t ns ss source names n)
 
   -- 12 (changed: useStrictAgrees): "use strict" in a function whose parameters are not simple (15.2.1 and others)
   pub code12 : raised 12 at ≡ only (useStrictScoped ns ss names n) n
   unfolding useStrictScoped
   code12 =
       atListed 12 n at (eqb (kindOf ns n) k.Directive) (useStrictScoped ns ss names n) (checkDirective ns ss names n)
-      (λ e. useStrictIs ns ss names n (eqb-true (kindOf ns n) 23 e)) (λ e. rw e) (at12 t ns ss source names n)
+      (λ e. useStrictIs ns ss names n (eqb-true (kindOf ns n) 23 e)) (λ e. rw e) (atCode 12 t ns ss source names n)
 
   -- 13 (changed: usingAgrees): using in a script (14.3.1.1)
   pub code13 : raised 13 at ≡ only (topUsing t ns ss n) n
   unfolding topUsing
   code13 =
       atListed 13 n at (eqb (kindOf ns n) k.VariableDeclaration) (topUsing t ns ss n) (checkUsing t ns ss n)
-      (λ e. usingIs t ns ss n (eqb-true (kindOf ns n) 24 e)) (λ e. rw e) (at13 t ns ss source names n)
+      (λ e. usingIs t ns ss n (eqb-true (kindOf ns n) 24 e)) (λ e. rw e) (atCode 13 t ns ss source names n)
 
   -- 14 (changed: blockAgrees): await using in a static block (15.7.1)
   pub code14 : raised 14 at ≡ only (awaitUsing ns n && scopedInBlock ns ss n) n
   code14 =
       atListed 14 n at (eqb (kindOf ns n) k.VariableDeclaration) (awaitUsing ns n && scopedInBlock ns ss n) (checkAwaitUsing ns ss n)
-      (λ e. awaitUsingIs ns ss n (eqb-true (kindOf ns n) 24 e)) (λ e. rw e) (at14 t ns ss source names n)
+      (λ e. awaitUsingIs ns ss n (eqb-true (kindOf ns n) 24 e)) (λ e. rw e) (atCode 14 t ns ss source names n)
 
   -- the findings of a holder by its kind
   abbrev byKind : ℕ → List Finding
@@ -224,7 +224,7 @@ module _ (t : ℕ) (ns ss source names : List ℕ) (w : WellFormed t ns ss sourc
   unfolding strictWith
   code17 =
       atListed 17 n at (eqb (kindOf ns n) k.With) (strictWith ns ss n) (checkWithStatement ns ss n)
-      (λ e. withIs ns ss n (eqb-true (kindOf ns n) 13 e)) (λ e. rw e) (at17 t ns ss source names n)
+      (λ e. withIs ns ss n (eqb-true (kindOf ns n) 13 e)) (λ e. rw e) (atCode 17 t ns ss source names n)
 
   -- 24 (changed: headAgrees): an Initializer in the head of a for-in or a for-of (14.7.5, B.3.5)
   pub code24 : raised 24 at ≡ only (saidHead ns ss n) n
@@ -233,7 +233,7 @@ module _ (t : ℕ) (ns ss source names : List ℕ) (w : WellFormed t ns ss sourc
       atTwoListed 24 n at (eqb (kindOf ns n) k.ForIn) (eqb (kindOf ns n) k.ForOf) (saidHead ns ss n) (checkForStatementLeft ns ss n true) (checkForStatementLeft ns ss n false)
       (λ e. let q = eqb-true (kindOf ns n) 8 e in headIs ns ss n true e (in-range (kindOf ns n) 8 9 (omega arith) (omega arith)))
       (λ e f. let q = eqb-true (kindOf ns n) 9 f in headIs ns ss n false e (in-range (kindOf ns n) 8 9 (omega arith) (omega arith)))
-      (λ e f. rw (neither e f)) (at24 t ns ss source names n)
+      (λ e f. rw (neither e f)) (atCode 24 t ns ss source names n)
     where
       neither : eqb (kindOf ns n) 8 ≡ false → eqb (kindOf ns n) 9 ≡ false → within (kindOf ns n) 8 9 ≡ false
       neither e f = go (within (kindOf ns n) 8 9) refl
@@ -251,21 +251,21 @@ module _ (t : ℕ) (ns ss source names : List ℕ) (w : WellFormed t ns ss sourc
   pub code25 : raised 25 at ≡ only (forAwait ns n && scopedInBlock ns ss n) n
   code25 =
       atListed 25 n at (eqb (kindOf ns n) k.ForOf) (forAwait ns n && scopedInBlock ns ss n) (checkForOfStatement ns ss n)
-      (λ e. forAwaitIs ns ss n (eqb-true (kindOf ns n) 9 e)) (λ e. rw e) (at25 t ns ss source names n)
+      (λ e. forAwaitIs ns ss n (eqb-true (kindOf ns n) 9 e)) (λ e. rw e) (atCode 25 t ns ss source names n)
 
   -- 31: delete of a name in strict code (13.5.1.1)
   pub code31 : raised 31 at ≡ only (deletesName ns ss n) n
   unfolding deletesName
   code31 =
       atWith 31 n at (eqb (kindOf ns n) k.Unary) (deletesName ns ss n) (checkUnaryExpression ns ss n)
-      (λ e. deleteName ns (w .input .tree) (w .listed) ss n (eqb-true (kindOf ns n) 45 e)) (λ e. rw e) (at31 t ns ss source names n)
+      (λ e. deleteName ns (w .input .tree) (w .listed) ss n (eqb-true (kindOf ns n) 45 e)) (λ e. rw e) (atCode 31 t ns ss source names n)
 
   -- 32 (changed: deletePrivateAgrees): delete of a private reference (13.5.1.1)
   pub code32 : raised 32 at ≡ only (deletesPrivateAnywhere ns n) n
   unfolding deletesPrivateAnywhere
   code32 =
       atWith 32 n at (eqb (kindOf ns n) k.Unary) (deletesPrivateAnywhere ns n) (checkUnaryExpression ns ss n)
-      (λ e. deletePrivate ns (w .input .tree) (w .listed) ss n (eqb-true (kindOf ns n) 45 e)) (λ e. rw e) (at32 t ns ss source names n)
+      (λ e. deletePrivate ns (w .input .tree) (w .listed) ss n (eqb-true (kindOf ns n) 45 e)) (λ e. rw e) (atCode 32 t ns ss source names n)
 
   -- 33 (changed: parameterAgrees): await or yield in parameters (15.3.1, 15.5.1, 15.6.1, 15.8.1, 15.9.1)
   pub code33 : raised 33 at ≡ only (awaitInParameterSaid ns n) n

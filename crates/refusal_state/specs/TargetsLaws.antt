@@ -41,7 +41,7 @@ use Rattle.check_diagnostics.specs.Gather.{flat-turn}
 use Rattle.check_jumps.specs.Jumps.{isUnit, isIteration, isBreakable, whenFound, sameLabel, labeledItem, walkUp, plainBreakAt, labelledBreakAt, plainContinueAt, labelledContinueAt, continueTo, noLabel, checkBreakStatement, checkContinueStatement}
 use Rattle.check_jumps.specs.JumpsLaws.{walk-up}
 use Rattle.check_duplicates.specs.Duplicates.{duplicateElements}
-use Rattle.check_dispatch.specs.Findings.{findingsAt, findingsOf, jumpFindings, literalFindings, expressionFindings}
+use Rattle.check_dispatch.specs.Findings.{findingsAt, findingsOf}
 use Rattle.refusal_state.specs.Targets.{namesUnit, isHome, inUnit, tryIn, holdsTry, seek, plainBreak, namedBreak, plainContinue, namedContinue, breakTarget, continueTarget, hasTarget, lostAt, findingOr, statePlace, unitRefusal, refusedOr, stateAnswer}
 
 -- a unit's way up: p is the parent of i
@@ -218,12 +218,12 @@ module _ (sourceType : ℕ) (ns ss source names : List ℕ) where
 
   module _ (n : ℕ) where
     at-break : kindOf ns n ≡ k.Break → findingsAt sourceType ns ss source names n ≡ [] → checkBreakStatement ns names n ≡ Clear
-    unfolding findingsAt jumpFindings
-    at-break q e = none-listed (checkBreakStatement ns names n) (none-both _ (literalFindings ns ss source names n ++ expressionFindings ns ss names n) (rw q at e) .0)
+    unfolding findingsAt
+    at-break q e = none-listed (checkBreakStatement ns names n) (rw q at e)
 
     at-continue : kindOf ns n ≡ k.Continue → findingsAt sourceType ns ss source names n ≡ [] → checkContinueStatement ns names n ≡ Clear
-    unfolding findingsAt jumpFindings
-    at-continue q e = none-listed (checkContinueStatement ns names n) (none-both _ (literalFindings ns ss source names n ++ expressionFindings ns ss names n) (rw q at e) .0)
+    unfolding findingsAt
+    at-continue q e = none-listed (checkContinueStatement ns names n) (rw q at e)
 
   -- NO FINDINGS: EACH BREAK AND CONTINUE HAS ITS TARGET
   module _ (t : Tree ns) (e : findingsOf sourceType ns ss source names ≡ []) where
