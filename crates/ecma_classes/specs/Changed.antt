@@ -15,12 +15,12 @@ use Rattle.table_records.specs.Extras as extra
 use Rattle.table_records.specs.NodeFlag as flag
 use Rattle.table_records.specs.declared.Found.{Found}
 use Rattle.table_records.specs.declared.Found.the-variants.{At, Nothing}
-use Rattle.table_names.specs.Name.{same}
+use Rattle.table_names.specs.Name.{same, nameOf}
 use Rattle.table_names.specs.Words as word
-use Rattle.table_children.specs.Children.{keep, children, keyOf, valueOf, functionBodyOf, found}
+use Rattle.table_children.specs.Children.{keep, children, keyOf, innerOf, valueOf, functionBodyOf, found}
 use Rattle.ecma_trees.specs.Rose.{treeOf}
 use Rattle.ecma_base.specs.Telling.{Telling, asyncOrGenerator}
-use Rattle.ecma_classes.specs.ClassElements.{keyName, computed, classElements, namesConstructor, constructorTwice, isColon, isProto}
+use Rattle.ecma_classes.specs.ClassElements.{keyName, computed, classElements, constructorWord, namesConstructor, constructorTwice, isColon, isProto}
 use Rattle.ecma_classes.specs.PrivateNames.{isPrivateBound, entries, isSetter, matched, invalid, isUse}
 use Rattle.ecma_classes.specs.Supers.{isSuperCall, isMethod, isConstructorMethod, isBare, barsProperty, classOf, unit}
 use Rattle.ecma_classes.specs.Raised.{bodyAround}
@@ -142,9 +142,18 @@ isConstructor ns e = (eqb (kindOf ns e) k.MethodDefinition && isTableConstructor
 unfoldable pub builtTwice : List ℕ → ℕ → Bool
 builtTwice ns n = eqb (kindOf ns n) k.Class && ltb 1 (length (keep (isConstructor ns) (classElements ns n)))
 
--- CONDITION: an element of the class is called "constructor" just where it is one and has a body
-abbrev pub ConstructorsNamed : List ℕ → List ℕ → ℕ → Type 0
-ConstructorsNamed ns names n = (e : ℕ) → member e (classElements ns n) ≡ true → isConstructor ns e ≡ namesConstructor ns names e
+-- what the table says of an element's name: it is not static, and its key is neither private nor in brackets and is named `constructor`
+abbrev pub keyedConstructor : List ℕ → List ℕ → Found → Bool
+keyedConstructor ns names (At m) = not (found (innerOf ns (m .0))) && same (nameOf ns names (m .0)) constructorWord
+keyedConstructor ns names Nothing = false
+
+unfoldable pub calledConstructor : List ℕ → List ℕ → ℕ → Bool
+calledConstructor ns names e = not (hasFlag (flagsOf ns e) flag.Static) && (not (hasFlag (flagsOf ns e) flag.PrivateKey) && keyedConstructor ns names (keyOf ns e))
+
+-- CONDITION: what the table calls a constructor is called so, and a method, field or accessor that is called so is one and has a body
+pub record ConstructorsNamed (ns names : List ℕ) (n : ℕ) : Type 0 where
+  pub called : (e : ℕ) → member e (classElements ns n) ≡ true → isConstructor ns e ≡ true → calledConstructor ns names e ≡ true
+  pub alone : (e : ℕ) → member e (classElements ns n) ≡ true → within (kindOf ns e) k.MethodDefinition k.AccessorProperty ≡ true → calledConstructor ns names e ≡ true → isConstructor ns e ≡ true
 
 -- 28 to 30: `super`
 
@@ -187,14 +196,14 @@ SupersStand ns = (n : ℕ) → n < count ns → SuperStands ns n
 
 -- CONDITION: the table calls a method of a class a constructor just where it is called "constructor" and is neither async nor a generator; so of each
 abbrev pub MethodNamed : Telling → List ℕ → List ℕ → ℕ → Type 0
-MethodNamed told ns names u = isMethod ns u ≡ true → isTableConstructor ns (parentOf ns u) ≡ (namesConstructor ns names (parentOf ns u) && not (asyncOrGenerator told u))
+MethodNamed told ns names u = isMethod ns u ≡ true → isTableConstructor ns (parentOf ns u) ≡ (calledConstructor ns names (parentOf ns u) && not (asyncOrGenerator told u))
 
 abbrev pub MethodsNamed : Telling → List ℕ → List ℕ → Type 0
 MethodsNamed told ns names = (u : ℕ) → u < count ns → MethodNamed told ns names u
 
 -- CONDITION: a method called "constructor" is neither async nor a generator; else 28 may be broken too (15.7.1), and the Rust raises 29 alone; so of each
 abbrev pub ConstructorOrdinary : Telling → List ℕ → List ℕ → ℕ → Type 0
-ConstructorOrdinary told ns names u = isMethod ns u ≡ true → namesConstructor ns names (parentOf ns u) ≡ true → asyncOrGenerator told u ≡ false
+ConstructorOrdinary told ns names u = isMethod ns u ≡ true → calledConstructor ns names (parentOf ns u) ≡ true → asyncOrGenerator told u ≡ false
 
 abbrev pub ConstructorsOrdinary : Telling → List ℕ → List ℕ → Type 0
 ConstructorsOrdinary told ns names = (u : ℕ) → u < count ns → ConstructorOrdinary told ns names u

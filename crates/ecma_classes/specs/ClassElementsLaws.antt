@@ -4,15 +4,18 @@ use mathlib.Core.Path.{_≡_, refl, ap, sym, _∙_}
 use mathlib.Core.List.{List, [], _∷_}
 use mathlib.Core.Bool.{Bool, true, false, cond, not, _&&_, _||_}
 use native.Mathlib.Omega.{arith}
-use borrow.Author.Tests.{lt-ltb}
+use borrow.Author.Tests.{lt-ltb, ne-eqb}
 use lib.Dec.{eqb, ltb}
 use lib.ListN.{length}
+use Rattle.base_common.specs.Bools.{never}
+use Rattle.base_walk.specs.On.{member}
 use Rattle.table_records.specs.Table.{kindOf, parentOf, spanStartOf, flagsOf, hasFlag}
 use Rattle.table_records.specs.Kinds as k
 use Rattle.table_records.specs.NodeFlag as flag
 use Rattle.table_records.specs.declared.Found.{Found}
 use Rattle.table_records.specs.declared.Found.the-variants.{At, Nothing}
-use Rattle.table_children.specs.Children.{keep, children, firstChild, valueOf, functionBodyOf, classBodyOf, found}
+use Rattle.table_names.specs.Name.{same, nameOf}
+use Rattle.table_children.specs.Children.{keep, children, firstChild, keyOf, valueOf, functionBodyOf, classBodyOf, found}
 use Rattle.table_ancestry.specs.Ancestry.{isAt}
 use Rattle.ecma_trees.specs.Walk.{only}
 use Rattle.check_diagnostics.specs.declared.Raised.the-variants.{Clear}
@@ -28,8 +31,8 @@ use Rattle.ecma_dispatch.specs.Dispatch.{at26, at27}
 use Rattle.ecma_dispatch.specs.NodesOf.{nodesOf, raised}
 use Rattle.ecma_classes.specs.RaisingLaws.{keep-same, keep-alike}
 use Rattle.ecma_dispatch.specs.NodesOfLaws.{raisedAgain}
-use Rattle.ecma_classes.specs.ClassElements.{elementsIn, classElements, namesConstructor, constructorTwice, nameMissing}
-use Rattle.ecma_classes.specs.Changed.{bodyIn, isConstructor, builtTwice, ConstructorsNamed}
+use Rattle.ecma_classes.specs.ClassElements.{nameFound, keyName, computed, propName, isDefinition, isStatic, constructorWord, elementsIn, classElements, namesConstructor, constructorTwice, nameMissing}
+use Rattle.ecma_classes.specs.Changed.{bodyIn, isConstructor, keyedConstructor, calledConstructor, builtTwice, ConstructorsNamed}
 
 found-at : (f : Found) → isAt f ≡ found f
 found-at (At m) = refl
@@ -91,7 +94,40 @@ module _ (t : ℕ) (ns ss source names : List ℕ) (n : ℕ) where
       go true = second-by ns n (classBodyOf ns n)
       go false = refl
 
--- where the elements called "constructor" are the constructors, that is the standard's rule
+-- what is no definition is neither
+neither : (ns names : List ℕ) (e : ℕ) → isDefinition ns e ≡ false → isConstructor ns e ≡ namesConstructor ns names e
+unfolding isConstructor namesConstructor
+neither ns names e d = rw (d, ne-eqb (kindOf ns e) k.MethodDefinition (λ (q : kindOf ns e ≡ k.MethodDefinition). never (sym (rw q) ∙ d)))
+
+-- an element names "constructor" where the table says that it is called so
+pub names-called : (ns names : List ℕ) (e : ℕ) → isDefinition ns e ≡ true → namesConstructor ns names e ≡ calledConstructor ns names e
+unfolding namesConstructor calledConstructor propName keyName same
+names-called ns names e d = rw d (ap (λ (b : Bool). not (isStatic ns e) && b) (go (keyOf ns e) (hasFlag (flagsOf ns e) flag.PrivateKey)))
+  where
+    by : (c : Bool) (l : List ℕ) → same (cond c [] l) constructorWord ≡ (not c && same l constructorWord)
+    by true l = refl
+    by false l = refl
+
+    go : (f : Found) (p : Bool) → same (cond (p || computed ns f) [] (nameFound ns names f)) constructorWord ≡ (not p && keyedConstructor ns names f)
+    go (At m) true = refl
+    go (At m) false = by (computed ns (At m)) (nameOf ns names (m .0))
+    go Nothing true = refl
+    go Nothing false = refl
+
+-- where the elements called so are the constructors, ..
+named-alike : (ns names : List ℕ) (n : ℕ) → ConstructorsNamed ns names n → (e : ℕ) → member e (classElements ns n) ≡ true → isConstructor ns e ≡ namesConstructor ns names e
+named-alike ns names n w e m = go (isDefinition ns e) refl
+  where
+    either-way : (a b : Bool) → (a ≡ true → b ≡ true) → (b ≡ true → a ≡ true) → a ≡ b
+    either-way true b f g = sym (f refl)
+    either-way false true f g = g refl
+    either-way false false f g = refl
+
+    go : (b : Bool) → isDefinition ns e ≡ b → isConstructor ns e ≡ namesConstructor ns names e
+    go true d = either-way (isConstructor ns e) (calledConstructor ns names e) (w .called e m) (w .alone e m d) ∙ sym (names-called ns names e d)
+    go false d = neither ns names e d
+
+-- .. that is the standard's rule
 pub constructors-agree : (ns names : List ℕ) (n : ℕ) → ConstructorsNamed ns names n → builtTwice ns n ≡ constructorTwice ns names n
 unfolding builtTwice constructorTwice
-constructors-agree ns names n w = rw (keep-alike (isConstructor ns) (namesConstructor ns names) (classElements ns n) w)
+constructors-agree ns names n w = rw (keep-alike (isConstructor ns) (namesConstructor ns names) (classElements ns n) (named-alike ns names n w))

@@ -42,7 +42,7 @@ use Rattle.ecma_classes.specs.ClassElements.{keyName, propName, namesCon
 use Rattle.ecma_classes.specs.PrivateNames.{isPrivateBound, entries, matched, invalid}
 use Rattle.ecma_classes.specs.Raised.{bodyAround}
 use Rattle.ecma_classes.specs.Supers.{isSuperCall, begins, isMethod, isObjectMethod, isConstructorMethod, hasHeritage, isBare, isSuperProperty, barsCall, barsProperty, superError, standardStray}
-use Rattle.ecma_classes.specs.Changed.{isConstructor, builtTwice, isKeyedProto, protoAgain, isEntered, privateEntered, clashIn, privateAgain, isTableUse, isOutside, isTableCall, isTableProperty, isTableConstructor, SupersStand, MethodsNamed}
+use Rattle.ecma_classes.specs.Changed.{isConstructor, calledConstructor, builtTwice, isKeyedProto, protoAgain, isEntered, privateEntered, clashIn, privateAgain, isTableUse, isOutside, isTableCall, isTableProperty, isTableConstructor, SupersStand, MethodsNamed}
 use Rattle.ecma_base.specs.Contains.{contains, containsAny}
 use Rattle.ecma_base.specs.Telling.{Telling, asyncOrGenerator, ordinary}
 use Rattle.ecma_base.specs.Scopes.{followsAt, flaggedAt, classAt, scopesFollow}
@@ -233,15 +233,15 @@ stand n h e =
         (either (eqb (kindOf table (parentOf table n)) k.Call) (eqb (kindOf table (parentOf table n)) k.OtherMember) (sym (rw (eq-eqb (kindOf table n) k.Super e)) ∙ x))
 
 abbrev alike : ℕ → Bool
-alike u = not (isMethod table u) || not (xor (isTableConstructor table (parentOf table u)) (namesConstructor table bytes (parentOf table u) && not (asyncOrGenerator told u)))
+alike u = not (isMethod table u) || not (xor (isTableConstructor table (parentOf table u)) (calledConstructor table bytes (parentOf table u) && not (asyncOrGenerator told u)))
 
 named-test : all alike (upto 0 (count table)) ≡ true
-unfolding isMethod namesConstructor propName keyName firstNode upto range isChild same nameOf xor
+unfolding isMethod calledConstructor firstNode upto range isChild same nameOf xor
 named-test = refl
 
 pub named : MethodsNamed told table bytes
 unfolding xor
-named u h e = go (isTableConstructor table (parentOf table u)) (namesConstructor table bytes (parentOf table u) && not (asyncOrGenerator told u)) (sym (rw e) ∙ all-upto alike 0 (count table) named-test u (omega arith) h)
+named u h e = go (isTableConstructor table (parentOf table u)) (calledConstructor table bytes (parentOf table u) && not (asyncOrGenerator told u)) (sym (rw e) ∙ all-upto alike 0 (count table) named-test u (omega arith) h)
   where
     go : (a b : Bool) → not (xor a b) ≡ true → a ≡ b
     go true true x = refl

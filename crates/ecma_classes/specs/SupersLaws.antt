@@ -33,7 +33,8 @@ use Rattle.ecma_base.specs.Telling.{Telling, asyncOrGenerator}
 use Rattle.ecma_dispatch.specs.NodesOfLaws.{raisedAgain}
 use Rattle.ecma_classes.specs.ClassElements.{namesConstructor}
 use Rattle.ecma_classes.specs.Supers.{begins, isMethod, isConstructorMethod, classOf, hasHeritage, isObjectMethod, isBlockOrField, isBare, barsCall, barsProperty, isSuperCall, isSuperProperty, standardStray, standardProperty}
-use Rattle.ecma_classes.specs.Changed.{eachBare, isTableConstructor, isTableCall, isTableProperty, tableBare, tableStray, tableProperty, SuperStands, MethodNamed, ConstructorOrdinary}
+use Rattle.ecma_classes.specs.ClassElementsLaws.{names-called}
+use Rattle.ecma_classes.specs.Changed.{eachBare, calledConstructor, isTableConstructor, isTableCall, isTableProperty, tableBare, tableStray, tableProperty, SuperStands, MethodNamed, ConstructorOrdinary}
 use Rattle.ecma_classes.specs.ScopesFitLaws.{ScopesFit}
 use Rattle.ecma_classes.specs.SuperSearchLaws.{isValue, value-is, inUnit, search-is, no-root, above-other, above-body}
 
@@ -294,6 +295,12 @@ module _ (ns names : List ℕ) (tree : Tree ns) (n : ℕ) (h : n < count ns) (st
   property-rule-same = rw property-same
 
   module _ (told : Telling) (w : MethodNamed told ns names u) where
+    called : isMethod ns u ≡ true → namesConstructor ns names (parentOf ns u) ≡ calledConstructor ns names (parentOf ns u)
+    called e = names-called ns names (parentOf ns u) (rw (method-kind ns u e))
+
+    named : isMethod ns u ≡ true → isTableConstructor ns (parentOf ns u) ≡ (namesConstructor ns names (parentOf ns u) && not (asyncOrGenerator told u))
+    named e = rw (called e) (w e)
+
     -- a unit bars SuperCall unless it is a constructor
     bars-call : barsCall told ns names u ≡ not (isConstructorMethod ns (isTableConstructor ns) u)
     unfolding barsCall isConstructorMethod
@@ -314,7 +321,7 @@ module _ (ns names : List ℕ) (tree : Tree ns) (n : ℕ) (h : n < count ns) (st
         go false x f true q r o s false t = refl
         go false x true false q r true s true t = never (sym t ∙ not-object s)
         go false x true false q r true s false t = refl
-        go false x true false q r false s true t = by (isTableConstructor ns (parentOf ns u)) (namesConstructor ns names (parentOf ns u)) (asyncOrGenerator told u) (w t)
+        go false x true false q r false s true t = by (isTableConstructor ns (parentOf ns u)) (namesConstructor ns names (parentOf ns u)) (asyncOrGenerator told u) (named t)
         go false x true false q r false s false t = refl
         go false x false false q r o s m t = never (sym r)
 
@@ -326,11 +333,11 @@ module _ (ns names : List ℕ) (tree : Tree ns) (n : ℕ) (h : n < count ns) (st
     constructor-same o = go (isMethod ns u) refl
       where
         by : isMethod ns u ≡ true → (b : Bool) → namesConstructor ns names (parentOf ns u) ≡ b → (b && not (asyncOrGenerator told u)) ≡ b
-        by e true q = rw (o e q)
+        by e true q = rw (o e (sym (called e) ∙ q))
         by e false q = refl
 
         go : (b : Bool) → isMethod ns u ≡ b → (b && isTableConstructor ns (parentOf ns u)) ≡ (b && namesConstructor ns names (parentOf ns u))
-        go true e = w e ∙ by e (namesConstructor ns names (parentOf ns u)) refl
+        go true e = named e ∙ by e (namesConstructor ns names (parentOf ns u)) refl
         go false e = refl
 
     pub bare-same : ConstructorOrdinary told ns names u → tableBare ns n ≡ eachBare ns names n
@@ -342,7 +349,7 @@ module _ (ns names : List ℕ) (tree : Tree ns) (n : ℕ) (h : n < count ns) (st
     unfolding isConstructorMethod
     named-too e =
         let m = and-left (isMethod ns u) (isTableConstructor ns (parentOf ns u)) e in
-        rw m (and-left (namesConstructor ns names (parentOf ns u)) (not (asyncOrGenerator told u)) (sym (w m) ∙ and-right (isMethod ns u) (isTableConstructor ns (parentOf ns u)) e))
+        rw m (and-left (namesConstructor ns names (parentOf ns u)) (not (asyncOrGenerator told u)) (sym (named m) ∙ and-right (isMethod ns u) (isTableConstructor ns (parentOf ns u)) e))
 
     pub super-same : (eachBare ns names n || (standardStray told ns names n || standardProperty ns n)) ≡ (tableBare ns n || (tableStray ns n || tableProperty ns n))
     unfolding isBare

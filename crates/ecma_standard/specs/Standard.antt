@@ -80,6 +80,8 @@ module _ (told : Telling) (t : ℕ) (ns ss source names : List ℕ) where
   -- 12.9, 13.1.1, 13.5.1.1, 14.3.1.1, 14.6 to 14.13, 15.1 to 15.9, B.3: NAMES, LITERALS, EXPRESSIONS, STATEMENTS
   pub record Strict : Type 0 where
     pub identifiers : (n : ℕ) → n < count ns → identifier ns n ≡ true → NameTold told t ns ss names n → at 2 n ++ at 3 n ≡ only (identifierError told t ns ss names n) n
+    -- where the scopes follow the tree, no finding at a name is wrong, whatever is told
+    pub namesSound : scopesFollow ns ss ≡ true → (n : ℕ) → n < count ns → identifier ns n ≡ true → some (at 2 n ++ at 3 n) ≡ true → identifierError told t ns ss names n ≡ true
     pub noIdentifiers : (n : ℕ) → n < count ns → identifier ns n ≡ false → at 2 n ≡ []
     pub awaitExpressions : (n : ℕ) → n < count ns → identifier ns n ≡ false → (awaitExpression ns n ≡ true → BlockTold ns ss n) → at 3 n ≡ only (awaitExpression ns n && awaitInBlock ns n) n
     pub evalAssigned : Rule 4 (λ n. bindsEval ns ss names n || assignsEval ns ss names n)
@@ -156,6 +158,7 @@ standard262 told t ns ss source names e =
       };
       strict = record {
         identifiers = λ n h i q. rules.standardNames t ns ss source names w n h told i q;
+        namesSound = λ s n h i q. rules.soundNames t ns ss source names w n h told i s q;
         noIdentifiers = λ n h i. strict.code2 t ns ss source names w n h ∙ ap (λ b. only b n) (noName t ns ss names n i);
         awaitExpressions = λ n h i q. rules.standard3 t ns ss source names w n h i q;
         evalAssigned = λ n h. strict.code4 t ns ss source names w n h;
