@@ -53,5 +53,17 @@ is "a search that ends above the Program" "J,0,3,1\nS,0,4,0\n$at_super" 'R,6,2'
 is "a super outside any function" "J,0,3,1\nS,0,2,0\n$at_super" 'F,30,2,0,0,0,0,0\nE,1'
 # 6 at a Super: its scope is the class's, and no class element stands above it
 is "a search without an element" 'J,0,6,1\nS,0,2,0\nN,0,0,0,0,0,0,0,0,\nN,26,0,3,0,0,0,0,0,\nN,27,1,0,0,0,0,0,0,\nN,3,2,0,0,0,0,0,0,\nN,22,3,3,0,0,0,0,0,\nN,37,4,0,0,0,0,0,0,\nX,\n' 'R,6,5'
+# a key that is an IdentifierReference is that of `[a]`: it names no property, ..
+object='J,0,10,1\nS,0,2,0\nN,0,0,0,0,0,0,0,0,\nN,22,0,3,0,0,0,0,0,\nN,55,1,0,0,0,0,0,1,\nN,43,2,1,0,0,0,0,0,\nN,44,3,0,0,0,0,0,0,\nN,@,4,2,0,0,0,0,0,__proto__\nN,35,4,1,0,0,0,0,0,\nN,44,3,0,0,0,0,0,0,\nN,@,7,2,0,0,0,0,0,__proto__\nN,35,7,1,0,0,0,0,0,\nX,\n'
+is "({__proto__: 1, __proto__: 2})" "${object//@/55}" 'F,1,3,0,0,0,0,0\nE,1'
+is "({[__proto__]: 1, [__proto__]: 2})" "${object//@/32}" 'E,0'
+# .. and no element: of a second constructor its own span is told, ..
+constructors='J,0,11,1\nS,0,2,0\nN,0,0,0,0,4,0,0,0,\nN,26,0,3,0,4,0,0,0,\nN,27,1,0,0,4,0,0,0,\nN,28,2,0,0,2,0,0,0,\nN,@,3,2,0,1,0,0,0,constructor\nN,1,3,1,1,2,0,0,0,\nN,4,5,3,1,2,0,0,0,\nN,28,2,0,2,4,0,0,0,\nN,@,7,2,2,3,0,0,0,constructor\nN,1,7,1,3,4,0,0,0,\nN,4,9,3,3,4,0,0,0,\nX,61616161\n'
+is "two constructors" "${constructors//@/55}" 'F,27,1,0,1,2,3,0\nE,1'
+is "two constructors whose keys are references" "${constructors//@/32}" 'F,27,1,0,2,2,4,0\nE,1'
+# .. and a private element isn't declared
+private='J,0,7,1\nS,0,2,0\nN,0,0,0,0,0,0,0,0,\nN,26,0,3,0,0,0,0,0,\nN,27,1,0,0,0,0,0,0,\nN,29,2,0,0,0,0,4,0,\nN,@,3,2,0,0,0,0,0,a\nN,41,3,1,0,0,0,0,0,\nN,34,5,0,0,0,0,0,0,a\nX,\n'
+is "a private name" "${private//@/34}" 'E,0'
+is "a private element whose key is a reference" "${private//@/32}" 'F,8,1,0,0,0,0,0\nE,1'
 echo "$passed passed, $failed failed"
 [ "$failed" -eq 0 ]

@@ -3,7 +3,7 @@
 use Prim.Native.Nat.{ℕ, _<_, _≤_}
 use mathlib.Core.Path.{_≡_}
 use mathlib.Core.List.{List, [], _∷_}
-use mathlib.Core.Bool.{Bool, true, false, cond, not, xor, _&&_}
+use mathlib.Core.Bool.{Bool, true, false, cond, not, xor, _&&_, _||_}
 use mathlib.Core.Logic.{_⊎_}
 use lib.Dec.{eqb, ltb}
 use lib.ListN.{length}
@@ -20,16 +20,20 @@ use Rattle.table_names.specs.Words as word
 use Rattle.table_children.specs.Children.{keep, children, keyOf, innerOf, valueOf, functionBodyOf, found}
 use Rattle.ecma_trees.specs.Rose.{treeOf}
 use Rattle.ecma_base.specs.Telling.{Telling, asyncOrGenerator}
-use Rattle.ecma_classes.specs.ClassElements.{keyName, computed, classElements, constructorWord, namesConstructor, constructorTwice, isColon, isProto}
+use Rattle.ecma_classes.specs.ClassElements.{classElements, constructorWord, namesConstructor, constructorTwice, isColon, isProto}
 use Rattle.ecma_classes.specs.PrivateNames.{isPrivateBound, entries, isSetter, matched, invalid, isUse}
 use Rattle.ecma_classes.specs.Supers.{isSuperCall, isMethod, isConstructorMethod, isBare, barsProperty, classOf, unit}
 use Rattle.ecma_classes.specs.Raised.{bodyAround}
 
 -- 1 at an object: `__proto__`
 
--- the name at the key counts, computed and private keys too
+-- an IdentifierReference as key is that of `[a]` and names nothing; of any other key the name counts, if it is computed or private too
+abbrev pub namedProto : List ℕ → List ℕ → Found → Bool
+namedProto ns names (At m) = not (eqb (kindOf ns (m .0)) k.IdentifierReference) && same (nameOf ns names (m .0)) word.proto
+namedProto ns names Nothing = false
+
 unfoldable pub isKeyedProto : List ℕ → List ℕ → ℕ → Bool
-isKeyedProto ns names p = eqb (kindOf ns p) k.ObjectProperty && (isColon ns p && same (keyName ns names p) word.proto)
+isKeyedProto ns names p = eqb (kindOf ns p) k.ObjectProperty && (isColon ns p && namedProto ns names (keyOf ns p))
 
 -- all but the first of a list
 abbrev pub later : List ℕ → List ℕ
@@ -40,10 +44,15 @@ later (a ∷ l) = l
 unfoldable pub protoAgain : List ℕ → List ℕ → ℕ → List ℕ
 protoAgain ns names n = cond (eqb (kindOf ns n) k.Object) (later (keep (isKeyedProto ns names) (children ns n))) []
 
--- CONDITION: no property of the object has a private key, and none whose key node is named `__proto__` is computed
+-- what the table says of a key: it is a number, a string, or a node of no other kind that holds nothing, so no expression in brackets
+abbrev pub writtenKey : List ℕ → Found → Bool
+writtenKey ns (At m) = (eqb (kindOf ns (m .0)) k.NumericLiteral || eqb (kindOf ns (m .0)) k.StringLiteral) || (eqb (kindOf ns (m .0)) k.AnythingElse && not (found (innerOf ns (m .0))))
+writtenKey ns Nothing = false
+
+-- CONDITION: no property of the object has a private key, and one whose key gives the name `__proto__` has it written so
 pub record KeysPlain (ns names : List ℕ) (n : ℕ) : Type 0 where
   pub public : (p : ℕ) → member p (children ns n) ≡ true → hasFlag (flagsOf ns p) flag.PrivateKey ≡ false
-  pub written : (p : ℕ) → member p (children ns n) ≡ true → same (keyName ns names p) word.proto ≡ true → computed ns (keyOf ns p) ≡ false
+  pub written : (p : ℕ) → member p (children ns n) ≡ true → namedProto ns names (keyOf ns p) ≡ true → writtenKey ns (keyOf ns p) ≡ true
 
 -- CONDITION: at most two properties of the object are such
 abbrev pub ProtosTwiceAtMost : List ℕ → List ℕ → ℕ → Type 0
@@ -63,10 +72,10 @@ abbrev pub bodiless : List ℕ → ℕ → Bool
 bodiless ns e = eqb (kindOf ns e) k.MethodDefinition && not (bodyIn ns (valueOf ns e))
 
 abbrev pub named : List ℕ → Found → Bool
-named ns (At m) = not (eqb (nameLenOf ns (m .0)) 0)
+named ns (At m) = not (eqb (kindOf ns (m .0)) k.IdentifierReference) && not (eqb (nameLenOf ns (m .0)) 0)
 named ns Nothing = false
 
--- no constructor, no method without a body and nothing without a name is entered
+-- no constructor, no method without a body and nothing without a name (an IdentifierReference as key gives none) is entered
 unfoldable pub isEntered : List ℕ → ℕ → Bool
 isEntered ns e = not (eqb (kindOf ns e) k.MethodDefinition && isTableConstructor ns e) && (not (bodiless ns e) && named ns (keyOf ns e))
 
@@ -142,9 +151,9 @@ isConstructor ns e = (eqb (kindOf ns e) k.MethodDefinition && isTableConstructor
 unfoldable pub builtTwice : List ℕ → ℕ → Bool
 builtTwice ns n = eqb (kindOf ns n) k.Class && ltb 1 (length (keep (isConstructor ns) (classElements ns n)))
 
--- what the table says of an element's name: it is not static, and its key is neither private nor in brackets and is named `constructor`
+-- what the table says of an element's name: it is not static, and its key is not private and is written `constructor`
 abbrev pub keyedConstructor : List ℕ → List ℕ → Found → Bool
-keyedConstructor ns names (At m) = not (found (innerOf ns (m .0))) && same (nameOf ns names (m .0)) constructorWord
+keyedConstructor ns names (At m) = writtenKey ns (At m) && same (nameOf ns names (m .0)) constructorWord
 keyedConstructor ns names Nothing = false
 
 unfoldable pub calledConstructor : List ℕ → List ℕ → ℕ → Bool
