@@ -4,7 +4,6 @@ use Prim.Native.Nat.{ℕ, _<_, _≤_}
 use mathlib.Core.Path.{_≡_}
 use mathlib.Core.List.{List, [], _∷_}
 use mathlib.Core.Bool.{Bool, true, false, cond, not, xor, _&&_, _||_}
-use mathlib.Core.Logic.{_⊎_}
 use lib.Dec.{eqb, ltb}
 use lib.ListN.{length}
 use Rattle.base_common.specs.Tests.{within}
@@ -196,12 +195,17 @@ tableStray ns n = isTableCall ns n && not (isConstructorMethod ns (isTableConstr
 abbrev pub tableProperty : List ℕ → ℕ → Bool
 tableProperty ns n = isTableProperty ns n && barsProperty ns (unit ns n)
 
--- CONDITION: a Super stands in a SuperCall or a SuperProperty; each does
-abbrev pub SuperStands : List ℕ → ℕ → Type 0
-SuperStands ns n = kindOf ns n ≡ k.Super → (kindOf ns (parentOf ns n) ≡ k.Call) ⊎ (kindOf ns (parentOf ns n) ≡ k.OtherMember)
+-- CONDITION of 28 and 29: no `new super()`
+abbrev pub CallStands : List ℕ → ℕ → Type 0
+CallStands ns n = kindOf ns n ≡ k.Super → kindOf ns (parentOf ns n) ≡ k.New → ⊥
 
+-- CONDITION of 30: a Super stands in a call, a `new` or a member expression
+abbrev pub PropertyStands : List ℕ → ℕ → Type 0
+PropertyStands ns n = kindOf ns n ≡ k.Super → within (kindOf ns (parentOf ns n)) k.Call k.OtherMember ≡ true
+
+-- both, of each Super
 abbrev pub SupersStand : List ℕ → Type 0
-SupersStand ns = (n : ℕ) → n < count ns → SuperStands ns n
+SupersStand ns = (n : ℕ) → n < count ns → CallStands ns n × PropertyStands ns n
 
 -- CONDITION: the table calls a method of a class a constructor just where it is called "constructor" and is neither async nor a generator; so of each
 abbrev pub MethodNamed : Telling → List ℕ → List ℕ → ℕ → Type 0

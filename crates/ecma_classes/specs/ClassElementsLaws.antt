@@ -103,7 +103,7 @@ unfolding isConstructor namesConstructor
 neither ns names e d = rw (d, ne-eqb (kindOf ns e) k.MethodDefinition (λ (q : kindOf ns e ≡ k.MethodDefinition). never (sym (rw q) ∙ d)))
 
 -- the two numbers of a range of two
-range-two : (a lo : ℕ) → within a lo (lo + 1) ≡ (eqb a lo || eqb a (lo + 1))
+pub range-two : (a lo : ℕ) → within a lo (lo + 1) ≡ (eqb a lo || eqb a (lo + 1))
 range-two a lo = go (within a lo (lo + 1)) refl (eqb a lo) refl (eqb a (lo + 1)) refl
   where
     go : (w : Bool) → within a lo (lo + 1) ≡ w → (x : Bool) → eqb a lo ≡ x → (y : Bool) → eqb a (lo + 1) ≡ y → w ≡ (x || y)

@@ -223,14 +223,15 @@ unfolding upto range
 stand-test = refl
 
 pub stand : SupersStand table
-stand n h e =
-    go (all-upto (λ n. not (eqb (kindOf table n) k.Super) || (eqb (kindOf table (parentOf table n)) k.Call || eqb (kindOf table (parentOf table n)) k.OtherMember)) 0 (count table) stand-test n (omega arith) h)
+stand n h = (λ e q. never (sym (stands e) ∙ no-new q), λ e. ⊎-elim (λ q. rw (eqb-true (kindOf table (parentOf table n)) k.Call q)) (λ q. rw (eqb-true (kindOf table (parentOf table n)) k.OtherMember q)) (either (eqb (kindOf table (parentOf table n)) k.Call) (eqb (kindOf table (parentOf table n)) k.OtherMember) (stands e)))
   where
-    go : (not (eqb (kindOf table n) k.Super) || (eqb (kindOf table (parentOf table n)) k.Call || eqb (kindOf table (parentOf table n)) k.OtherMember)) ≡ true
-        → (kindOf table (parentOf table n) ≡ k.Call) ⊎ (kindOf table (parentOf table n) ≡ k.OtherMember)
-    go x =
-        ⊎-elim (λ q. inl (eqb-true (kindOf table (parentOf table n)) k.Call q)) (λ q. inr (eqb-true (kindOf table (parentOf table n)) k.OtherMember q))
-        (either (eqb (kindOf table (parentOf table n)) k.Call) (eqb (kindOf table (parentOf table n)) k.OtherMember) (sym (rw (eq-eqb (kindOf table n) k.Super e)) ∙ x))
+    stands : kindOf table n ≡ k.Super → (eqb (kindOf table (parentOf table n)) k.Call || eqb (kindOf table (parentOf table n)) k.OtherMember) ≡ true
+    stands e =
+        sym (rw (eq-eqb (kindOf table n) k.Super e))
+        ∙ all-upto (λ n. not (eqb (kindOf table n) k.Super) || (eqb (kindOf table (parentOf table n)) k.Call || eqb (kindOf table (parentOf table n)) k.OtherMember)) 0 (count table) stand-test n (omega arith) h
+
+    no-new : kindOf table (parentOf table n) ≡ k.New → (eqb (kindOf table (parentOf table n)) k.Call || eqb (kindOf table (parentOf table n)) k.OtherMember) ≡ false
+    no-new q = rw q
 
 abbrev alike : ℕ → Bool
 alike u = not (isMethod table u) || not (xor (isTableConstructor table (parentOf table u)) (calledConstructor table bytes (parentOf table u) && not (asyncOrGenerator told u)))

@@ -43,7 +43,7 @@ use Rattle.ecma_strict.specs.Standard as rules
 use Rattle.ecma_classes.specs.ClassElements.{nameMissing, constructorTwice, protoTwice}
 use Rattle.ecma_classes.specs.PrivateNames.{privateBound, entries, allowed, privateTwice, invalidIdentifiers, isClassBody}
 use Rattle.ecma_classes.specs.Supers.{standardBare, standardStray, standardProperty, superError, unit}
-use Rattle.ecma_classes.specs.Changed.{KeysPlain, PrivatesEntered, OnceOrTwice, PrivatesPlain, ConstructorsNamed, OneConstructor, SupersStand, MethodsNamed, ProtosTwiceAtMost, OutsideUsed, OneInClass, SuperStands, MethodNamed, ConstructorOrdinary}
+use Rattle.ecma_classes.specs.Changed.{KeysPlain, PrivatesEntered, OnceOrTwice, PrivatesPlain, ConstructorsNamed, OneConstructor, SupersStand, MethodsNamed, ProtosTwiceAtMost, OutsideUsed, OneInClass, CallStands, PropertyStands, MethodNamed, ConstructorOrdinary}
 use Rattle.ecma_classes.specs.Raised.{times, bodyAround, reported}
 use Rattle.ecma_classes.specs.Theorems as classes
 
@@ -87,9 +87,9 @@ module _ (told : Telling) (t : ℕ) (ns ss source names : List ℕ) where
     pub evalAssigned : Rule 4 (λ n. bindsEval ns ss names n || assignsEval ns ss names n)
     pub letDeclared : RuleOn (LetTold ns ss names) 5 (letBound ns names)
     pub argumentsUsed : RuleOn (ArgumentsTold ns ss names) 6 (argumentsInClass ns names)
-    pub octal : RuleOn (λ n. (numericLiteral ns n ≡ true → BaseTold ns source n) × (stringLiteral ns n ≡ true → EscapesTold ns source n)) 9 (λ n. strictOctal ns ss source n || strictOctalEscape ns ss source n)
+    pub octal : RuleOn (λ n. (numericLiteral ns n ≡ true → BaseTold ns source n) × (stringLiteral ns n ≡ true → strictCode ns ss n ≡ true → EscapesTold ns source n)) 9 (λ n. strictOctal ns ss source n || strictOctalEscape ns ss source n)
     pub leadingZero : RuleOn (λ n. numericLiteral ns n ≡ true → BaseTold ns source n) 10 (strictNonOctal ns ss source)
-    pub nonOctalEscape : RuleOn (λ n. stringLiteral ns n ≡ true → EscapesTold ns source n) 11 (strictNonOctalEscape ns ss source)
+    pub nonOctalEscape : RuleOn (λ n. stringLiteral ns n ≡ true → strictCode ns ss n ≡ true → EscapesTold ns source n) 11 (strictNonOctalEscape ns ss source)
     pub useStrict : RuleOn (λ n. kindOf ns n ≡ k.Directive → DirectiveTold ns ss n) 12 (useStrictThere ns names)
     pub usingDeclared : RuleOn (λ n. usingDeclaration ns n ≡ true → UsingTold ns ss n) 13 (badUsing t ns)
     pub awaitUsingInBlock : RuleOn (λ n. awaitUsing ns n ≡ true → BlockTold ns ss n) 14 (λ n. awaitUsing ns n && awaitInBlock ns n)
@@ -125,9 +125,9 @@ module _ (told : Telling) (t : ℕ) (ns ss source names : List ℕ) where
     pub className : Rule 26 (nameMissing ns)
     pub constructors : RuleOn (ConstructorsNamed ns names) 27 (constructorTwice ns names)
     pub superBare : scopesFollow ns ss ≡ true
-        → RuleOn (λ n. SuperStands ns n × MethodNamed told ns names (unit ns n) × ConstructorOrdinary told ns names (unit ns n) × OneInClass ns names (unit ns n)) 28 (standardBare ns names)
-    pub superCall : scopesFollow ns ss ≡ true → RuleOn (λ n. SuperStands ns n × MethodNamed told ns names (unit ns n)) 29 (standardStray told ns names)
-    pub superProperty : scopesFollow ns ss ≡ true → RuleOn (SuperStands ns) 30 (standardProperty ns)
+        → RuleOn (λ n. CallStands ns n × MethodNamed told ns names (unit ns n) × ConstructorOrdinary told ns names (unit ns n) × OneInClass ns names (unit ns n)) 28 (standardBare ns names)
+    pub superCall : scopesFollow ns ss ≡ true → RuleOn (λ n. CallStands ns n × MethodNamed told ns names (unit ns n)) 29 (standardStray told ns names)
+    pub superProperty : scopesFollow ns ss ≡ true → RuleOn (PropertyStands ns) 30 (standardProperty ns)
     -- a unit has an error on `super` just where there is a finding 28 to 30
     pub super : scopesFollow ns ss ≡ true → SupersStand ns → MethodsNamed told ns names → OneConstructor ns names
         → any (superError told ns names) nodes ≡ (some (raised 28 findings) || (some (raised 29 findings) || some (raised 30 findings)))

@@ -133,7 +133,7 @@ module _ (t : ℕ) (ns ss source names : List ℕ) (w : WellFormed t ns ss sourc
       go false x false y = x ∙ sym y
 
   -- where the table's base is that of the text, the value's length tells of escapes, and no string has both kinds of escape
-  pub standard9 : (numericLiteral ns n ≡ true → BaseTold ns source n) → (stringLiteral ns n ≡ true → EscapesTold ns source n)
+  pub standard9 : (numericLiteral ns n ≡ true → BaseTold ns source n) → (stringLiteral ns n ≡ true → strictCode ns ss n ≡ true → EscapesTold ns source n)
       → Rule 9 (strictOctal ns ss source n || strictOctalEscape ns ss source n)
   unfolding toldOctal strictOctal firstOctalEscape strictOctalEscape
   standard9 b e =
@@ -145,7 +145,11 @@ module _ (t : ℕ) (ns ss source names : List ℕ) (w : WellFormed t ns ss sourc
       number false q = rw q
 
       string : (x : Bool) → stringLiteral ns n ≡ x → firstOctalEscape ns ss source n ≡ strictOctalEscape ns ss source n
-      string true q = octalEscapeAgrees ns ss source n (e q)
+      string true q = strictly (strictCode ns ss n) refl
+        where
+          strictly : (s : Bool) → strictCode ns ss n ≡ s → firstOctalEscape ns ss source n ≡ strictOctalEscape ns ss source n
+          strictly true s = octalEscapeAgrees ns ss source n (e q s)
+          strictly false s = rw (q, s)
       string false q = rw q
 
   pub standard10 : (numericLiteral ns n ≡ true → BaseTold ns source n) → Rule 10 (strictNonOctal ns ss source n)
@@ -156,12 +160,16 @@ module _ (t : ℕ) (ns ss source names : List ℕ) (w : WellFormed t ns ss sourc
       go true q = nonOctalAgrees ns ss source n (b q)
       go false q = rw q
 
-  pub standard11 : (stringLiteral ns n ≡ true → EscapesTold ns source n) → Rule 11 (strictNonOctalEscape ns ss source n)
+  pub standard11 : (stringLiteral ns n ≡ true → strictCode ns ss n ≡ true → EscapesTold ns source n) → Rule 11 (strictNonOctalEscape ns ss source n)
   unfolding firstNonOctalEscape strictNonOctalEscape
   standard11 e = code11 t ns ss source names w n h ∙ ap (λ x. only x n) (go (stringLiteral ns n) refl)
     where
       go : (x : Bool) → stringLiteral ns n ≡ x → firstNonOctalEscape ns ss source n ≡ strictNonOctalEscape ns ss source n
-      go true q = nonOctalEscapeAgrees ns ss source n (e q)
+      go true q = strictly (strictCode ns ss n) refl
+        where
+          strictly : (s : Bool) → strictCode ns ss n ≡ s → firstNonOctalEscape ns ss source n ≡ strictNonOctalEscape ns ss source n
+          strictly true s = nonOctalEscapeAgrees ns ss source n (e q s)
+          strictly false s = rw (q, s)
       go false q = rw q
 
   pub standard12 : (kindOf ns n ≡ k.Directive → DirectiveTold ns ss n) → Rule 12 (useStrictThere ns names n)
