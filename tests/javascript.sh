@@ -117,6 +117,7 @@ check "no route of a rule that the engine refuses" text_status_of 2 .js 'let a; 
 
 if [ -d ../shared/test262 ]; then check "test262" tools/test262; else unrun "test262" "its files are not beside the repository"; fi
 check "the conditions of the theorems, on trees of texts" tools/conditions 4000 3 rules
+if [ -d ../shared/test262 ]; then check "the conditions of the theorems, on trees of test262" tools/conditions 0 3 ../shared/test262; else unrun "the conditions on test262" "its files are not beside the repository"; fi
 check "V8's verdicts" tools/v8-verdicts 1000 3
 check "a text for each disagreement" tools/v8-verdicts --texts
 check "each of them told" told < <(disagreements)

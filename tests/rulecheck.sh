@@ -82,4 +82,17 @@ is "5 before 13 and 14" 'J,0,4,1\nS,0,2,0\nN,0,0,0,0,0,0,0,0,\nN,5,0,0,0,0,0,0,0
 is "13 before 6" "$(tree 4 22,0,3 37,1,0 5,0,0)" 'R,13,3'
 is "14 before 6" "$(tree 4 22,0,3 37,1,0 10,0,3)" 'R,14,3'
 is "6 alone" "$(tree 4 22,0,3 37,1,0)" 'R,6,2'
+
+# a key that is an IdentifierReference is that of `[a]`: it names no property, ..
+object='J,0,10,1\nS,0,2,0\nN,0,0,0,0,0,0,0,0,\nN,22,0,3,0,0,0,0,0,\nN,55,1,0,0,0,0,0,1,\nN,43,2,1,0,0,0,0,0,\nN,44,3,0,0,0,0,0,0,\nN,@,4,2,0,0,0,0,0,__proto__\nN,35,4,1,0,0,0,0,0,\nN,44,3,0,0,0,0,0,0,\nN,@,7,2,0,0,0,0,0,__proto__\nN,35,7,1,0,0,0,0,0,\nX,\n'
+is "({__proto__: 1, __proto__: 2})" "${object//@/55}" 'F,1,3,0,0,0,0,0\nE,1'
+is "({[__proto__]: 1, [__proto__]: 2})" "${object//@/32}" 'E,0'
+# .. and no element: of a second constructor its own span is told, ..
+constructors='J,0,11,1\nS,0,2,0\nN,0,0,0,0,4,0,0,0,\nN,26,0,3,0,4,0,0,0,\nN,27,1,0,0,4,0,0,0,\nN,28,2,0,0,2,0,0,0,\nN,@,3,2,0,1,0,0,0,constructor\nN,1,3,1,1,2,0,0,0,\nN,4,5,3,1,2,0,0,0,\nN,28,2,0,2,4,0,0,0,\nN,@,7,2,2,3,0,0,0,constructor\nN,1,7,1,3,4,0,0,0,\nN,4,9,3,3,4,0,0,0,\nX,61616161\n'
+is "two constructors" "${constructors//@/55}" 'F,27,1,0,1,2,3,0\nE,1'
+is "two constructors whose keys are references" "${constructors//@/32}" 'F,27,1,0,2,2,4,0\nE,1'
+# .. and a private element isn't declared
+private='J,0,7,1\nS,0,2,0\nN,0,0,0,0,0,0,0,0,\nN,26,0,3,0,0,0,0,0,\nN,27,1,0,0,0,0,0,0,\nN,29,2,0,0,0,0,4,0,\nN,@,3,2,0,0,0,0,0,a\nN,41,3,1,0,0,0,0,0,\nN,34,5,0,0,0,0,0,0,a\nX,\n'
+is "a private name" "${private//@/34}" 'E,0'
+is "a private element whose key is a reference" "${private//@/32}" 'F,8,1,0,0,0,0,0\nE,1'
 finish

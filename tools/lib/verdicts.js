@@ -27,7 +27,11 @@ const MISSED = [
   // only a declaration's names are barred from being `let`; V8 bars those of a catch pattern too
   ['V8 takes no `let` in a catch pattern',
     ({ verdict, tree }) => /^let is disallowed/.test(verdict) && letInCatch(tree)],
+  ['the parser makes a pattern of an object in parentheses, so `__proto__` twice isn\'t looked for',
+    ({ verdict, parsed }) => /^Duplicate __proto__/.test(verdict) && patternInParentheses(parsed)],
 ];
+
+const patternInParentheses = ({ errors }) => errors.some((e) => e.reasonCode === 'InvalidParenthesizedAssignment');
 
 function inStaticField({ nodes }, n) {
   let p = n.parent;
@@ -119,6 +123,8 @@ const ONLY_PARSER = [
   ['difference: `await` below a further scope of a static block', (e) => e.reasonCode === 'AwaitBindingIdentifierInStaticBlock'],
   ['difference: a getter and a setter after another element of the private name are told once',
     (e, { findings }) => e.reasonCode === 'PrivateNameRedeclaration' && findings.some((f) => f[0] === 1)],
+  ['difference: `__proto__` twice in an object in parentheses, of which the parser makes a pattern',
+    (e, { parsed }) => e.reasonCode === 'DuplicateProto' && patternInParentheses(parsed)],
   ['a label `arguments` in a field or static block', (e, { tree }) => e.reasonCode === 'ArgumentsInClass' && named(tree, K.LabelIdentifier, 'arguments')],
   ['`let` or `const` with a value in a for-in head, the parser\'s task',
     (e, { text }) => e.reasonCode === 'ForInOfLoopInitializer' && /^(let|const)\b/.test(text.slice(e.loc.index))],

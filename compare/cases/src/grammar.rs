@@ -556,7 +556,8 @@ impl Grammar<'_> {
             }
             2 | 3 => {
                 self.open(28, 0, 0, 0, "");
-                self.leaf(55, 2, 0, 0, "constructor");
+                let kind = self.name_or_reference();
+                self.leaf(kind, 2, 0, 0, "constructor");
                 self.function(1, 0, 0);
                 self.close();
             }
@@ -582,11 +583,17 @@ impl Grammar<'_> {
         }
     }
 
-    /// A private, a plain or a computed key.
+    /// The kind of a key with a name: a name as written, or the IdentifierReference of a computed key (`[a]`).
+    fn name_or_reference(&mut self) -> u32 {
+        if self.rng.once_in(6) { 32 } else { 55 }
+    }
+
+    /// A private, a plain or a computed key; now and then a private one that is an IdentifierReference, as no text has.
     fn key(&mut self, which: usize) {
         if which < 2 {
             let name = self.rng.pick(&PRIVATE);
-            self.leaf(34, 2, 0, 0, name);
+            let kind = if self.rng.once_in(12) { 32 } else { 34 };
+            self.leaf(kind, 2, 0, 0, name);
         } else if which == 2 {
             self.leaf(55, 2, 0, 0, "x");
         } else {
@@ -710,7 +717,8 @@ impl Grammar<'_> {
                 }
                 _ => {
                     self.open(44, 0, 0, 0, "");
-                    self.leaf(55, 2, 0, 0, name);
+                    let kind = self.name_or_reference();
+                    self.leaf(kind, 2, 0, 0, name);
                     self.expression(1);
                 }
             }

@@ -139,7 +139,8 @@ fn left<'a>(children: &Children<'a>) -> ForStatementLeft<'a> {
 fn key<'a>(children: &Children<'a>, private: bool) -> PropertyKey<'a> {
     let key = children.iter().find(|(r, _)| r.role == 2);
     PropertyKey {
-        name: key.map(|(r, _)| r.name).filter(|name| !name.as_bytes().is_empty()),
+        // An IdentifierReference is the expression of a computed key, of which the crate gives no name.
+        name: key.filter(|(r, _)| r.kind != 32).map(|(r, _)| r.name).filter(|name| !name.as_bytes().is_empty()),
         private,
         span: key.map_or(Span::default(), |(r, _)| r.span),
     }

@@ -95,16 +95,14 @@ fn element<'a>(t: &Tables<'a>, n: usize) -> Option<Element<'a>> {
         _ => return None,
     };
     let key = t.part(n, KEY)?;
-    if t.name(key).is_empty() {
-        return None;
-    }
-    Some(Element {
-        name: t.name(key),
-        span: t.span(key),
-        is_private: t.has(n, PRIVATE_KEY),
-        is_static: t.has(n, IS_STATIC),
-        kind,
-    })
+    let name = key_name(t, n)?;
+    Some(Element { name, span: t.span(key), is_private: t.has(n, PRIVATE_KEY), is_static: t.has(n, IS_STATIC), kind })
+}
+
+/// The name that its key gives an element or a property: an IdentifierReference is the expression of a computed key and gives none.
+pub fn key_name<'a>(t: &Tables<'a>, n: usize) -> Option<&'a [u8]> {
+    let key = t.part(n, KEY)?;
+    (t.kind(key) != IDENTIFIER_REFERENCE && !t.name(key).is_empty()).then(|| t.name(key))
 }
 
 /// The Function of a method has a FunctionBody.

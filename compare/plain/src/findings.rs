@@ -1,6 +1,6 @@
 //! checker/mod.rs and checker/javascript.rs over well-formed tables. Functions bear the Rust's names.
 
-use crate::classes::{has_body, Classes, Element, ElementKind};
+use crate::classes::{Classes, Element, ElementKind, has_body, key_name};
 use crate::supers::{self, Walk};
 use crate::tables::*;
 
@@ -207,7 +207,7 @@ impl Checker<'_, '_> {
             .children(body)
             .filter(|&e| t.kind(e) == METHOD_DEFINITION && t.extra(e) == 0 && has_body(t, e))
             .map(|e| match t.part(e, KEY) {
-                Some(key) if !t.name(key).is_empty() => t.span(key),
+                Some(key) if key_name(t, e).is_some() => t.span(key),
                 _ => t.span(e),
             });
         if let (Some(first), Some(second)) = (constructors.next(), constructors.next()) {
@@ -417,7 +417,7 @@ impl Checker<'_, '_> {
             match (t.kind(a), label) {
                 (PROGRAM, Some(label)) => return self.error(code::UNDEFINED_LABEL, t.span(label)),
                 (FUNCTION | ARROW | STATIC_BLOCK, Some(label)) => {
-                    return self.error(code::JUMP_OVER_A_FUNCTION, t.span(label))
+                    return self.error(code::JUMP_OVER_A_FUNCTION, t.span(label));
                 }
                 (PROGRAM | FUNCTION | ARROW | STATIC_BLOCK, None) => return self.error(code::BREAK, t.span(n)),
                 (LABELED, Some(label)) if self.same_label(a, label) => return,
@@ -434,7 +434,7 @@ impl Checker<'_, '_> {
             match (t.kind(a), label) {
                 (PROGRAM, Some(label)) => return self.error(code::UNDEFINED_LABEL, t.span(label)),
                 (FUNCTION | ARROW | STATIC_BLOCK, Some(label)) => {
-                    return self.error(code::JUMP_OVER_A_FUNCTION, t.span(label))
+                    return self.error(code::JUMP_OVER_A_FUNCTION, t.span(label));
                 }
                 (PROGRAM | FUNCTION | ARROW | STATIC_BLOCK, None) => return self.error(code::CONTINUE, t.span(n)),
                 (LABELED, Some(label)) if self.same_label(a, label) => {
@@ -500,7 +500,10 @@ impl Checker<'_, '_> {
             if t.kind(prop) != OBJECT_PROPERTY || t.extra(prop) != 0 || t.has(prop, IS_METHOD) {
                 continue;
             }
-            let Some(key) = t.part(prop, KEY).filter(|&k| t.name(k) == b"__proto__") else { continue };
+            if key_name(t, prop) != Some(b"__proto__".as_slice()) {
+                continue;
+            }
+            let Some(key) = t.part(prop, KEY) else { continue };
             if let Some(previous) = previous {
                 self.error_at_two(code::REDECLARATION, previous, t.span(key));
             }

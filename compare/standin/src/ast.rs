@@ -301,7 +301,7 @@ pub enum ModuleExportName<'a> {
     Other,
 }
 
-/// A key: its name is the key node's, whatever kind that is; the element's flag says whether it is private.
+/// A key: its name is the key node's, whatever kind that is, but for an IdentifierReference (the tree's maker leaves it out); the element's flag says whether it is private.
 #[derive(Clone, Copy, Debug)]
 pub struct PropertyKey<'a> {
     pub name: Option<Ident<'a>>,
@@ -325,7 +325,7 @@ impl GetSpan for PropertyKey<'_> {
     }
 }
 
-/// Of a key that is computed or shorthand the crate gives none: such a key node has no name in the tables.
+/// Of a key that is computed or shorthand the crate gives none: such a key node has no name in the tables, or is an IdentifierReference.
 impl PropName for PropertyKey<'_> {
     fn prop_name(&self) -> Option<(&str, Span)> {
         self.name.map(|name| (name.as_str(), self.span))

@@ -27,8 +27,9 @@ abbrev pub nameAt : List ℕ → List ℕ → Found → List ℕ
 nameAt ns names (At m) = nameOf ns names (m .0)
 nameAt ns names Nothing = []
 
+-- an IdentifierReference as key is that of `[a]`: a computed key gives its element no name
 abbrev pub hasNameAt : List ℕ → Found → Bool
-hasNameAt ns (At m) = not (eqb (nameLenOf ns (m .0)) 0)
+hasNameAt ns (At m) = not (eqb (kindOf ns (m .0)) k.IdentifierReference) && not (eqb (nameLenOf ns (m .0)) 0)
 hasNameAt ns Nothing = false
 
 -- an element's key has a name

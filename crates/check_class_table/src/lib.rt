@@ -171,7 +171,7 @@ pub fn element_name<'a>(nodes: &[u32], names: &'a [u8], e: ElementId) -> &'a [u8
     table_names::name(nodes, names, m)
 }
 
-// Whether an element's key has a name.
+// Whether an element's key has a name: an IdentifierReference is the expression of a computed key, and gives the element none.
 pub fn has_name(nodes: &[u32], e: ElementId) -> bool
     requires { ⌜ Tree (now nodes) ⌝ }
     requires { ⌜ e .0 < count (now nodes) ⌝ }
@@ -180,7 +180,10 @@ pub fn has_name(nodes: &[u32], e: ElementId) -> bool
     let Found::At(m) = table_children::key_of(nodes, NodeId(e.0)) else {
         return false;
     };
-    table_records::name_len(nodes, m) != 0
+    and(
+        table_records::kind(nodes, m) != kinds::IDENTIFIER_REFERENCE,
+        table_records::name_len(nodes, m) != 0,
+    )
 }
 
 // Whether the function that is a method's value has a body.

@@ -30,9 +30,9 @@ properties ns n = keep (isChild ns n k.ObjectProperty k.ObjectProperty 0 7) (upt
 abbrev pub isPlain : List ℕ → ℕ → Bool
 isPlain ns p = eqb (extraOf ns p) extra.Init && not (hasFlag (flagsOf ns p) flag.Method)
 
--- a key that is called `__proto__`
+-- a key that is called `__proto__`; an IdentifierReference as key is that of `[a]`, and a computed key has no PropName
 abbrev pub ifProto : List ℕ → List ℕ → Found → Found
-ifProto ns names (At m) = cond (nameIs ns names (m .0) word.proto) (At m) Nothing
+ifProto ns names (At m) = cond (eqb (kindOf ns (m .0)) k.IdentifierReference) Nothing (cond (nameIs ns names (m .0) word.proto) (At m) Nothing)
 ifProto ns names Nothing = Nothing
 
 -- the key of a plain property `__proto__`

@@ -39,6 +39,10 @@ fn proto_key(nodes: &[u32], names: &[u8], p: NodeId) -> Found
     let Found::At(key) = table_children::key_of(nodes, p) else {
         return Found::Nothing;
     };
+    // An IdentifierReference as key is that of `[a]`: a computed key has no PropName.
+    if table_records::kind(nodes, key) == kinds::IDENTIFIER_REFERENCE {
+        return Found::Nothing;
+    }
     if table_names::name_is(nodes, names, key, b"__proto__") {
         return Found::At(key);
     }

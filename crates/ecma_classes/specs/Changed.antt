@@ -3,8 +3,7 @@
 use Prim.Native.Nat.{ℕ, _<_, _≤_}
 use mathlib.Core.Path.{_≡_}
 use mathlib.Core.List.{List, [], _∷_}
-use mathlib.Core.Bool.{Bool, true, false, cond, not, xor, _&&_}
-use mathlib.Core.Logic.{_⊎_}
+use mathlib.Core.Bool.{Bool, true, false, cond, not, xor, _&&_, _||_}
 use lib.Dec.{eqb, ltb}
 use lib.ListN.{length}
 use Rattle.base_common.specs.Tests.{within}
@@ -15,21 +14,25 @@ use Rattle.table_records.specs.Extras as extra
 use Rattle.table_records.specs.NodeFlag as flag
 use Rattle.table_records.specs.declared.Found.{Found}
 use Rattle.table_records.specs.declared.Found.the-variants.{At, Nothing}
-use Rattle.table_names.specs.Name.{same}
+use Rattle.table_names.specs.Name.{same, nameOf}
 use Rattle.table_names.specs.Words as word
-use Rattle.table_children.specs.Children.{keep, children, keyOf, valueOf, functionBodyOf, found}
+use Rattle.table_children.specs.Children.{keep, children, keyOf, innerOf, valueOf, functionBodyOf, found}
 use Rattle.ecma_trees.specs.Rose.{treeOf}
 use Rattle.ecma_base.specs.Telling.{Telling, asyncOrGenerator}
-use Rattle.ecma_classes.specs.ClassElements.{keyName, computed, classElements, namesConstructor, constructorTwice, isColon, isProto}
+use Rattle.ecma_classes.specs.ClassElements.{classElements, constructorWord, namesConstructor, constructorTwice, isColon, isProto}
 use Rattle.ecma_classes.specs.PrivateNames.{isPrivateBound, entries, isSetter, matched, invalid, isUse}
 use Rattle.ecma_classes.specs.Supers.{isSuperCall, isMethod, isConstructorMethod, isBare, barsProperty, classOf, unit}
 use Rattle.ecma_classes.specs.Raised.{bodyAround}
 
 -- 1 at an object: `__proto__`
 
--- the name at the key counts, computed and private keys too
+-- an IdentifierReference as key is that of `[a]` and names nothing; of any other key the name counts, if it is computed or private too
+abbrev pub namedProto : List ℕ → List ℕ → Found → Bool
+namedProto ns names (At m) = not (eqb (kindOf ns (m .0)) k.IdentifierReference) && same (nameOf ns names (m .0)) word.proto
+namedProto ns names Nothing = false
+
 unfoldable pub isKeyedProto : List ℕ → List ℕ → ℕ → Bool
-isKeyedProto ns names p = eqb (kindOf ns p) k.ObjectProperty && (isColon ns p && same (keyName ns names p) word.proto)
+isKeyedProto ns names p = eqb (kindOf ns p) k.ObjectProperty && (isColon ns p && namedProto ns names (keyOf ns p))
 
 -- all but the first of a list
 abbrev pub later : List ℕ → List ℕ
@@ -40,10 +43,15 @@ later (a ∷ l) = l
 unfoldable pub protoAgain : List ℕ → List ℕ → ℕ → List ℕ
 protoAgain ns names n = cond (eqb (kindOf ns n) k.Object) (later (keep (isKeyedProto ns names) (children ns n))) []
 
--- CONDITION: no property of the object has a private key, and none whose key node is named `__proto__` is computed
+-- what the table says of a key: it is a number, a string, or a node of no other kind that holds nothing, so no expression in brackets
+abbrev pub writtenKey : List ℕ → Found → Bool
+writtenKey ns (At m) = (eqb (kindOf ns (m .0)) k.NumericLiteral || eqb (kindOf ns (m .0)) k.StringLiteral) || (eqb (kindOf ns (m .0)) k.AnythingElse && not (found (innerOf ns (m .0))))
+writtenKey ns Nothing = false
+
+-- CONDITION: no property of the object has a private key, and one whose key gives the name `__proto__` has it written so
 pub record KeysPlain (ns names : List ℕ) (n : ℕ) : Type 0 where
   pub public : (p : ℕ) → member p (children ns n) ≡ true → hasFlag (flagsOf ns p) flag.PrivateKey ≡ false
-  pub written : (p : ℕ) → member p (children ns n) ≡ true → same (keyName ns names p) word.proto ≡ true → computed ns (keyOf ns p) ≡ false
+  pub written : (p : ℕ) → member p (children ns n) ≡ true → namedProto ns names (keyOf ns p) ≡ true → writtenKey ns (keyOf ns p) ≡ true
 
 -- CONDITION: at most two properties of the object are such
 abbrev pub ProtosTwiceAtMost : List ℕ → List ℕ → ℕ → Type 0
@@ -63,10 +71,10 @@ abbrev pub bodiless : List ℕ → ℕ → Bool
 bodiless ns e = eqb (kindOf ns e) k.MethodDefinition && not (bodyIn ns (valueOf ns e))
 
 abbrev pub named : List ℕ → Found → Bool
-named ns (At m) = not (eqb (nameLenOf ns (m .0)) 0)
+named ns (At m) = not (eqb (kindOf ns (m .0)) k.IdentifierReference) && not (eqb (nameLenOf ns (m .0)) 0)
 named ns Nothing = false
 
--- no constructor, no method without a body and nothing without a name is entered
+-- no constructor, no method without a body and nothing without a name (an IdentifierReference as key gives none) is entered
 unfoldable pub isEntered : List ℕ → ℕ → Bool
 isEntered ns e = not (eqb (kindOf ns e) k.MethodDefinition && isTableConstructor ns e) && (not (bodiless ns e) && named ns (keyOf ns e))
 
@@ -142,9 +150,18 @@ isConstructor ns e = (eqb (kindOf ns e) k.MethodDefinition && isTableConstructor
 unfoldable pub builtTwice : List ℕ → ℕ → Bool
 builtTwice ns n = eqb (kindOf ns n) k.Class && ltb 1 (length (keep (isConstructor ns) (classElements ns n)))
 
--- CONDITION: an element of the class is called "constructor" just where it is one and has a body
-abbrev pub ConstructorsNamed : List ℕ → List ℕ → ℕ → Type 0
-ConstructorsNamed ns names n = (e : ℕ) → member e (classElements ns n) ≡ true → isConstructor ns e ≡ namesConstructor ns names e
+-- what the table says of an element's name: it is not static, and its key is not private and is written `constructor`
+abbrev pub keyedConstructor : List ℕ → List ℕ → Found → Bool
+keyedConstructor ns names (At m) = writtenKey ns (At m) && same (nameOf ns names (m .0)) constructorWord
+keyedConstructor ns names Nothing = false
+
+unfoldable pub calledConstructor : List ℕ → List ℕ → ℕ → Bool
+calledConstructor ns names e = not (hasFlag (flagsOf ns e) flag.Static) && (not (hasFlag (flagsOf ns e) flag.PrivateKey) && keyedConstructor ns names (keyOf ns e))
+
+-- CONDITION: what the table calls a constructor is called so, and a method, field or accessor that is called so is one and has a body
+pub record ConstructorsNamed (ns names : List ℕ) (n : ℕ) : Type 0 where
+  pub called : (e : ℕ) → member e (classElements ns n) ≡ true → isConstructor ns e ≡ true → calledConstructor ns names e ≡ true
+  pub alone : (e : ℕ) → member e (classElements ns n) ≡ true → within (kindOf ns e) k.MethodDefinition k.AccessorProperty ≡ true → calledConstructor ns names e ≡ true → isConstructor ns e ≡ true
 
 -- 28 to 30: `super`
 
@@ -178,23 +195,28 @@ tableStray ns n = isTableCall ns n && not (isConstructorMethod ns (isTableConstr
 abbrev pub tableProperty : List ℕ → ℕ → Bool
 tableProperty ns n = isTableProperty ns n && barsProperty ns (unit ns n)
 
--- CONDITION: a Super stands in a SuperCall or a SuperProperty; each does
-abbrev pub SuperStands : List ℕ → ℕ → Type 0
-SuperStands ns n = kindOf ns n ≡ k.Super → (kindOf ns (parentOf ns n) ≡ k.Call) ⊎ (kindOf ns (parentOf ns n) ≡ k.OtherMember)
+-- CONDITION of 28 and 29: no `new super()`
+abbrev pub CallStands : List ℕ → ℕ → Type 0
+CallStands ns n = kindOf ns n ≡ k.Super → kindOf ns (parentOf ns n) ≡ k.New → ⊥
 
+-- CONDITION of 30: a Super stands in a call, a `new` or a member expression
+abbrev pub PropertyStands : List ℕ → ℕ → Type 0
+PropertyStands ns n = kindOf ns n ≡ k.Super → within (kindOf ns (parentOf ns n)) k.Call k.OtherMember ≡ true
+
+-- both, of each Super
 abbrev pub SupersStand : List ℕ → Type 0
-SupersStand ns = (n : ℕ) → n < count ns → SuperStands ns n
+SupersStand ns = (n : ℕ) → n < count ns → CallStands ns n × PropertyStands ns n
 
 -- CONDITION: the table calls a method of a class a constructor just where it is called "constructor" and is neither async nor a generator; so of each
 abbrev pub MethodNamed : Telling → List ℕ → List ℕ → ℕ → Type 0
-MethodNamed told ns names u = isMethod ns u ≡ true → isTableConstructor ns (parentOf ns u) ≡ (namesConstructor ns names (parentOf ns u) && not (asyncOrGenerator told u))
+MethodNamed told ns names u = isMethod ns u ≡ true → isTableConstructor ns (parentOf ns u) ≡ (calledConstructor ns names (parentOf ns u) && not (asyncOrGenerator told u))
 
 abbrev pub MethodsNamed : Telling → List ℕ → List ℕ → Type 0
 MethodsNamed told ns names = (u : ℕ) → u < count ns → MethodNamed told ns names u
 
 -- CONDITION: a method called "constructor" is neither async nor a generator; else 28 may be broken too (15.7.1), and the Rust raises 29 alone; so of each
 abbrev pub ConstructorOrdinary : Telling → List ℕ → List ℕ → ℕ → Type 0
-ConstructorOrdinary told ns names u = isMethod ns u ≡ true → namesConstructor ns names (parentOf ns u) ≡ true → asyncOrGenerator told u ≡ false
+ConstructorOrdinary told ns names u = isMethod ns u ≡ true → calledConstructor ns names (parentOf ns u) ≡ true → asyncOrGenerator told u ≡ false
 
 abbrev pub ConstructorsOrdinary : Telling → List ℕ → List ℕ → Type 0
 ConstructorsOrdinary told ns names = (u : ℕ) → u < count ns → ConstructorOrdinary told ns names u

@@ -23,14 +23,15 @@ nameFound ns names Nothing = []
 unfoldable pub keyName : List ℕ → List ℕ → ℕ → List ℕ
 keyName ns names e = nameFound ns names (keyOf ns e)
 
--- the key is a ComputedPropertyName: its node holds the expression
-abbrev pub computed : List ℕ → Found → Bool
-computed ns (At m) = found (innerOf ns (m .0))
-computed ns Nothing = false
+-- 13.2.5, PropertyName : LiteralPropertyName, ComputedPropertyName. In the tables a LiteralPropertyName is a NumericLiteral, a StringLiteral or, as an IdentifierName or a bigint, a node of no other
+-- kind that holds nothing. "[ AssignmentExpression ]" is the expression, of another kind, or a node that holds it.
+abbrev pub literalName : List ℕ → Found → Bool
+literalName ns (At m) = within (kindOf ns (m .0)) k.NumericLiteral k.StringLiteral || (eqb (kindOf ns (m .0)) k.AnythingElse && not (found (innerOf ns (m .0))))
+literalName ns Nothing = false
 
--- 8.6.5 PropName: that name; a ComputedPropertyName has none, and a PrivateIdentifier is no PropertyName
+-- 8.6.5 PropName: the name of a LiteralPropertyName; a ComputedPropertyName has none, and a PrivateIdentifier is no PropertyName
 unfoldable pub propName : List ℕ → List ℕ → ℕ → List ℕ
-propName ns names e = cond (hasFlag (flagsOf ns e) flag.PrivateKey || computed ns (keyOf ns e)) [] (keyName ns names e)
+propName ns names e = cond (not (hasFlag (flagsOf ns e) flag.PrivateKey) && literalName ns (keyOf ns e)) (keyName ns names e) []
 
 -- MethodDefinition, FieldDefinition (an accessor among them)
 abbrev pub isDefinition : List ℕ → ℕ → Bool

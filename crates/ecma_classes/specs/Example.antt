@@ -41,7 +41,7 @@ use Rattle.ecma_classes.specs.ClassElements.{keyName, propName, namesCon
 use Rattle.ecma_classes.specs.PrivateNames.{isPrivateBound, entries, matched, invalid}
 use Rattle.ecma_classes.specs.Raised.{bodyAround}
 use Rattle.ecma_classes.specs.Supers.{isSuperCall, begins, isMethod, isObjectMethod, isConstructorMethod, hasHeritage, isBare, isSuperProperty, barsCall, barsProperty, superError, standardStray}
-use Rattle.ecma_classes.specs.Changed.{isConstructor, builtTwice, isKeyedProto, protoAgain, isEntered, privateEntered, clashIn, privateAgain, isTableUse, isOutside, isTableCall, isTableProperty, isTableConstructor, SupersStand, MethodsNamed}
+use Rattle.ecma_classes.specs.Changed.{isConstructor, calledConstructor, builtTwice, isKeyedProto, protoAgain, isEntered, privateEntered, clashIn, privateAgain, isTableUse, isOutside, isTableCall, isTableProperty, isTableConstructor, SupersStand, MethodsNamed}
 use Rattle.ecma_base.specs.Contains.{contains, containsAny}
 use Rattle.ecma_base.specs.Telling.{Telling, asyncOrGenerator, ordinary}
 use Rattle.ecma_base.specs.Scopes.{followsAt, flaggedAt, classAt, scopesFollow}
@@ -222,25 +222,26 @@ unfolding upto range
 stand-test = refl
 
 pub stand : SupersStand table
-stand n h e =
-    go (all-upto (λ n. not (eqb (kindOf table n) k.Super) || (eqb (kindOf table (parentOf table n)) k.Call || eqb (kindOf table (parentOf table n)) k.OtherMember)) 0 (count table) stand-test n (omega arith) h)
+stand n h = (λ e q. never (sym (stands e) ∙ no-new q), λ e. ⊎-elim (λ q. rw (eqb-true (kindOf table (parentOf table n)) k.Call q)) (λ q. rw (eqb-true (kindOf table (parentOf table n)) k.OtherMember q)) (either (eqb (kindOf table (parentOf table n)) k.Call) (eqb (kindOf table (parentOf table n)) k.OtherMember) (stands e)))
   where
-    go : (not (eqb (kindOf table n) k.Super) || (eqb (kindOf table (parentOf table n)) k.Call || eqb (kindOf table (parentOf table n)) k.OtherMember)) ≡ true
-        → (kindOf table (parentOf table n) ≡ k.Call) ⊎ (kindOf table (parentOf table n) ≡ k.OtherMember)
-    go x =
-        ⊎-elim (λ q. inl (eqb-true (kindOf table (parentOf table n)) k.Call q)) (λ q. inr (eqb-true (kindOf table (parentOf table n)) k.OtherMember q))
-        (either (eqb (kindOf table (parentOf table n)) k.Call) (eqb (kindOf table (parentOf table n)) k.OtherMember) (sym (rw (eq-eqb (kindOf table n) k.Super e)) ∙ x))
+    stands : kindOf table n ≡ k.Super → (eqb (kindOf table (parentOf table n)) k.Call || eqb (kindOf table (parentOf table n)) k.OtherMember) ≡ true
+    stands e =
+        sym (rw (eq-eqb (kindOf table n) k.Super e))
+        ∙ all-upto (λ n. not (eqb (kindOf table n) k.Super) || (eqb (kindOf table (parentOf table n)) k.Call || eqb (kindOf table (parentOf table n)) k.OtherMember)) 0 (count table) stand-test n (omega arith) h
+
+    no-new : kindOf table (parentOf table n) ≡ k.New → (eqb (kindOf table (parentOf table n)) k.Call || eqb (kindOf table (parentOf table n)) k.OtherMember) ≡ false
+    no-new q = rw q
 
 abbrev alike : ℕ → Bool
-alike u = not (isMethod table u) || not (xor (isTableConstructor table (parentOf table u)) (namesConstructor table bytes (parentOf table u) && not (asyncOrGenerator told u)))
+alike u = not (isMethod table u) || not (xor (isTableConstructor table (parentOf table u)) (calledConstructor table bytes (parentOf table u) && not (asyncOrGenerator told u)))
 
 named-test : all alike (upto 0 (count table)) ≡ true
-unfolding isMethod namesConstructor propName keyName firstNode upto range isChild same nameOf xor
+unfolding isMethod calledConstructor firstNode upto range isChild same nameOf xor
 named-test = refl
 
 pub named : MethodsNamed told table bytes
 unfolding xor
-named u h e = go (isTableConstructor table (parentOf table u)) (namesConstructor table bytes (parentOf table u) && not (asyncOrGenerator told u)) (sym (rw e) ∙ all-upto alike 0 (count table) named-test u (omega arith) h)
+named u h e = go (isTableConstructor table (parentOf table u)) (calledConstructor table bytes (parentOf table u) && not (asyncOrGenerator told u)) (sym (rw e) ∙ all-upto alike 0 (count table) named-test u (omega arith) h)
   where
     go : (a b : Bool) → not (xor a b) ≡ true → a ≡ b
     go true true x = refl

@@ -8,6 +8,7 @@ use Rattle.table_names.specs.Name.{same, nameOf}
 use Rattle.table_names.specs.Words as word
 use Rattle.table_children.specs.Children.{keep, isChild, firstNode}
 use Rattle.ecma_classes.specs.ClassElements.{keyName, propName, constructorWord, namesConstructor, isProto}
+use Rattle.ecma_classes.specs.Changed.{isKeyedProto}
 
 abbrev table : List ℕ
 table =
@@ -66,3 +67,30 @@ constructors = refl
 pub protos : keep (isProto table bytes) (upto 0 37) ≡ 29 ∷ []
 unfolding isProto propName keyName same nameOf keep firstNode isChild upto range
 protos = refl
+
+-- ({[__proto__]: 1, [__proto__]: 2}) with the reference itself as key: it has its name, and the properties have none
+abbrev references : List ℕ
+references =
+    0 ∷ 0 ∷ 0 ∷ 0 ∷ 34 ∷ 0 ∷ 0 ∷ 0 ∷ 0 ∷ 0 ∷
+    22 ∷ 0 ∷ 3 ∷ 0 ∷ 34 ∷ 0 ∷ 0 ∷ 0 ∷ 0 ∷ 0 ∷
+    55 ∷ 1 ∷ 0 ∷ 0 ∷ 34 ∷ 0 ∷ 0 ∷ 1 ∷ 0 ∷ 0 ∷
+    43 ∷ 2 ∷ 1 ∷ 1 ∷ 33 ∷ 0 ∷ 0 ∷ 0 ∷ 0 ∷ 0 ∷
+    44 ∷ 3 ∷ 0 ∷ 2 ∷ 16 ∷ 0 ∷ 0 ∷ 0 ∷ 0 ∷ 0 ∷
+    32 ∷ 4 ∷ 2 ∷ 3 ∷ 12 ∷ 0 ∷ 0 ∷ 0 ∷ 35 ∷ 9 ∷
+    35 ∷ 4 ∷ 1 ∷ 15 ∷ 16 ∷ 0 ∷ 0 ∷ 0 ∷ 0 ∷ 0 ∷
+    44 ∷ 3 ∷ 0 ∷ 18 ∷ 32 ∷ 0 ∷ 0 ∷ 0 ∷ 0 ∷ 0 ∷
+    32 ∷ 7 ∷ 2 ∷ 19 ∷ 28 ∷ 0 ∷ 0 ∷ 0 ∷ 35 ∷ 9 ∷
+    35 ∷ 7 ∷ 1 ∷ 31 ∷ 32 ∷ 0 ∷ 0 ∷ 0 ∷ 0 ∷ 0 ∷ []
+
+pub referenceNames : map (nameOf references bytes) (5 ∷ 8 ∷ []) ≡ word.proto ∷ word.proto ∷ []
+unfolding nameOf
+referenceNames = refl
+
+pub referenceProps : map (propName references bytes) (4 ∷ 7 ∷ []) ≡ [] ∷ [] ∷ []
+unfolding propName keyName nameOf firstNode isChild upto range
+referenceProps = refl
+
+-- the Rust's rule finds none either
+pub referenceProtos : keep (isKeyedProto references bytes) (upto 0 10) ≡ []
+unfolding isKeyedProto same nameOf keep firstNode isChild upto range
+referenceProtos = refl

@@ -2,12 +2,13 @@
 use Prim.Native.Nat.{ℕ, _+_, _≤_}
 use mathlib.Core.Path.{_≡_, refl, ap, sym, _∙_}
 use mathlib.Core.List.{List, [], _∷_, _++_, flatMap, foldr}
-use mathlib.Core.Bool.{Bool, true, false, cond, _&&_}
+use mathlib.Core.Bool.{Bool, true, false, cond, not, _&&_}
 use native.Mathlib.Omega.{arith}
-use borrow.Author.Tests.{lt-ltb, le-leb, eqb-true}
+use borrow.Author.Tests.{lt-ltb, le-leb, eqb-true, ne-eqb}
 use lib.Dec.{eqb, ltb}
 use lib.ListN.{length}
 use Rattle.base_common.specs.Upto.{upto}
+use Rattle.base_common.specs.Bools.{never}
 use Rattle.table_records.specs.Table.{kindOf, roleOf, parentOf, flagsOf, count, hasFlag}
 use Rattle.table_records.specs.Kinds as k
 use Rattle.table_records.specs.NodeFlag as flag
@@ -27,9 +28,10 @@ use Rattle.ecma_dispatch.specs.Dispatch.{atCode}
 use Rattle.ecma_dispatch.specs.NodesOf.{nodesOf, raised}
 use Rattle.ecma_classes.specs.RaisingLaws.{keep-upto, keep-alike}
 use Rattle.ecma_dispatch.specs.NodesOfLaws.{raisedAgain}
-use Rattle.ecma_classes.specs.ClassElements.{nameFound, keyName, computed, propName, isProto, protoTwice}
+use Rattle.ecma_classes.specs.ClassElements.{nameFound, keyName, literalName, propName, isProto, protoTwice}
+use Rattle.ecma_classes.specs.ClassElementsLaws.{literal-written}
 use Rattle.ecma_classes.specs.Raised.{times}
-use Rattle.ecma_classes.specs.Changed.{isKeyedProto, later, protoAgain, KeysPlain, ProtosTwiceAtMost}
+use Rattle.ecma_classes.specs.Changed.{namedProto, isKeyedProto, writtenKey, later, protoAgain, KeysPlain, ProtosTwiceAtMost}
 
 -- what g makes of each member
 abbrev made : (ℕ → ℕ) → List ℕ → List ℕ
@@ -63,23 +65,23 @@ repeats-times ns n [] = refl
 repeats-times ns n (a ∷ l) = after-times ns n a l
 
 module _ (ns names : List ℕ) where
-  key-made : (f : Found) (b : Bool) → toList (cond b (ifProto ns names f) Nothing) ≡ cond (b && same (nameFound ns names f) word.proto) (number f ∷ []) []
-  unfolding same
-  key-made (At m) true = go (same (nameOf ns names (m .0)) word.proto)
+  key-made : (f : Found) (b : Bool) → toList (cond b (ifProto ns names f) Nothing) ≡ cond (b && namedProto ns names f) (number f ∷ []) []
+  key-made (At m) true = go (eqb (kindOf ns (m .0)) k.IdentifierReference) (same (nameOf ns names (m .0)) word.proto)
     where
-      go : (x : Bool) → toList (cond x (At m) Nothing) ≡ cond x (m .0 ∷ []) []
-      go true = refl
-      go false = refl
+      go : (r x : Bool) → toList (cond r Nothing (cond x (At m) Nothing)) ≡ cond (not r && x) (m .0 ∷ []) []
+      go true x = refl
+      go false true = refl
+      go false false = refl
   key-made (At m) false = refl
   key-made Nothing true = refl
   key-made Nothing false = refl
 
   -- the properties, by their key alone
   abbrev keyed : ℕ → Bool
-  keyed p = isPlain ns p && same (keyName ns names p) word.proto
+  keyed p = isPlain ns p && namedProto ns names (keyOf ns p)
 
   keys-made : (l : List ℕ) → flatMap (λ p. toList (protoKey ns names p)) l ≡ made (λ p. number (keyOf ns p)) (keep keyed l)
-  unfolding protoKey keyName
+  unfolding protoKey
   keys-made l = flat-made (λ p. toList (protoKey ns names p)) (λ p. number (keyOf ns p)) keyed (λ p. key-made (keyOf ns p) (isPlain ns p)) l
 
   property : (n p : ℕ) → roleOf ns p ≤ 7 → (isChild ns n k.ObjectProperty k.ObjectProperty 0 7 p && keyed p) ≡ (eqb (parentOf ns p) n && isKeyedProto ns names p)
@@ -120,20 +122,24 @@ module _ (ns names : List ℕ) where
       go true e = objects w n e
       go false e = sym (ap (times n) (no-object n e))
 
-  -- the name at a key is its PropName
-  key-plain : (p : ℕ) → (same (keyName ns names p) word.proto ≡ true → computed ns (keyOf ns p) ≡ false) → same (keyName ns names p) word.proto ≡ same (cond (computed ns (keyOf ns p)) [] (keyName ns names p)) word.proto
-  unfolding same
-  key-plain p w = go (same (keyName ns names p) word.proto) refl (computed ns (keyOf ns p)) refl
-    where
-      go : (a : Bool) → same (keyName ns names p) word.proto ≡ a → (b : Bool) → computed ns (keyOf ns p) ≡ b
-          → same (keyName ns names p) word.proto ≡ same (cond (computed ns (keyOf ns p)) [] (keyName ns names p)) word.proto
-      go true q b r = rw (w q)
-      go false q true r = rw (r, q)
-      go false q false r = rw r
+  -- a key that is written so is no reference
+  no-reference : (m : ℕ) → writtenKey ns (At (record { 0 = m })) ≡ true → eqb (kindOf ns m) k.IdentifierReference ≡ false
+  no-reference m w = ne-eqb (kindOf ns m) k.IdentifierReference (λ (e : kindOf ns m ≡ 32). never (sym w ∙ rw e))
 
-  proto-same : (p : ℕ) → hasFlag (flagsOf ns p) flag.PrivateKey ≡ false → (same (keyName ns names p) word.proto ≡ true → computed ns (keyOf ns p) ≡ false) → isKeyedProto ns names p ≡ isProto ns names p
-  unfolding isKeyedProto isProto propName
-  proto-same p h w = rw (h, key-plain p w)
+  -- the name that a key gives is its PropName
+  key-plain : (f : Found) → (namedProto ns names f ≡ true → writtenKey ns f ≡ true) → namedProto ns names f ≡ same (cond (literalName ns f) (nameFound ns names f) []) word.proto
+  unfolding same
+  key-plain (At m) w = rw (literal-written ns (At m)) (go (writtenKey ns (At m)) refl (namedProto ns names (At m)) refl)
+    where
+      go : (c : Bool) → writtenKey ns (At m) ≡ c → (b : Bool) → namedProto ns names (At m) ≡ b → namedProto ns names (At m) ≡ same (cond c (nameOf ns names (m .0)) []) word.proto
+      go true c b q = rw (no-reference (m .0) c)
+      go false c true q = never (sym (w q) ∙ c)
+      go false c false q = q
+  key-plain Nothing w = refl
+
+  proto-same : (p : ℕ) → hasFlag (flagsOf ns p) flag.PrivateKey ≡ false → (namedProto ns names (keyOf ns p) ≡ true → writtenKey ns (keyOf ns p) ≡ true) → isKeyedProto ns names p ≡ isProto ns names p
+  unfolding isKeyedProto isProto propName keyName
+  proto-same p h w = rw (h, key-plain (keyOf ns p) w)
 
   some-later : (l : List ℕ) → some (later l) ≡ ltb 1 (length l)
   some-later [] = refl

@@ -6,11 +6,11 @@ use mathlib.Core.Bool.{Bool, true, false, cond, not, _&&_, _||_}
 use mathlib.Core.Logic.{_⊎_, inl, inr, ⊎-elim}
 use native.Mathlib.Nat.{eq-or-lt-of-le}
 use native.Mathlib.Omega.{arith}
-use borrow.Author.Tests.{ne-eqb, eqb-true}
+use borrow.Author.Tests.{ne-eqb, eqb-true, eqb-false}
 use lib.Dec.{eqb}
 use Rattle.base_common.specs.UptoLaws.{and-left, and-right}
 use Rattle.base_common.specs.Tests.{within}
-use Rattle.base_common.specs.Bools.{never}
+use Rattle.base_common.specs.Bools.{never, in-range, range-of}
 use Rattle.table_records.specs.Table.{kindOf, parentOf, flagsOf, extraOf, count, hasFlag}
 use Rattle.table_records.specs.Facts.{Tree, Chained, Scoped}
 use Rattle.table_records.specs.Kinds as k
@@ -33,7 +33,8 @@ use Rattle.ecma_base.specs.Telling.{Telling, asyncOrGenerator}
 use Rattle.ecma_dispatch.specs.NodesOfLaws.{raisedAgain}
 use Rattle.ecma_classes.specs.ClassElements.{namesConstructor}
 use Rattle.ecma_classes.specs.Supers.{begins, isMethod, isConstructorMethod, classOf, hasHeritage, isObjectMethod, isBlockOrField, isBare, barsCall, barsProperty, isSuperCall, isSuperProperty, standardStray, standardProperty}
-use Rattle.ecma_classes.specs.Changed.{eachBare, isTableConstructor, isTableCall, isTableProperty, tableBare, tableStray, tableProperty, SuperStands, MethodNamed, ConstructorOrdinary}
+use Rattle.ecma_classes.specs.ClassElementsLaws.{range-two, names-called}
+use Rattle.ecma_classes.specs.Changed.{eachBare, calledConstructor, isTableConstructor, isTableCall, isTableProperty, tableBare, tableStray, tableProperty, CallStands, PropertyStands, MethodNamed, ConstructorOrdinary}
 use Rattle.ecma_classes.specs.ScopesFitLaws.{ScopesFit}
 use Rattle.ecma_classes.specs.SuperSearchLaws.{isValue, value-is, inUnit, search-is, no-root, above-other, above-body}
 
@@ -248,21 +249,36 @@ method-kind ns u e =
     (and-left (eqb (kindOf ns (parentOf ns u)) k.MethodDefinition) (isValue ns (parentOf ns u) u) (and-right (eqb (kindOf ns u) k.Function) (eqb (kindOf ns (parentOf ns u)) k.MethodDefinition && isValue ns (parentOf ns u) u) e))
 
 -- where a Super stands in a SuperCall or a SuperProperty and the table calls constructor what is, the rules are the standard's; of 28, asked of each constructor
-module _ (ns names : List ℕ) (tree : Tree ns) (n : ℕ) (h : n < count ns) (stand : SuperStands ns n) where
-  call-same : isTableCall ns n ≡ isSuperCall ns n
+module _ (ns names : List ℕ) (tree : Tree ns) (n : ℕ) (h : n < count ns) where
+  call-same : CallStands ns n → isTableCall ns n ≡ isSuperCall ns n
   unfolding isTableCall isSuperCall
-  call-same = go (eqb (kindOf ns n) k.Super) refl
+  call-same stand = go (eqb (kindOf ns n) k.Super) refl
     where
+      or-none : (b : Bool) → (b || false) ≡ b
+      or-none true = refl
+      or-none false = refl
+
       go : (b : Bool) → eqb (kindOf ns n) k.Super ≡ b → (b && within (kindOf ns (parentOf ns n)) k.Call k.New) ≡ (b && eqb (kindOf ns (parentOf ns n)) k.Call)
-      go true e = ⊎-elim (λ (q : kindOf ns (parentOf ns n) ≡ k.Call). rw q) (λ (q : kindOf ns (parentOf ns n) ≡ k.OtherMember). rw q) (stand (eqb-true (kindOf ns n) k.Super e))
+      go true e =
+          range-two (kindOf ns (parentOf ns n)) 38
+          ∙ ap (λ (b : Bool). eqb (kindOf ns (parentOf ns n)) 38 || b) (ne-eqb (kindOf ns (parentOf ns n)) 39 (stand (eqb-true (kindOf ns n) k.Super e)))
+          ∙ or-none (eqb (kindOf ns (parentOf ns n)) 38)
       go false e = refl
 
-  property-same : isTableProperty ns n ≡ isSuperProperty ns n
+  property-same : PropertyStands ns n → isTableProperty ns n ≡ isSuperProperty ns n
   unfolding isTableProperty isSuperProperty
-  property-same = go (eqb (kindOf ns n) k.Super) refl
+  property-same stand = go (eqb (kindOf ns n) k.Super) refl
     where
+      member : (a : ℕ) → within a 38 40 ≡ true → (b : Bool) → eqb a 40 ≡ b → not (within a 38 39) ≡ b
+      member a w true e = rw (eqb-true a 40 e)
+      member a w false e =
+          let r = range-of a 38 40 w in
+          let r0 = r .0 in
+          let r1 = r .1 in
+          ⊎-elim (λ (q : a ≡ 40). absurd (eqb-false a 40 e q)) (λ (q : a < 40). rw (in-range a 38 39 r0 (omega arith))) (eq-or-lt-of-le r1)
+
       go : (b : Bool) → eqb (kindOf ns n) k.Super ≡ b → (b && not (within (kindOf ns (parentOf ns n)) k.Call k.New)) ≡ (b && eqb (kindOf ns (parentOf ns n)) k.OtherMember)
-      go true e = ⊎-elim (λ (q : kindOf ns (parentOf ns n) ≡ k.Call). rw q) (λ (q : kindOf ns (parentOf ns n) ≡ k.OtherMember). rw q) (stand (eqb-true (kindOf ns n) k.Super e))
+      go true e = member (kindOf ns (parentOf ns n)) (stand (eqb-true (kindOf ns n) k.Super e)) (eqb (kindOf ns (parentOf ns n)) k.OtherMember) refl
       go false e = refl
 
   abbrev u : ℕ
@@ -290,10 +306,16 @@ module _ (ns names : List ℕ) (tree : Tree ns) (n : ℕ) (h : n < count ns) (st
       off true = refl
       off false = refl
 
-  pub property-rule-same : tableProperty ns n ≡ standardProperty ns n
-  property-rule-same = rw property-same
+  pub property-rule-same : PropertyStands ns n → tableProperty ns n ≡ standardProperty ns n
+  property-rule-same stand = rw (property-same stand)
 
-  module _ (told : Telling) (w : MethodNamed told ns names u) where
+  module _ (stand : CallStands ns n) (told : Telling) (w : MethodNamed told ns names u) where
+    called : isMethod ns u ≡ true → namesConstructor ns names (parentOf ns u) ≡ calledConstructor ns names (parentOf ns u)
+    called e = names-called ns names (parentOf ns u) (rw (method-kind ns u e))
+
+    named : isMethod ns u ≡ true → isTableConstructor ns (parentOf ns u) ≡ (namesConstructor ns names (parentOf ns u) && not (asyncOrGenerator told u))
+    named e = rw (called e) (w e)
+
     -- a unit bars SuperCall unless it is a constructor
     bars-call : barsCall told ns names u ≡ not (isConstructorMethod ns (isTableConstructor ns) u)
     unfolding barsCall isConstructorMethod
@@ -314,39 +336,39 @@ module _ (ns names : List ℕ) (tree : Tree ns) (n : ℕ) (h : n < count ns) (st
         go false x f true q r o s false t = refl
         go false x true false q r true s true t = never (sym t ∙ not-object s)
         go false x true false q r true s false t = refl
-        go false x true false q r false s true t = by (isTableConstructor ns (parentOf ns u)) (namesConstructor ns names (parentOf ns u)) (asyncOrGenerator told u) (w t)
+        go false x true false q r false s true t = by (isTableConstructor ns (parentOf ns u)) (namesConstructor ns names (parentOf ns u)) (asyncOrGenerator told u) (named t)
         go false x true false q r false s false t = refl
         go false x false false q r o s m t = never (sym r)
 
     pub stray-same : tableStray ns n ≡ standardStray told ns names n
-    stray-same = rw (call-same, bars-call)
+    stray-same = rw (call-same stand, bars-call)
 
     constructor-same : ConstructorOrdinary told ns names u → isConstructorMethod ns (isTableConstructor ns) u ≡ isConstructorMethod ns (namesConstructor ns names) u
     unfolding isConstructorMethod
     constructor-same o = go (isMethod ns u) refl
       where
         by : isMethod ns u ≡ true → (b : Bool) → namesConstructor ns names (parentOf ns u) ≡ b → (b && not (asyncOrGenerator told u)) ≡ b
-        by e true q = rw (o e q)
+        by e true q = rw (o e (sym (called e) ∙ q))
         by e false q = refl
 
         go : (b : Bool) → isMethod ns u ≡ b → (b && isTableConstructor ns (parentOf ns u)) ≡ (b && namesConstructor ns names (parentOf ns u))
-        go true e = w e ∙ by e (namesConstructor ns names (parentOf ns u)) refl
+        go true e = named e ∙ by e (namesConstructor ns names (parentOf ns u)) refl
         go false e = refl
 
     pub bare-same : ConstructorOrdinary told ns names u → tableBare ns n ≡ eachBare ns names n
     unfolding isBare
-    bare-same o = rw (call-same, constructor-same o)
+    bare-same o = rw (call-same stand, constructor-same o)
 
     -- without that condition one of the three rules is broken where one of the standard's is: what is a constructor by its name alone breaks that of 29
     named-too : isConstructorMethod ns (isTableConstructor ns) u ≡ true → isConstructorMethod ns (namesConstructor ns names) u ≡ true
     unfolding isConstructorMethod
     named-too e =
         let m = and-left (isMethod ns u) (isTableConstructor ns (parentOf ns u)) e in
-        rw m (and-left (namesConstructor ns names (parentOf ns u)) (not (asyncOrGenerator told u)) (sym (w m) ∙ and-right (isMethod ns u) (isTableConstructor ns (parentOf ns u)) e))
+        rw m (and-left (namesConstructor ns names (parentOf ns u)) (not (asyncOrGenerator told u)) (sym (named m) ∙ and-right (isMethod ns u) (isTableConstructor ns (parentOf ns u)) e))
 
-    pub super-same : (eachBare ns names n || (standardStray told ns names n || standardProperty ns n)) ≡ (tableBare ns n || (tableStray ns n || tableProperty ns n))
+    pub super-same : PropertyStands ns n → (eachBare ns names n || (standardStray told ns names n || standardProperty ns n)) ≡ (tableBare ns n || (tableStray ns n || tableProperty ns n))
     unfolding isBare
-    super-same = rw (call-same, bars-call, property-same) (go (isSuperCall ns n) (isConstructorMethod ns (isTableConstructor ns) u) refl)
+    super-same property = rw (call-same stand, bars-call, property-same property) (go (isSuperCall ns n) (isConstructorMethod ns (isTableConstructor ns) u) refl)
       where
         first : (a x : Bool) → (a || (true || x)) ≡ true
         first true x = refl

@@ -32,7 +32,7 @@ use Rattle.ecma_classes.specs.ListLaws.{Rising, kept-in}
 use Rattle.ecma_classes.specs.ClassElements.{nameMissing, constructorTwice, isFirstConstructor, protoTwice}
 use Rattle.ecma_classes.specs.PrivateNames.{privateBound, entries, allowed, privateTwice, isClassBody, isUse, allPrivateIdentifiersValid, invalidIdentifiers}
 use Rattle.ecma_classes.specs.Supers.{isSuperCall, isSuperProperty, isBare, barsCall, barsProperty, bareError, callError, propertyError, superError, standardBare, standardStray, standardProperty, unit}
-use Rattle.ecma_classes.specs.Changed.{builtTwice, OneConstructor, ConstructorsNamed, protoAgain, KeysPlain, ProtosTwiceAtMost, privateEntered, privateAgain, PrivatesEntered, OnceOrTwice, invalidInTable, PrivatesPlain, isOutside, OutsideUsed, UsedOutside, eachBare, OneInClass, tableBare, tableStray, tableProperty, MethodNamed, MethodsNamed, SuperStands, SupersStand, ConstructorOrdinary, ConstructorsOrdinary}
+use Rattle.ecma_classes.specs.Changed.{builtTwice, OneConstructor, ConstructorsNamed, protoAgain, KeysPlain, ProtosTwiceAtMost, privateEntered, privateAgain, PrivatesEntered, OnceOrTwice, invalidInTable, PrivatesPlain, isOutside, OutsideUsed, UsedOutside, eachBare, OneInClass, tableBare, tableStray, tableProperty, MethodNamed, MethodsNamed, CallStands, PropertyStands, SupersStand, ConstructorOrdinary, ConstructorsOrdinary}
 use Rattle.ecma_classes.specs.SupersByScopes.{bareByScopes, strayByScopes, propertyByScopes}
 use Rattle.ecma_classes.specs.ClassElementsLaws.{class-name, second-constructor, constructors-agree}
 use Rattle.ecma_classes.specs.Raised.{times, sameNode, bodyAround, reported, inUnit}
@@ -271,13 +271,13 @@ module _ (t : ℕ) (ns ss source names : List ℕ) (w : WellFormed t ns ss sourc
     code30 = whole t ns ss source names 30 refl (tableProperty ns) at30
 
     -- at a Super that stands so, where the table calls its unit a constructor just if it is: the standard's
-    pub property-at : (n : ℕ) → n < count ns → SuperStands ns n → at 30 n ≡ only (standardProperty ns n) n
+    pub property-at : (n : ℕ) → n < count ns → PropertyStands ns n → at 30 n ≡ only (standardProperty ns n) n
     property-at n h s = at30 n h ∙ ap (λ (b : Bool). only b n) (property-rule-same ns names (w .input .tree) n h s)
 
-    pub stray-at : (told : Telling) (n : ℕ) → n < count ns → SuperStands ns n → MethodNamed told ns names (unit ns n) → at 29 n ≡ only (standardStray told ns names n) n
+    pub stray-at : (told : Telling) (n : ℕ) → n < count ns → CallStands ns n → MethodNamed told ns names (unit ns n) → at 29 n ≡ only (standardStray told ns names n) n
     stray-at told n h s m = at29 n h ∙ ap (λ (b : Bool). only b n) (stray-same ns names (w .input .tree) n h s told m)
 
-    pub bare-at : (told : Telling) (n : ℕ) → n < count ns → SuperStands ns n → MethodNamed told ns names (unit ns n) → ConstructorOrdinary told ns names (unit ns n) → OneInClass ns names (unit ns n)
+    pub bare-at : (told : Telling) (n : ℕ) → n < count ns → CallStands ns n → MethodNamed told ns names (unit ns n) → ConstructorOrdinary told ns names (unit ns n) → OneInClass ns names (unit ns n)
         → at 28 n ≡ only (standardBare ns names n) n
     bare-at told n h s m o once =
         at28 n h ∙ ap (λ (b : Bool). only b n) (bare-same ns names (w .input .tree) n h s told m o ∙ first-same ns names (w .input .tree) (w .listed) (w .shaped) n h once)
@@ -287,7 +287,7 @@ module _ (t : ℕ) (ns ss source names : List ℕ) (w : WellFormed t ns ss sourc
 
     module _ (stand : SupersStand ns) where
       pub code30-standard : raised 30 findings ≡ keep (standardProperty ns) nodes
-      code30-standard = whole t ns ss source names 30 refl (standardProperty ns) (λ n h. property-at n h (stand n h))
+      code30-standard = whole t ns ss source names 30 refl (standardProperty ns) (λ n h. property-at n h (stand n h .1))
 
       -- there is a finding just where some unit breaks the rule
       pub program30 : some (raised 30 findings) ≡ any (propertyError ns) nodes
@@ -300,15 +300,15 @@ module _ (t : ℕ) (ns ss source names : List ℕ) (w : WellFormed t ns ss sourc
       module _ (told : Telling) (named : MethodsNamed told ns names) where
         -- 28 of each constructor, and of the first where no class has two
         pub code28-each : ConstructorsOrdinary told ns names → raised 28 findings ≡ keep (eachBare ns names) nodes
-        code28-each o = code28 ∙ keep-upto (tableBare ns) (eachBare ns names) 0 (count ns) (λ j a b. bare-same ns names (w .input .tree) j b (stand j b) told (named (unit ns j) (below j b)) (o (unit ns j) (below j b)))
+        code28-each o = code28 ∙ keep-upto (tableBare ns) (eachBare ns names) 0 (count ns) (λ j a b. bare-same ns names (w .input .tree) j b (stand j b .0) told (named (unit ns j) (below j b)) (o (unit ns j) (below j b)))
 
         pub code28-standard : ConstructorsOrdinary told ns names → OneConstructor ns names → raised 28 findings ≡ keep (standardBare ns names) nodes
         code28-standard o once =
             whole t ns ss source names 28 refl (standardBare ns names)
-            (λ n h. bare-at told n h (stand n h) (named (unit ns n) (below n h)) (o (unit ns n) (below n h)) (one-here ns names (w .input .tree) (w .listed) (w .shaped) n h once))
+            (λ n h. bare-at told n h (stand n h .0) (named (unit ns n) (below n h)) (o (unit ns n) (below n h)) (one-here ns names (w .input .tree) (w .listed) (w .shaped) n h once))
 
         pub code29-standard : raised 29 findings ≡ keep (standardStray told ns names) nodes
-        code29-standard = whole t ns ss source names 29 refl (standardStray told ns names) (λ n h. stray-at told n h (stand n h) (named (unit ns n) (below n h)))
+        code29-standard = whole t ns ss source names 29 refl (standardStray told ns names) (λ n h. stray-at told n h (stand n h .0) (named (unit ns n) (below n h)))
 
         pub program28 : ConstructorsOrdinary told ns names → OneConstructor ns names → some (raised 28 findings) ≡ any (bareError ns names) nodes
         program28 o once = ap (λ (l : List ℕ). some l) (code28-standard o once) ∙ some-kept (standardBare ns names) nodes ∙ sym any28
@@ -325,6 +325,6 @@ module _ (t : ℕ) (ns ss source names : List ℕ) (w : WellFormed t ns ss sourc
             ∙ any-upto (λ j. standardBare ns names j || (standardStray told ns names j || standardProperty ns j)) (λ j. tableBare ns j || (tableStray ns j || tableProperty ns j)) 0 (count ns)
             (λ j a b.
             ap (λ (x : Bool). x || (standardStray told ns names j || standardProperty ns j)) (sym (first-same ns names (w .input .tree) (w .listed) (w .shaped) j b (one-here ns names (w .input .tree) (w .listed) (w .shaped) j b once)))
-            ∙ super-same ns names (w .input .tree) j b (stand j b) told (named (unit ns j) (below j b)))
+            ∙ super-same ns names (w .input .tree) j b (stand j b .0) told (named (unit ns j) (below j b)) (stand j b .1))
             ∙ any-three (tableBare ns) (tableStray ns) (tableProperty ns) nodes
             ∙ sym (rw (code28, code29, code30, some-kept (tableBare ns) nodes, some-kept (tableStray ns) nodes, some-kept (tableProperty ns) nodes)))

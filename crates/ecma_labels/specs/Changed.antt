@@ -72,6 +72,6 @@ module _ (ns names : List ℕ) where
   abbrev pub LabelsOnce : ℕ → Type 0
   LabelsOnce u = anyDuplicateLabels ns names (partsOf ns u) [] ≡ false
 
-  -- CONDITION on which 14.8.1 is the standard's: a continue has no label
+  -- CONDITION on which 14.8.1 is the standard's: a continue that is in no loop has no label
   abbrev pub ContinuePlain : ℕ → Type 0
-  ContinuePlain j = kindOf ns j ≡ k.Continue → unlabelled (labelAt ns names j) ≡ true
+  ContinuePlain j = kindOf ns j ≡ k.Continue → inLoop ns names j ≡ false → unlabelled (labelAt ns names j) ≡ true

@@ -26,7 +26,7 @@ use Rattle.ecma_trees.specs.WalkLaws.{someAppend, someEach, someOnly}
 use Rattle.ecma_trees.specs.Unit.{homeOf}
 use Rattle.ecma_trees.specs.UnitLaws.{homeBefore, homeEdge}
 use Rattle.ecma_labels.specs.Labels.{isUnit, labelRule, labelErrors, unlabelled, anyDuplicateLabels, anyUndefinedBreakTarget, anyUndefinedContinueTarget, anyContinueNotNested, anyBreakNotNested}
-use Rattle.ecma_labels.specs.Breaches.{labelAt, duplicateLabelAt, undefinedBreakAt, undefinedContinueAt, continueNotNestedAt, breakNotNestedAt}
+use Rattle.ecma_labels.specs.Breaches.{labelAt, inLoop, duplicateLabelAt, undefinedBreakAt, undefinedContinueAt, continueNotNestedAt, breakNotNestedAt}
 use Rattle.ecma_labels.specs.Changed.{anyUndefinedNearest, undefinedNearestAt, plainContinueNotNestedAt, noLabelAt, noLoopAt, inProgram, LabelsOnce, ContinuePlain}
 use Rattle.ecma_labels.specs.Findings.{ofUnit, withCodes, labelFindings, breakFindings, continueFindings, inUnitOf}
 use Rattle.ecma_labels.specs.BreachLaws.{undefinedContinueSome, undefinedNearestSome, duplicateUnit, undefinedBreakUnit, undefinedContinueUnit, undefinedNearestUnit, continueNestedUnit, breakNestedUnit}
@@ -157,7 +157,15 @@ module _ (sourceType : ℕ) (ns ss source names : List ℕ) (w : WellFormed sour
   continuesPlain j h q = continuesNotNested j h ∙ ap (λ b. only b j) (go (eqb (kindOf ns j) k.Continue) refl)
     where
       go : (b : Bool) → eqb (kindOf ns j) k.Continue ≡ b → plainContinueNotNestedAt ns names j ≡ continueNotNestedAt ns names j
-      go true e = sym (agreePlain j (q (eqb-true (kindOf ns j) k.Continue e)))
+      go true e = nested (inLoop ns names j) refl
+        where
+          off : (b : Bool) → (b && false) ≡ false
+          off true = refl
+          off false = refl
+
+          nested : (b : Bool) → inLoop ns names j ≡ b → plainContinueNotNestedAt ns names j ≡ continueNotNestedAt ns names j
+          nested true x = rw (e, x) (off (unlabelled (labelAt ns names j)))
+          nested false x = sym (agreePlain j (q (eqb-true (kindOf ns j) k.Continue e) x))
       go false e = rw e
 
   -- .. and 8.3.2 with 8.3.3: one finding, 19, 20 or 22, where one of them is broken

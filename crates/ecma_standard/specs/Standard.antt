@@ -46,7 +46,7 @@ use Rattle.ecma_strict.specs.Standard as rules
 use Rattle.ecma_classes.specs.ClassElements.{nameMissing, constructorTwice, protoTwice}
 use Rattle.ecma_classes.specs.PrivateNames.{privateBound, entries, allowed, privateTwice, invalidIdentifiers, isClassBody}
 use Rattle.ecma_classes.specs.Supers.{standardBare, standardStray, standardProperty, superError, unit}
-use Rattle.ecma_classes.specs.Changed.{KeysPlain, PrivatesEntered, OnceOrTwice, PrivatesPlain, ConstructorsNamed, OneConstructor, SupersStand, MethodsNamed, ProtosTwiceAtMost, OutsideUsed, OneInClass, SuperStands, MethodNamed, ConstructorOrdinary}
+use Rattle.ecma_classes.specs.Changed.{KeysPlain, PrivatesEntered, OnceOrTwice, PrivatesPlain, ConstructorsNamed, OneConstructor, SupersStand, MethodsNamed, ProtosTwiceAtMost, OutsideUsed, OneInClass, CallStands, PropertyStands, MethodNamed, ConstructorOrdinary}
 use Rattle.ecma_classes.specs.Raised.{times, bodyAround, reported}
 use Rattle.ecma_classes.specs.Theorems as classes
 
@@ -83,14 +83,16 @@ module _ (told : Telling) (t : ℕ) (ns ss source names : List ℕ) where
   -- 12.9, 13.1.1, 13.5.1.1, 14.3.1.1, 14.6 to 14.13, 15.1 to 15.9, B.3: NAMES, LITERALS, EXPRESSIONS, STATEMENTS
   pub record Strict : Type 0 where
     pub identifiers : (n : ℕ) → n < count ns → identifier ns n ≡ true → NameTold told t ns ss names n → at 2 n ++ at 3 n ≡ only (identifierError told t ns ss names n) n
+    -- where the scopes follow the tree, no finding at a name is wrong, whatever is told
+    pub namesSound : scopesFollow ns ss ≡ true → (n : ℕ) → n < count ns → identifier ns n ≡ true → some (at 2 n ++ at 3 n) ≡ true → identifierError told t ns ss names n ≡ true
     pub noIdentifiers : (n : ℕ) → n < count ns → identifier ns n ≡ false → at 2 n ≡ []
     pub awaitExpressions : (n : ℕ) → n < count ns → identifier ns n ≡ false → (awaitExpression ns n ≡ true → BlockTold ns ss n) → at 3 n ≡ only (awaitExpression ns n && awaitInBlock ns n) n
     pub evalAssigned : Rule 4 (λ n. bindsEval ns ss names n || assignsEval ns ss names n)
     pub letDeclared : RuleOn (LetTold ns ss names) 5 (letBound ns names)
     pub argumentsUsed : RuleOn (ArgumentsTold ns ss names) 6 (argumentsInClass ns names)
-    pub octal : RuleOn (λ n. (numericLiteral ns n ≡ true → BaseTold ns source n) × (stringLiteral ns n ≡ true → EscapesTold ns source n)) 9 (λ n. strictOctal ns ss source n || strictOctalEscape ns ss source n)
+    pub octal : RuleOn (λ n. (numericLiteral ns n ≡ true → BaseTold ns source n) × (stringLiteral ns n ≡ true → strictCode ns ss n ≡ true → EscapesTold ns source n)) 9 (λ n. strictOctal ns ss source n || strictOctalEscape ns ss source n)
     pub leadingZero : RuleOn (λ n. numericLiteral ns n ≡ true → BaseTold ns source n) 10 (strictNonOctal ns ss source)
-    pub nonOctalEscape : RuleOn (λ n. stringLiteral ns n ≡ true → EscapesTold ns source n) 11 (strictNonOctalEscape ns ss source)
+    pub nonOctalEscape : RuleOn (λ n. stringLiteral ns n ≡ true → strictCode ns ss n ≡ true → EscapesTold ns source n) 11 (strictNonOctalEscape ns ss source)
     -- the second spans of 9 to 11, without a condition: at a string the first escape that 12.9.4.1 forbids, which gave the code; at a number none
     pub stringSpans : (n : ℕ) → n < count ns → kindOf ns n ≡ k.StringLiteral → StringTold ns ss source n (findingsAt t ns ss source names n)
     pub numberSpans : (n : ℕ) → n < count ns → kindOf ns n ≡ k.NumericLiteral → NumberTold ns n (findingsAt t ns ss source names n)
@@ -129,9 +131,9 @@ module _ (told : Telling) (t : ℕ) (ns ss source names : List ℕ) where
     pub className : Rule 26 (nameMissing ns)
     pub constructors : RuleOn (ConstructorsNamed ns names) 27 (constructorTwice ns names)
     pub superBare : scopesFollow ns ss ≡ true
-        → RuleOn (λ n. SuperStands ns n × MethodNamed told ns names (unit ns n) × ConstructorOrdinary told ns names (unit ns n) × OneInClass ns names (unit ns n)) 28 (standardBare ns names)
-    pub superCall : scopesFollow ns ss ≡ true → RuleOn (λ n. SuperStands ns n × MethodNamed told ns names (unit ns n)) 29 (standardStray told ns names)
-    pub superProperty : scopesFollow ns ss ≡ true → RuleOn (SuperStands ns) 30 (standardProperty ns)
+        → RuleOn (λ n. CallStands ns n × MethodNamed told ns names (unit ns n) × ConstructorOrdinary told ns names (unit ns n) × OneInClass ns names (unit ns n)) 28 (standardBare ns names)
+    pub superCall : scopesFollow ns ss ≡ true → RuleOn (λ n. CallStands ns n × MethodNamed told ns names (unit ns n)) 29 (standardStray told ns names)
+    pub superProperty : scopesFollow ns ss ≡ true → RuleOn (PropertyStands ns) 30 (standardProperty ns)
     -- a unit has an error on `super` just where there is a finding 28 to 30
     pub super : scopesFollow ns ss ≡ true → SupersStand ns → MethodsNamed told ns names → OneConstructor ns names
         → any (superError told ns names) nodes ≡ (some (raised 28 findings) || (some (raised 29 findings) || some (raised 30 findings)))
@@ -164,6 +166,7 @@ standard262 told t ns ss source names e =
       };
       strict = record {
         identifiers = λ n h i q. rules.standardNames t ns ss source names w n h told i q;
+        namesSound = λ s n h i q. rules.soundNames t ns ss source names w n h told i s q;
         noIdentifiers = λ n h i. strict.code2 t ns ss source names w n h ∙ ap (λ b. only b n) (noName t ns ss names n i);
         awaitExpressions = λ n h i q. rules.standard3 t ns ss source names w n h i q;
         evalAssigned = λ n h. strict.code4 t ns ss source names w n h;

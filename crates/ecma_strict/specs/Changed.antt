@@ -8,24 +8,26 @@ use lib.Dec.{eqb}
 use lib.ListN.{length}
 use Rattle.base_common.specs.Upto.{all, any}
 use Rattle.base_common.specs.Tests.{within}
-use Rattle.table_records.specs.Table.{kindOf, parentOf, extraOf, scopeOf, scopeFlagsOf, scopeNodeOf, outer, hasFlag, ancestors}
+use Rattle.table_records.specs.Table.{kindOf, parentOf, flagsOf, extraOf, scopeOf, scopeFlagsOf, scopeNodeOf, outer, hasFlag, ancestors}
 use Rattle.table_records.specs.Kinds as k
 use Rattle.table_records.specs.Extras as extra
+use Rattle.table_records.specs.NodeFlag as flag
 use Rattle.table_records.specs.ScopeFlag as scope
 use Rattle.table_records.specs.declared.Found.{Found}
 use Rattle.table_records.specs.declared.Found.the-variants.{At, Nothing}
 use Rattle.table_children.specs.Children.{valueOf, heldOf, alternateOf, isNode}
-use Rattle.ecma_trees.specs.Trail.{unitOf}
+use Rattle.ecma_trees.specs.Trail.{handedDown, unitOf}
 use Rattle.table_names.specs.Name.{nameIs}
 use Rattle.table_names.specs.Words as word
 use Rattle.ecma_base.specs.Telling.{Telling, asyncOrGenerator}
 use Rattle.ecma_base.specs.Strict.{strictCode}
+use Rattle.ecma_base.specs.Contains.{initializer}
 use Rattle.ecma_base.specs.Scopes.{mayMakeScope, blockScope, topScope, scopesFollow}
 use Rattle.ecma_strict.specs.Literals.{textOf, decimalDigit, next, legacyOctalInteger, nonOctalDecimalInteger, numericLiteral, legacyOctalEscape, nonOctalDecimalEscape, escapes, stringLiteral}
 use Rattle.ecma_strict.specs.Delete.{privateReference, derives, deleteExpression}
 use Rattle.ecma_strict.specs.Statements.{declaratorsOf, plainName, single, badHead, headOf, ofHead, usingDeclaration, heldUsing}
 use Rattle.ecma_strict.specs.ReservedWords.{reservedWords}
-use Rattle.ecma_strict.specs.Parameters.{goalModule, yieldParameter, awaitParameter}
+use Rattle.ecma_strict.specs.Parameters.{goalModule}
 use Rattle.ecma_strict.specs.Identifiers.{identifier, strictReserved, assignsEval, useStrictDirective, simpleParameters}
 use Rattle.ecma_strict.specs.Contains.{awaitEdge, argumentsEdge, parameterEdge, boundEdge, argumentsReference, parameter, awaitOrYield, lexicalDeclaration, letName, letBound, argumentsInClass}
 use Rattle.ecma_strict.specs.Functions.{endsInStatement, annexHolder, functionMisplaced, functionMisplacedElse, labelsFunction, labelEdge, labelledFunctionAt}
@@ -105,9 +107,10 @@ topUsing sourceType ns ss n = usingDeclaration ns n && (eqb sourceType 0 && topS
 unfoldable pub otherScope : List ℕ → ℕ → Bool
 otherScope ns n = any (λ a. within (kindOf ns a) k.Function k.Arrow || mayMakeScope (kindOf ns a)) (ancestors ns n)
 
--- where they agree: the scope is the top one just where none of these contains the declaration, and it is in no clause of a switch
+-- where they agree: the scopes follow the tree, and the declaration is neither in no holder but in such another scope, nor in a clause of a switch
 pub record UsingTold (ns ss : List ℕ) (n : ℕ) : Type 0 where
-  pub top : topScope ns ss n ≡ not (heldUsing ns n)
+  pub follow : scopesFollow ns ss ≡ true
+  pub other : (otherScope ns n && not (heldUsing ns n)) ≡ false
   pub clause : eqb (kindOf ns (parentOf ns n)) k.SwitchCase ≡ false
 
 -- 2, and 3 at a name: reserved words
@@ -121,13 +124,38 @@ reservedName sourceType ns ss names n =
 unfoldable pub awaitNameScoped : ℕ → List ℕ → List ℕ → List ℕ → ℕ → Bool
 awaitNameScoped sourceType ns ss names n = identifier ns n && (nameIs ns names n word.awaitWord && (not (goalModule sourceType) && blockScope ns ss n))
 
--- where they agree, and nowhere else: the name is no word that is reserved everywhere (of which no parser gives a tree); a sloppy `yield` stands in no generator; an `await` of a script
--- has [Await] just where its own scope is a static block's, so it stands in nothing async, in no further scope within a static block, in no parameters of an arrow there, and is not
--- the name of a declaration there
+-- Where names stand, by the tree: the node i begins with its part j what it makes an own [Yield] and [Await] for: a function with all but the name of a declaration, an arrow with its body, a static block
+-- with its statements, a field with its Initializer.
+abbrev pub ownEdge : List ℕ → ℕ → ℕ → Bool
+ownEdge ns i j =
+    (eqb (kindOf ns i) k.Function && not (hasFlag (flagsOf ns i) flag.Declaration && eqb (kindOf ns j) k.BindingIdentifier))
+    || ((eqb (kindOf ns i) k.Arrow && eqb (kindOf ns j) k.FunctionBody) || (eqb (kindOf ns i) k.StaticBlock || initializer ns i j))
+
+-- the nearest such node above n (the program if there is none) and, before it, the arrows in whose parameters n stands there
+unfoldable pub givers : List ℕ → ℕ → List ℕ
+givers ns n = handedDown ns (λ i j r. cond (ownEdge ns i j) (i ∷ []) (cond (eqb (kindOf ns i) k.Arrow) (i ∷ r) r)) (0 ∷ []) n
+
+abbrev pub inGenerator : Telling → List ℕ → ℕ → Bool
+inGenerator told ns n = any (λ u. eqb (kindOf ns u) k.Function && told .generator u) (givers ns n)
+
+abbrev pub inAsync : Telling → List ℕ → ℕ → Bool
+inAsync told ns n = any (λ u. within (kindOf ns u) k.Function k.Arrow && told .async u) (givers ns n)
+
+abbrev pub inBlock : List ℕ → ℕ → Bool
+inBlock ns n = any (λ u. eqb (kindOf ns u) k.StaticBlock) (givers ns n)
+
+-- an `await` of a script: the scopes follow the tree, it stands in nothing async, and one that stands in a static block has the block's own scope: it is in no further scope
+-- within the block, in no parameters of an arrow there, and not the name of a declaration there
+pub record AwaitTold (told : Telling) (ns ss : List ℕ) (n : ℕ) : Type 0 where
+  pub follow : scopesFollow ns ss ≡ true
+  pub ordinary : inAsync told ns n ≡ false
+  pub block : inBlock ns n ≡ true → blockScope ns ss n ≡ true
+
+-- where they agree and, if the scopes follow the tree, nowhere else: the name is no word that is reserved everywhere (of which no parser gives a tree); a sloppy `yield` stands in no generator
 pub record NameTold (told : Telling) (sourceType : ℕ) (ns ss names : List ℕ) (n : ℕ) : Type 0 where
   pub reserved : any (λ w. nameIs ns names n w) reservedWords ≡ false
-  pub yield : nameIs ns names n word.yieldWord ≡ true → strictCode ns ss n ≡ false → yieldParameter told sourceType ns n ≡ false
-  pub await : nameIs ns names n word.awaitWord ≡ true → goalModule sourceType ≡ false → awaitParameter told sourceType ns n ≡ blockScope ns ss n
+  pub yield : nameIs ns names n word.yieldWord ≡ true → strictCode ns ss n ≡ false → inGenerator told ns n ≡ false
+  pub await : nameIs ns names n word.awaitWord ≡ true → goalModule sourceType ≡ false → AwaitTold told ns ss n
 
 -- 12: "use strict"
 
@@ -142,10 +170,10 @@ useStrictScoped ns ss names n =
 abbrev pub directivePlaced : List ℕ → ℕ → Bool
 directivePlaced ns n = eqb (kindOf ns (parentOf ns n)) k.Program || eqb (kindOf ns (parentOf ns n)) k.FunctionBody
 
--- where they agree: a directive in the body of a function has that function's scope, and no other directive has one of a function
+-- where they agree: the scopes follow the tree, and the directive stands in such a prologue
 pub record DirectiveTold (ns ss : List ℕ) (n : ℕ) : Type 0 where
-  pub function : hasFlag (scopeFlagsOf ss (scopeOf ns n)) scope.FunctionScope ≡ eqb (kindOf ns (parentOf ns n)) k.FunctionBody
-  pub whose : kindOf ns (parentOf ns n) ≡ k.FunctionBody → scopeNodeOf ss (scopeOf ns n) ≡ parentOf ns (parentOf ns n)
+  pub follow : scopesFollow ns ss ≡ true
+  pub placed : directivePlaced ns n ≡ true
 
 -- 3, 5, 6, 14, 25, 33: what goes down
 

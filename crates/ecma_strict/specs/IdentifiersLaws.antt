@@ -25,7 +25,7 @@ use Rattle.ecma_base.specs.Strict.{strictCode}
 use Rattle.ecma_strict.specs.StatementsLaws.{ifOnly}
 use Rattle.ecma_strict.specs.Parameters.{goalModule}
 use Rattle.ecma_strict.specs.Identifiers.{identifier, strictReserved, useStrictDirective, simpleParameters, useStrictThere}
-use Rattle.ecma_strict.specs.Changed.{reservedName, awaitNameScoped, useStrictScoped, DirectiveTold}
+use Rattle.ecma_strict.specs.Changed.{reservedName, awaitNameScoped, useStrictScoped}
 
 -- `await` is none of the words that are reserved in strict code
 apart : any (λ w. same word.awaitWord w) strictReserved ≡ false
@@ -93,7 +93,12 @@ useStrictIs ns ss names n q =
     (ifOnly 12 (spanStartOf ns n) (spanEndOf ns n) n context.none
     (nameIs ns names n word.useStrict && (hasFlag (scopeFlagsOf ss (scopeOf ns n)) scope.FunctionScope && isNotSimple ns (scopeNodeOf ss (scopeOf ns n)))))
 
-pub useStrictAgrees : (ns ss names : List ℕ) (n : ℕ) → DirectiveTold ns ss n → useStrictScoped ns ss names n ≡ useStrictThere ns names n
+-- a directive in the body of a function has that function's scope, and no other directive has one of a function
+pub record DirectiveScope (ns ss : List ℕ) (n : ℕ) : Type 0 where
+  pub function : hasFlag (scopeFlagsOf ss (scopeOf ns n)) scope.FunctionScope ≡ eqb (kindOf ns (parentOf ns n)) k.FunctionBody
+  pub whose : kindOf ns (parentOf ns n) ≡ k.FunctionBody → scopeNodeOf ss (scopeOf ns n) ≡ parentOf ns (parentOf ns n)
+
+pub useStrictAgrees : (ns ss names : List ℕ) (n : ℕ) → DirectiveScope ns ss n → useStrictScoped ns ss names n ≡ useStrictThere ns names n
 unfolding useStrictScoped useStrictThere
 useStrictAgrees ns ss names n w = ap (λ b. useStrictDirective ns names n && b) (rw (w .function) (go (eqb (kindOf ns (parentOf ns n)) k.FunctionBody) refl))
   where

@@ -1,4 +1,5 @@
--- 13.1.1 and the codes 2 and 3 at a name: they agree just where NameTold says.
+-- 13.1.1 and the codes 2 and 3 at a name: they agree just where the name is no word that is reserved everywhere, a sloppy `yield` has no [Yield], and an `await` of a script has [Await] just in
+-- a static block's own scope.
 use Prim.Native.Nat.{ℕ}
 use mathlib.Core.Path.{_≡_, refl, ap, sym, _∙_}
 use mathlib.Core.List.{List, [], _∷_, _++_}
@@ -16,7 +17,7 @@ use Rattle.ecma_strict.specs.ReservedWords.{reservedWords}
 use Rattle.ecma_strict.specs.Parameters.{goalModule, yieldParameter, awaitParameter}
 use Rattle.ecma_strict.specs.Identifiers.{identifier, strictReserved, identifierError}
 use Rattle.ecma_strict.specs.IdentifiersLaws.{amongAs, awaitApart}
-use Rattle.ecma_strict.specs.Changed.{reservedName, awaitNameScoped, NameTold}
+use Rattle.ecma_strict.specs.Changed.{reservedName, awaitNameScoped}
 
 -- THE WORDS: `yield` is one of those of strict code; a word that is reserved everywhere is neither one of them nor `await`
 yieldStrict : any (λ w. same word.yieldWord w) strictReserved ≡ true
@@ -144,7 +145,12 @@ module _ (told : Telling) (t : ℕ) (ns ss names : List ℕ) (n : ℕ) where
       let q = apartFrom reservedWords (word.awaitWord ∷ strictReserved) reservedApart (nameOf ns names n) e in
       (or-first (nameIs ns names n word.awaitWord) strictWord q, or-second (nameIs ns names n word.awaitWord) strictWord q)
 
-  pub namesAgree : identifier ns n ≡ true → NameTold told t ns ss names n
+  pub record Alike : Type 0 where
+    pub reserved : any (λ w. nameIs ns names n w) reservedWords ≡ false
+    pub yield : nameIs ns names n word.yieldWord ≡ true → strictCode ns ss n ≡ false → yieldParameter told t ns n ≡ false
+    pub await : nameIs ns names n word.awaitWord ≡ true → goalModule t ≡ false → awaitParameter told t ns n ≡ blockScope ns ss n
+
+  pub namesAgree : identifier ns n ≡ true → Alike
       → only (reservedName t ns ss names n) n ++ only (awaitNameScoped t ns ss names n) n ≡ only (identifierError told t ns ss names n) n
   unfolding reservedName awaitNameScoped identifierError
   namesAgree e w =
@@ -161,7 +167,7 @@ module _ (told : Telling) (t : ℕ) (ns ss names : List ℕ) (n : ℕ) where
   -- and nowhere else
   pub namesAgreeOnly : identifier ns n ≡ true
       → only (reservedName t ns ss names n) n ++ only (awaitNameScoped t ns ss names n) n ≡ only (identifierError told t ns ss names n) n
-      → NameTold told t ns ss names n
+      → Alike
   unfolding reservedName awaitNameScoped identifierError
   namesAgreeOnly e q =
       let z = sym (foundIs s strictWord m a b n) ∙ ap some (rw e at q) ∙ someOnly (rule s strictWord m a y p c reservedWord) n in

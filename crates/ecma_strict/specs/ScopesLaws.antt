@@ -15,12 +15,13 @@ use Rattle.table_records.specs.Facts.{Tree}
 use Rattle.table_records.specs.Kinds as k
 use Rattle.table_ancestry.specs.AncestryLaws.{parent-in, ancestors-up, ancestors-root}
 use Rattle.refusal_standing.specs.Standing.{Placed}
-use Rattle.ecma_base.specs.Scopes.{makesScope, mayMakeScope, scopesFollow}
+use Rattle.ecma_base.specs.Scopes.{makesScope, mayMakeScope, topScope, scopesFollow}
 use Rattle.ecma_base.specs.ScopesLaws.{notProgram, noFunction, root, blockFlag, functionFlag, topFlag, made, sameOrMade, sameOnly, madeKind, rootKind}
 use Rattle.ecma_strict.specs.Statements.{holdsUsing, heldUsing}
 use Rattle.ecma_strict.specs.AgreeLaws.{ScopesTold}
 use Rattle.ecma_base.specs.ContainsLaws.{rootOnly, upward}
-use Rattle.ecma_strict.specs.Changed.{otherScope, UsingTold, directivePlaced, DirectiveTold}
+use Rattle.ecma_strict.specs.IdentifiersLaws.{DirectiveScope}
+use Rattle.ecma_strict.specs.Changed.{otherScope, directivePlaced}
 
 -- the holders of a using declaration, but for FunctionBody, make a scope; what is no holder, no function and no arrow makes none
 holdersMake : (a : ℕ) → holdsUsing a ≡ true → eqb a 4 ≡ false → makesScope a ≡ true
@@ -88,18 +89,18 @@ module _ (ns ss : List ℕ) (t : Tree ns) (w : scopesFollow ns ss ≡ true) wher
 
   module _ (v : Placed ns) where
     -- a directive under the program or in the body of a function
-    pub directiveTold : (n : ℕ) → 0 < n → n < count ns → directivePlaced ns n ≡ true → DirectiveTold ns ss n
-    directiveTold n z h e =
+    pub directiveScope : (n : ℕ) → 0 < n → n < count ns → directivePlaced ns n ≡ true → DirectiveScope ns ss n
+    directiveScope n z h e =
         ⊎-elim (λ q. program (eqb-true (kindOf ns (parentOf ns n)) 0 q)) (λ q. body (eqb-true (kindOf ns (parentOf ns n)) 4 q))
         (either (eqb (kindOf ns (parentOf ns n)) 0) (eqb (kindOf ns (parentOf ns n)) 4) e)
       where
-        program : kindOf ns (parentOf ns n) ≡ 0 → DirectiveTold ns ss n
+        program : kindOf ns (parentOf ns n) ≡ 0 → DirectiveScope ns ss n
         program q =
             let o : parentOf ns n ≡ 0 = rootOnly ns t (parentOf ns n) (parent-in ns t n h) q in
             let s : scopeOf ns n ≡ 0 = sameOnly ns ss t w n z h (rw q) (rw q) ∙ ap (λ (x : ℕ). scopeOf ns x) o ∙ (root ns ss t w) in
             record { function = functionFlag ns ss t w n h ∙ rw (rootKind ns ss t w n s, q); whose = λ y. absurd (omega arith) }
 
-        body : kindOf ns (parentOf ns n) ≡ 4 → DirectiveTold ns ss n
+        body : kindOf ns (parentOf ns n) ≡ 4 → DirectiveScope ns ss n
         body q =
             let l = parent-in ns t n h in
             let y : 0 < parentOf ns n = notProgram ns t (parentOf ns n) (λ (c : kindOf ns (parentOf ns n) ≡ 0). omega arith) in
@@ -166,9 +167,9 @@ module _ (ns ss : List ℕ) (t : Tree ns) (w : scopesFollow ns ss ≡ true) wher
             ∙ r (or-second (holdsUsing (kindOf ns (parentOf ns i))) (heldUsing ns (parentOf ns i)) x)
             (or-second (within (kindOf ns (parentOf ns i)) k.Function k.Arrow || mayMakeScope (kindOf ns (parentOf ns i))) (otherScope ns (parentOf ns i)) y)
 
-    -- a declaration in no other scope and in no clause of a switch
-    pub usingTold : (n : ℕ) → n < count ns → (otherScope ns n && not (heldUsing ns n)) ≡ false → eqb (kindOf ns (parentOf ns n)) k.SwitchCase ≡ false → UsingTold ns ss n
-    usingTold n h o c = record { top = topFlag ns ss t w n h ∙ go (heldUsing ns n) refl (otherScope ns n) refl; clause = c }
+    -- a declaration in no other scope
+    pub usingScope : (n : ℕ) → n < count ns → (otherScope ns n && not (heldUsing ns n)) ≡ false → topScope ns ss n ≡ not (heldUsing ns n)
+    usingScope n h o = topFlag ns ss t w n h ∙ go (heldUsing ns n) refl (otherScope ns n) refl
       where
         go : (x : Bool) → heldUsing ns n ≡ x → (y : Bool) → otherScope ns n ≡ y → eqb (scopeOf ns n) 0 ≡ not x
         go true e y d = ne-eqb (scopeOf ns n) 0 (λ z. let l = held n h e in omega arith)

@@ -4,6 +4,7 @@ use Prim.Native.Nat.{ℕ, _<_}
 use mathlib.Core.Path.{_≡_, refl, ap, _∙_, sym}
 use mathlib.Core.List.{List, [], _++_, append-nil}
 use mathlib.Core.Bool.{Bool, true, false, not, _&&_, _||_}
+use native.Mathlib.Omega.{arith}
 use borrow.Author.Tests.{eqb-true, not-true}
 use lib.Dec.{eqb}
 use Rattle.base_common.specs.Tests.{within}
@@ -28,10 +29,11 @@ use Rattle.ecma_strict.specs.StatementsLaws.{headAgrees, usingAgrees}
 use Rattle.ecma_strict.specs.Identifiers.{identifier, identifierError, assignsEval, useStrictThere}
 use Rattle.ecma_strict.specs.IdentifiersLaws.{useStrictAgrees}
 use Rattle.ecma_strict.specs.NamesLaws.{namesAgree, namesAgreeOnly, namesSound}
-use Rattle.ecma_strict.specs.ParametersLaws.{blockParameters}
+use Rattle.ecma_strict.specs.ParametersLaws.{yieldFrom, awaitTold, awaitOnly, blockAwait}
 use Rattle.ecma_strict.specs.Contains.{letName, argumentsReference, awaitOrYield, awaitExpression, forAwait, awaitUsing, awaitInBlock, argumentsInClass, awaitInParameter, letBound, lexicalDeclaration, boundEdge, awaitEdge, argumentsEdge, parameter, parameterEdge}
 use Rattle.ecma_base.specs.Scopes.{scopesFollow}
-use Rattle.ecma_strict.specs.ScopesLaws.{scopesTold, directiveTold, usingTold}
+use Rattle.ecma_base.specs.ScopesLaws.{notProgram}
+use Rattle.ecma_strict.specs.ScopesLaws.{scopesTold, directiveScope, usingScope}
 use Rattle.ecma_strict.specs.AgreeLaws.{letAgrees, argumentsAgree, parameterAgrees, blockAgrees}
 use Rattle.ecma_strict.specs.Functions.{functionMisplaced, functionMisplacedElse, labelsFunction, labelledFunctionAt}
 use Rattle.ecma_strict.specs.FunctionsLaws.{labelledAgrees, labelledStrict, misplacedAgrees, misplacedElseAgrees}
@@ -57,16 +59,20 @@ module _ (t : ℕ) (ns ss source names : List ℕ) (w : WellFormed t ns ss sourc
         orFalse false = refl
 
     pub standardNames : NameTold told t ns ss names n → at 2 ++ at 3 ≡ only (identifierError told t ns ss names n) n
-    standardNames q = codes ∙ namesAgree told t ns ss names n i q
+    standardNames q =
+        codes ∙ namesAgree told t ns ss names n i
+        (record { reserved = q .reserved; yield = λ e s. yieldFrom told t ns (w .input .tree) n h ∙ q .yield e s; await = λ e g. awaitTold told t ns (w .input .tree) ss (w .shaped .placed) g n h (q .await e g) })
 
-    -- and the condition is the weakest one (`nameTold` gives it by the node that gives the name its parameters)
-    pub onlyNames : at 2 ++ at 3 ≡ only (identifierError told t ns ss names n) n → NameTold told t ns ss names n
-    onlyNames q = namesAgreeOnly told t ns ss names n i (sym codes ∙ q)
+    -- where the scopes follow the tree, the condition is the weakest one, ..
+    pub onlyNames : scopesFollow ns ss ≡ true → at 2 ++ at 3 ≡ only (identifierError told t ns ss names n) n → NameTold told t ns ss names n
+    onlyNames s q =
+        let a = namesAgreeOnly told t ns ss names n i (sym codes ∙ q) in
+        record { reserved = a .reserved; yield = λ e x. sym (yieldFrom told t ns (w .input .tree) n h) ∙ a .yield e x; await = λ e g. awaitOnly told t ns (w .input .tree) ss (w .shaped .placed) s n h (a .await e g) }
 
-    -- where the scopes follow the tree, each finding is right, whatever is told
+    -- .. and each finding is right, whatever is told
     pub soundNames : scopesFollow ns ss ≡ true → some (at 2 ++ at 3) ≡ true → identifierError told t ns ss names n ≡ true
     soundNames s q =
-        namesSound told t ns ss names n i (λ e. ap (λ x. x .await) (blockParameters told t ns (w .input .tree) ss s (w .shaped .placed) n h e)) (ap some (sym codes) ∙ q)
+        namesSound told t ns ss names n i (blockAwait told t ns (w .input .tree) ss (w .shaped .placed) s n h) (ap some (sym codes) ∙ q)
 
   block : BlockTold ns ss n → scopedInBlock ns ss n ≡ awaitInBlock ns n
   unfolding awaitInBlock
@@ -127,7 +133,7 @@ module _ (t : ℕ) (ns ss source names : List ℕ) (w : WellFormed t ns ss sourc
       go false x false y = x ∙ sym y
 
   -- where the table's base is that of the text, the value's length tells of escapes, and no string has both kinds of escape
-  pub standard9 : (numericLiteral ns n ≡ true → BaseTold ns source n) → (stringLiteral ns n ≡ true → EscapesTold ns source n)
+  pub standard9 : (numericLiteral ns n ≡ true → BaseTold ns source n) → (stringLiteral ns n ≡ true → strictCode ns ss n ≡ true → EscapesTold ns source n)
       → Rule 9 (strictOctal ns ss source n || strictOctalEscape ns ss source n)
   unfolding toldOctal strictOctal firstOctalEscape strictOctalEscape
   standard9 b e =
@@ -139,7 +145,11 @@ module _ (t : ℕ) (ns ss source names : List ℕ) (w : WellFormed t ns ss sourc
       number false q = rw q
 
       string : (x : Bool) → stringLiteral ns n ≡ x → firstOctalEscape ns ss source n ≡ strictOctalEscape ns ss source n
-      string true q = octalEscapeAgrees ns ss source n (e q)
+      string true q = strictly (strictCode ns ss n) refl
+        where
+          strictly : (s : Bool) → strictCode ns ss n ≡ s → firstOctalEscape ns ss source n ≡ strictOctalEscape ns ss source n
+          strictly true s = octalEscapeAgrees ns ss source n (e q s)
+          strictly false s = rw (q, s)
       string false q = rw q
 
   pub standard10 : (numericLiteral ns n ≡ true → BaseTold ns source n) → Rule 10 (strictNonOctal ns ss source n)
@@ -150,30 +160,38 @@ module _ (t : ℕ) (ns ss source names : List ℕ) (w : WellFormed t ns ss sourc
       go true q = nonOctalAgrees ns ss source n (b q)
       go false q = rw q
 
-  pub standard11 : (stringLiteral ns n ≡ true → EscapesTold ns source n) → Rule 11 (strictNonOctalEscape ns ss source n)
+  pub standard11 : (stringLiteral ns n ≡ true → strictCode ns ss n ≡ true → EscapesTold ns source n) → Rule 11 (strictNonOctalEscape ns ss source n)
   unfolding firstNonOctalEscape strictNonOctalEscape
   standard11 e = code11 t ns ss source names w n h ∙ ap (λ x. only x n) (go (stringLiteral ns n) refl)
     where
       go : (x : Bool) → stringLiteral ns n ≡ x → firstNonOctalEscape ns ss source n ≡ strictNonOctalEscape ns ss source n
-      go true q = nonOctalEscapeAgrees ns ss source n (e q)
+      go true q = strictly (strictCode ns ss n) refl
+        where
+          strictly : (s : Bool) → strictCode ns ss n ≡ s → firstNonOctalEscape ns ss source n ≡ strictNonOctalEscape ns ss source n
+          strictly true s = nonOctalEscapeAgrees ns ss source n (e q s)
+          strictly false s = rw (q, s)
       go false q = rw q
 
-  -- (`directiveTold` gives the condition where the scopes follow the tree, and a directive stands in the prologue of a program or a function)
   pub standard12 : (kindOf ns n ≡ k.Directive → DirectiveTold ns ss n) → Rule 12 (useStrictThere ns names n)
   unfolding useStrictScoped useStrictThere
   standard12 q = code12 t ns ss source names w n h ∙ ap (λ x. only x n) (go (eqb (kindOf ns n) k.Directive) refl)
     where
       go : (b : Bool) → eqb (kindOf ns n) k.Directive ≡ b → useStrictScoped ns ss names n ≡ useStrictThere ns names n
-      go true e = useStrictAgrees ns ss names n (q (eqb-true (kindOf ns n) 23 e))
+      go true e =
+          let d = eqb-true (kindOf ns n) 23 e in
+          let c = q d in
+          useStrictAgrees ns ss names n
+          (directiveScope ns ss (w .input .tree) (c .follow) (w .shaped .placed) n (notProgram ns (w .input .tree) n (λ (z : kindOf ns n ≡ 0). omega arith)) h (c .placed))
       go false e = rw e
 
-  -- (`usingTold` gives the condition where the scopes follow the tree, no clause of a switch holds the declaration, and nothing around it makes a scope but a Block and the like)
   pub standard13 : (usingDeclaration ns n ≡ true → UsingTold ns ss n) → Rule 13 (badUsing t ns n)
   unfolding topUsing badUsing
   standard13 q = code13 t ns ss source names w n h ∙ ap (λ x. only x n) (go (usingDeclaration ns n) refl)
     where
       go : (b : Bool) → usingDeclaration ns n ≡ b → topUsing t ns ss n ≡ badUsing t ns n
-      go true e = usingAgrees t ns ss n (q e)
+      go true e =
+          let c = q e in
+          usingAgrees t ns ss n (usingScope ns ss (w .input .tree) (c .follow) (w .shaped .placed) n h (c .other)) (c .clause)
       go false e = rw e
 
   pub standard14 : (awaitUsing ns n ≡ true → BlockTold ns ss n) → Rule 14 (awaitUsing ns n && awaitInBlock ns n)

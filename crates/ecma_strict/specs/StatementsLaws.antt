@@ -9,7 +9,7 @@ use lib.Dec.{eqb}
 use lib.ListN.{length}
 use Rattle.base_common.specs.Upto.{upto}
 use Rattle.base_common.specs.Tests.{within}
-use Rattle.table_records.specs.Table.{kindOf, count, extraOf, spanStartOf, spanEndOf}
+use Rattle.table_records.specs.Table.{kindOf, parentOf, count, extraOf, spanStartOf, spanEndOf}
 use Rattle.table_records.specs.Kinds as k
 use Rattle.table_records.specs.Extras as extra
 use Rattle.table_records.specs.declared.Found.{Found}
@@ -27,7 +27,7 @@ use Rattle.ecma_strict.specs.Nodes.{ofCheck}
 use Rattle.ecma_base.specs.Strict.{strictCode}
 use Rattle.ecma_strict.specs.Statements.{strictWith, declaratorsOf, initialized, plainName, single, annexHead, badHead, headOf, ofHead, initializedHead, heldUsing, badUsing}
 use Rattle.ecma_base.specs.Scopes.{topScope}
-use Rattle.ecma_strict.specs.Changed.{unsaid, saidHead, HeadTold, topUsing, UsingTold}
+use Rattle.ecma_strict.specs.Changed.{unsaid, saidHead, HeadTold, topUsing}
 
 -- one finding where a test says so
 pub ifOnly : (c s e n x : ℕ) (b : Bool) → ofCheck c (cond b (errorSpan c n s e x) Clear) ≡ only b n
@@ -132,6 +132,6 @@ usingIs sourceType ns ss n q =
     rw (eq-eqb (kindOf ns n) k.VariableDeclaration q)
     (ifOnly 13 (spanStartOf ns n) (spanEndOf ns n) n context.none (within (extraOf ns n) extra.Using extra.AwaitUsing && (eqb sourceType 0 && topScope ns ss n)))
 
-pub usingAgrees : (sourceType : ℕ) (ns ss : List ℕ) (n : ℕ) → UsingTold ns ss n → topUsing sourceType ns ss n ≡ badUsing sourceType ns n
+pub usingAgrees : (sourceType : ℕ) (ns ss : List ℕ) (n : ℕ) → topScope ns ss n ≡ not (heldUsing ns n) → eqb (kindOf ns (parentOf ns n)) k.SwitchCase ≡ false → topUsing sourceType ns ss n ≡ badUsing sourceType ns n
 unfolding topUsing badUsing
-usingAgrees sourceType ns ss n w = rw (w .top, w .clause, orFalse (eqb sourceType 0 && not (heldUsing ns n)))
+usingAgrees sourceType ns ss n top clause = rw (top, clause, orFalse (eqb sourceType 0 && not (heldUsing ns n)))

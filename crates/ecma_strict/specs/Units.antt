@@ -32,8 +32,7 @@ use Rattle.ecma_strict.specs.Identifiers.{strictReserved, bindsEval, ass
 use Rattle.ecma_base.specs.Contains.{containsFrom, initializer, containsIn, comes}
 use Rattle.ecma_strict.specs.Contains.{containsInto, staticBlock, blockBegin, awaitExpression, forAwait, awaitUsing, argumentsReference, argumentsBegin, argumentsInto, parameter, parameterBegin, awaitOrYield, lexicalDeclaration, unbound, boundBegin, boundInto, letName}
 use Rattle.ecma_base.specs.Scopes.{scopesFollow}
-use Rattle.ecma_base.specs.ScopesLaws.{notProgram}
-use Rattle.ecma_strict.specs.ScopesLaws.{scopesTold, directiveTold}
+use Rattle.ecma_strict.specs.ScopesLaws.{scopesTold}
 use Rattle.ecma_base.specs.ContainsLaws.{containsIs, comesIs, comesHome}
 use Rattle.ecma_strict.specs.SearchLaws.{positive}
 use Rattle.ecma_strict.specs.AgreeLaws.{blockEdge, scopesAre}
@@ -281,7 +280,7 @@ module _ (t : ℕ) (ns ss source names : List ℕ) (w : WellFormed t ns ss sourc
           let y = eqb-true (parentOf ns j) b x in
           let k : kindOf ns (parentOf ns j) ≡ 4 = ap (λ (z : ℕ). kindOf ns z) y ∙ body in
           let g : parentOf ns (parentOf ns j) ≡ f = ap (λ (z : ℕ). parentOf ns z) y ∙ up in
-          ap some (ap (λ r. only r j) (rule j k g) ∙ sym (standard12 t ns ss source names w j l (λ z. directiveTold ns ss (w .input .tree) s (w .shaped .placed) j (notProgram ns (w .input .tree) j (λ (c : kindOf ns j ≡ 0). omega arith)) l (rw k))))
+          ap some (ap (λ r. only r j) (rule j k g) ∙ sym (standard12 t ns ss source names w j l (λ z. record { follow = s; placed = rw k })))
         where
           andTrue : (r : Bool) → r ≡ (r && true)
           andTrue true = refl

@@ -18,12 +18,18 @@ enum-told c = search needs
 returns : tie.Need-returns
 returns c = let a = c .before .before .before .before .args in sym (ap (hasNameAt (a .nodes .now)) (sym (c .before .before .key-of .ensures .0) ∙ c .enum-told .given .1))
 
+kind-requires : tie.Need-kind-requires
+kind-requires c κs = let a = c .before .before .before .before .before .args in subst (λ (f : Found). below (a .nodes .now) f) (c .before .m .given .1) (c .before .before .before .key-of .ensures .1)
+
 name-len-requires : tie.Need-name-len-requires
-name-len-requires c κs = let a = c .before .before .before .before .before .args in subst (λ (f : Found). below (a .nodes .now) f) (c .before .m .given .1) (c .before .before .before .key-of .ensures .1)
+name-len-requires c κs = let a = c .before .before .before .before .before .before .args in subst (λ (f : Found). below (a .nodes .now) f) (c .before .before .m .given .1) (c .before .before .before .before .key-of .ensures .1)
+
+and-requires : tie.Need-and-requires
+and-requires c κs = search needs
 
 returns-2 : tie.Need-returns-2
-returns-2 c = let a = c .before .before .before .before .before .before .args in cc (ap (hasNameAt (a .nodes .now)) (sym (c .before .before .before .before .key-of .ensures .0) ∙ c .before .before .m .given .1))
+returns-2 c = let a = c .before .before .before .before .before .before .before .before .args in cc (ap (hasNameAt (a .nodes .now)) (sym (c .before .before .before .before .before .before .key-of .ensures .0) ∙ c .before .before .before .before .m .given .1))
 
 pub has-name-spec : {M : Type 1} → statement M
 has-name-spec =
-    tie.close (tie.spec key-of-requires enum-known-m enum-told returns name-len-requires returns-2)
+    tie.close (tie.spec key-of-requires enum-known-m enum-told returns kind-requires name-len-requires and-requires returns-2)

@@ -37,19 +37,26 @@ returns-3 : tie.Need-returns-3
 unfolding protoKey
 returns-3 c = (rw (← c .before .before .before .before .before .before .before .extra .ensures, eq-eqb _ _ (c .before .before .before .before .before .before .if1 .left), ← c .before .before .before .before .before .flags .ensures, ← c .before .before .before .before .has-flag .ensures, c .before .before .before .if2 .left, ← c .before .before .key-of .ensures .0, c .enum-told .given .1), search needs)
 
+kind-requires : tie.Need-kind-requires
+kind-requires c κs = subst (λ (x : Found). below (c .before .before .before .before .before .before .before .before .before .before .before .args .nodes .now) x) (c .before .key .given .1) (c .before .before .before .key-of .ensures .1)
+
+returns-4 : tie.Need-returns-4
+unfolding protoKey
+returns-4 c = (rw (← c .before .before .before .before .before .before .before .before .before .before .extra .ensures, eq-eqb _ _ (c .before .before .before .before .before .before .before .before .before .if1 .left), ← c .before .before .before .before .before .before .before .before .flags .ensures, ← c .before .before .before .before .before .before .before .has-flag .ensures, c .before .before .before .before .before .before .if2 .left, ← c .before .before .before .before .before .key-of .ensures .0, c .before .before .before .key .given .1, ← c .before .kind .ensures, eq-eqb _ _ (c .if3 .taken)), search needs)
+
 slice-aggregate-name-is : tie.Need-slice-aggregate-name-is
 slice-aggregate-name-is c = search needs
 
 name-is-requires : tie.Need-name-is-requires
-name-is-requires c κs = (c .before .before .before .before .before .before .before .before .before .before .before .before .pre .1 .0, subst (λ (x : Found). below (c .before .before .before .before .before .before .before .before .before .before .before .before .args .nodes .now) x) (c .before .before .key .given .1) (c .before .before .before .before .key-of .ensures .1))
-
-returns-4 : tie.Need-returns-4
-unfolding protoKey
-returns-4 c = (rw (← c .before .before .before .before .before .before .before .before .before .before .before .extra .ensures, eq-eqb _ _ (c .before .before .before .before .before .before .before .before .before .before .if1 .left), ← c .before .before .before .before .before .before .before .before .before .flags .ensures, ← c .before .before .before .before .before .before .before .before .has-flag .ensures, c .before .before .before .before .before .before .before .if2 .left, ← c .before .before .before .before .before .before .key-of .ensures .0, c .before .before .before .before .key .given .1, c .before .before .name-is-arg .given .1, ← c .before .name-is .ensures, c .if3 .taken), subst (λ (x : Found). below (c .before .before .before .before .before .before .before .before .before .before .before .before .before .before .args .nodes .now) x) (c .before .before .before .before .key .given .1) (c .before .before .before .before .before .before .key-of .ensures .1))
+name-is-requires c κs = (c .before .before .before .before .before .before .before .before .before .before .before .before .before .before .pre .1 .0, subst (λ (x : Found). below (c .before .before .before .before .before .before .before .before .before .before .before .before .before .before .args .nodes .now) x) (c .before .before .before .before .key .given .1) (c .before .before .before .before .before .before .key-of .ensures .1))
 
 returns-5 : tie.Need-returns-5
 unfolding protoKey
-returns-5 c = (rw (← c .before .before .before .before .before .before .before .before .before .before .before .extra .ensures, eq-eqb _ _ (c .before .before .before .before .before .before .before .before .before .before .if1 .left), ← c .before .before .before .before .before .before .before .before .before .flags .ensures, ← c .before .before .before .before .before .before .before .before .has-flag .ensures, c .before .before .before .before .before .before .before .if2 .left, ← c .before .before .before .before .before .before .key-of .ensures .0, c .before .before .before .before .key .given .1, c .before .before .name-is-arg .given .1, ← c .before .name-is .ensures, c .if3 .left), search needs)
+returns-5 c = (rw (← c .before .before .before .before .before .before .before .before .before .before .before .before .before .extra .ensures, eq-eqb _ _ (c .before .before .before .before .before .before .before .before .before .before .before .before .if1 .left), ← c .before .before .before .before .before .before .before .before .before .before .before .flags .ensures, ← c .before .before .before .before .before .before .before .before .before .before .has-flag .ensures, c .before .before .before .before .before .before .before .before .before .if2 .left, ← c .before .before .before .before .before .before .before .before .key-of .ensures .0, c .before .before .before .before .before .before .key .given .1, ← c .before .before .before .before .kind .ensures, ne-eqb _ _ (c .before .before .before .if3 .left), c .before .before .name-is-arg .given .1, ← c .before .name-is .ensures, c .if4 .taken), subst (λ (x : Found). below (c .before .before .before .before .before .before .before .before .before .before .before .before .before .before .before .before .args .nodes .now) x) (c .before .before .before .before .before .before .key .given .1) (c .before .before .before .before .before .before .before .before .key-of .ensures .1))
+
+returns-6 : tie.Need-returns-6
+unfolding protoKey
+returns-6 c = (rw (← c .before .before .before .before .before .before .before .before .before .before .before .before .before .extra .ensures, eq-eqb _ _ (c .before .before .before .before .before .before .before .before .before .before .before .before .if1 .left), ← c .before .before .before .before .before .before .before .before .before .before .before .flags .ensures, ← c .before .before .before .before .before .before .before .before .before .before .has-flag .ensures, c .before .before .before .before .before .before .before .before .before .if2 .left, ← c .before .before .before .before .before .before .before .before .key-of .ensures .0, c .before .before .before .before .before .before .key .given .1, ← c .before .before .before .before .kind .ensures, ne-eqb _ _ (c .before .before .before .if3 .left), c .before .before .name-is-arg .given .1, ← c .before .name-is .ensures, c .if4 .left), search needs)
 
 pub proto-key-spec : {M : Type 1} → statement M
 proto-key-spec =
@@ -64,7 +71,9 @@ proto-key-spec =
     enum-known-key
     enum-told
     returns-3
+    kind-requires
+    returns-4
     slice-aggregate-name-is
     name-is-requires
-    returns-4
-    returns-5)
+    returns-5
+    returns-6)
