@@ -1,5 +1,5 @@
--- What is proved of units and their code, in one place: for every tree without try and every list of answers, the base machine's run of the
--- unit's code is the unit's route by the completion rules.
+-- What is proved of units and their code, in one place: for every tree whose finally blocks find room and every list of answers, the
+-- machine's run of the unit's code is the unit's route by the completion rules.
 use Prim.Native.Nat.{ℕ, _*_, _≤_}
 use mathlib.Core.Path.{_≡_, sym, _∙_, ap}
 use mathlib.Core.List.{List, [], _∷_}
@@ -13,7 +13,7 @@ use Rattle.route_completion.specs.Taken.{execsTakes}
 use Rattle.route_completion.specs.Scope.{scopedEnd}
 use Rattle.route_completion.specs.Parts.{partsOnce}
 use Rattle.code_flat.specs.Code.{unit, sizes, RoomAll}
-use Rattle.code_flat.specs.Machine.{run, started, codeRoute, result}
+use Rattle.code_flat.specs.Machine.{run, room, started, codeRoute, result}
 use Rattle.code_flat.specs.Meet.{meet}
 use Rattle.code_flat.specs.Correct.{unitCorrect}
 use Rattle.code_flat.specs.Room.{noTryRoom, roomEnough}
@@ -23,6 +23,8 @@ use Rattle.code_flat.specs.Sum.{lengthSum, totalSmall}
 pub record Claims (ss : Stmts) (qs : List ℕ) : Type 0 where
   -- The list of nodes, the end and the answers taken are those of the completion rules.
   pub same : codeRoute (unit ss) qs ≡ route ss qs
+  -- The entries, those that take an answer among them, are the completion rules' own.
+  pub entries : started (unit ss) qs .nodes ≡ execs ss qs .nodes
   -- The answers left are the list without those taken.
   pub left : started (unit ss) qs .rest ≡ drop (route ss qs .taken) qs
   -- Where each break and continue has its target, the end is one of document 01's.
@@ -47,20 +49,29 @@ pub unitRuns : (lim : ℕ) (ss : Stmts) → RoomAll ss lim → (qs : List ℕ) �
 unitRuns lim ss w qs =
     meet lim (unit ss) qs (λ e. ended (execs ss qs .comp) (sym (ap (λ r. r .end) (unitCorrect lim ss w qs)) ∙ e)) ∙ unitCorrect lim ss w qs
 
-pub baseCorrect : (ss : Stmts) → NoTryAll ss → (qs : List ℕ) → started (unit ss) qs ≡ result (execs ss qs)
-baseCorrect ss h qs = unitRuns 0 ss (noTryRoom ss h) qs
+-- With room for both alike: a unit without try runs as on a machine with no room at all.
+pub anyRoom : (lim lim′ : ℕ) (ss : Stmts) → RoomAll ss lim → RoomAll ss lim′ → (qs : List ℕ)
+    → run lim (unit ss) (length (unit ss)) 0 [] qs ≡ run lim′ (unit ss) (length (unit ss)) 0 [] qs
+anyRoom lim lim′ ss w w′ qs = unitRuns lim ss w qs ∙ sym (unitRuns lim′ ss w′ qs)
+
+pub noneNeeded : (ss : Stmts) → NoTryAll ss → (qs : List ℕ) → started (unit ss) qs ≡ run 0 (unit ss) (length (unit ss)) 0 [] qs
+noneNeeded ss h qs = anyRoom room 0 ss (noTryRoom ss room h) (noTryRoom ss 0 h) qs
 
 -- THE THEOREM
-pub claims : (ss : Stmts) → NoTryAll ss → (qs : List ℕ) → Claims ss qs
-claims ss h qs =
+pub claims : (ss : Stmts) → RoomAll ss room → (qs : List ℕ) → Claims ss qs
+claims ss w qs =
     record {
-      same = ap (λ r. routeOf (r .nodes) (r .end)) (baseCorrect ss h qs);
-      left = ap (λ r. r .rest) (baseCorrect ss h qs) ∙ sym (execsTakes ss qs);
+      same = ap (λ r. routeOf (r .nodes) (r .end)) runs;
+      entries = ap (λ r. r .nodes) runs;
+      left = ap (λ r. r .rest) runs ∙ sym (execsTakes ss qs);
       ends = λ s. scopedEnd ss s qs;
-      once = λ d. rw (baseCorrect ss h qs) (partsOnce ss d qs);
+      once = λ d. rw runs (partsOnce ss d qs);
       long = lengthSum ss;
       small = omega (arith, lengthSum ss, totalSmall (sUnit ∷ shapesAll ss));
     }
+  where
+    runs : started (unit ss) qs ≡ result (execs ss qs)
+    runs = unitRuns room ss w qs
 
 -- With try: a machine with room enough runs every unit.
 pub everyUnit : (ss : Stmts) (lim : ℕ) → sizes ss ≤ lim → (qs : List ℕ) → run lim (unit ss) (length (unit ss)) 0 [] qs ≡ result (execs ss qs)

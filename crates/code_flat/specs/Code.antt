@@ -1,17 +1,10 @@
--- The flat code of a unit. Document 01: "The code takes at most 16 numbers per node of the unit and is made without the answers. An instruction
--- lists a node, takes an answer and branches, jumps, or ends." Each node's own numbers stand together, in node order. An instruction is its
--- number, and then its operands:
---   1 LIST n             lists n and runs on
---   2 LEAVE t d          jumps to t at the depth d of the pending ends (0 where no finally is open); t = 0: to what is pending there
---   3 ASK n yes no       takes an answer, lists n, and goes to `yes` or `no`; the run ends with 3 where no answer is left
---   4 SELECT n c e       takes an answer as ASK does, lists n, and goes to that case of the chain that begins at c (0: none), or else to e
---   5 OPEN f             opens the finally block at f and runs on
---   6 END e              ends the run with e
---   7 CASE c t d         jumps as LEAVE t d does; the next case stands at c (0: none)
+-- The flat code of a unit. Document 01: "The code takes at most 16 numbers per node of the unit and is made without the answers." Each node's own
+-- numbers stand together, in node order. Opcodes.antt has the instructions.
 use Prim.Native.Nat.{ℕ, zero, suc, _+_}
 use mathlib.Core.List.{List, [], _∷_, _++_}
 use Rattle.route_completion.specs.Tree.{Stmt, Stmts, Cases, leaf, if1, if2, if3, withs, block, label, loop, switch, tryC, tryF, nil, cons, none, case}
 use Rattle.route_completion.specs.Sem.{Comp, normal, breaks, continues, returns, throws, spent, pick, loopContinues, noBreak, noLabel, defaultAt, compOf}
+use Rattle.code_flat.specs.Opcodes as op
 
 -- Where control goes: to a place of the code, at a depth of the pending ends; or the run has ended.
 pub data Stat : Type 0 where
@@ -50,10 +43,10 @@ unfoldable mutual
   sizeCases (case d ss cs) = 4 + sizes ss + sizeCases cs
 
 abbrev pub goto : Stat → List ℕ
-goto s = 2 ∷ placeOf s ∷ depthOf s ∷ []
+goto s = op.Leave ∷ placeOf s ∷ depthOf s ∷ []
 
 abbrev pub caseTo : ℕ → Stat → List ℕ
-caseTo c s = 7 ∷ c ∷ placeOf s ∷ depthOf s ∷ []
+caseTo c s = op.Case ∷ c ∷ placeOf s ∷ depthOf s ∷ []
 
 -- The environment says where each completion leads. The number δ is the depth at which the statement stands.
 abbrev pub next : (Comp → Stat) → Stat → Comp → Stat
@@ -100,21 +93,21 @@ place (case d ss cs) o z (suc i) = place cs (o + 4 + sizes ss) z i
 -- The code that stands at o.
 unfoldable mutual
   pub code : Stmt → List ℕ → ℕ → ℕ → (Comp → Stat) → List ℕ
-  code (leaf n l) ls o δ ρ = 1 ∷ n ∷ goto (ρ (compOf l))
-  code (if1 n s) ls o δ ρ = 3 ∷ n ∷ (o + 7) ∷ (o + 4) ∷ goto (ρ normal) ++ code s [] (o + 7) δ ρ
+  code (leaf n l) ls o δ ρ = op.List ∷ n ∷ goto (ρ (compOf l))
+  code (if1 n s) ls o δ ρ = op.Ask ∷ n ∷ (o + 7) ∷ (o + 4) ∷ goto (ρ normal) ++ code s [] (o + 7) δ ρ
   code (if2 n s t) ls o δ ρ =
-      3 ∷ n ∷ (o + 7) ∷ (o + 7 + size s) ∷ goto (ρ normal) ++ (code s [] (o + 7) δ ρ ++ code t [] (o + 7 + size s) δ ρ)
+      op.Ask ∷ n ∷ (o + 7) ∷ (o + 7 + size s) ∷ goto (ρ normal) ++ (code s [] (o + 7) δ ρ ++ code t [] (o + 7 + size s) δ ρ)
   code (if3 n t s) ls o δ ρ =
-      3 ∷ n ∷ (o + 7 + size t) ∷ (o + 7) ∷ goto (ρ normal) ++ (code t [] (o + 7) δ ρ ++ code s [] (o + 7 + size t) δ ρ)
-  code (withs n s) ls o δ ρ = 1 ∷ n ∷ code s [] (o + 2) δ ρ
+      op.Ask ∷ n ∷ (o + 7 + size t) ∷ (o + 7) ∷ goto (ρ normal) ++ (code t [] (o + 7) δ ρ ++ code s [] (o + 7 + size t) δ ρ)
+  code (withs n s) ls o δ ρ = op.List ∷ n ∷ code s [] (o + 2) δ ρ
   code (block ss) ls o δ ρ = goto (first ss (o + 3) δ ρ) ++ codes ss (o + 3) δ ρ
   code (label l s) ls o δ ρ = code s (l ∷ ls) o δ (λ c. ρ (noLabel l c))
   code (loop n before test s) ls o δ ρ =
-      2 ∷ pick before (o + 3) (o + 10) ∷ δ ∷ 3 ∷ n ∷ (o + 10) ∷ pick test (o + 7) (o + 10) ∷ goto (ρ normal) ++ code s [] (o + 10) δ (inLoop ls (o + 3) δ ρ)
+      op.Leave ∷ pick before (o + 3) (o + 10) ∷ δ ∷ op.Ask ∷ n ∷ (o + 10) ∷ pick test (o + 7) (o + 10) ∷ goto (ρ normal) ++ code s [] (o + 10) δ (inLoop ls (o + 3) δ ρ)
   code (switch n cs) ls o δ ρ =
-      4 ∷ n ∷ link cs (o + 7) ∷ place cs (o + 7) (o + 4) (defaultAt cs) ∷ goto (ρ normal) ++ codeCases cs (o + 7) δ (λ c. ρ (noBreak c))
+      op.Select ∷ n ∷ link cs (o + 7) ∷ place cs (o + 7) (o + 4) (defaultAt cs) ∷ goto (ρ normal) ++ codeCases cs (o + 7) δ (λ c. ρ (noBreak c))
   code (tryC b h) ls o δ ρ = code b [] o δ (inTry ρ (o + size b) δ) ++ code h [] (o + size b) δ ρ
-  code (tryF b f) ls o δ ρ = 5 ∷ (o + 2 + size b) ∷ code b [] (o + 2) (suc δ) ρ ++ code f [] (o + 2 + size b) (suc δ) (next ρ (at 0 (suc δ)))
+  code (tryF b f) ls o δ ρ = op.Open ∷ (o + 2 + size b) ∷ code b [] (o + 2) (suc δ) ρ ++ code f [] (o + 2 + size b) (suc δ) (next ρ (at 0 (suc δ)))
 
   pub codes : Stmts → ℕ → ℕ → (Comp → Stat) → List ℕ
   codes nil o δ ρ = []
@@ -136,7 +129,7 @@ top m throws = at (m + 4) 0
 top m spent = ended 3
 
 abbrev pub ends : List ℕ
-ends = 6 ∷ 0 ∷ 6 ∷ 1 ∷ 6 ∷ 2 ∷ 6 ∷ 5 ∷ []
+ends = op.End ∷ 0 ∷ op.End ∷ 1 ∷ op.End ∷ 2 ∷ op.End ∷ 5 ∷ []
 
 unfoldable pub unit : Stmts → List ℕ
 unit ss = codes ss 0 0 (top (sizes ss)) ++ ends

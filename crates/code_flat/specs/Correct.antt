@@ -13,6 +13,7 @@ use Rattle.route_completion.specs.Tree.{near, named, Stmt, Stmts, Cases, Leaf, 
 use Rattle.route_completion.specs.Sem.{Entry, plain, asked, Out, Comp, normal, breaks, continues, returns, throws, spent, out, more, ask, goOn, andThen, catching, finally, finallyIf, unbreak, turn, turns, rounds, loops, pick, isYes, isNormal, isSpent, loopContinues, noBreak, noLabel, exec, execs, execFrom, entry, count, defaultAt, compOf}
 use Rattle.route_completion.specs.Route.{endOf}
 use Rattle.code_flat.specs.Code.{Stat, at, ended, goto, caseTo, next, inTry, inLoop, first, link, through, size, sizes, sizeCases, place, code, codes, codeCases, top, ends, unit, Room, RoomAll, RoomCases}
+use Rattle.code_flat.specs.Opcodes as op
 use Rattle.code_flat.specs.Machine.{Res, res, pre, Instr, LIST, LEAVE, ASK, SELECT, OPEN, END, CASE, Frame, open′, pend, Pos, pos, isZero, unwind, isCase, chase, endAs, decode, fetch, result}
 use Rattle.code_flat.specs.Forward.{askNow, behind, forward, step, run}
 use Rattle.code_flat.specs.Steps.{runStep, runPos, resume}
@@ -220,22 +221,22 @@ module _ (lim : ℕ) (C : List ℕ) where
           ap (λ i. askNow i (run lim C) (p .stack) qs) (behindIs (p .pc) z ∙ h .3)
           ∙ sym (runAt (p .pc) (ASK (h .0) (h .1) (h .2)) (h .3) (p .stack) qs)
 
-  onList : (o n : ℕ) (l : List ℕ) → Has C o (1 ∷ n ∷ l) → (K : List Frame) (qs : List ℕ) → run lim C o K qs ≡ pre (plain n ∷ []) (run lim C (o + 2) K qs)
-  onList o n l h K qs = runAt o (LIST n) (fetches o 1 n _ _ (h .0) (h .1 .0) refl refl) K qs
+  onList : (o n : ℕ) (l : List ℕ) → Has C o (op.List ∷ n ∷ l) → (K : List Frame) (qs : List ℕ) → run lim C o K qs ≡ pre (plain n ∷ []) (run lim C (o + 2) K qs)
+  onList o n l h K qs = runAt o (LIST n) (fetches o op.List n _ _ (h .0) (h .1 .0) refl refl) K qs
 
-  onOpen : (o f : ℕ) (l : List ℕ) → Has C o (5 ∷ f ∷ l) → (K : List Frame) → length K < lim → (qs : List ℕ) → run lim C o K qs ≡ run lim C (o + 2) (open′ f ∷ K) qs
+  onOpen : (o f : ℕ) (l : List ℕ) → Has C o (op.Open ∷ f ∷ l) → (K : List Frame) → length K < lim → (qs : List ℕ) → run lim C o K qs ≡ run lim C (o + 2) (open′ f ∷ K) qs
   onOpen o f l h K p qs =
-      runAt o (OPEN f) (fetches o 5 f _ _ (h .0) (h .1 .0) refl refl) K qs
+      runAt o (OPEN f) (fetches o op.Open f _ _ (h .0) (h .1 .0) refl refl) K qs
       ∙ ap (λ b. pick b (run lim C (o + 2) (open′ f ∷ K) qs) (res [] 5 qs)) (lt-ltb (length K) lim p)
 
-  onEnd : (o e : ℕ) (l : List ℕ) → Has C o (6 ∷ e ∷ l) → (K : List Frame) (qs : List ℕ) → run lim C o K qs ≡ res [] (endAs e) qs
-  onEnd o e l h K qs = runAt o (END e) (fetches o 6 e _ _ (h .0) (h .1 .0) refl refl) K qs
+  onEnd : (o e : ℕ) (l : List ℕ) → Has C o (op.End ∷ e ∷ l) → (K : List Frame) (qs : List ℕ) → run lim C o K qs ≡ res [] (endAs e) qs
+  onEnd o e l h K qs = runAt o (END e) (fetches o op.End e _ _ (h .0) (h .1 .0) refl refl) K qs
 
-  onLeave : (o t d : ℕ) (l : List ℕ) → Has C o (2 ∷ t ∷ d ∷ l) → (K : List Frame) → Fwd (suc o) (unwind K t d .pc) → (qs : List ℕ)
+  onLeave : (o t d : ℕ) (l : List ℕ) → Has C o (op.Leave ∷ t ∷ d ∷ l) → (K : List Frame) → Fwd (suc o) (unwind K t d .pc) → (qs : List ℕ)
       → run lim C o K qs ≡ resume lim C (at t d) K qs
   unfolding resume
   onLeave o t d l h K p qs =
-      runAt o (LEAVE t d) (fetches o 2 t d _ (h .0) (h .1 .0) (h .1 .1 .0) refl) K qs ∙ onForward o (unwind K t d) qs p
+      runAt o (LEAVE t d) (fetches o op.Leave t d _ (h .0) (h .1 .0) (h .1 .1 .0) refl) K qs ∙ onForward o (unwind K t d) qs p
 
   onGoto : (o δ : ℕ) (s : Stat) → Has C o (goto s) → (K : List Frame) → Lands (suc o) δ K s → (qs : List ℕ) → run lim C o K qs ≡ resume lim C s K qs
   onGoto o δ (at t d) h K p qs = onLeave o t d [] h K (p .0) qs
@@ -245,27 +246,27 @@ module _ (lim : ℕ) (C : List ℕ) where
   onCaseTo : (o δ c : ℕ) (s : Stat) (l : List ℕ) → Has C o (caseTo c s ++ l) → (K : List Frame) → Lands (suc o) δ K s → (qs : List ℕ) → run lim C o K qs ≡ resume lim C s K qs
   unfolding resume
   onCaseTo o δ c (at t d) l h K p qs =
-      runAt o (CASE c t d) (fetches o 7 c t d (h .0) (h .1 .0) (h .1 .1 .0) (h .1 .1 .1 .0)) K qs ∙ onForward o (unwind K t d) qs (p .0)
+      runAt o (CASE c t d) (fetches o op.Case c t d (h .0) (h .1 .0) (h .1 .1 .0) (h .1 .1 .1 .0)) K qs ∙ onForward o (unwind K t d) qs (p .0)
   onCaseTo o δ c (ended e) l h K p qs = absurd p
 
-  asking : (o n y z : ℕ) (l : List ℕ) → Has C o (3 ∷ n ∷ y ∷ z ∷ l) → fetch C o ≡ ASK n y z
-  asking o n y z l h = fetches o 3 n y z (h .0) (h .1 .0) (h .1 .1 .0) (h .1 .1 .1 .0)
+  asking : (o n y z : ℕ) (l : List ℕ) → Has C o (op.Ask ∷ n ∷ y ∷ z ∷ l) → fetch C o ≡ ASK n y z
+  asking o n y z l h = fetches o op.Ask n y z (h .0) (h .1 .0) (h .1 .1 .0) (h .1 .1 .1 .0)
 
-  onAsk : (o n y z : ℕ) (l : List ℕ) → Has C o (3 ∷ n ∷ y ∷ z ∷ l) → (ρ : Comp → Stat) (K : List Frame) → ρ spent ≡ ended 3
+  onAsk : (o n y z : ℕ) (l : List ℕ) → Has C o (op.Ask ∷ n ∷ y ∷ z ∷ l) → (ρ : Comp → Stat) (K : List Frame) → ρ spent ≡ ended 3
       → (qs : List ℕ) (k : ℕ → List ℕ → Out) → ((a : ℕ) (r : List ℕ) → length r < length qs → run lim C (pick (isYes a) y z) K r ≡ fin ρ K (k a r))
       → run lim C o K qs ≡ fin ρ K (ask n qs k)
   unfolding fin resume
   onAsk o n y z l h ρ K e [] k f = runAt o (ASK n y z) (asking o n y z l h) K [] ∙ ap (λ s. resume lim C s K []) (sym e)
   onAsk o n y z l h ρ K e (a ∷ qs) k f = runAt o (ASK n y z) (asking o n y z l h) K (a ∷ qs) ∙ ap (pre (asked n ∷ [])) (f a qs (omega arith))
 
-  onSelect : (o n c e : ℕ) (l : List ℕ) → Has C o (4 ∷ n ∷ c ∷ e ∷ l) → (ρ : Comp → Stat) (K : List Frame) → ρ spent ≡ ended 3
+  onSelect : (o n c e : ℕ) (l : List ℕ) → Has C o (op.Select ∷ n ∷ c ∷ e ∷ l) → (ρ : Comp → Stat) (K : List Frame) → ρ spent ≡ ended 3
       → (qs : List ℕ) (k : ℕ → List ℕ → Out) → ((a : ℕ) (r : List ℕ) → run lim C (chase C o c e a) K r ≡ fin ρ K (k a r))
       → run lim C o K qs ≡ fin ρ K (ask n qs k)
   unfolding fin resume
   onSelect o n m d l h ρ K e [] k f =
-      runAt o (SELECT n m d) (fetches o 4 n m d (h .0) (h .1 .0) (h .1 .1 .0) (h .1 .1 .1 .0)) K [] ∙ ap (λ s. resume lim C s K []) (sym e)
+      runAt o (SELECT n m d) (fetches o op.Select n m d (h .0) (h .1 .0) (h .1 .1 .0) (h .1 .1 .1 .0)) K [] ∙ ap (λ s. resume lim C s K []) (sym e)
   onSelect o n m d l h ρ K e (a ∷ qs) k f =
-      runAt o (SELECT n m d) (fetches o 4 n m d (h .0) (h .1 .0) (h .1 .1 .0) (h .1 .1 .1 .0)) K (a ∷ qs) ∙ ap (pre (asked n ∷ [])) (f a qs)
+      runAt o (SELECT n m d) (fetches o op.Select n m d (h .0) (h .1 .0) (h .1 .1 .0) (h .1 .1 .1 .0)) K (a ∷ qs) ∙ ap (pre (asked n ∷ [])) (f a qs)
 
   onThen : (ρ : Comp → Stat) (K : List Frame) (x : Stat) (k : List ℕ → Out) → ((r : List ℕ) → resume lim C x K r ≡ fin ρ K (k r))
       → (o : Out) → fin (next ρ x) K o ≡ fin ρ K (andThen o k)
@@ -305,7 +306,7 @@ module _ (lim : ℕ) (C : List ℕ) where
 
   -- The loop's ASK stands at m, its body at b, and at e its way out.
   module _ (ρ : Comp → Stat) (K : List Frame) (ls : List ℕ) (m b e n δ : ℕ) (test : Bool) (body : List ℕ → Out) (l : List ℕ)
-      (h : Has C m (3 ∷ n ∷ b ∷ pick test e b ∷ l)) (z : 0 < m) (stop : ρ spent ≡ ended 3) (deep : length K ≡ δ) (away : (r : List ℕ) → run lim C e K r ≡ resume lim C (ρ normal) K r)
+      (h : Has C m (op.Ask ∷ n ∷ b ∷ pick test e b ∷ l)) (z : 0 < m) (stop : ρ spent ≡ ended 3) (deep : length K ≡ δ) (away : (r : List ℕ) → run lim C e K r ≡ resume lim C (ρ normal) K r)
       (less : Shrinks body) (ok : (r : List ℕ) → run lim C b K r ≡ fin (inLoop ls m δ ρ) K (body r)) where
     onTurns : (f : ℕ) (qs : List ℕ) → length qs ≤ f → run lim C m K qs ≡ fin (λ c. ρ (noBreak c)) K (turns n test ls body f qs)
     unfolding turns fin
@@ -447,7 +448,7 @@ module _ (lim : ℕ) (C : List ℕ) where
   abbrev Runs : ℕ → ℕ → ℕ → List ℕ → (Comp → Stat) → (List ℕ → Out) → Type 0
   Runs δ o k a ρ S = Has C o a → (K : List Frame) → Good δ K ρ (o + k) → (qs : List ℕ) → run lim C o K qs ≡ fin ρ K (S qs)
 
-  onLeaf : (δ o n : ℕ) (c : Comp) (ρ : Comp → Stat) → isSpent c ≡ false → Runs δ o 5 (1 ∷ n ∷ goto (ρ c)) ρ (λ qs. out (plain n ∷ []) c qs)
+  onLeaf : (δ o n : ℕ) (c : Comp) (ρ : Comp → Stat) → isSpent c ≡ false → Runs δ o 5 (op.List ∷ n ∷ goto (ρ c)) ρ (λ qs. out (plain n ∷ []) c qs)
   unfolding fin
   onLeaf δ o n c ρ z h K g qs =
       onList o n (goto (ρ c)) h K qs
@@ -469,7 +470,7 @@ module _ (lim : ℕ) (C : List ℕ) where
 
   onIf1 : (δ o n ka : ℕ) (ρ : Comp → Stat) (a : List ℕ) (S : List ℕ → Out)
       → Runs δ (o + 7) ka a ρ S
-      → Runs δ o (7 + ka) (3 ∷ n ∷ (o + 7) ∷ (o + 4) ∷ goto (ρ normal) ++ a) ρ (λ qs. ask n qs (λ x r. pick (isYes x) (S r) (out [] normal r)))
+      → Runs δ o (7 + ka) (op.Ask ∷ n ∷ (o + 7) ∷ (o + 4) ∷ goto (ρ normal) ++ a) ρ (λ qs. ask n qs (λ x r. pick (isYes x) (S r) (out [] normal r)))
   unfolding fin
   onIf1 δ o n ka ρ a S sa h K g qs =
       onAsk o n (o + 7) (o + 4) (goto (ρ normal) ++ a) h ρ K (g .stops) qs (λ x r. pick (isYes x) (S r) (out [] normal r)) (λ x r q. go (isYes x) r)
@@ -486,7 +487,7 @@ module _ (lim : ℕ) (C : List ℕ) where
   -- An If with an alternate: f says that the held statement stands first.
   onIf2 : (δ o n ka kb : ℕ) (f : Bool) (ρ : Comp → Stat) (a b : List ℕ) (S T : List ℕ → Out) → length a ≡ ka
       → Runs δ (o + 7) ka a ρ S → Runs δ (o + 7 + ka) kb b ρ T
-      → Runs δ o (7 + ka + kb) (3 ∷ n ∷ pick f (o + 7) (o + 7 + ka) ∷ pick f (o + 7 + ka) (o + 7) ∷ goto (ρ normal) ++ (a ++ b)) ρ
+      → Runs δ o (7 + ka + kb) (op.Ask ∷ n ∷ pick f (o + 7) (o + 7 + ka) ∷ pick f (o + 7 + ka) (o + 7) ∷ goto (ρ normal) ++ (a ++ b)) ρ
       (λ qs. ask n qs (λ x r. pick (isYes x) (pick f (S r) (T r)) (pick f (T r) (S r))))
   onIf2 δ o n ka kb f ρ a b S T e sa sb h K g qs =
       onAsk o n (pick f (o + 7) (o + 7 + ka)) (pick f (o + 7 + ka) (o + 7)) (goto (ρ normal) ++ (a ++ b)) h ρ K (g .stops) qs
@@ -524,10 +525,10 @@ module _ (lim : ℕ) (C : List ℕ) where
   onLoop : (δ o n ka : ℕ) (before test : Bool) (ls : List ℕ) (ρ : Comp → Stat) (a : List ℕ) (S : List ℕ → Out) → Shrinks S
       → Runs δ (o + 10) ka a (inLoop ls (o + 3) δ ρ) S
       → Runs δ o (10 + ka)
-      (2 ∷ pick before (o + 3) (o + 10) ∷ δ ∷ 3 ∷ n ∷ (o + 10) ∷ pick test (o + 7) (o + 10) ∷ goto (ρ normal) ++ a) ρ (λ qs. unbreak (loops before n test ls S qs))
+      (op.Leave ∷ pick before (o + 3) (o + 10) ∷ δ ∷ op.Ask ∷ n ∷ (o + 10) ∷ pick test (o + 7) (o + 10) ∷ goto (ρ normal) ++ a) ρ (λ qs. unbreak (loops before n test ls S qs))
   unfolding fin
   onLoop δ o n ka before test ls ρ a S less sa h K g qs =
-      onLeave o (pick before (o + 3) (o + 10)) δ (3 ∷ n ∷ (o + 10) ∷ pick test (o + 7) (o + 10) ∷ goto (ρ normal) ++ a) h K (go before) qs
+      onLeave o (pick before (o + 3) (o + 10)) δ (op.Ask ∷ n ∷ (o + 10) ∷ pick test (o + 7) (o + 10) ∷ goto (ρ normal) ++ a) h K (go before) qs
       ∙ resumeHere (pick before (o + 3) (o + 10)) δ K (pos′ before) (g .depth) qs
       ∙ onLoops ρ K ls (o + 3) (o + 10) (o + 7) n δ test S (goto (ρ normal) ++ a) hb (omega arith) (g .stops) (g .depth)
       (onGoto (o + 7) δ (ρ normal) (hasGoto (suc (suc (suc (suc (o + 3))))) (o + 7) (ρ normal) a (omega arith) (hb .1 .1 .1 .1)) K
@@ -540,8 +541,8 @@ module _ (lim : ℕ) (C : List ℕ) where
       g′ : Good δ K ρ (o + 10 + ka)
       g′ = goodMove δ K ρ (o + (10 + ka)) (o + 10 + ka) (omega arith) g
 
-      hb : Has C (o + 3) (3 ∷ n ∷ (o + 10) ∷ pick test (o + 7) (o + 10) ∷ goto (ρ normal) ++ a)
-      hb = hasMove C (suc (suc (suc o))) (o + 3) (3 ∷ n ∷ (o + 10) ∷ pick test (o + 7) (o + 10) ∷ goto (ρ normal) ++ a) (omega arith) (h .1 .1 .1)
+      hb : Has C (o + 3) (op.Ask ∷ n ∷ (o + 10) ∷ pick test (o + 7) (o + 10) ∷ goto (ρ normal) ++ a)
+      hb = hasMove C (suc (suc (suc o))) (o + 3) (op.Ask ∷ n ∷ (o + 10) ∷ pick test (o + 7) (o + 10) ∷ goto (ρ normal) ++ a) (omega arith) (h .1 .1 .1)
 
       pos′ : (x : Bool) → 0 < pick x (o + 3) (o + 10)
       pos′ true = omega arith
@@ -555,7 +556,7 @@ module _ (lim : ℕ) (C : List ℕ) where
       → ((e a : ℕ) → Has C (o + 7) b → chase C o (link cs (o + 7)) e a ≡ place cs (o + 7) e a)
       → (Has C (o + 7) b → (K : List Frame) → Good δ K (λ c. ρ (noBreak c)) (o + 7 + kb) → (z : ℕ) → ((r : List ℕ) → run lim C z K r ≡ resume lim C (ρ normal) K r)
       → (i : ℕ) (qs : List ℕ) → run lim C (place cs (o + 7) z i) K qs ≡ fin (λ c. ρ (noBreak c)) K (execFrom cs i qs))
-      → Runs δ o (7 + kb) (4 ∷ n ∷ link cs (o + 7) ∷ place cs (o + 7) (o + 4) (defaultAt cs) ∷ goto (ρ normal) ++ b) ρ
+      → Runs δ o (7 + kb) (op.Select ∷ n ∷ link cs (o + 7) ∷ place cs (o + 7) (o + 4) (defaultAt cs) ∷ goto (ρ normal) ++ b) ρ
       (λ qs. ask n qs (λ a r. unbreak (execFrom cs (entry a cs) r)))
   unfolding fin
   onSwitch δ o n kb cs ρ b ch sb h K g qs =
@@ -585,7 +586,7 @@ module _ (lim : ℕ) (C : List ℕ) where
 
   onTryF : (δ o ka kb : ℕ) (ρ : Comp → Stat) (a b : List ℕ) (S T : List ℕ → Out) → length a ≡ ka → δ < lim
       → Runs (suc δ) (o + 2) ka a ρ S → Runs (suc δ) (o + 2 + ka) kb b (next ρ (at 0 (suc δ))) T
-      → Runs δ o (2 + ka + kb) (5 ∷ (o + 2 + ka) ∷ a ++ b) ρ (λ qs. finally (S qs) T)
+      → Runs δ o (2 + ka + kb) (op.Open ∷ (o + 2 + ka) ∷ a ++ b) ρ (λ qs. finally (S qs) T)
   onTryF δ o ka kb ρ a b S T e d sa sb h K g qs =
       onOpen o (o + 2 + ka) (a ++ b) h K (omega (arith, g .depth)) qs
       ∙ sa (hasLeft C (o + 2) a b ha) (open′ (o + 2 + ka) ∷ K) (goodOpen δ K ρ (o + 2 + ka + kb) (o + 2 + ka) g′) qs
@@ -719,21 +720,21 @@ atEnd : (lim : ℕ) (C : List ℕ) (m : ℕ) → Has C m ends → (o : Out) → 
 unfolding fin resume unwind
 atEnd lim C m h o = ap (pre (o .nodes)) (go (o .comp)) ∙ ap (λ l. res l (endOf (o .comp)) (o .rest)) (append-nil (o .nodes))
   where
-    one : Has C (m + 2) (6 ∷ 1 ∷ 6 ∷ 2 ∷ 6 ∷ 5 ∷ [])
-    one = hasMove C (suc (suc m)) (m + 2) (6 ∷ 1 ∷ 6 ∷ 2 ∷ 6 ∷ 5 ∷ []) (omega arith) (h .1 .1)
+    one : Has C (m + 2) (op.End ∷ 1 ∷ op.End ∷ 2 ∷ op.End ∷ 5 ∷ [])
+    one = hasMove C (suc (suc m)) (m + 2) (op.End ∷ 1 ∷ op.End ∷ 2 ∷ op.End ∷ 5 ∷ []) (omega arith) (h .1 .1)
 
-    two : Has C (m + 4) (6 ∷ 2 ∷ 6 ∷ 5 ∷ [])
-    two = hasMove C (suc (suc (m + 2))) (m + 4) (6 ∷ 2 ∷ 6 ∷ 5 ∷ []) (omega arith) (one .1 .1)
+    two : Has C (m + 4) (op.End ∷ 2 ∷ op.End ∷ 5 ∷ [])
+    two = hasMove C (suc (suc (m + 2))) (m + 4) (op.End ∷ 2 ∷ op.End ∷ 5 ∷ []) (omega arith) (one .1 .1)
 
-    four : Has C (m + 6) (6 ∷ 5 ∷ [])
-    four = hasMove C (suc (suc (m + 4))) (m + 6) (6 ∷ 5 ∷ []) (omega arith) (two .1 .1)
+    four : Has C (m + 6) (op.End ∷ 5 ∷ [])
+    four = hasMove C (suc (suc (m + 4))) (m + 6) (op.End ∷ 5 ∷ []) (omega arith) (two .1 .1)
 
     go : (c : Comp) → resume lim C (top m c) [] (o .rest) ≡ res [] (endOf c) (o .rest)
-    go normal = onEnd lim C m 0 (6 ∷ 1 ∷ 6 ∷ 2 ∷ 6 ∷ 5 ∷ []) h [] (o .rest)
+    go normal = onEnd lim C m 0 (op.End ∷ 1 ∷ op.End ∷ 2 ∷ op.End ∷ 5 ∷ []) h [] (o .rest)
     go (breaks l) = onEnd lim C (m + 6) 5 [] four [] (o .rest)
     go (continues l) = onEnd lim C (m + 6) 5 [] four [] (o .rest)
-    go returns = onEnd lim C (m + 2) 1 (6 ∷ 2 ∷ 6 ∷ 5 ∷ []) one [] (o .rest)
-    go throws = onEnd lim C (m + 4) 2 (6 ∷ 5 ∷ []) two [] (o .rest)
+    go returns = onEnd lim C (m + 2) 1 (op.End ∷ 2 ∷ op.End ∷ 5 ∷ []) one [] (o .rest)
+    go throws = onEnd lim C (m + 4) 2 (op.End ∷ 5 ∷ []) two [] (o .rest)
     go spent = refl
 
 -- A unit from its first place on.

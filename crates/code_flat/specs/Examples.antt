@@ -1,9 +1,9 @@
--- Codes run by the base machine: document 01's unit, an If whose alternate stands first, and lists of numbers that are no unit's code.
+-- Codes run by the machine: document 01's unit, an If whose alternate stands first, a finally block, and lists of numbers that are no unit's code.
 use mathlib.Core.Path.{_≡_, refl}
 use mathlib.Core.List.{[], _∷_}
 use Rattle.route_completion.specs.Tree.{simple, leaf, if3}
 use Rattle.route_completion.specs.Route.{asks}
-use Rattle.route_completion.specs.Examples.{one, gives, row}
+use Rattle.route_completion.specs.Examples.{one, gives, row, tried}
 use Rattle.code_flat.specs.Code.{code, size, place, unit}
 use Rattle.code_flat.specs.Machine.{run, runs, fetch, unwind, chase, codeRoute}
 
@@ -37,7 +37,7 @@ unfolding run runs fetch unwind chase unit code size place asks
 turned = refl
 
 -- No code, no instruction, and a jump to what is pending where nothing is: 5. A ring ends once more instructions have passed than the code has
--- numbers. An OPEN finds no room in the base machine.
+-- numbers.
 pub empty : codeRoute [] (1 ∷ []) ≡ gives [] 5 0
 unfolding run runs fetch asks
 empty = refl
@@ -54,6 +54,12 @@ pub ring : codeRoute (1 ∷ 8 ∷ 1 ∷ 9 ∷ 2 ∷ 2 ∷ 0 ∷ []) (1 ∷ []) �
 unfolding run runs fetch unwind asks
 ring = refl
 
-pub opens : codeRoute (5 ∷ 2 ∷ 6 ∷ 0 ∷ []) [] ≡ gives [] 5 0
-unfolding run runs fetch asks
-opens = refl
+-- A return waits for its finally block, a continue there replaces it, and a throw goes on behind it.
+pub finallyRuns : codeRoute (unit tried) (1 ∷ 1 ∷ 1 ∷ 1 ∷ 0 ∷ 0 ∷ 7 ∷ []) ≡ gives (1 ∷ 2 ∷ 3 ∷ 5 ∷ 6 ∷ 1 ∷ 2 ∷ 4 ∷ 5 ∷ []) 2 6
+unfolding run runs fetch unwind chase unit code size place asks
+finallyRuns = refl
+
+-- The finally block at 5 is opened and left twice: behind the second time nothing is pending.
+pub onceOpened : codeRoute (5 ∷ 5 ∷ 2 ∷ 10 ∷ 0 ∷ 1 ∷ 7 ∷ 2 ∷ 0 ∷ 1 ∷ 2 ∷ 0 ∷ 0 ∷ []) [] ≡ gives (7 ∷ []) 5 0
+unfolding run runs fetch unwind asks
+onceOpened = refl

@@ -1,3 +1,4 @@
+pub mod Opcodes
 pub mod Code
 pub mod Machine
 pub mod Own
@@ -11,3 +12,5 @@ pub mod Meet
 pub mod Sum
 pub mod Room
 pub mod Examples
+pub mod Leg
+pub mod LegLaws

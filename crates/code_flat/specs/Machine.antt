@@ -8,6 +8,7 @@ use lib.ListN.{length, getD}
 use lib.Dec.{eqb, ltb}
 use Rattle.route_completion.specs.Sem.{Entry, plain, asked, pick, isYes, Out}
 use Rattle.route_completion.specs.Route.{Route, routeOf, endOf}
+use Rattle.code_flat.specs.Opcodes as op
 
 -- What a run lists, its end, and the answers that are left.
 pub record Res : Type 0 where
@@ -21,7 +22,7 @@ res es e r = record { nodes = es; end = e; rest = r }
 abbrev pub pre : List Entry → Res → Res
 pre es r = res (es ++ r .nodes) (r .end) (r .rest)
 
--- The instructions of Code.antt; NONE is no instruction.
+-- The instructions of Opcodes.antt; NONE is no instruction.
 pub data Instr : Type 0 where
   NONE : Instr
   LIST : ℕ → Instr
@@ -32,16 +33,11 @@ pub data Instr : Type 0 where
   END : ℕ → Instr
   CASE : ℕ → ℕ → ℕ → Instr
 
+-- What a number and its operands say.
 abbrev pub decode : ℕ → ℕ → ℕ → ℕ → Instr
-decode zero a b c = NONE
-decode (suc zero) a b c = LIST a
-decode (suc (suc zero)) a b c = LEAVE a b
-decode (suc (suc (suc zero))) a b c = ASK a b c
-decode (suc (suc (suc (suc zero)))) a b c = SELECT a b c
-decode (suc (suc (suc (suc (suc zero))))) a b c = OPEN a
-decode (suc (suc (suc (suc (suc (suc zero)))))) a b c = END a
-decode (suc (suc (suc (suc (suc (suc (suc zero))))))) a b c = CASE a b c
-decode (suc (suc (suc (suc (suc (suc (suc (suc k)))))))) a b c = NONE
+decode x a b c =
+    pick (eqb x op.List) (LIST a) (pick (eqb x op.Leave) (LEAVE a b) (pick (eqb x op.Ask) (ASK a b c) (pick (eqb x op.Select) (SELECT a b c)
+    (pick (eqb x op.Open) (OPEN a) (pick (eqb x op.End) (END a) (pick (eqb x op.Case) (CASE a b c) NONE))))))
 
 -- Past the code 0 is read, which is no instruction.
 unfoldable pub fetch : List ℕ → ℕ → Instr
@@ -72,7 +68,7 @@ unwind (pend u v ∷ K) t d = pick (ltb (length K) d) (pick (isZero t) (unwind K
 
 -- A case that is named at p stands at c, further on.
 abbrev pub isCase : List ℕ → ℕ → ℕ → Bool
-isCase C p c = ltb p c && eqb (getD C c 0) 7
+isCase C p c = ltb p c && eqb (getD C c 0) op.Case
 
 -- The a-th case of the chain that begins at c and is named at p; e where there is none.
 unfoldable pub chase : List ℕ → ℕ → ℕ → ℕ → ℕ → ℕ
@@ -118,15 +114,15 @@ measure C b qs = length qs * suc (length C) + b
 unfoldable pub run : ℕ → List ℕ → ℕ → ℕ → List Frame → List ℕ → Res
 run lim C b pc K qs = runs lim (suc (measure C b qs)) C b pc K qs
 
--- The base machine has room for no pending end: an OPEN ends it with 5, and the depth of a LEAVE or CASE says nothing.
-abbrev pub base : List ℕ → ℕ → ℕ → List ℕ → Res
-base C b pc qs = run 0 C b pc [] qs
+-- "keep a pending end for each finally that is open, nested up to the depth limit": refusal 3's, "depth above 512".
+abbrev pub room : ℕ
+room = 512
 
 -- The whole run of a code.
 abbrev pub started : List ℕ → List ℕ → Res
-started C qs = base C (length C) 0 qs
+started C qs = run room C (length C) 0 [] qs
 
--- The route that the base machine gives for a list of numbers as code: "A run reads the code and the answers, never the tables."
+-- The route that the machine gives for a list of numbers as code: "A run reads the code and the answers, never the tables."
 abbrev pub codeRoute : List ℕ → List ℕ → Route
 codeRoute C qs = routeOf (started C qs .nodes) (started C qs .end)
 

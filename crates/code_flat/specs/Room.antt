@@ -5,26 +5,26 @@ use Rattle.route_completion.specs.Tree.{Stmt, Stmts, Cases, leaf, if1, if2, if3
 use Rattle.code_flat.specs.Code.{size, sizes, sizeCases, Room, RoomAll, RoomCases}
 
 mutual
-  noTryOne : (s : Stmt) → NoTry s → Room s 0
-  noTryOne (leaf n l) h = tt
-  noTryOne (if1 n s) h = noTryOne s h
-  noTryOne (if2 n s t) h = (noTryOne s (h .0), noTryOne t (h .1))
-  noTryOne (if3 n t s) h = (noTryOne t (h .0), noTryOne s (h .1))
-  noTryOne (withs n s) h = noTryOne s h
-  noTryOne (block ss) h = noTryRoom ss h
-  noTryOne (label l s) h = noTryOne s h
-  noTryOne (loop n before test s) h = noTryOne s h
-  noTryOne (switch n cs) h = noTryCases cs h
-  noTryOne (tryC b c) h = absurd h
-  noTryOne (tryF b f) h = absurd h
+  noTryOne : (s : Stmt) (r : ℕ) → NoTry s → Room s r
+  noTryOne (leaf n l) r h = tt
+  noTryOne (if1 n s) r h = noTryOne s r h
+  noTryOne (if2 n s t) r h = (noTryOne s r (h .0), noTryOne t r (h .1))
+  noTryOne (if3 n t s) r h = (noTryOne t r (h .0), noTryOne s r (h .1))
+  noTryOne (withs n s) r h = noTryOne s r h
+  noTryOne (block ss) r h = noTryRoom ss r h
+  noTryOne (label l s) r h = noTryOne s r h
+  noTryOne (loop n before test s) r h = noTryOne s r h
+  noTryOne (switch n cs) r h = noTryCases cs r h
+  noTryOne (tryC b c) r h = absurd h
+  noTryOne (tryF b f) r h = absurd h
 
-  pub noTryRoom : (ss : Stmts) → NoTryAll ss → RoomAll ss 0
-  noTryRoom nil h = tt
-  noTryRoom (cons s ss) h = (noTryOne s (h .0), noTryRoom ss (h .1))
+  pub noTryRoom : (ss : Stmts) (r : ℕ) → NoTryAll ss → RoomAll ss r
+  noTryRoom nil r h = tt
+  noTryRoom (cons s ss) r h = (noTryOne s r (h .0), noTryRoom ss r (h .1))
 
-  noTryCases : (cs : Cases) → NoTryCases cs → RoomCases cs 0
-  noTryCases none h = tt
-  noTryCases (case d ss cs) h = (noTryRoom ss (h .0), noTryCases cs (h .1))
+  noTryCases : (cs : Cases) (r : ℕ) → NoTryCases cs → RoomCases cs r
+  noTryCases none r h = tt
+  noTryCases (case d ss cs) r h = (noTryRoom ss r (h .0), noTryCases cs r (h .1))
 
 mutual
   unfolding size

@@ -1,4 +1,5 @@
-pub mod Ran
+pub mod Pending
+pub mod PendingLaws
 pub mod Turn
 pub mod TurnLaws
 pub mod Kept

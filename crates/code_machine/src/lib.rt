@@ -1,12 +1,17 @@
-// The base machine: it runs a unit's code, or any other list of numbers, over a list of answers.
+// The machine: it runs a unit's code, or any other list of numbers, over a list of answers.
 // What it lists goes to a slice that the caller lends, as far as that goes; with an empty slice it only counts.
 ghost use mathlib.Core.Path.{_≡_};
-ghost use mathlib.Core.List.{List, []};
-ghost use Prim.Native.Nat.{ℕ, _+_, _<_};
-ghost use lib.ListN.{getD, drop, length, set};
-ghost use Rattle.code_flat.specs.Machine.{pos, isCase, chase, endAs, jump, base, codeRoute, run as runs};
-ghost use Rattle.code_machine.specs.Ran.{saturated, next, laid};
-ghost use Rattle.code_machine.specs.Turn.{Turned};
+ghost use mathlib.Core.List.{List, _∷_};
+ghost use Prim.Native.Nat.{ℕ, _%_, _≤_, _<_};
+ghost use lib.ListN.{getD, drop, length};
+ghost use Rattle.code_flat.specs.Opcodes as op;
+ghost use Rattle.code_flat.specs.Machine.{room, Frame, open′, pend, pos, unwind, isCase, chase, endAs, jump, codeRoute, run as runs};
+ghost use Rattle.route_list.specs.Listing.{saturated, laid};
+ghost use Rattle.code_machine.specs.Pending.{half, frameOf, stack, comes, shallow};
+ghost use Rattle.code_machine.specs.Turn.{from, passes, opens, lists, Turned};
+
+pub mod opcodes;
+mod run_end;
 
 // What a run comes to: its end, how many nodes it lists, and how many answers it takes.
 pub struct Ran {
@@ -15,11 +20,12 @@ pub struct Ran {
     pub taken: u64,
 }
 
-// Where a run stands: at pc, with the answers from at, and room for so many instructions before the next answer.
+// Where a run stands: at pc, with the answers from at, a budget of instructions before the next answer, and so many ends pending.
 struct Place {
     pc: usize,
     at: usize,
-    room: usize,
+    budget: usize,
+    pending: usize,
 }
 
 // What an instruction comes to: the run is over, or goes on, with a node listed or not.
@@ -27,6 +33,25 @@ enum Step {
     Over(u32),
     On(Place),
     Listed(u32, Place),
+}
+
+// The way of a jump: to a place, at a depth of the pending ends.
+struct Way {
+    place: u32,
+    depth: u32,
+}
+
+// What a jump comes to at the end on top: its place, at this depth; the open finally block at a place, and the way waits; or a way on below.
+enum Passing {
+    Here,
+    Into(u32),
+    Below(Way),
+}
+
+// Where a jump comes to: a place, and how many ends are pending there.
+struct Landing {
+    place: u32,
+    pending: usize,
 }
 
 fn wide(x: u32) -> usize
@@ -50,7 +75,7 @@ fn is_case(code: &[u32], p: usize, c: u32) -> bool
     ensures { λ r. ⌜ r ≡ isCase (now (code .entry)) p c ⌝ }
 {
     if p < wide(c) {
-        return word(code, wide(c)) == 7;
+        return word(code, wide(c)) == opcodes::CASE;
     }
     false
 }
@@ -73,37 +98,173 @@ fn chased(code: &[u32], p: usize, c: u32, e: u32, a: u32) -> u32
     e
 }
 
+// An END can say 0, 1 and 2.
 fn end_as(e: u32) -> u32
     ensures { λ r. ⌜ r ≡ endAs e ⌝ }
 {
-    if e < 3 {
+    if e < run_end::SPENT {
         return e;
     }
-    5
+    run_end::ASTRAY
 }
 
-// Control goes to x.
-fn left(p: Place, x: u32) -> Step
-    ensures { λ r. ⌜ ((C qs : List ℕ) → base C (p .room) (p .pc) (drop (p .at) qs) ≡ jump (runs 0 C) (p .room) (pos x []) (drop (p .at) qs) → Turned C qs p r) ⌝ }
+// A pending end is one number: in its lower half a place; in its upper half 0 if the finally block there is open, and else one more than the depth of
+// the way to that place, which waits.
+const HALF: u64 = 4294967296;
+
+fn long(x: u32) -> u64
+    ensures { λ r. ⌜ r ≡ x ⌝ }
 {
-    if x == 0 {
-        return Step::Over(5);
+    x as u64
+}
+
+// The finally block at f is open.
+fn open_end(f: u32) -> u64
+    ensures { λ r. ⌜ frameOf r ≡ open′ f ⌝ }
+{
+    long(f)
+}
+
+// The way waits.
+fn waiting_end(way: Way) -> u64
+    requires { ⌜ way .depth < room ⌝ }
+    ensures { λ r. ⌜ frameOf r ≡ pend (way .place) (way .depth) ⌝ }
+{
+    (long(way.depth) + 1) * HALF + long(way.place)
+}
+
+fn place_of(end: u64) -> u32
+    ensures { λ r. ⌜ r ≡ end % half ⌝ }
+{
+    (end % HALF) as u32
+}
+
+// The way that waits.
+fn way_of(end: u64) -> Way
+    requires { ⌜ half ≤ end ⌝ }
+    ensures { λ r. ⌜ frameOf end ≡ pend (r .place) (r .depth) ⌝ }
+{
+    Way {
+        place: place_of(end),
+        depth: (end / HALF - 1) as u32,
     }
-    if p.room == 0 {
-        return Step::Over(5);
+}
+
+// What a jump comes to at the end on top, which has so many below it.
+fn met(end: u64, below: usize, way: Way) -> Passing
+    ensures { λ r. ⌜ ((K : List Frame) → length K ≡ below → unwind (frameOf end ∷ K) (way .place) (way .depth) ≡ comes (frameOf end) K way r) ⌝ }
+    ensures { λ r. ⌜ shallow below way r ⌝ }
+{
+    if end < HALF {
+        if below < wide(way.depth) {
+            return Passing::Here;
+        }
+        return Passing::Into(place_of(end));
+    }
+    if wide(way.depth) <= below {
+        return Passing::Below(way);
+    }
+    if way.place == 0 {
+        return Passing::Below(way_of(end));
+    }
+    Passing::Here
+}
+
+// Where a jump comes to.
+fn unwound(ends: &mut [u64], pending: usize, way: Way) -> Landing
+    requires { ⌜ length (now ends) ≡ room ⌝ }
+    requires { ⌜ pending ≤ room ⌝ }
+    ensures to { λ r. ⌜ unwind (stack (now (ends .entry)) pending) (way .place) (way .depth) ≡ pos (r .place) (stack (now (ends .exit)) (r .pending)) ⌝ }
+    ensures most { λ r. ⌜ r .pending ≤ room ⌝ }
+{
+    let mut left = pending;
+    let mut on = way;
+    while 0 < left {
+        let top = left - 1;
+        let passing = met(ends[top], top, on);
+        match passing {
+            Passing::Here => {
+                return Landing {
+                    place: on.place,
+                    pending: left,
+                };
+            }
+            Passing::Into(f) => {
+                ends[top] = waiting_end(on);
+                return Landing {
+                    place: f,
+                    pending: left,
+                };
+            }
+            Passing::Below(below) => {
+                on = below;
+                left = top;
+            }
+        }
+    }
+    Landing {
+        place: on.place,
+        pending: 0,
+    }
+}
+
+// One instruction passes without an answer, if the budget has one left; control goes to pc, with so many ends pending.
+fn passed(p: Place, pc: usize, pending: usize) -> Step
+    requires { ⌜ pending ≤ room ⌝ }
+    ensures { λ r. ⌜ ((C qs ends after : List ℕ) → from C qs ends p ≡ passes C qs after p pc pending → Turned C qs ends after p r) ⌝ }
+{
+    if p.budget == 0 {
+        return Step::Over(run_end::ASTRAY);
     }
     Step::On(Place {
-        pc: wide(x),
+        pc: pc,
         at: p.at,
-        room: p.room - 1,
+        budget: p.budget - 1,
+        pending: pending,
     })
+}
+
+// Control goes to where a jump has come to. The place 0 is what is pending where nothing is.
+fn landed(p: Place, to: Landing) -> Step
+    requires { ⌜ to .pending ≤ room ⌝ }
+    ensures { λ r. ⌜ ((C qs ends after : List ℕ) → from C qs ends p ≡ jump (runs room C) (p .budget) (pos (to .place) (stack after (to .pending))) (drop (p .at) qs) → Turned C qs ends after p r) ⌝ }
+{
+    if to.place == 0 {
+        return Step::Over(run_end::ASTRAY);
+    }
+    passed(p, wide(to.place), to.pending)
+}
+
+// A jump.
+fn left(ends: &mut [u64], p: Place, way: Way) -> Step
+    requires { ⌜ length (now ends) ≡ room ⌝ }
+    requires { ⌜ p .pending ≤ room ⌝ }
+    ensures { λ r. ⌜ ((C qs : List ℕ) → from C qs (now (ends .entry)) p ≡ jump (runs room C) (p .budget) (unwind (stack (now (ends .entry)) (p .pending)) (way .place) (way .depth)) (drop (p .at) qs) → Turned C qs (now (ends .entry)) (now (ends .exit)) p r) ⌝ }
+{
+    let to = unwound(ends, p.pending, way);
+    landed(p, to)
+}
+
+// The finally block at f is opened, and control goes to next.
+fn opened(ends: &mut [u64], p: Place, f: u32, next: usize) -> Step
+    requires { ⌜ length (now ends) ≡ room ⌝ }
+    requires { ⌜ p .pending ≤ room ⌝ }
+    ensures { λ r. ⌜ ((C qs : List ℕ) → from C qs (now (ends .entry)) p ≡ opens C qs (now (ends .entry)) p f next → Turned C qs (now (ends .entry)) (now (ends .exit)) p r) ⌝ }
+{
+    let pending = p.pending;
+    if pending == ends.len() {
+        return Step::Over(run_end::ASTRAY);
+    }
+    ends[pending] = open_end(f);
+    passed(p, next, pending + 1)
 }
 
 // The ASK at pc is taken.
 fn asked(code: &[u32], answers: &[u32], p: Place) -> Step
     requires { ⌜ p .pc < length (now code) ⌝ }
-    requires { ⌜ getD (now code) (p .pc) 0 ≡ 3 ⌝ }
-    ensures { λ r. ⌜ Turned (now (code .entry)) (now (answers .entry)) p r ⌝ }
+    requires { ⌜ getD (now code) (p .pc) 0 ≡ op.Ask ⌝ }
+    requires { ⌜ p .pending ≤ room ⌝ }
+    ensures { λ r. ⌜ ((ends : List ℕ) → Turned (now (code .entry)) (now (answers .entry)) ends ends p r) ⌝ }
 {
     let at = p.at;
     if at < answers.len() {
@@ -115,7 +276,8 @@ fn asked(code: &[u32], answers: &[u32], p: Place) -> Step
                 Place {
                     pc: wide(z),
                     at: at + 1,
-                    room: code.len(),
+                    budget: code.len(),
+                    pending: p.pending,
                 },
             );
         }
@@ -125,18 +287,20 @@ fn asked(code: &[u32], answers: &[u32], p: Place) -> Step
             Place {
                 pc: wide(y),
                 at: at + 1,
-                room: code.len(),
+                budget: code.len(),
+                pending: p.pending,
             },
         );
     }
-    Step::Over(3)
+    Step::Over(run_end::SPENT)
 }
 
 // The SELECT at pc is taken.
 fn selected(code: &[u32], answers: &[u32], p: Place) -> Step
     requires { ⌜ p .pc < length (now code) ⌝ }
-    requires { ⌜ getD (now code) (p .pc) 0 ≡ 4 ⌝ }
-    ensures { λ r. ⌜ Turned (now (code .entry)) (now (answers .entry)) p r ⌝ }
+    requires { ⌜ getD (now code) (p .pc) 0 ≡ op.Select ⌝ }
+    requires { ⌜ p .pending ≤ room ⌝ }
+    ensures { λ r. ⌜ ((ends : List ℕ) → Turned (now (code .entry)) (now (answers .entry)) ends ends p r) ⌝ }
 {
     let at = p.at;
     if at < answers.len() {
@@ -149,74 +313,67 @@ fn selected(code: &[u32], answers: &[u32], p: Place) -> Step
             Place {
                 pc: wide(t),
                 at: at + 1,
-                room: code.len(),
+                budget: code.len(),
+                pending: p.pending,
             },
         );
     }
-    Step::Over(3)
+    Step::Over(run_end::SPENT)
 }
 
-// The LIST at pc lists n.
-fn listed(code: &[u32], p: Place, n: u32) -> Step
-    requires { ⌜ p .pc < length (now code) ⌝ }
-    requires { ⌜ getD (now code) (p .pc) 0 ≡ 1 ⌝ }
-    requires { ⌜ n ≡ getD (now code) (p .pc + 1) 0 ⌝ }
-    ensures { λ r. ⌜ ((qs : List ℕ) → Turned (now (code .entry)) qs p r) ⌝ }
+// The node n is listed, and control goes to next.
+fn listed(p: Place, n: u32, next: usize) -> Step
+    requires { ⌜ p .pending ≤ room ⌝ }
+    ensures { λ r. ⌜ ((C qs ends : List ℕ) → from C qs ends p ≡ lists C qs ends p n next → Turned C qs ends ends p r) ⌝ }
 {
-    if p.room == 0 {
-        return Step::Over(5);
+    if p.budget == 0 {
+        return Step::Over(run_end::ASTRAY);
     }
     Step::Listed(
         n,
         Place {
-            pc: p.pc + 2,
+            pc: next,
             at: p.at,
-            room: p.room - 1,
+            budget: p.budget - 1,
+            pending: p.pending,
         },
     )
 }
 
-// One instruction. An OPEN, and what is no instruction, ends the run.
-fn turn(code: &[u32], answers: &[u32], p: Place) -> Step
-    ensures { λ r. ⌜ Turned (now (code .entry)) (now (answers .entry)) p r ⌝ }
+// One instruction. What is no instruction ends the run.
+fn turn(code: &[u32], answers: &[u32], ends: &mut [u64], p: Place) -> Step
+    requires { ⌜ length (now ends) ≡ room ⌝ }
+    requires { ⌜ p .pending ≤ room ⌝ }
+    ensures { λ r. ⌜ Turned (now (code .entry)) (now (answers .entry)) (now (ends .entry)) (now (ends .exit)) p r ⌝ }
 {
     let pc = p.pc;
     if code.len() <= pc {
-        return Step::Over(5);
+        return Step::Over(run_end::ASTRAY);
     }
     let x = word(code, pc + 1);
+    let y = word(code, pc + 2);
     match word(code, pc) {
-        1 => listed(code, p, x),
-        2 => left(p, x),
-        3 => asked(code, answers, p),
-        4 => selected(code, answers, p),
-        6 => Step::Over(end_as(x)),
-        7 => left(p, word(code, pc + 2)),
-        _ => Step::Over(5),
+        opcodes::LIST => listed(p, x, pc + 2),
+        opcodes::LEAVE => left(ends, p, Way { place: x, depth: y }),
+        opcodes::ASK => asked(code, answers, p),
+        opcodes::SELECT => selected(code, answers, p),
+        opcodes::OPEN => opened(ends, p, x, pc + 2),
+        opcodes::END => Step::Over(end_as(x)),
+        opcodes::CASE => left(
+            ends,
+            p,
+            Way {
+                place: y,
+                depth: word(code, pc + 3),
+            },
+        ),
+        _ => Step::Over(run_end::ASTRAY),
     }
 }
 
-// One entry more.
-fn next(k: u64) -> u64
-    ensures { λ r. ⌜ r ≡ next k ⌝ }
-{
-    if k == 18446744073709551615 {
-        return k;
-    }
-    k + 1
-}
-
-// The node of entry k is written if the slice goes that far.
-fn store(out: &mut [u32], k: u64, node: u32)
-    ensures { λ _. ⌜ now (out .exit) ≡ set (now (out .entry)) k node ⌝ }
-{
-    if k < out.len() as u64 {
-        out[k as usize] = node;
-    }
-}
-
-// Runs the code. The node of entry k goes to out[k] where out goes that far; the count of the entries saturates.
-pub fn run(code: &[u32], answers: &[u32], out: &mut [u32]) -> Ran
+// Runs the code with that room for pending ends. The node of entry k goes to out[k] where out goes that far; the count of the entries saturates.
+fn run_over(code: &[u32], answers: &[u32], ends: &mut [u64], out: &mut [u32]) -> Ran
+    requires { ⌜ length (now ends) ≡ room ⌝ }
     ensures end { λ r. ⌜ r .end ≡ codeRoute (now (code .entry)) (now (answers .entry)) .end ⌝ }
     ensures entries { λ r. ⌜ r .entries ≡ saturated (length (codeRoute (now (code .entry)) (now (answers .entry)) .list)) ⌝ }
     ensures taken { λ r. ⌜ r .taken ≡ codeRoute (now (code .entry)) (now (answers .entry)) .taken ⌝ }
@@ -225,11 +382,12 @@ pub fn run(code: &[u32], answers: &[u32], out: &mut [u32]) -> Ran
     let mut p = Place {
         pc: 0,
         at: 0,
-        room: code.len(),
+        budget: code.len(),
+        pending: 0,
     };
     let mut entries = 0;
     loop {
-        let s = turn(code, answers, p);
+        let s = turn(code, answers, ends, p);
         match s {
             Step::Over(end) => {
                 return Ran {
@@ -242,10 +400,20 @@ pub fn run(code: &[u32], answers: &[u32], out: &mut [u32]) -> Ran
                 p = q;
             }
             Step::Listed(n, q) => {
-                store(out, entries, n);
-                entries = next(entries);
+                entries = route_list::add(out, entries, n);
                 p = q;
             }
         }
     }
+}
+
+// Runs the code, with room for 512 pending ends.
+pub fn run(code: &[u32], answers: &[u32], out: &mut [u32]) -> Ran
+    ensures end { λ r. ⌜ r .end ≡ codeRoute (now (code .entry)) (now (answers .entry)) .end ⌝ }
+    ensures entries { λ r. ⌜ r .entries ≡ saturated (length (codeRoute (now (code .entry)) (now (answers .entry)) .list)) ⌝ }
+    ensures taken { λ r. ⌜ r .taken ≡ codeRoute (now (code .entry)) (now (answers .entry)) .taken ⌝ }
+    ensures list { λ _. ⌜ now (out .exit) ≡ laid (codeRoute (now (code .entry)) (now (answers .entry)) .list) (now (out .entry)) ⌝ }
+{
+    let mut ends: [u64; 512] = [0; 512];
+    run_over(code, answers, &mut ends, out)
 }

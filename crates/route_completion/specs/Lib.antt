@@ -7,3 +7,5 @@ pub mod Taken
 pub mod Scope
 pub mod Parts
 pub mod Examples
+pub mod Entries
+pub mod EntriesLaws

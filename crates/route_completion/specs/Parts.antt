@@ -9,11 +9,11 @@ use Rattle.route_completion.specs.Tree.{Stmt, Stmts, Cases, leaf, if1, i
 use Rattle.route_completion.specs.Sem.{Entry, plain, asked, Out, normal, out, ask, goOn, unbreak, turn, turns, rounds, loops, pick, isYes, isNormal, isThrow, isSpent, finallyIf, loopContinues, exec, execs, execFrom, entry}
 use Rattle.route_completion.specs.Route.{Mem, Once, onto, parts, AllOnce, nodesOf, nodesOfAll, nodesOfCases}
 
-memLeft : (x : ℕ) (a b : List ℕ) → Mem x a → Mem x (a ++ b)
+pub memLeft : (x : ℕ) (a b : List ℕ) → Mem x a → Mem x (a ++ b)
 memLeft x (y ∷ a) b (inl h) = inl h
 memLeft x (y ∷ a) b (inr h) = inr (memLeft x a b h)
 
-memRight : (x : ℕ) (a b : List ℕ) → Mem x b → Mem x (a ++ b)
+pub memRight : (x : ℕ) (a b : List ℕ) → Mem x b → Mem x (a ++ b)
 memRight x [] b h = h
 memRight x (y ∷ a) b h = inr (memRight x a b h)
 

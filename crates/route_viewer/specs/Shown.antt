@@ -6,7 +6,7 @@ use lib.Dec.{leb}
 use lib.ListN.{length}
 use Rattle.code_stores.specs.Over.{over}
 use Rattle.route_completion.specs.Route.{Route}
-use Rattle.code_machine.specs.Ran.{saturated}
+use Rattle.route_list.specs.Listing.{saturated}
 use Rattle.route_viewer.specs.declared.Routed.{Routed}
 use Rattle.route_viewer.specs.declared.Routed.the-variants as routed
 

@@ -7,7 +7,7 @@ use borrow.Author.Tests.{le-leb, lt-leb}
 use lib.ListN.{length, drop}
 use lib.Seq.{take-all}
 use Rattle.route_completion.specs.Route.{Route}
-use Rattle.code_machine.specs.Ran.{most, saturated, laid}
+use Rattle.route_list.specs.Listing.{most, saturated, laid}
 use Rattle.route_viewer.specs.declared.Routed.the-variants as routed
 use Rattle.route_viewer.specs.Shown.{shownAnswer, shownSlice}
 

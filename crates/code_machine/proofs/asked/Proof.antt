@@ -1,5 +1,5 @@
-use Rattle.code_machine.specs.TurnLaws.{wAskNo, wAskYes, wAskNone}
 use mathlib.Core.Path.{_∙_}
+use Rattle.code_machine.specs.TurnLaws.{askNo, askYes, askNone}
 use borrow.Author.Needs.{needs}
 use Rattle.code_machine.proofs.asked.Statement.{statement}
 use Rattle.code_machine.proofs.asked.Tie as tie
@@ -29,7 +29,7 @@ add-t15 : tie.Need-add-t15
 add-t15 c = search needs
 
 returns : tie.Need-returns
-returns c = wAskNo (c .before .before .before .before .before .before .before .before .before .before .args .code .now) (c .before .before .before .before .before .before .before .before .before .before .args .answers .now) (c .before .before .before .before .before .before .before .before .before .before .args .p) (c .before .before .before .before .before .before .before .before .before .before .pre .1) (c .before .before .before .before .before .word .result) (c .wide .result) (c .before .before .before .before .before .word .ensures) (c .wide .ensures ∙ c .before .word2 .ensures) (c .before .before .before .before .before .before .before .if1 .taken) (c .before .before .before .if2 .taken)
+returns c = λ ends. askNo (c .before .before .before .before .before .before .before .before .before .before .args .code .now) (c .before .before .before .before .before .before .before .before .before .before .args .answers .now) ends (c .before .before .before .before .before .before .before .before .before .before .args .p) (c .before .before .before .before .before .before .before .before .before .before .pre .1 .0) (c .before .before .before .before .before .word .result) (c .wide .result) (c .before .before .before .before .before .word .ensures) (c .wide .ensures ∙ c .before .word2 .ensures) (c .before .before .before .before .before .before .before .before .before .before .pre .1 .1) (c .before .before .before .before .before .before .before .if1 .taken) (c .before .before .before .if2 .taken)
 
 add-word-3 : tie.Need-add-word-3
 add-word-3 c = search needs
@@ -44,10 +44,10 @@ add-t18 : tie.Need-add-t18
 add-t18 c = search needs
 
 returns-2 : tie.Need-returns-2
-returns-2 c = wAskYes (c .before .before .before .before .before .before .before .before .before .before .args .code .now) (c .before .before .before .before .before .before .before .before .before .before .args .answers .now) (c .before .before .before .before .before .before .before .before .before .before .args .p) (c .before .before .before .before .before .before .before .before .before .before .pre .1) (c .before .before .before .before .before .word .result) (c .wide2 .result) (c .before .before .before .before .before .word .ensures) (c .wide2 .ensures ∙ c .before .word3 .ensures) (c .before .before .before .before .before .before .before .if1 .taken) (c .before .before .before .if2 .left)
+returns-2 c = λ ends. askYes (c .before .before .before .before .before .before .before .before .before .before .args .code .now) (c .before .before .before .before .before .before .before .before .before .before .args .answers .now) ends (c .before .before .before .before .before .before .before .before .before .before .args .p) (c .before .before .before .before .before .before .before .before .before .before .pre .1 .0) (c .before .before .before .before .before .word .result) (c .wide2 .result) (c .before .before .before .before .before .word .ensures) (c .wide2 .ensures ∙ c .before .word3 .ensures) (c .before .before .before .before .before .before .before .before .before .before .pre .1 .1) (c .before .before .before .before .before .before .before .if1 .taken) (c .before .before .before .if2 .left)
 
 returns-3 : tie.Need-returns-3
-returns-3 c = wAskNone (c .before .before .before .args .code .now) (c .before .before .before .args .answers .now) (c .before .before .before .args .p) (c .before .before .before .pre .1) (c .if1 .left)
+returns-3 c = λ ends. askNone (c .before .before .before .args .code .now) (c .before .before .before .args .answers .now) ends (c .before .before .before .args .p) (c .before .before .before .pre .1 .0) (c .if1 .left)
 
 pub asked-spec : {M : Type 1} → statement M
 asked-spec =

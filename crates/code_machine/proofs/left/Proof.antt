@@ -1,22 +1,21 @@
-use Rattle.code_machine.specs.TurnLaws.{jZero, jFull, jOn}
+use mathlib.Core.Path.{_∙_, ap}
+use lib.ListN.{drop}
+use Rattle.code_flat.specs.Machine.{room, jump, run}
 use borrow.Author.Needs.{needs}
 use Rattle.code_machine.proofs.left.Statement.{statement}
 use Rattle.code_machine.proofs.left.Tie as tie
 
+unwound-requires : tie.Need-unwound-requires
+unwound-requires c κs = search needs
+
+landed-requires : tie.Need-landed-requires
+landed-requires c κs = search needs
+
+same-length : tie.Need-same-length
+same-length c = search needs
+
 returns : tie.Need-returns
-returns c = λ C qs to. jZero C qs (c .before .args .p) (c .before .args .x) to (c .if1 .taken)
-
-returns-2 : tie.Need-returns-2
-returns-2 c = λ C qs to. jFull C qs (c .before .before .before .args .p) (c .before .before .before .args .x) to (c .before .before .if1 .left) (c .if2 .taken)
-
-wide-requires : tie.Need-wide-requires
-wide-requires c κs = search needs
-
-sub-t5 : tie.Need-sub-t5
-sub-t5 c = search needs
-
-returns-3 : tie.Need-returns-3
-returns-3 c = λ C qs to. jOn C qs (c .before .before .before .before .before .args .p) (c .before .before .before .before .before .args .x) to (c .before .before .before .before .if1 .left) (c .before .before .if2 .left) (c .before .wide .result) (c .before .wide .ensures)
+returns c = λ C qs to. c .landed .ensures C qs (c .before .before .before .before .before .before .args .ends .now) (c .before .before .before .unwound .last .0) (to ∙ ap (λ x. jump (run room C) (c .before .before .before .before .before .before .args .p .budget) x (drop (c .before .before .before .before .before .before .args .p .at) qs)) (c .before .before .before .unwound .ensures .0))
 
 pub left-spec : {M : Type 1} → statement M
-left-spec = tie.close (tie.spec returns returns-2 wide-requires sub-t5 returns-3)
+left-spec = tie.close (tie.spec unwound-requires landed-requires same-length returns)

@@ -2,8 +2,8 @@ use lib.Seq.{set-out}
 use native.Mathlib.Omega.{arith}
 use mathlib.Core.Path.{sym}
 use borrow.Author.Needs.{needs}
-use Rattle.code_machine.proofs.store.Statement.{statement}
-use Rattle.code_machine.proofs.store.Tie as tie
+use Rattle.route_list.proofs.store.Statement.{statement}
+use Rattle.route_list.proofs.store.Tie as tie
 
 mul-out : tie.Need-mul-out
 mul-out c = search needs

@@ -1,5 +1,6 @@
--- What a run gives its caller.
+-- What a caller gets of a list: its length, and the list laid over a slice.
 use Prim.Native.Nat.{ℕ, _+_, min}
+use mathlib.Core.Path.{_≡_}
 use mathlib.Core.List.{List, _++_}
 use lib.ListN.{length, take, drop}
 
@@ -17,3 +18,8 @@ next n = min (n + 1) most
 -- The slice f with the list l laid over its front, as far as f goes.
 unfoldable pub laid : List ℕ → List ℕ → List ℕ
 laid l f = take (length f) l ++ drop (length l) f
+
+-- The slice f, which was f₀, and the count n have taken the list l.
+pub record Listing (f₀ f l : List ℕ) (n : ℕ) : Type 0 where
+  pub counts : n ≡ saturated (length l)
+  pub wrote : f ≡ laid l f₀

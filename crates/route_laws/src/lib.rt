@@ -1,0 +1,1 @@
+// Specifications alone: routes with one answer changed, and how long a route is (specs/Claims.antt).
