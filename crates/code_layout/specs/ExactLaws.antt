@@ -56,7 +56,7 @@ sum-none z [] a = refl
 sum-none z (k ∷ l) a = omega (arith, a .0, sum-none z l (a .1))
 
 -- What holds of the numbers of a range holds of each of its list.
-upto-all : (P : ℕ → Type 0) (n g i : ℕ) → n ≤ i + g → ((j : ℕ) → i ≤ j → j < n → P j) → All P (upto i n)
+pub upto-all : (P : ℕ → Type 0) (n g i : ℕ) → n ≤ i + g → ((j : ℕ) → i ≤ j → j < n → P j) → All P (upto i n)
 upto-all P n zero i f h = subst (All P) (sym (upto-nil i n (omega arith))) tt
 upto-all P n (suc g) i f h = go (decLt i n) (upto-all P n g (i + 1) (omega arith) (λ j l u. h j (omega arith) u))
   where
@@ -68,7 +68,7 @@ module _ (ns : List ℕ) (b : ℕ) (g : Good ns) where
   abbrev Z : ℕ → ℕ
   Z j = widthAt ns b j
 
-  abbrev Y : ℕ → ℕ
+  abbrev pub Y : ℕ → ℕ
   Y j = Z j + openAt ns j
 
   -- A Try's parts by role are its parts.
@@ -106,7 +106,7 @@ module _ (ns : List ℕ) (b : ℕ) (g : Good ns) where
   and-no true = refl
   and-no false = refl
 
-  plainSum : (i : ℕ) → isTry (shapeAt ns i) ≡ false → (ps : List ℕ) → All (Part ns i) ps → sum Y ps ≡ sum Z ps
+  pub plainSum : (i : ℕ) → isTry (shapeAt ns i) ≡ false → (ps : List ℕ) → All (Part ns i) ps → sum Y ps ≡ sum Z ps
   plainSum i x ps a =
       sum-same Y Z ps (all-map (Part ns i) _ (λ c w. let e : openAt ns c ≡ 0 = openIs i c (roleOf ns c) w refl false x ∙ and-no (eqb (roleOf ns c) role.Finally) in omega arith) ps a)
 
@@ -139,7 +139,7 @@ module _ (ns : List ℕ) (b : ℕ) (g : Good ns) where
       (subst (λ t. Y c + (Y d + (Y e + 0)) ≡ (Z c + (Z d + (Z e + 0))) + cond t 2 0) (sym h) (omega arith))
 
   -- A node's number and the sizes of its parts.
-  nodeNumber : (i : ℕ) → b < i → i < count ns → Y i ≡ numberAt ns i + sum Y (parts ns i (i + 1))
+  pub nodeNumber : (i : ℕ) → b < i → i < count ns → Y i ≡ numberAt ns i + sum Y (parts ns i (i + 1))
   unfolding order isPart
   nodeNumber i hb hc = go (shapeAt ns i) refl
     where
@@ -301,7 +301,7 @@ module _ (ns : List ℕ) (b : ℕ) (g : Good ns) where
       go j l u true e = ap (λ t. cond (inUnit ns b j && t) (Y j) 0) (tests (upOf ns j) b .0 ∙ ap (λ t. t || eqb (upOf ns j) b) (low j l u e))
       go j l u false e = (λ k. cond (e k && ltb (upOf ns j) (b + 1)) (Y j) 0) ∙ sym (λ k. cond (e k && eqb (upOf ns j) b) (Y j) 0)
 
-  bodySum : b < count ns → shapeAt ns b ≡ Block → sum L (upto (b + 1) (count ns)) ≡ Z b
+  pub bodySum : b < count ns → shapeAt ns b ≡ Block → sum L (upto (b + 1) (count ns)) ≡ Z b
   unfolding order
   bodySum hc x =
       let f = frontAll (count ns) (b + 1) (omega arith) (omega arith) in

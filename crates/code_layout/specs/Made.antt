@@ -43,7 +43,7 @@ module _ (ns names : List ℕ) (b : ℕ) (h : Held ns names b) where
   unit-full x l = fills ns names b (h .good) (count ns) b x (omega arith) (h .root) (in-root ns b) (omega (arith, offset-root)) (omega (arith, offset-root, width-unit))
 
   -- What stands somewhere, read number by number.
-  hasAt : (C : List ℕ) (o : ℕ) (l : List ℕ) (i : ℕ) → Has C o l → i < length l → getD C (o + i) 0 ≡ getD l i 0
+  pub hasAt : (C : List ℕ) (o : ℕ) (l : List ℕ) (i : ℕ) → Has C o l → i < length l → getD C (o + i) 0 ≡ getD l i 0
   hasAt C o [] i p q = absurd (omega arith)
   hasAt C o (x ∷ l) zero p q = ap (λ k. getD C k 0) (add-zero o) ∙ p .0
   hasAt C o (x ∷ l) (suc i) p q = ap (λ k. getD C k 0) (let e : o + suc i ≡ suc o + i = omega arith in e) ∙ hasAt C (suc o) l i (p .1) (omega arith)

@@ -65,6 +65,7 @@ pub record Shaped (ns : List ℕ) : Type 0 where
   pub ifs : (j : ℕ) → j < count ns → shapeAt ns j ≡ If → One ns j ⊎ (Two ns j 3 4 ⊎ Two ns j 4 3)
   pub tries : (j : ℕ) → j < count ns → shapeAt ns j ≡ Try → Two ns j 3 4 ⊎ (Two ns j 3 5 ⊎ Three ns j)
   pub cases : (k : ℕ) → 0 < k → k < count ns → isPart ns k ≡ true → isCase (shapeAt ns k) ≡ isSwitch (shapeAt ns (upOf ns k))
+  pub catches : (k : ℕ) → k < count ns → shapeAt ns k ≡ Catch → shapeAt ns (upOf ns k) ≡ Try
 
 pub record Good (ns : List ℕ) : Type 0 where
   pub tree : Tree ns

@@ -71,7 +71,7 @@ module _ (ns names : List ℕ) (b : ℕ) where
         row Z (λ c k m. at c ≡ k) (at p + ownWidth ns b p) (order ns p) (order-distinct ns p g l)
         (all-map (Part ns p) _ (λ c w. offset-part p c h w) (order ns p) (order-all ns p))
 
-    in-from : (p : ℕ) → inUnit ns b p ≡ true → b ≤ p
+    pub in-from : (p : ℕ) → inUnit ns b p ≡ true → b ≤ p
     in-from p e = go (decLt p b)
       where
         go : Dec (p < b) → b ≤ p
@@ -155,7 +155,7 @@ module _ (ns names : List ℕ) (b : ℕ) where
         absurd (omega (arith, r .0))
     rowOne (k ∷ ks) o c d x r (inr i) (inr j) u v = rowOne ks (o + Z k) c d x (r .1) i j u v
 
-    partIn : (p c : ℕ) → b ≤ p → p < count ns → Part ns p c → (at p + ownWidth ns b p ≤ at c) × (at c + Z c ≤ at p + Z p)
+    pub partIn : (p c : ℕ) → b ≤ p → p < count ns → Part ns p c → (at p + ownWidth ns b p ≤ at c) × (at c + Z c ≤ at p + Z p)
     partIn p c h l w =
         let r = rowLow (order ns p) (at p + ownWidth ns b p) c (placed p h l) (in-order ns p c w) in
         (r .0, omega (arith, r .1, width-is ns b p l))

@@ -26,8 +26,8 @@ module _ (ns : List ℕ) (t : Tree ns) where
   depth-up : (c : ℕ) → 0 < c → c < count ns → depthOf ns c ≡ suc (depthOf ns (parentOf ns c))
   depth-up c h l = ap length (above-up (parentOf ns) (count ns) (t .falls) c h l)
 
-  stepUp : (c : ℕ) → c < count ns → Step c (parentOf ns c)
-  stepUp c l = go (eq-or-lt-of-le {n = 0} {m = c} (omega arith))
+  pub step-up : (c : ℕ) → c < count ns → Step c (parentOf ns c)
+  step-up c l = go (eq-or-lt-of-le {n = 0} {m = c} (omega arith))
     where
       go : (0 ≡ c) ⊎ (0 < c) → Step c (parentOf ns c)
       go (inl e) = subst (λ k. Step k (parentOf ns k)) e (record { le = omega (arith, t .top); deep = subst (λ k. depthOf ns k ≤ depthOf ns 0) (sym (t .top)) (omega arith) })
@@ -45,10 +45,10 @@ module _ (ns : List ℕ) (t : Tree ns) where
       one = record { lower = t .falls c h l; deeper = omega (arith, depth-up c h l) }
 
       two : Up c (parentOf ns (parentOf ns c))
-      two = let s = stepUp (parentOf ns c) (omega (arith, one .lower)) in record { lower = omega (arith, one .lower, s .le); deeper = omega (arith, one .deeper, s .deep) }
+      two = let s = step-up (parentOf ns c) (omega (arith, one .lower)) in record { lower = omega (arith, one .lower, s .le); deeper = omega (arith, one .deeper, s .deep) }
 
       three : Up c (parentOf ns (parentOf ns (parentOf ns c)))
-      three = let s = stepUp (parentOf ns (parentOf ns c)) (omega (arith, two .lower)) in record { lower = omega (arith, two .lower, s .le); deeper = omega (arith, two .deeper, s .deep) }
+      three = let s = step-up (parentOf ns (parentOf ns c)) (omega (arith, two .lower)) in record { lower = omega (arith, two .lower, s .le); deeper = omega (arith, two .deeper, s .deep) }
 
       by : (x : Bool) → Up c (cond x (parentOf ns (parentOf ns (parentOf ns c))) (parentOf ns (parentOf ns c)))
       by true = three

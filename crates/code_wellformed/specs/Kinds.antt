@@ -76,6 +76,29 @@ try-kind kind e = tryBy (ap isTry e)
     tryBy : isTry (shapeBy kind) ≡ true → kind ≡ 16
     tryBy = by-kind kind (λ s. isTry s ≡ true → kind ≡ 16) absent (λ q. absent) (λ p q. absent) (λ q. absent) (λ q. absent) (λ q. absent) (λ q. absent) (λ q x. q) (λ q. absent) absent absent
 
+abbrev isCatch : Shape → Bool
+isCatch Single = false
+isCatch Class = false
+isCatch If = false
+isCatch With = false
+isCatch Block = false
+isCatch Label = false
+isCatch Loop = false
+isCatch Switch = false
+isCatch Case = false
+isCatch Try = false
+isCatch Catch = true
+
+pub catch-kind : (kind : ℕ) → shapeBy kind ≡ Catch → kind ≡ 17
+catch-kind kind e = catchBy (ap isCatch e)
+  where
+    catchBy : isCatch (shapeBy kind) ≡ true → kind ≡ 17
+    catchBy = by-kind kind (λ s. isCatch s ≡ true → kind ≡ 17) absent (λ q. absent) (λ p q. absent) (λ q. absent) (λ q. absent) (λ q. absent) (λ q. absent) (λ q. absent) (λ q x. q) absent absent
+
+pub try-shape : (kind : ℕ) → kind ≡ 16 → shapeBy kind ≡ Try
+unfolding shapeBy
+try-shape kind e = ap shapeBy e
+
 pub case-shape : (kind : ℕ) → kind ≡ 15 → shapeBy kind ≡ Case
 unfolding shapeBy
 case-shape kind e = ap shapeBy e

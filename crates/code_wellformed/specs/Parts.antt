@@ -28,7 +28,7 @@ use Rattle.code_tree.specs.UpLaws.{up-falls}
 use Rattle.code_tree.specs.declared.Shape.{Shape}
 use Rattle.code_tree.specs.declared.Shape.the-variants.{Leaf as Single, Class, If, With, Block, Label, Loop, Switch, Case, Try, Catch}
 use Rattle.code_layout.specs.Shaped.{isOne, isCase, isSwitch, One, Two, Three, Good}
-use Rattle.code_wellformed.specs.Kinds.{one-kind, case-kind, switch-kind, if-kind, try-kind, case-shape, switch-shape, body-shape, class-shape, static-shape}
+use Rattle.code_wellformed.specs.Kinds.{one-kind, case-kind, switch-kind, if-kind, try-kind, catch-kind, try-shape, case-shape, switch-shape, body-shape, class-shape, static-shape}
 
 -- Two tests that agree keep the same.
 keep-same : (q r : ℕ → Bool) (n f i : ℕ) → n ≤ i + f → ((j : ℕ) → i ≤ j → j < n → q j ≡ r j) → keep q (upto i n) ≡ keep r (upto i n)
@@ -355,6 +355,13 @@ module _ (ns : List ℕ) (t : Tree ns) (li : Listed ns) (pl : Placed ns) (co : C
           let u = plain-up ns t li pl j x in
           go u (isCase (shapeAt ns j)) refl (isSwitch (shapeAt ns (parentOf ns j))) refl ∙ ap (λ m. isSwitch (shapeAt ns m)) (sym u)
 
+  -- "CatchClause, only there"
+  catches-of : (j : ℕ) → j < count ns → shapeAt ns j ≡ Catch → shapeAt ns (upOf ns j) ≡ Try
+  catches-of j l e =
+      let q = catch-kind (kindOf ns j) e in
+      let u = plain-up ns t li pl j (ne-eqb (kindOf ns j) k.StaticBlock (λ h. omega arith)) in
+      ap (shapeAt ns) u ∙ try-shape (kindOf ns (parentOf ns j)) (pl .clause j l q .0)
+
   -- THE LAW: tables that refusals 2, 3 and 6 pass are what the layout asks for.
   pub good : Good ns
-  good = record { tree = t; falls = up-falls ns t; shaped = record { one = one-of; ifs = ifs-of; tries = tries-of; cases = λ j h l e. cases-of j l e } }
+  good = record { tree = t; falls = up-falls ns t; shaped = record { one = one-of; ifs = ifs-of; tries = tries-of; cases = λ j h l e. cases-of j l e; catches = catches-of } }

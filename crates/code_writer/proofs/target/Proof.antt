@@ -1,17 +1,17 @@
-use Rattle.ways.specs.WaysLaws.{live-ge, return-at, throw-at}
-use Rattle.writer.specs.Leaf.{leafAim}
-use Rattle.completion.specs.Sem.{normal}
-use Rattle.aims.specs.Aim.{aim}
-use Rattle.words.specs.Made.{off-bound}
-use Rattle.words.specs.Words.{off}
-use Rattle.tables.specs.Table.{count}
+use Rattle.code_jumps.specs.WaysLaws.{live-ge, return-at, throw-at}
+use Rattle.code_writer.specs.Leaf.{leafAim}
+use Rattle.route_completion.specs.Sem.{normal}
+use Rattle.code_aims.specs.Aim.{aim}
+use Rattle.code_words.specs.Made.{off-bound}
+use Rattle.code_words.specs.Words.{off}
+use Rattle.table_records.specs.Table.{count}
 use lib.ListN.{getD}
 use native.Mathlib.Omega.{arith}
 use Prim.Native.Nat.{_+_, _-_}
 use mathlib.Core.Path.{_≡_, ap, sym, _∙_}
 use borrow.Author.Needs.{needs}
-use Rattle.writer.proofs.target.Statement.{statement}
-use Rattle.writer.proofs.target.Tie as tie
+use Rattle.code_writer.proofs.target.Statement.{statement}
+use Rattle.code_writer.proofs.target.Tie as tie
 
 wide-requires : tie.Need-wide-requires
 wide-requires c κs = search needs
