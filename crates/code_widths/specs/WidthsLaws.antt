@@ -223,6 +223,16 @@ module _ (ns names : List ℕ) (b : ℕ) (h : Held ns names b) where
     pub own-is : inUnit ns b i ≡ true → own ≡ widthAt ns b i
     own-is e = let w = c .before i (omega arith) (omega arith) e in let t = width-turn i hb hc in omega arith
 
+    pub rest-small : inUnit ns b i ≡ true → rest ≤ 786420
+    rest-small e =
+        let w = in-part ns b (h .good .falls) i hb hc e in
+        let u = in-above ns b (h .good .falls) i hb hc e in
+        let l = in-from ns names b (h .good) (upOf ns i) u in
+        let k = w .behind in
+        let s = parts-small (upOf ns i) (i + 1) l (omega arith) (omega arith) u in
+        let q = c .before (upOf ns i) l (omega arith) u in
+        omega arith
+
     pub counts-turn : inUnit ns b i ≡ true → (w r : ℕ) → w ≡ own → r ≡ rest → Counts ns b i (set (set widths i w) up (r + w + openAt ns i)) (set behinds i r)
     counts-turn e w r ew er =
         record {

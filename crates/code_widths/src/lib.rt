@@ -23,7 +23,7 @@ fn unit_at(nodes: &[u32], names: &[u8], b: NodeId, units: &[u32], n: NodeId) -> 
     if n.0 < b.0 {
         return 0;
     }
-    if n.0 == b.0 {
+    if n.0 <= b.0 {
         return 1;
     }
     if !is_part(nodes, n) {
