@@ -1,0 +1,13 @@
+pub mod Opcodes
+pub mod Widths
+pub mod Context
+pub mod Words
+pub mod Exact
+pub mod Shaped
+pub mod Sums
+pub mod LayoutLaws
+pub mod Nodes
+pub mod Stands
+pub mod Made
+pub mod Examples
+pub mod ExactLaws

@@ -1,0 +1,1 @@
+// Where the words of each node of a unit stand, and which they are.

@@ -1,0 +1,1 @@
+// What well-formed tables give the code maker.
