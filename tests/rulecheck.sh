@@ -53,5 +53,20 @@ is "a search that ends above the Program" "J,0,3,1\nS,0,4,0\n$at_super" 'R,6,2'
 is "a super outside any function" "J,0,3,1\nS,0,2,0\n$at_super" 'F,30,2,0,0,0,0,0\nE,1'
 # 6 at a Super: its scope is the class's, and no class element stands above it
 is "a search without an element" 'J,0,6,1\nS,0,2,0\nN,0,0,0,0,0,0,0,0,\nN,26,0,3,0,0,0,0,0,\nN,27,1,0,0,0,0,0,0,\nN,3,2,0,0,0,0,0,0,\nN,22,3,3,0,0,0,0,0,\nN,37,4,0,0,0,0,0,0,\nX,\n' 'R,6,5'
+# 1,024 scopes and 1,023 nodes in lines of 2,100 bytes, by leading zeros: 4.3 million bytes, of which nothing is cut; at the last line a finding
+zeros=$(head -c 2087 /dev/zero | tr '\0' 0)
+large() {
+    printf 'J,0,%s1024,1024\n' "${zeros:0:2085}"
+    printf 'S,%s0,2,0\n' "$zeros" | sed 's/^S,00/S,000000/'
+    for _ in $(seq 1023); do printf 'S,%s0,0,0\n' "${zeros}0000"; done
+    printf 'N,0,0,0,0,0,0,0,%s0,\n' "${zeros:0:2080}"
+    for _ in $(seq 1022); do printf 'N,55,0,0,0,0,0,0,%s0,\n' "${zeros:0:2079}"; done
+    printf 'N,%s,0,3,0,0,0,0,%s0,\n' "$1" "${zeros:0:2079}"
+    printf 'X,\n'
+}
+for last in 22:E,0 18:F,18,1023,0,0,0,0,0 99:R,2,1023; do
+    got=$(large "${last%%:*}" | target/bin/rulecheck | head -n 1)
+    if [ "$got" = "${last#*:}" ]; then passed=$((passed + 1)); else failed=$((failed + 1)); echo "FAILED: a large input: $got"; fi
+done
 echo "$passed passed, $failed failed"
 [ "$failed" -eq 0 ]
