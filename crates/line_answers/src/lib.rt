@@ -9,6 +9,7 @@ use call_check::Checked;
 
 // Room for 8,192 findings, and for the text of so many.
 pub const FINDINGS_ROOM: usize = 7 * 8192;
+
 pub const TEXT_ROOM: usize = 80 * 8192;
 
 // Writes the line of the finding that starts at `at`, from place w on. Says where it ends.

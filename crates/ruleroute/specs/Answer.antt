@@ -30,12 +30,12 @@ codeRoom = 16384
 
 -- what was read, the answers among it, and the length of the slice for the route
 unfoldable pub routedBy : Route → Reading → List ℕ → ℕ → Routed
-routedBy (Unasked line) d as room = routed.Refused 0 line
-routedBy (Asked kind n s x m u a) d as room = routeAnswer kind (d .nodes) (d .scopes) (d .source) (d .names) u as codeRoom room
+routedBy (Unasked line) d given room = routed.Refused 0 line
+routedBy (Asked kind n s x m u a) d given room = routeAnswer kind (d .nodes) (d .scopes) (d .source) (d .names) u given codeRoom room
 
 unfoldable pub entriesBy : Route → Reading → List ℕ → List ℕ → List ℕ
-entriesBy (Unasked line) d as out = out
-entriesBy (Asked kind n s x m u a) d as out = routeSlice kind (d .nodes) (d .scopes) (d .source) (d .names) u as codeRoom out
+entriesBy (Unasked line) d given out = out
+entriesBy (Asked kind n s x m u a) d given out = routeSlice kind (d .nodes) (d .scopes) (d .source) (d .names) u given codeRoom out
 
 -- the answer for the bytes b, and what the slice for the route holds then
 unfoldable pub routedOf : List ℕ → ℕ → Routed

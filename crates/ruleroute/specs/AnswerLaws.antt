@@ -23,17 +23,17 @@ module _ (room : Room) (len : ℕ) (b : List ℕ) (q : room ≡ lent) (z : len �
   unfolding routedOf entriesOf routedBy entriesBy
   routed-unasked line out h = rw (sym q, sym z, sym e, h) (refl, refl)
 
-  module _ (kind n s x m u a : ℕ) (h : r ≡ Asked kind n s x m u a) (n₀ s₀ x₀ m₀ a₀ ns ss xs ms as : List ℕ)
-      (g : Given (readInput room b) n₀ s₀ x₀ m₀ ns ss xs ms) (k : as ≡ front (readRoute room len b .answers) a₀) where
+  module _ (kind n s x m u a : ℕ) (h : r ≡ Asked kind n s x m u a) (n₀ s₀ x₀ m₀ a₀ ns ss xs ms gs : List ℕ)
+      (g : Given (readInput room b) n₀ s₀ x₀ m₀ ns ss xs ms) (k : gs ≡ front (readRoute room len b .answers) a₀) where
     pub routed-asked : (out : List ℕ)
-        → (routeAnswer kind (take n ns) (take s ss) (take x xs) (take m ms) u (take a as) codeRoom (length out) ≡ routedOf b (length out))
-        × (routeSlice kind (take n ns) (take s ss) (take x xs) (take m ms) u (take a as) codeRoom out ≡ entriesOf b out)
+        → (routeAnswer kind (take n ns) (take s ss) (take x xs) (take m ms) u (take a gs) codeRoom (length out) ≡ routedOf b (length out))
+        × (routeSlice kind (take n ns) (take s ss) (take x xs) (take m ms) u (take a gs) codeRoom out ≡ entriesOf b out)
     unfolding routedOf entriesOf routedBy entriesBy
     routed-asked out =
         let d : Reading = readInput room b in
         let o = asked-told len (linesOf b) (d .answer) kind n s x m u a (sym e ∙ h) in
         let t : Sized (Tables kind n s x m) d = subst (λ (i : Input). Sized i d) (o .0) (lines-told room (linesOf b)) in
-        rw (sym q, sym z, sym e, h, part (d .nodes) n₀ ns n (t .0) (g .nodes), part (d .scopes) s₀ ss s (t .1) (g .scopes), part (d .source) x₀ xs x (t .2) (g .source), part (d .names) m₀ ms m (t .3) (g .names), part (readRoute room len b .answers) a₀ as a (o .1) k)
+        rw (sym q, sym z, sym e, h, part (d .nodes) n₀ ns n (t .0) (g .nodes), part (d .scopes) s₀ ss s (t .1) (g .scopes), part (d .source) x₀ xs x (t .2) (g .source), part (d .names) m₀ ms m (t .3) (g .names), part (readRoute room len b .answers) a₀ gs a (o .1) k)
         (refl, refl)
 
 -- Nothing is cut: the program reads at most `enough` bytes, and more of them change nothing.

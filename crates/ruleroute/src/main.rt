@@ -17,6 +17,7 @@ use route_viewer::Routed;
 const LINE: usize = 256;
 // Room for the code, 16 numbers a node, and for the route.
 const CODE: usize = 16 * 1024;
+
 const ROUTE: usize = 655360;
 
 // Writes the line of an entry. Says where it ends.
@@ -109,7 +110,20 @@ fn respond_by(
             unit,
             answers: a,
         } => routed(
-            kind, n, s, b, m, unit, a, nodes, scopes, source, names, answers, code, out,
+            kind,
+            n,
+            s,
+            b,
+            m,
+            unit,
+            a,
+            nodes,
+            scopes,
+            source,
+            names,
+            answers,
+            code,
+            out,
         ),
     }
 }
