@@ -4,6 +4,7 @@ use mathlib.Core.Path.{_≡_, refl, ap, sym, subst, _∙_}
 use mathlib.Core.List.{List, [], _∷_}
 use mathlib.Core.Bool.{Bool, true, false, cond, not}
 use lib.Dec.{eqb}
+use borrow.Author.Tests.{eqb-true, eqb-false}
 use mathlib.Core.Logic.{⊎-elim}
 use native.Mathlib.Omega.{arith}
 use Rattle.base_common.specs.Bools.{never}
@@ -23,15 +24,17 @@ use Rattle.table_children.specs.ChildrenLaws.{node-on, node-stop, node-end, num
 use Rattle.table_ancestry.specs.Ancestry.{nearestOf}
 use Rattle.base_common.specs.Tests.{within}
 use Rattle.table_ancestry.specs.AncestryLaws.{parent-in, nearest-stop, nearest-on, nearest-root}
-use Rattle.check_supers.specs.Super.{ifCall, placeOf, heritageUse, firstClass, dummyUse, derivedUse, isValueOf, isMethodLike, objectUse, methodUse, functionUse, isClassScope, atClass, stepAt, classAbove, leaveClass, classAfter, orRest, reachFrom, reachOf, isCall}
-use Rattle.check_supers.specs.SuperLaws.{outer-next, reach-end}
+use Rattle.check_supers.specs.Super.{ifCall, partAt, placeOf, heritageUse, firstClass, dummyUse, derivedUse, isValueOf, isMethodLike, objectUse, methodUse, functionUse, isClassScope, atClass, scopeStep, stepAt, classAbove, leaveClass, classAfter, orRest, reachFrom, reachOf, isCall}
+use Rattle.check_supers.specs.SuperLaws.{outer-next, reach-end, place-some}
 use Rattle.check_supers.specs.declared.ElementPart.{ElementPart}
 use Rattle.check_supers.specs.declared.ElementPart.the-variants.{Value, Key, NoElement}
 use Rattle.check_supers.specs.declared.Reach.{Reach}
 use Rattle.check_supers.specs.declared.Reach.the-variants.{Legal, Illegal, Underived, Fails}
 use Rattle.check_supers.specs.declared.Step.{Step}
 use Rattle.check_supers.specs.declared.Step.the-variants.{Stop, Leave, On}
-use Rattle.check_super_search.specs.Search.{isStop, stopReach, underivedIn}
+use Rattle.check_super_search.specs.Search.{isStop, stopReach, underivedIn, aroundOf, scopesIn, atMost, AroundSuper}
+use Rattle.check_super_search.specs.declared.Scopes.{Scopes}
+use Rattle.check_super_search.specs.declared.Scopes.the-variants.{From, Spent}
 
 -- a step that ends the search
 stopped : (x : Step) (r : Reach) → isStop x ≡ true → orRest x r ≡ stopReach x
@@ -200,3 +203,94 @@ module _ (ns : List ℕ) (t : Tree ns) where
   unfolding reachOf
   reach-in ss n l =
       reach-in-from (λ b h. nearest-in k.ClassBody k.ClassBody b b (omega arith) h) ss n (isCall ns n) (scopeOf ns n ∷ outer ss (scopeOf ns n)) (classAbove ns n) n (nearest-in k.ClassBody k.ClassBody n n (omega arith) l)
+
+spent : (ns ss : List ℕ) (n : ℕ) (call : Bool) (class : Found) (start : ℕ) → reachFrom ns ss n call [] class start ≡ Illegal
+unfolding reachFrom
+spent ns ss n call class start = refl
+
+-- the scopes around s
+module _ (ss : List ℕ) (c : Chained ss) (s : ℕ) (l : s < countScopes ss) (left : Scopes) (f : left ≡ aroundOf ss s) where
+  around-by : (P : Scopes → Type 0) → (s ≡ 0 → P Spent) → (0 < s → P (From (record { 0 = scopeParentOf ss s }))) → P left
+  around-by P p q = rw f (go (eqb s 0) refl)
+    where
+      go : (t : Bool) → eqb s 0 ≡ t → P (cond t Spent (From (record { 0 = scopeParentOf ss s })))
+      go true e = p (eqb-true s 0 e)
+      go false e = q (let h = eqb-false s 0 e in omega arith)
+
+  pub around-less : atMost left < suc s
+  around-less = around-by (λ x. atMost x < suc s) (λ e. omega arith) (λ h. omega (arith, c .falls s h l))
+
+  pub around-super : (ns : List ℕ) (n : ℕ) → scopeOf ns n < countScopes ss → on (scopeParentOf ss) s (scopeOf ns n) ≡ true → AroundSuper ns ss n left
+  around-super ns n k o =
+      around-by (AroundSuper ns ss n) (λ e. tt) (λ h. (omega (arith, c .falls s h l), around ss c (scopeOf ns n) s (scopeParentOf ss s) k l h refl o))
+
+  next-scopes : (ns : List ℕ) (n : ℕ) (call : Bool) (class : Found) (start : ℕ) (x : Step) → x ≡ stepAt ns ss n call class start s → isStop x ≡ false
+      → reachFrom ns ss n call (s ∷ outer ss s) class start ≡ reachFrom ns ss n call (scopesIn ss left) (classAfter ns class x) (scopeNodeOf ss s)
+  next-scopes ns n call class start x e q =
+      around-by (λ y. reachFrom ns ss n call (s ∷ outer ss s) class start ≡ reachFrom ns ss n call (scopesIn ss y) (classAfter ns class x) (scopeNodeOf ss s))
+      (λ z. search-end ns ss n call class start s x e q z ∙ sym (spent ns ss n call (classAfter ns class x) (scopeNodeOf ss s)))
+      (λ h. search-on ns ss n call class start s x e q c (scopeParentOf ss s) refl h l)
+
+-- a step at the class's scope, and at another
+module _ (ns ss : List ℕ) (n : ℕ) (call : Bool) (class : Found) (start s : ℕ) where
+  step-class : isClassScope ns class s ≡ true → (p : ElementPart) → placeOf ns start ≡ p → stepAt ns ss n call class start s ≡ atClass call p
+  unfolding stepAt
+  step-class e p q = rw (e, q)
+
+  step-other : isClassScope ns class s ≡ false → stepAt ns ss n call class start s ≡ scopeStep ns ss n call class s
+  unfolding stepAt
+  step-other e = rw e
+
+  goes-on : isStop (scopeStep ns ss n call class s) ≡ false → scopeStep ns ss n call class s ≡ On
+  goes-on = go (hasFlag (scopeFlagsOf ss s) scope.StaticBlockScope) (hasFlag (scopeFlagsOf ss s) scope.FunctionScope) (hasFlag (scopeFlagsOf ss s) scope.ArrowScope)
+    where
+      r : Reach
+      r = functionUse ns n call class (scopeNodeOf ss s)
+
+      go : (a b d : Bool) → isStop (cond a (Stop (ifCall call)) (cond (not b) On (cond d On (Stop r)))) ≡ false → cond a (Stop (ifCall call)) (cond (not b) On (cond d On (Stop r))) ≡ On
+      go true b d e = never e
+      go false false d e = refl
+      go false true true e = refl
+      go false true false e = never e
+
+-- the search as the loop has it: what is left of it equals the whole
+module _ (ns ss : List ℕ) (t : Tree ns) (c : Chained ss) (n : ℕ) (l : n < count ns) where
+  abbrev pub Answers : Reach → Type 0
+  Answers r = (r ≡ reachOf ns ss n) × underivedIn ns r
+
+  pub answers : (r : Reach) → r ≡ reachOf ns ss n → Answers r
+  answers r e = (e, subst (λ (x : Reach). underivedIn ns x) (sym e) (reach-in ns t ss n l))
+
+  pub all-spent : (call : Bool) (class : Found) (start : ℕ) → reachFrom ns ss n call [] class start ≡ reachOf ns ss n → Answers Illegal
+  all-spent call class start i = answers Illegal (sym (spent ns ss n call class start) ∙ i)
+
+  module _ (call : Bool) (class : Found) (start s : ℕ) (i : reachFrom ns ss n call (s ∷ outer ss s) class start ≡ reachOf ns ss n) where
+    stops : (x : Step) → x ≡ stepAt ns ss n call class start s → isStop x ≡ true → (r : Reach) → r ≡ stopReach x → Answers r
+    stops x e q r f = answers r (f ∙ sym (search-stop ns ss n call class start s x e q) ∙ i)
+
+    pub class-fails : isClassScope ns class s ≡ true → placeOf ns start ≡ NoElement → Answers Fails
+    class-fails e p = stops (Stop Fails) (sym (step-class ns ss n call class start s e NoElement p)) refl Fails refl
+
+    pub class-value : isClassScope ns class s ≡ true → placeOf ns start ≡ Value → (r : Reach) → r ≡ ifCall call → Answers r
+    class-value e p r f = stops (Stop (ifCall call)) (sym (step-class ns ss n call class start s e Value p)) refl r f
+
+    pub class-key : isClassScope ns class s ≡ true → placeOf ns start ≡ Key → s < countScopes ss → (left : Scopes) → left ≡ aroundOf ss s → (k : Found) → k ≡ leaveClass ns class → (b : ℕ) → b ≡ scopeNodeOf ss s
+        → reachFrom ns ss n call (scopesIn ss left) k b ≡ reachOf ns ss n
+    class-key e p h left f k g b d = rw (g, d) (sym (next-scopes ss c s h left f ns n call class start Leave (sym (step-class ns ss n call class start s e Key p)) refl) ∙ i)
+
+    pub scope-stops : isClassScope ns class s ≡ false → (x : Step) → x ≡ scopeStep ns ss n call class s → isStop x ≡ true → (r : Reach) → r ≡ stopReach x → Answers r
+    scope-stops e x f q r g = stops x (f ∙ sym (step-other ns ss n call class start s e)) q r g
+
+    pub scope-goes : isClassScope ns class s ≡ false → (x : Step) → x ≡ scopeStep ns ss n call class s → isStop x ≡ false → s < countScopes ss → (left : Scopes) → left ≡ aroundOf ss s → (b : ℕ) → b ≡ scopeNodeOf ss s
+        → reachFrom ns ss n call (scopesIn ss left) class b ≡ reachOf ns ss n
+    scope-goes e x f q h left g b d =
+        let o : scopeStep ns ss n call class s ≡ On = goes-on ns ss n call class start s (ap isStop (sym f) ∙ q) in
+        rw d (sym (next-scopes ss c s h left g ns n call class start On (sym (step-other ns ss n call class start s e ∙ o)) refl) ∙ i)
+
+-- the part that the parent of a node tells
+module _ (ns : List ℕ) (t : Tree ns) (x a : ℕ) (e : a ≡ parentOf ns x) (h : 0 < x) (l : x < count ns) where
+  pub place-value : partAt ns a x ≡ Value → placeOf ns x ≡ Value
+  place-value q = place-some ns t x a e h l Value q (λ f. let z : _≡_ {A = ℕ} 0 1 = cc in omega arith)
+
+  pub place-key : partAt ns a x ≡ Key → placeOf ns x ≡ Key
+  place-key q = place-some ns t x a e h l Key q (λ f. let z : _≡_ {A = ℕ} 0 1 = cc in omega arith)

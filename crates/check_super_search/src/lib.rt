@@ -1,18 +1,20 @@
 // check_super: the search through the scopes, for the finding and for refusal 6.
 ghost use mathlib.Core.Path.{_≡_};
 ghost use Prim.Native.Nat.{_<_};
-ghost use Rattle.table_records.specs.Table.{count};
+ghost use Rattle.table_records.specs.Table.{count, countScopes};
 ghost use Rattle.table_records.specs.Facts.{Tree, Chained, Scoped};
 ghost use Rattle.table_children.specs.Children.{below};
 ghost use Rattle.check_supers.specs.Super.{reachOf, failsAt, byReach, checkSuper, isFails};
 ghost use Rattle.check_supers.specs.declared.Step.{Step};
-ghost use Rattle.check_super_search.specs.Search.{isStop, stopReach, underivedIn};
+ghost use Rattle.check_super_search.specs.Search.{isStop, stopReach, underivedIn, aroundOf};
 use check_diagnostics::Raised;
 use check_diagnostics::codes;
+use check_supers::ElementPart;
 use check_supers::Reach;
 use check_supers::Step;
 use table_records::Found;
 use table_records::NodeId;
+use table_records::ScopeId;
 use table_records::kinds;
 
 fn is_stop(step: Step) -> bool
@@ -35,7 +37,29 @@ fn stop_reach(step: Step) -> Reach
     }
 }
 
-// What is found of the Super n, scope by scope outward.
+// The scopes that the search still has to look at: this one and those around it, or none.
+enum Scopes {
+    From(ScopeId),
+    Spent,
+}
+
+// The scopes around s.
+fn around(scopes: &[u32], s: ScopeId) -> Scopes
+    requires { ⌜ Chained (now scopes) ⌝ }
+    requires { ⌜ s .0 < countScopes (now scopes) ⌝ }
+    ensures { λ r. ⌜ r ≡ aroundOf (now (scopes .entry)) (s .0) ⌝ }
+{
+    if s.0 == 0 {
+        return Scopes::Spent;
+    }
+    Scopes::From(table_ancestry::scope_up(scopes, s))
+}
+
+// What is found of the Super n, scope by scope outward. It is illegal too where it is in no function and no class:
+// > ModuleBody : ModuleItemList
+// > * It is a Syntax Error if ModuleItemList Contains super.
+// > ScriptBody : StatementList
+// > * It is a Syntax Error if StatementList Contains super
 pub fn reach(nodes: &[u32], scopes: &[u32], n: NodeId) -> Reach
     requires { ⌜ Tree (now nodes) ⌝ }
     requires { ⌜ Chained (now scopes) ⌝ }
@@ -47,18 +71,38 @@ pub fn reach(nodes: &[u32], scopes: &[u32], n: NodeId) -> Reach
     let call = check_supers::is_call(nodes, n);
     let mut class = table_ancestry::nearest(nodes, n, kinds::CLASS_BODY, kinds::CLASS_BODY);
     let mut start = n;
-    let mut at = table_records::scope(nodes, n);
+    let mut left = Scopes::From(table_records::scope(nodes, n));
     'scopes: loop {
-        let step = check_supers::step_at(nodes, scopes, n, call, class, start, at);
-        if is_stop(step) {
-            break 'scopes stop_reach(step);
-        }
-        class = check_supers::class_after(nodes, class, step);
-        start = table_records::scope_node(scopes, at);
-        if at.0 == 0 {
+        let Scopes::From(s) = left else {
             break 'scopes Reach::Illegal;
+        };
+        left = around(scopes, s);
+        let mut x = start;
+        start = table_records::scope_node(scopes, s);
+        if !check_supers::is_class_scope(nodes, class, s) {
+            let step = check_supers::scope_step(nodes, scopes, n, call, class, s);
+            if is_stop(step) {
+                break 'scopes stop_reach(step);
+            }
+            continue 'scopes;
         }
-        at = table_ancestry::scope_up(scopes, at);
+        // The class's scope: which part of a class element of it is the `super` in?
+        loop {
+            if x.0 == 0 {
+                break 'scopes Reach::Fails;
+            }
+            let a = table_ancestry::up(nodes, x);
+            match check_supers::part_at(nodes, a, x) {
+                // `super.foo` is legal in a value, `super()` is not.
+                ElementPart::Value => break 'scopes check_supers::if_call(call),
+                // In a computed key or decorator the class around decides.
+                ElementPart::Key => {
+                    class = check_supers::leave_class(nodes, class);
+                    continue 'scopes;
+                }
+                ElementPart::NoElement => x = a,
+            }
+        }
     }
 }
 

@@ -41,6 +41,10 @@ isValueOf ns a x = isNode (valueOf ns a) x
 unfoldable pub partOf : List ℕ → ℕ → ℕ → ElementPart
 partOf ns a x = cond (eqb (kindOf ns a) k.MethodDefinition) Key (cond (isValueOf ns a x) Value Key)
 
+-- the same of any node a, which may be no class element
+unfoldable pub partAt : List ℕ → ℕ → ℕ → ElementPart
+partAt ns a x = cond (within (kindOf ns a) k.MethodDefinition k.AccessorProperty) (partOf ns a x) NoElement
+
 -- in which part of the nearest class element above it a node stands: x goes over the node and its ancestors
 unfoldable pub placeOf : List ℕ → ℕ → ElementPart
 placeOf ns start =
@@ -94,14 +98,17 @@ atClass call Value = Stop (ifCall call)
 atClass call Key = Leave
 atClass call NoElement = Stop Fails
 
--- what scope s says; `start` is the node of the scope before it, at first the Super
-unfoldable pub stepAt : List ℕ → List ℕ → ℕ → Bool → Found → ℕ → ℕ → Step
-stepAt ns ss n call class start s =
-    cond (isClassScope ns class s) (atClass call (placeOf ns start))
-    (cond (hasFlag (scopeFlagsOf ss s) scope.StaticBlockScope) (Stop (ifCall call))
+-- at another scope: by its flags
+abbrev pub scopeStep : List ℕ → List ℕ → ℕ → Bool → Found → ℕ → Step
+scopeStep ns ss n call class s =
+    cond (hasFlag (scopeFlagsOf ss s) scope.StaticBlockScope) (Stop (ifCall call))
     (cond (not (hasFlag (scopeFlagsOf ss s) scope.FunctionScope)) On
     (cond (hasFlag (scopeFlagsOf ss s) scope.ArrowScope) On
-    (Stop (functionUse ns n call class (scopeNodeOf ss s))))))
+    (Stop (functionUse ns n call class (scopeNodeOf ss s)))))
+
+-- what scope s says; `start` is the node of the scope before it, at first the Super
+unfoldable pub stepAt : List ℕ → List ℕ → ℕ → Bool → Found → ℕ → ℕ → Step
+stepAt ns ss n call class start s = cond (isClassScope ns class s) (atClass call (placeOf ns start)) (scopeStep ns ss n call class s)
 
 -- the nearest ClassBody above a node
 abbrev pub classAbove : List ℕ → ℕ → Found

@@ -4,7 +4,7 @@ ghost use Prim.Native.Nat.{_<_};
 ghost use Rattle.table_records.specs.Table.{count, countScopes, scopeNodeOf};
 ghost use Rattle.table_records.specs.Facts.{Tree};
 ghost use Rattle.table_children.specs.Children.{below};
-ghost use Rattle.check_supers.specs.Super.{isCall, ifCall, placeOf, partOf, isValueOf, isMethodLike, heritageUse, firstClass, dummyUse, derivedUse, objectUse, methodUse, functionUse, isClassScope, atClass, stepAt, classAfter, leaveClass};
+ghost use Rattle.check_supers.specs.Super.{isCall, ifCall, partOf, partAt, isValueOf, isMethodLike, heritageUse, firstClass, dummyUse, derivedUse, objectUse, methodUse, functionUse, isClassScope, scopeStep, leaveClass};
 use table_records::Found;
 use table_records::NodeId;
 use table_records::ScopeId;
@@ -49,7 +49,7 @@ pub fn is_call(nodes: &[u32], n: NodeId) -> bool
 }
 
 // Where a property may be taken of `super`, and `super` may not be called.
-fn if_call(call: bool) -> Reach
+pub fn if_call(call: bool) -> Reach
     ensures { λ r. ⌜ r ≡ ifCall call ⌝ }
 {
     if call {
@@ -85,27 +85,20 @@ fn part_of(nodes: &[u32], a: NodeId, x: NodeId) -> ElementPart
     ElementPart::Key
 }
 
-// The part of the nearest class element above it in which a node stands.
-fn element_part(nodes: &[u32], start: NodeId) -> ElementPart
+// The same for any node a, which may be no class element.
+pub fn part_at(nodes: &[u32], a: NodeId, x: NodeId) -> ElementPart
     requires { ⌜ Tree (now nodes) ⌝ }
-    requires { ⌜ start .0 < count (now nodes) ⌝ }
-    ensures { λ r. ⌜ r ≡ placeOf (now (nodes .entry)) (start .0) ⌝ }
+    requires { ⌜ a .0 < count (now nodes) ⌝ }
+    ensures { λ r. ⌜ r ≡ partAt (now (nodes .entry)) (a .0) (x .0) ⌝ }
 {
-    let mut x = start;
-    loop {
-        if x.0 == 0 {
-            break ElementPart::NoElement;
-        }
-        let a = table_ancestry::up(nodes, x);
-        if base_common::within(
-            table_records::kind(nodes, a),
-            kinds::METHOD_DEFINITION,
-            kinds::ACCESSOR_PROPERTY,
-        ) {
-            break part_of(nodes, a, x);
-        }
-        x = a;
+    if base_common::within(
+        table_records::kind(nodes, a),
+        kinds::METHOD_DEFINITION,
+        kinds::ACCESSOR_PROPERTY,
+    ) {
+        return part_of(nodes, a, x);
     }
+    ElementPart::NoElement
 }
 
 // A call in the constructor of the class with this ClassBody.
@@ -235,7 +228,7 @@ fn function_use(nodes: &[u32], n: NodeId, call: bool, class: Found, f: NodeId) -
 }
 
 // Whether s is the scope of the class with this ClassBody.
-fn is_class_scope(nodes: &[u32], class: Found, s: ScopeId) -> bool
+pub fn is_class_scope(nodes: &[u32], class: Found, s: ScopeId) -> bool
     requires { ⌜ Tree (now nodes) ⌝ }
     requires { ⌜ below (now nodes) class ⌝ }
     ensures { λ r. ⌜ r ≡ isClassScope (now (nodes .entry)) class (s .0) ⌝ }
@@ -247,41 +240,25 @@ fn is_class_scope(nodes: &[u32], class: Found, s: ScopeId) -> bool
     s.0 == table_records::extra(nodes, c)
 }
 
-// What the scope of the class says.
-fn at_class(nodes: &[u32], call: bool, start: NodeId) -> Step
-    requires { ⌜ Tree (now nodes) ⌝ }
-    requires { ⌜ start .0 < count (now nodes) ⌝ }
-    ensures { λ r. ⌜ r ≡ atClass call (placeOf (now (nodes .entry)) (start .0)) ⌝ }
-{
-    let part = element_part(nodes, start);
-    match part {
-        ElementPart::Value => Step::Stop(if_call(call)),
-        ElementPart::Key => Step::Leave,
-        ElementPart::NoElement => Step::Stop(Reach::Fails),
-    }
-}
-
-// What the scope s of the search says.
-pub fn step_at(
+// What the scope s of the search says, where it isn't the class's: `super.foo` is legal in static blocks, `super()` is not; scopes that are
+// no functions, and arrow functions, are skipped.
+// > ClassStaticBlockBody : ClassStaticBlockStatementList
+// > * It is a Syntax Error if ClassStaticBlockStatementList Contains SuperCall is true.
+pub fn scope_step(
     nodes: &[u32],
     scopes: &[u32],
     n: NodeId,
     call: bool,
     class: Found,
-    start: NodeId,
     s: ScopeId,
 ) -> Step
     requires { ⌜ Tree (now nodes) ⌝ }
     requires { ⌜ n .0 < count (now nodes) ⌝ }
     requires { ⌜ below (now nodes) class ⌝ }
-    requires { ⌜ start .0 < count (now nodes) ⌝ }
     requires { ⌜ s .0 < countScopes (now scopes) ⌝ }
     requires { ⌜ scopeNodeOf (now scopes) (s .0) < count (now nodes) ⌝ }
-    ensures { λ r. ⌜ r ≡ stepAt (now (nodes .entry)) (now (scopes .entry)) (n .0) call class (start .0) (s .0) ⌝ }
+    ensures { λ r. ⌜ r ≡ scopeStep (now (nodes .entry)) (now (scopes .entry)) (n .0) call class (s .0) ⌝ }
 {
-    if is_class_scope(nodes, class, s) {
-        return at_class(nodes, call, start);
-    }
     let flags = table_records::scope_flags(scopes, s);
     if table_records::has_flag(flags, scope_flag::STATIC_BLOCK_SCOPE) {
         return Step::Stop(if_call(call));
@@ -296,22 +273,8 @@ pub fn step_at(
     Step::Stop(function_use(nodes, n, call, class, f))
 }
 
-// The class in which the search goes on after a step.
-pub fn class_after(nodes: &[u32], class: Found, step: Step) -> Found
-    requires { ⌜ Tree (now nodes) ⌝ }
-    requires { ⌜ below (now nodes) class ⌝ }
-    ensures { λ r. ⌜ r ≡ classAfter (now (nodes .entry)) class step ⌝ }
-    ensures { λ r. ⌜ below (now (nodes .entry)) r ⌝ }
-{
-    match step {
-        Step::Leave => leave_class(nodes, class),
-        Step::On => class,
-        Step::Stop(_) => class,
-    }
-}
-
 // The class around a class.
-fn leave_class(nodes: &[u32], class: Found) -> Found
+pub fn leave_class(nodes: &[u32], class: Found) -> Found
     requires { ⌜ Tree (now nodes) ⌝ }
     requires { ⌜ below (now nodes) class ⌝ }
     ensures { λ r. ⌜ r ≡ leaveClass (now (nodes .entry)) class ⌝ }

@@ -32,3 +32,10 @@ abbrev pub Counted : Checked → ℕ → Type 0
 Counted (Findings n) len = 7 * n ≤ len
 Counted (Refused number place) len = Unit {0}
 Counted (Short needed) len = Unit {0}
+
+-- A program's room: for 8,192 findings of seven numbers, and for their lines, of at most 79 bytes each, with the line of their count.
+abbrev pub findingsRoom : ℕ
+findingsRoom = 57344
+
+abbrev pub textRoom : ℕ
+textRoom = 655360

@@ -4,9 +4,14 @@ ghost use Prim.Native.Nat.{_+_, _*_, _≤_, _<_};
 ghost use lib.ListN.{length, take, drop};
 ghost use Rattle.base_common.specs.Wrote.{put};
 ghost use Rattle.line_print.specs.Print.{lineOf};
-ghost use Rattle.line_answers.specs.Answer.{findingLines, findingsText, refusalText, answerText, Counted};
+ghost use Rattle.line_answers.specs.Answer.{findingLines, findingsText, refusalText, answerText, Counted, findingsRoom, textRoom};
 use call_check::Checked;
 use refusal_verdict::refusals;
+
+// Room for 8,192 findings, and for the text of so many.
+pub const FINDINGS_ROOM: usize = 7 * 8192;
+
+pub const TEXT_ROOM: usize = 80 * 8192;
 
 // Writes the line of the finding that starts at `at`, from place w on. Says where it ends.
 fn put_finding(findings: &[u32], at: usize, out: &mut [u8], w: usize) -> usize
@@ -57,7 +62,7 @@ pub fn refusal_text(number: u32, place: u32, out: &mut [u8]) -> usize
 // Writes what an answer of `check` prints, with the findings that it wrote. Says where that ends.
 pub fn answer_text(answer: Checked, findings: &[u32], out: &mut [u8]) -> usize
     requires { ⌜ Counted answer (length (now findings)) ⌝ }
-    requires { ⌜ (length (now findings) ≤ 57344) × (655360 ≤ length (now out)) ⌝ }
+    requires { ⌜ (length (now findings) ≤ findingsRoom) × (textRoom ≤ length (now out)) ⌝ }
     ensures { λ r. ⌜ (r ≡ length (answerText answer (now (findings .entry)))) × (now (out .exit) ≡ put (now (out .entry)) 0 (answerText answer (now (findings .entry)))) ⌝ }
 {
     match answer {

@@ -75,6 +75,10 @@ pub record Room : Type 0 where
 abbrev pub roomOf : List ℕ → List ℕ → List ℕ → List ℕ → Room
 roomOf nodes scopes source names = record { nodes = length nodes; scopes = length scopes; source = length source; names = length names }
 
+-- the programs' slices: "at most 1,024 nodes, scopes and bytes of names and of source"
+abbrev pub lent : Room
+lent = record { nodes = 10240; scopes = 3072; source = 1024; names = 1024 }
+
 -- What stands behind the J line: as many S lines and then N lines as it says, and the X line. What follows isn't read. A missing line is
 -- taken as an empty one, which can't be read.
 module _ (room : Room) (kind nodes scopes : ℕ) (ls : List (List ℕ)) where

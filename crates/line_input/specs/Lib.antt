@@ -4,3 +4,5 @@ pub mod Example
 pub mod ReadLaws
 pub mod InputLaws
 pub mod RouteLaws
+pub mod Sizes
+pub mod Whole

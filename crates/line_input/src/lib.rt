@@ -13,6 +13,10 @@ ghost use Rattle.line_input.specs.RouteLaws.{twoOf, twoAnswers};
 ghost use Rattle.line_forms.specs.Forms.{rest, numbersOf, isNumbers, isN, nameOf, isX, sourceOf};
 ghost use Rattle.line_input.specs.Format.{nodeOf, scopeLines, nodeLines, scopesOf, roomOf, readBehind, readInput, front, Given};
 
+// So many bytes of an input are read at most: 2,052 lines (J, 1,024 scopes, 1,024 nodes, X, U, A) of up to 2,100 bytes, each with its
+// end. `specs/Whole` proves that what follows them changes nothing.
+pub const ENOUGH: usize = 2052 * 2101;
+
 pub enum Input {
     Tables {
         kind: u32,

@@ -1,8 +1,8 @@
-// Lines of numbers, as the programs print them.
+// Lines of numbers, as the programs print them, and the front of a slice.
 ghost use mathlib.Core.Path.{_≡_};
 ghost use Prim.Native.Nat.{_+_, _≤_, _<_};
 ghost use mathlib.Core.List.{_∷_};
-ghost use lib.ListN.{length};
+ghost use lib.ListN.{length, take};
 ghost use Rattle.base_common.specs.Wrote.{put};
 ghost use Rattle.line_print.specs.Print.{decimal, lineOf};
 ghost use Rattle.line_print.specs.PrintLaws.{fieldsFor};
@@ -107,4 +107,24 @@ pub fn long_line(letter: u8, numbers: &[u64], out: &mut [u8], w: usize) -> usize
     let end = put_words(numbers, out, w + 1);
     out[end] = 10;
     end + 1
+}
+
+// The first n bytes, or all where there are fewer.
+pub fn front(s: &[u8], n: usize) -> &[u8]
+    ensures { λ r. ⌜ now r ≡ take n (now (s .entry)) ⌝ }
+{
+    if n <= s.len() {
+        return &s[..n];
+    }
+    s
+}
+
+// The first n numbers, or all where there are fewer.
+pub fn front_numbers(s: &[u32], n: usize) -> &[u32]
+    ensures { λ r. ⌜ now r ≡ take n (now (s .entry)) ⌝ }
+{
+    if n <= s.len() {
+        return &s[..n];
+    }
+    s
 }

@@ -13,9 +13,9 @@ use Rattle.refusal_input.specs.Input.{inputRefusal}
 use Rattle.check_dispatch.specs.Findings.{findingsOf}
 use Rattle.line_input.specs.declared.Input.{Input}
 use Rattle.line_input.specs.declared.Input.the-variants.{Tables, Unread}
-use Rattle.line_input.specs.Format.{Room, Reading, readInput}
+use Rattle.line_input.specs.Format.{Reading, lent, readInput}
 use Rattle.line_print.specs.Print.{lineOf}
-use Rattle.line_answers.specs.Answer.{refusalText}
+use Rattle.line_answers.specs.Answer.{refusalText, findingsRoom}
 
 -- "It prints F with the seven numbers": a line for each finding
 unfoldable pub linesFor : List Finding → List ℕ
@@ -26,18 +26,14 @@ linesFor (f ∷ fs) = lineOf 70 (numbers f) ++ linesFor fs
 abbrev pub foundText : List Finding → List ℕ
 foundText fs = linesFor fs ++ lineOf 69 (length fs ∷ [])
 
--- "or only R with number and place" (refusalText); the program has room for 57,344 numbers, and more findings than these hold are refusal 10, place 0
+-- "or only R with number and place" (refusalText); more findings than the program has room for are refusal 10, place 0
 unfoldable pub verdictText : Verdict → List Finding → List ℕ
 verdictText (Refused number place) fs = refusalText number place
-verdictText Passed fs = cond (leb (7 * length fs) 57344) (foundText fs) (refusalText refusal.FindingsSlice 0)
+verdictText Passed fs = cond (leb (7 * length fs) findingsRoom) (foundText fs) (refusalText refusal.FindingsSlice 0)
 
 -- the text of tables that are read
 unfoldable pub checkText : ℕ → List ℕ → List ℕ → List ℕ → List ℕ → List ℕ
 checkText sourceType ns ss source names = verdictText (inputRefusal sourceType ns ss source names) (findingsOf sourceType ns ss source names)
-
--- "at most 1,024 nodes, scopes and bytes of names and of source"
-abbrev pub lent : Room
-lent = record { nodes = 10240; scopes = 3072; source = 1024; names = 1024 }
 
 -- "(R,0,line, from 1, where a line can't be read or is missing)"
 abbrev pub inputText : Input → Reading → List ℕ

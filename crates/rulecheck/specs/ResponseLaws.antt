@@ -20,13 +20,14 @@ use Rattle.call_check.specs.declared.Checked.{Checked}
 use Rattle.call_check.specs.declared.Checked.the-variants.{Findings, Short}
 use Rattle.call_check.specs.Check.{reportAnswer, reportSlice, answerBy, sliceBy, checkAnswer, checkSlice}
 use Rattle.line_fields.specs.Split.{linesOf}
-use Rattle.line_forms.specs.Forms.{kindIn, nodesIn, scopesIn, isJ, isX}
 use Rattle.line_input.specs.declared.Input.{Input}
 use Rattle.line_input.specs.declared.Input.the-variants.{Tables, Unread}
-use Rattle.line_input.specs.Format.{Room, roomOf, Reading, stopped, tables, ssIn, nsIn, xIn, readBehind, readLines, readInput, front, Given}
+use Rattle.line_input.specs.Format.{Room, Reading, lent, readInput, front, Given}
+use Rattle.line_input.specs.Sizes.{Sized, lines-told, part}
+use Rattle.line_input.specs.Whole.{enough, input-whole}
 use Rattle.line_print.specs.Print.{lineOf}
-use Rattle.line_answers.specs.Answer.{findingLines, answerText, Counted, refusalText}
-use Rattle.rulecheck.specs.Response.{linesFor, verdictText, checkText, lent, response}
+use Rattle.line_answers.specs.Answer.{findingLines, answerText, Counted, refusalText, findingsRoom}
+use Rattle.rulecheck.specs.Response.{linesFor, verdictText, checkText, inputText, response}
 
 -- the findings as they stand in the slice
 lines-flat : (fs : List Finding) (r : List ℕ) → findingLines (length fs) (flat fs ++ r) ≡ linesFor fs
@@ -35,10 +36,10 @@ lines-flat [] r = refl
 lines-flat (f ∷ fs) r = ap (λ (x : List ℕ). lineOf 70 (numbers f) ++ x) (lines-flat fs r)
 
 -- what `check` answers and leaves gives the text
-module _ (fs : List Finding) (s : List ℕ) (h : length s ≡ 57344) where
+module _ (fs : List Finding) (s : List ℕ) (h : length s ≡ findingsRoom) where
   report-text : answerText (reportAnswer fs (length s)) (reportSlice fs s) ≡ verdictText verdict.Passed fs
   unfolding reportAnswer reportSlice answerText verdictText
-  report-text = rw h (go (leb (7 * length fs) 57344))
+  report-text = rw h (go (leb (7 * length fs) findingsRoom))
     where
       go : (t : Bool) → answerText (cond t (Findings (length fs)) (Short (7 * length fs))) (cond t (flat fs ++ drop (7 * length fs) s) s)
           ≡ cond t (linesFor fs ++ lineOf 69 (length fs ∷ [])) (refusalText refusal.FindingsSlice 0)
@@ -63,7 +64,7 @@ by-counted (verdict.Refused number place) fs len = tt
 by-counted verdict.Passed fs len = report-counted fs len
 
 module _ (kind : ℕ) (ns ss source names : List ℕ) where
-  pub check-text : (s : List ℕ) → length s ≡ 57344 → answerText (checkAnswer kind ns ss source names (length s)) (checkSlice kind ns ss source names s) ≡ checkText kind ns ss source names
+  pub check-text : (s : List ℕ) → length s ≡ findingsRoom → answerText (checkAnswer kind ns ss source names (length s)) (checkSlice kind ns ss source names s) ≡ checkText kind ns ss source names
   unfolding checkAnswer checkSlice checkText
   check-text s h = by-text (findingsOf kind ns ss source names) s h (inputRefusal kind ns ss source names)
 
@@ -72,55 +73,12 @@ module _ (kind : ℕ) (ns ss source names : List ℕ) where
   check-counted len = by-counted (inputRefusal kind ns ss source names) (findingsOf kind ns ss source names) len
 
 -- the same of the slices as the code has them
-module _ (kind : ℕ) (s g : List ℕ) (r : Checked) (ns ss xs ms : List ℕ) (h : length s ≡ 57344) (a : r ≡ checkAnswer kind ns ss xs ms (length s)) (b : g ≡ checkSlice kind ns ss xs ms s) where
+module _ (kind : ℕ) (s g : List ℕ) (r : Checked) (ns ss xs ms : List ℕ) (h : length s ≡ findingsRoom) (a : r ≡ checkAnswer kind ns ss xs ms (length s)) (b : g ≡ checkSlice kind ns ss xs ms s) where
   pub checked-counted : length g ≡ length s → Counted r (length g)
   checked-counted e = rw (e, a) (check-counted kind ns ss xs ms (length s))
 
   pub checked-text : (ns′ ss′ xs′ ms′ : List ℕ) → ns ≡ ns′ → ss ≡ ss′ → xs ≡ xs′ → ms ≡ ms′ → answerText r g ≡ checkText kind ns′ ss′ xs′ ms′
   checked-text ns′ ss′ xs′ ms′ p q u v = rw (a, b, sym p, sym q, sym u, sym v) (check-text kind ns ss xs ms s h)
-
--- the sizes that are answered are those of what was read
-abbrev Sized : Input → Reading → Type 0
-Sized (Unread line) d = Unit {0}
-Sized (Tables kind n s x m) d = (length (d .nodes) ≡ n) × (length (d .scopes) ≡ s) × (length (d .source) ≡ x) × (length (d .names) ≡ m)
-
-abbrev Told : Reading → Type 0
-Told d = Sized (d .answer) d
-
-behind-told : (room : Room) (kind n s : ℕ) (ls : List (List ℕ)) → Told (readBehind room kind n s ls)
-unfolding readBehind
-behind-told room kind n s ls = go (eqb (length ss) s) (eqb (length ns) n) (isX (room .source) x)
-  where
-    ss : List (List ℕ)
-    ss = ssIn room kind n s ls
-
-    ns : List (List ℕ)
-    ns = nsIn room kind n s ls
-
-    x : List ℕ
-    x = xIn room kind n s ls
-
-    go : (p q r : Bool) → Told (cond p (cond q (cond r (tables kind ss ns x) (stopped (2 + s + n) ss ns)) (stopped (2 + s + length ns) ss ns)) (stopped (2 + length ss) ss []))
-    go true true true = (refl, refl, refl, refl)
-    go true true false = tt
-    go true false r = tt
-    go false q r = tt
-
-lines-told : (room : Room) (ls : List (List ℕ)) → Told (readLines room ls)
-unfolding readLines
-lines-told room [] = tt
-lines-told room (j ∷ ls) = go (isJ (room .nodes) (room .scopes) j)
-  where
-    go : (t : Bool) → Told (cond t (readBehind room (kindIn j) (nodesIn j) (scopesIn j) ls) (stopped 1 [] []))
-    go true = behind-told room (kindIn j) (nodesIn j) (scopesIn j) ls
-    go false = tt
-
-pub room-lent : (ns ss xs ms : List ℕ) → length ns ≡ 10240 → length ss ≡ 3072 → length xs ≡ 1024 → length ms ≡ 1024 → roomOf ns ss xs ms ≡ lent
-room-lent ns ss xs ms g h i j = rw (g, h, i, j)
-
--- what was read stands at the front of a slice
-part : (l f g : List ℕ) (n : ℕ) → length l ≡ n → g ≡ front l f → take n g ≡ l
-part l f g n e h = ap (take n) h ∙ take-at l (drop (length l) f) n e
 
 -- the text by what `read` answers
 module _ (room : Room) (b : List ℕ) (q : room ≡ lent) (r : Input) (a : r ≡ readInput room b .answer) where
@@ -142,3 +100,8 @@ front-put f g t u r e p = (p .0 ∙ ap length e, p .1 ∙ ap (λ (k : ℕ). t ++
 
 pub front-same : (f g t u : List ℕ) (r : ℕ) → t ≡ u → (r ≡ length t) × (g ≡ front t f) → (r ≡ length u) × (g ≡ front u f)
 front-same f g t u r e p = rw (sym e) p
+
+-- Nothing is cut: the program reads at most `enough` bytes, and more of them change nothing.
+pub response-whole : (b : List ℕ) → response (take enough b) ≡ response b
+unfolding response
+response-whole b = ap (λ (d : Reading). inputText (d .answer) d) (input-whole lent b)

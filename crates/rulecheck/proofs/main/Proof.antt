@@ -1,18 +1,21 @@
 -- `rulecheck::main` meets its contract.
 use Prim.Native.Nat.{ℕ}
+use mathlib.Core.Path.{sym}
 use lib.ListN.{length-replicate}
+use Rattle.line_answers.specs.Answer.{textRoom}
+use Rattle.line_input.specs.Whole.{enough}
 use borrow.Author.Needs.{needs}
 use Rattle.rulecheck.proofs.main.Statement.{statement}
 use Rattle.rulecheck.proofs.main.Tie as tie
 
 slice-aggregate-run : tie.Need-slice-aggregate-run
-slice-aggregate-run c = search needs
+slice-aggregate-run c = sym (length-replicate {A = ℕ} enough 0)
 
 slice-aggregate-run-2 : tie.Need-slice-aggregate-run-2
 slice-aggregate-run-2 c = search needs
 
 run-requires : tie.Need-run-requires
-run-requires c κs = length-replicate {A = ℕ} 655360 0
+run-requires c κs = length-replicate {A = ℕ} textRoom 0
 
 returns : tie.Need-returns
 returns c = search needs

@@ -1,7 +1,8 @@
 -- `rulecheck::respond_by` meets its contract.
 use mathlib.Core.Path.{sym}
 use Rattle.line_input.specs.Format.{roomOf}
-use Rattle.rulecheck.specs.ResponseLaws.{room-lent, text-unread, text-tables, front-put, front-same}
+use Rattle.line_input.specs.Sizes.{room-lent}
+use Rattle.rulecheck.specs.ResponseLaws.{text-unread, text-tables, front-put, front-same}
 use borrow.Author.Needs.{needs}
 use Rattle.rulecheck.proofs.respond_by.Statement.{statement}
 use Rattle.rulecheck.proofs.respond_by.Tie as tie
