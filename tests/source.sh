@@ -1,5 +1,6 @@
 #!/usr/bin/env bash
-# What the source says of itself: the layout, no hole or axiom in a proof, no division or remainder in a walk up, shell scripts without warnings.
+# What the source says of itself: the layout, no hole or axiom in a proof, no division or remainder in a walk up, shell scripts without
+# warnings, documents in short lines.
 # shellcheck source=tests/lib.bash
 source "$(dirname "$0")/lib.bash" || exit 1
 
@@ -32,10 +33,14 @@ shell_scripts() {
     [ "${#scripts[@]}" -ge 10 ] && tools/setup shellcheck && shellcheck -x "${scripts[@]}"
 }
 
+# tools/rewrap FILE.. mends what this tells
+short_lines() { tools/setup node && tools/rewrap --check README.md docs/*.md compare/*.md compare/*/*.md bindings/*/README.md; }
+
 check "every file in rt's layout" formatted
 check "every crate listed in crates.txt" listed
 check "no hole and no axiom" no_holes
 check "no division or remainder in a walk up" no_division
 check "no long function" small_functions
 check "no warning of shellcheck" shell_scripts
+check "documents in lines of at most 120 columns" short_lines
 finish

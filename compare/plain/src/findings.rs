@@ -1,6 +1,6 @@
 //! checker/mod.rs and checker/javascript.rs over well-formed tables. Functions bear the Rust's names.
 
-use crate::classes::{Classes, Element, ElementKind, has_body, key_name};
+use crate::classes::{has_body, key_name, Classes, Element, ElementKind};
 use crate::supers::{self, Walk};
 use crate::tables::*;
 
