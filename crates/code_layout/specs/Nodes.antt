@@ -294,14 +294,14 @@ module _ (ns names : List ℕ) (b : ℕ) where
             oz : o + cond (hasRole ns role.Finally (c ∷ d ∷ [])) 2 0 ≡ o
             oz = ap (λ t. o + cond t 2 0) F ∙ zeroed
 
-            ac : A c ≡ context o δ [] (inTry ρ (o + Z c) δ)
-            ac = r .0 .att-is ∙ (λ i. context (oz i) (cond (F i) (suc δ) δ) [] (tryEnv ns names b (x i) (K i) (oz i + Z c) (cond (F i) (suc δ) δ) ρ))
+            atC : A c ≡ context o δ [] (inTry ρ (o + Z c) δ)
+            atC = r .0 .att-is ∙ (λ i. context (oz i) (cond (F i) (suc δ) δ) [] (tryEnv ns names b (x i) (K i) (oz i + Z c) (cond (F i) (suc δ) δ) ρ))
 
             ad : A d ≡ context (o + Z c) δ [] ρ
             ad = r .1 .0 .att-is ∙ (λ i. context (oz i + Z c) (cond (F i) (suc δ) δ) [] (tryEnv ns names b (y i) (K i) (oz i + Z c + Z d) (cond (F i) (suc δ) δ) ρ))
 
             pc : P c ≡ code (S c) [] o δ (inTry ρ (o + Z c) δ)
-            pc = ap (piece (S c)) ac
+            pc = ap (piece (S c)) atC
 
             pd : P d ++ [] ≡ code (S d) [] (o + Z c) δ ρ
             pd = append-nil (P d) ∙ ap (piece (S d)) ad
@@ -328,14 +328,14 @@ module _ (ns names : List ℕ) (b : ℕ) where
             oz : o + cond (hasRole ns role.Finally (c ∷ d ∷ [])) 2 0 ≡ o + 2
             oz = ap (λ t. o + cond t 2 0) F
 
-            ac : A c ≡ context (o + 2) (suc δ) [] ρ
-            ac = r .0 .att-is ∙ (λ i. context (oz i) (cond (F i) (suc δ) δ) [] (tryEnv ns names b (x i) (K i) (oz i + Z c) (cond (F i) (suc δ) δ) ρ))
+            atC : A c ≡ context (o + 2) (suc δ) [] ρ
+            atC = r .0 .att-is ∙ (λ i. context (oz i) (cond (F i) (suc δ) δ) [] (tryEnv ns names b (x i) (K i) (oz i + Z c) (cond (F i) (suc δ) δ) ρ))
 
             ad : A d ≡ context (o + 2 + Z c) (suc δ) [] (next ρ (at 0 (suc δ)))
             ad = r .1 .0 .att-is ∙ (λ i. context (oz i + Z c) (cond (F i) (suc δ) δ) [] (tryEnv ns names b (y i) (K i) (oz i + Z c + Z d) (cond (F i) (suc δ) δ) ρ))
 
             pc : P c ≡ code (S c) [] (o + 2) (suc δ) ρ
-            pc = ap (piece (S c)) ac
+            pc = ap (piece (S c)) atC
 
             pd : P d ++ [] ≡ code (S d) [] (o + 2 + Z c) (suc δ) (next ρ (at 0 (suc δ)))
             pd = append-nil (P d) ∙ ap (piece (S d)) ad
@@ -362,8 +362,8 @@ module _ (ns names : List ℕ) (b : ℕ) where
             oz : o + cond (hasRole ns role.Finally (c ∷ d ∷ e ∷ [])) 2 0 ≡ o + 2
             oz = ap (λ t. o + cond t 2 0) F
 
-            ac : A c ≡ context (o + 2) (suc δ) [] (inTry ρ (o + 2 + Z c) (suc δ))
-            ac = r .0 .att-is ∙ (λ i. context (oz i) (cond (F i) (suc δ) δ) [] (tryEnv ns names b (x i) (K i) (oz i + Z c) (cond (F i) (suc δ) δ) ρ))
+            atC : A c ≡ context (o + 2) (suc δ) [] (inTry ρ (o + 2 + Z c) (suc δ))
+            atC = r .0 .att-is ∙ (λ i. context (oz i) (cond (F i) (suc δ) δ) [] (tryEnv ns names b (x i) (K i) (oz i + Z c) (cond (F i) (suc δ) δ) ρ))
 
             ad : A d ≡ context (o + 2 + Z c) (suc δ) [] ρ
             ad = r .1 .0 .att-is ∙ (λ i. context (oz i + Z c) (cond (F i) (suc δ) δ) [] (tryEnv ns names b (y i) (K i) (oz i + Z c + Z d) (cond (F i) (suc δ) δ) ρ))
@@ -372,7 +372,7 @@ module _ (ns names : List ℕ) (b : ℕ) where
             ae = r .1 .1 .0 .att-is ∙ (λ i. context (oz i + Z c + Z d) (cond (F i) (suc δ) δ) [] (tryEnv ns names b (w i) (K i) (oz i + Z c + Z d + Z e) (cond (F i) (suc δ) δ) ρ))
 
             pc : P c ≡ code (S c) [] (o + 2) (suc δ) (inTry ρ (o + 2 + Z c) (suc δ))
-            pc = ap (piece (S c)) ac
+            pc = ap (piece (S c)) atC
 
             pd : P d ≡ code (S d) [] (o + 2 + Z c) (suc δ) ρ
             pd = ap (piece (S d)) ad
