@@ -1,5 +1,5 @@
--- THE OPERATIONS OF ECMA-262 AND THE FINDINGS: of a unit, as the standard states its rules, an operation is true exactly if a finding is raised at one of the nodes that it finds there; and the rules at a
--- node, by the way up from it, are that some operation comes to it. On the conditions of the codes.
+-- THE OPERATIONS OF ECMA-262 AND THE FINDINGS: of a unit, as the standard states its rules, an operation is true exactly if a finding is raised at one of the nodes that it finds there.
+-- On the conditions of the codes.
 use Prim.Native.Nat.{ℕ, _+_, _<_}
 use mathlib.Core.Path.{_≡_}
 use mathlib.Core.List.{List, [], _++_}
@@ -30,10 +30,9 @@ use Rattle.ecma_labels.specs.Changed.{LabelsOnce}
 use Rattle.ecma_labels.specs.Findings.{ofUnit, breakFindings, continueFindings}
 use Rattle.ecma_labels.specs.Theorems as labels
 use Rattle.ecma_strict.specs.Identifiers.{simpleParameters, containsUseStrict}
-use Rattle.ecma_strict.specs.Contains.{containsInto, staticBlock, blockBegin, awaitEdge, awaitExpression, forAwait, awaitUsing, argumentsReference, argumentsBegin, argumentsInto, argumentsEdge, argumentsHome, parameter, parameterBegin, parameterEdge, awaitOrYield, lexicalDeclaration, boundBegin, boundInto, boundEdge, letName}
+use Rattle.ecma_strict.specs.Contains.{containsInto, staticBlock, blockBegin, awaitExpression, forAwait, awaitUsing, argumentsReference, argumentsBegin, argumentsInto, parameter, parameterBegin, awaitOrYield, lexicalDeclaration, boundBegin, boundInto, letName}
 use Rattle.ecma_strict.specs.Functions.{endsInStatement, endsInLabelled, labelsFunction, labelEdge}
 use Rattle.ecma_strict.specs.Changed.{fieldHome}
-use Rattle.ecma_strict.specs.NodeRules as rules
 use Rattle.ecma_strict.specs.Units as units
 use Rattle.ecma_classes.specs.PrivateNames.{allPrivateIdentifiersValid, invalidIdentifiers}
 use Rattle.ecma_classes.specs.Supers.{bareError, callError, propertyError, standardBare, standardStray, standardProperty}
@@ -93,11 +92,6 @@ module _ (told : Telling) (t : ℕ) (ns ss source names : List ℕ) where
     pub superBare : (u : ℕ) → u < count ns → bareError ns names u ≡ some (inUnit ns (standardBare ns names) u)
     pub superCall : (u : ℕ) → u < count ns → callError told ns names u ≡ some (inUnit ns (standardStray told ns names) u)
     pub superProperty : (u : ℕ) → u < count ns → propertyError ns u ≡ some (inUnit ns (standardProperty ns) u)
-    -- the rules at a node n: the nearest place on its way up where an operation begins or ends is one where it begins, exactly if one comes to n
-    pub awaitRule : (n : ℕ) → n < count ns → (staticBlock ns (unitOf ns (awaitEdge ns) n) ≡ true) ↔ rules.Reached ns (containsInto ns) (blockBegin ns) (staticBlock ns) n
-    pub argumentsRule : (n : ℕ) → n < count ns → (argumentsHome ns (unitOf ns (argumentsEdge ns) n) ≡ true) ↔ rules.Reached ns (argumentsInto ns) (argumentsBegin ns) (argumentsHome ns) n
-    pub parameterRule : (n : ℕ) → n < count ns → (parameter ns (unitOf ns (parameterEdge ns) n) ≡ true) ↔ rules.Reached ns (containsInto ns) (parameterBegin ns) (parameter ns) n
-    pub letRule : (n : ℕ) → n < count ns → (lexicalDeclaration ns (unitOf ns (boundEdge ns) n) ≡ true) ↔ rules.Reached ns (boundInto ns) (boundBegin ns) (lexicalDeclaration ns) n
 
 -- THE THEOREM
 pub operations262 : (told : Telling) (t : ℕ) (ns ss source names : List ℕ) → inputRefusal t ns ss source names ≡ Passed → Operations told t ns ss source names
@@ -128,8 +122,4 @@ operations262 told t ns ss source names e =
       superBare = classes.units28 t ns ss source names w;
       superCall = classes.units29 t ns ss source names w told;
       superProperty = classes.units30 t ns ss source names w;
-      awaitRule = λ n h. rules.awaitRule ns (w .input .tree) n h;
-      argumentsRule = λ n h. rules.argumentsRule ns (w .input .tree) n h;
-      parameterRule = λ n h. rules.parameterRule ns (w .input .tree) n h;
-      letRule = λ n h. rules.letRule ns (w .input .tree) n h;
     }

@@ -20,11 +20,12 @@ use Rattle.ecma_trees.specs.Trail.{unitOf}
 use Rattle.ecma_base.specs.Strict.{strictCode}
 use Rattle.ecma_strict.specs.Identifiers.{assignsEval}
 use Rattle.ecma_base.specs.Contains.{initializer}
-use Rattle.ecma_strict.specs.Contains.{awaitEdge, staticBlock, argumentsEdge, argumentsHome, argumentsReference, parameter, parameterEdge, unbound, boundEdge, awaitInBlock, argumentsInClass, awaitInParameter, letBound}
+use Rattle.ecma_strict.specs.Contains.{staticBlock, argumentsReference, parameter, unbound, awaitInBlock, argumentsInClass, awaitInParameter, letBound}
+use Rattle.ecma_strict.specs.NodeRules.{awaitUp, argumentsUp, parameterUp, letUp}
 use Rattle.ecma_base.specs.Scopes.{blockScope, functionScope}
 use Rattle.ecma_base.specs.ContainsLaws.{upward, unitRoot}
 use Rattle.ecma_strict.specs.SearchLaws.{unitHere, unitPass}
-use Rattle.ecma_strict.specs.Changed.{classPart, scopedInBlock, letEdge, letBoundSaid, fieldEdge, fieldHome, argumentsSaid, throughClassEdge, awaitInParameterSaid}
+use Rattle.ecma_strict.specs.Changed.{awaitEdge, argumentsEdge, argumentsHome, parameterEdge, boundEdge, classPart, scopedInBlock, letEdge, letBoundSaid, fieldEdge, fieldHome, argumentsSaid, throughClassEdge, awaitInParameterSaid}
 
 -- two sets of edges, one larger: where the nearest of the larger set is none of the surplus, it is the nearest of the smaller too
 module _ (ns : List ℕ) (t : Tree ns) (large small : ℕ → ℕ → Bool) (surplus : ℕ → Bool)
@@ -62,7 +63,7 @@ andLeft false b e = never (sym e)
 pub letAgrees : (ns ss names : List ℕ) (n : ℕ) → Tree ns → n < count ns → strictCode ns ss n ≡ false → eqb (kindOf ns (unitOf ns (boundEdge ns) n)) k.VariableDeclaration ≡ true
     → letBoundSaid ns ss names n ≡ letBound ns names n
 unfolding letBoundSaid letBound
-letAgrees ns ss names n t h s e = rw (s, unitsAgree ns t (boundEdge ns) (letEdge ns) (λ u. not (eqb (kindOf ns u) k.VariableDeclaration)) sub more n h (ap not e))
+letAgrees ns ss names n t h s e = rw (letUp ns t n h, s, unitsAgree ns t (boundEdge ns) (letEdge ns) (λ u. not (eqb (kindOf ns u) k.VariableDeclaration)) sub more n h (ap not e))
   where
     sub : (i j : ℕ) → letEdge ns i j ≡ true → boundEdge ns i j ≡ true
     sub i j e = orLeft (letEdge ns i j) (unbound ns i j) e
@@ -75,7 +76,7 @@ pub argumentsAgree : (ns ss names : List ℕ) (n : ℕ) → Tree ns → n < coun
     → argumentsSaid ns ss names n ≡ argumentsInClass ns names n
 unfolding argumentsSaid argumentsInClass
 argumentsAgree ns ss names n t h s e =
-    rw (s, ← unitsAgree ns t (argumentsEdge ns) (fieldEdge ns) (λ u. eqb (kindOf ns u) k.AccessorProperty) sub more n h e) (ap (λ b. argumentsReference ns names n && b) (home (unitOf ns (argumentsEdge ns) n) e))
+    rw (argumentsUp ns t n h, s, ← unitsAgree ns t (argumentsEdge ns) (fieldEdge ns) (λ u. eqb (kindOf ns u) k.AccessorProperty) sub more n h e) (ap (λ b. argumentsReference ns names n && b) (home (unitOf ns (argumentsEdge ns) n) e))
   where
     field : (i : ℕ) → eqb (kindOf ns i) k.PropertyDefinition ≡ true → within (kindOf ns i) 29 30 ≡ true
     field i e = let q = eqb-true (kindOf ns i) 29 e in rw q
@@ -135,7 +136,7 @@ upTo3 a = go (within a 0 3) refl (within a 0 2) refl (eqb a 3) refl
 
 pub parameterAgrees : (ns : List ℕ) (n : ℕ) → Tree ns → n < count ns → classPart ns (unitOf ns (parameterEdge ns) n) ≡ false → awaitInParameterSaid ns n ≡ awaitInParameter ns n
 unfolding awaitInParameterSaid awaitInParameter
-parameterAgrees ns n t h e = rw (unitsAgree ns t (parameterEdge ns) (throughClassEdge ns) (classPart ns) sub more n h e)
+parameterAgrees ns n t h e = rw (parameterUp ns t n h, unitsAgree ns t (parameterEdge ns) (throughClassEdge ns) (classPart ns) sub more n h e)
   where
     sub : (i j : ℕ) → throughClassEdge ns i j ≡ true → parameterEdge ns i j ≡ true
     sub i j e = rw (upTo3 (kindOf ns i)) (by (within (kindOf ns i) 0 2) (eqb (kindOf ns i) 3) (parameter ns i) (initializer ns i j) e)
@@ -208,7 +209,7 @@ module _ (ns ss : List ℕ) (t : Tree ns) (c : Chained ss) (s : Scoped ns ss) (w
 
   pub blockAgrees : (n : ℕ) → n < count ns → within (kindOf ns (unitOf ns (awaitEdge ns) n)) k.PropertyDefinition k.AccessorProperty ≡ false → scopedInBlock ns ss n ≡ awaitInBlock ns n
   unfolding scopedInBlock awaitInBlock inStaticBlock
-  blockAgrees n h e = scopesAre n h ∙ ap (λ (x : ℕ). staticBlock ns x) (sym (unitsAgree ns t (awaitEdge ns) (blockEdge ns) (λ u. within (kindOf ns u) 29 30) sub more n h e))
+  blockAgrees n h e = scopesAre n h ∙ ap (λ (x : ℕ). staticBlock ns x) (sym (unitsAgree ns t (awaitEdge ns) (blockEdge ns) (λ u. within (kindOf ns u) 29 30) sub more n h e)) ∙ sym (awaitUp ns t n h)
     where
       sub : (i j : ℕ) → blockEdge ns i j ≡ true → awaitEdge ns i j ≡ true
       sub i j e = orLeft (within (kindOf ns i) 0 3) (initializer ns i j) e

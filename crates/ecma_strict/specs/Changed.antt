@@ -29,7 +29,7 @@ use Rattle.ecma_strict.specs.Statements.{declaratorsOf, plainName, singl
 use Rattle.ecma_strict.specs.ReservedWords.{reservedWords}
 use Rattle.ecma_strict.specs.Parameters.{goalModule}
 use Rattle.ecma_strict.specs.Identifiers.{identifier, strictReserved, assignsEval, useStrictDirective, simpleParameters}
-use Rattle.ecma_strict.specs.Contains.{awaitEdge, argumentsEdge, parameterEdge, boundEdge, argumentsReference, parameter, awaitOrYield, lexicalDeclaration, letName, letBound, argumentsInClass}
+use Rattle.ecma_strict.specs.Contains.{unbound, argumentsReference, parameter, awaitOrYield, lexicalDeclaration, letName, letBound, argumentsInClass}
 use Rattle.ecma_strict.specs.Functions.{endsInStatement, annexHolder, functionMisplaced, functionMisplacedElse, labelsFunction, labelEdge, labelledFunctionAt}
 
 -- 9, 10, 11: literals
@@ -176,6 +176,22 @@ pub record DirectiveTold (ns ss : List ℕ) (n : ℕ) : Type 0 where
   pub placed : directivePlaced ns n ≡ true
 
 -- 3, 5, 6, 14, 25, 33: what goes down
+
+-- The standard's rules by the way up from a node (NodeRules): the nearest place where one of their operations begins or ends is one where it begins.
+abbrev pub awaitEdge : List ℕ → ℕ → ℕ → Bool
+awaitEdge ns i j = within (kindOf ns i) k.Program k.StaticBlock || initializer ns i j
+
+abbrev pub argumentsEdge : List ℕ → ℕ → ℕ → Bool
+argumentsEdge ns i j = (within (kindOf ns i) k.Program k.Function || eqb (kindOf ns i) k.StaticBlock) || initializer ns i j
+
+abbrev pub argumentsHome : List ℕ → ℕ → Bool
+argumentsHome ns u = eqb (kindOf ns u) k.StaticBlock || within (kindOf ns u) k.PropertyDefinition k.AccessorProperty
+
+abbrev pub parameterEdge : List ℕ → ℕ → ℕ → Bool
+parameterEdge ns i j = (within (kindOf ns i) k.Program k.StaticBlock || parameter ns i) || initializer ns i j
+
+abbrev pub boundEdge : List ℕ → ℕ → ℕ → Bool
+boundEdge ns i j = (within (kindOf ns i) k.Program k.Arrow || eqb (kindOf ns i) k.VariableDeclaration) || unbound ns i j
 
 -- 3, 14, 25 go by scopes: among the scope of n and those around it, nearest first, that of a static block comes before that of a function
 unfoldable pub scopedInBlock : List ℕ → List ℕ → ℕ → Bool

@@ -5,7 +5,7 @@ use mathlib.Core.Bool.{Bool, not, _&&_, _||_}
 use lib.Dec.{eqb}
 use Rattle.base_common.specs.Upto.{any}
 use Rattle.base_common.specs.Tests.{within}
-use Rattle.table_records.specs.Table.{kindOf, parentOf, roleOf, flagsOf, extraOf, hasFlag}
+use Rattle.table_records.specs.Table.{kindOf, parentOf, roleOf, flagsOf, extraOf, hasFlag, ancestors}
 use Rattle.table_records.specs.Kinds as k
 use Rattle.table_records.specs.Roles as role
 use Rattle.table_records.specs.Extras as extra
@@ -13,8 +13,7 @@ use Rattle.table_records.specs.NodeFlag as flag
 use Rattle.table_children.specs.Children.{children}
 use Rattle.table_names.specs.Name.{nameIs}
 use Rattle.table_names.specs.Words as word
-use Rattle.ecma_trees.specs.Trail.{unitOf}
-use Rattle.ecma_base.specs.Contains.{initializer}
+use Rattle.ecma_base.specs.Contains.{initializer, comes}
 
 -- 8.5.1: of a function and of a ClassStaticBlockBody it is false; of an arrow function too, "If symbol is not one of NewTarget, SuperProperty, SuperCall, super, or this"; of a class it looks at the
 -- heritage and, by 8.5.2 ComputedPropertyContains, at the computed keys, so not into the Initializer of a field
@@ -91,35 +90,22 @@ boundInto ns i j = not ((within (kindOf ns i) k.Function k.Arrow || eqb (kindOf 
 abbrev pub letName : List ℕ → List ℕ → ℕ → Bool
 letName ns names n = eqb (kindOf ns n) k.BindingIdentifier && nameIs ns names n word.letWord
 
--- THE RULES AT A NODE: n makes such an operation true. On the way up from n, the nearest place where one begins or ends is one where it begins (NodeRules: exactly if an operation comes to n).
-
-abbrev pub awaitEdge : List ℕ → ℕ → ℕ → Bool
-awaitEdge ns i j = within (kindOf ns i) k.Program k.StaticBlock || initializer ns i j
-
-abbrev pub argumentsEdge : List ℕ → ℕ → ℕ → Bool
-argumentsEdge ns i j = (within (kindOf ns i) k.Program k.Function || eqb (kindOf ns i) k.StaticBlock) || initializer ns i j
-
-abbrev pub argumentsHome : List ℕ → ℕ → Bool
-argumentsHome ns u = eqb (kindOf ns u) k.StaticBlock || within (kindOf ns u) k.PropertyDefinition k.AccessorProperty
-
-abbrev pub parameterEdge : List ℕ → ℕ → ℕ → Bool
-parameterEdge ns i j = (within (kindOf ns i) k.Program k.StaticBlock || parameter ns i) || initializer ns i j
-
-abbrev pub boundEdge : List ℕ → ℕ → ℕ → Bool
-boundEdge ns i j = (within (kindOf ns i) k.Program k.Arrow || eqb (kindOf ns i) k.VariableDeclaration) || unbound ns i j
+-- THE RULES AT A NODE: n makes such an operation true: it is sought, and the operation of a node above comes to it
+abbrev pub reached : List ℕ → (ℕ → ℕ → Bool) → (ℕ → ℕ → Bool) → ℕ → Bool
+reached ns begin into n = any (λ u. comes ns begin into u n) (ancestors ns n)
 
 -- 15.7.1: in a ClassStaticBlockStatementList that Contains await
 unfoldable pub awaitInBlock : List ℕ → ℕ → Bool
-awaitInBlock ns n = staticBlock ns (unitOf ns (awaitEdge ns) n)
+awaitInBlock ns n = reached ns (blockBegin ns) (containsInto ns) n
 
 -- 15.7.1: in an Initializer or a ClassStaticBlockStatementList of which ContainsArguments is true
 unfoldable pub argumentsInClass : List ℕ → List ℕ → ℕ → Bool
-argumentsInClass ns names n = argumentsReference ns names n && argumentsHome ns (unitOf ns (argumentsEdge ns) n)
+argumentsInClass ns names n = argumentsReference ns names n && reached ns (argumentsBegin ns) (argumentsInto ns) n
 
 -- 15.3.1, 15.5.1, 15.6.1, 15.8.1, 15.9.1: in a FormalParameter that Contains it
 unfoldable pub awaitInParameter : List ℕ → ℕ → Bool
-awaitInParameter ns n = awaitOrYield ns n && parameter ns (unitOf ns (parameterEdge ns) n)
+awaitInParameter ns n = awaitOrYield ns n && reached ns (parameterBegin ns) (containsInto ns) n
 
 -- 14.3.1.1, 14.7.5.1: among the BoundNames of a declaration
 unfoldable pub letBound : List ℕ → List ℕ → ℕ → Bool
-letBound ns names n = letName ns names n && lexicalDeclaration ns (unitOf ns (boundEdge ns) n)
+letBound ns names n = letName ns names n && reached ns (boundBegin ns) (boundInto ns) n

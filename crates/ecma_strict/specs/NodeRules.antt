@@ -1,26 +1,42 @@
--- THE RULES AT A NODE ARE THE STANDARD'S OPERATIONS: the rule holds at n exactly if there is a node above, of the kind where the operation begins, from which the operation comes to n.
+-- THE RULES AT A NODE BY THE WAY UP: an operation of a node above comes to n exactly if the nearest place on the way up where one begins or ends is one where it begins.
 use Prim.Native.Nat.{ℕ, _<_}
 use mathlib.Core.Path.{_≡_, refl, ap, sym, _∙_}
-use mathlib.Core.List.{List}
+use mathlib.Core.List.{List, [], _∷_}
 use mathlib.Core.Bool.{Bool, true, false, cond, not, _&&_, _||_}
 use mathlib.Core.Logic.{⊎-elim, _↔_}
 use native.Mathlib.Nat.{eq-or-lt-of-le}
 use native.Mathlib.Omega.{arith}
 use borrow.Author.Tests.{eq-eqb, ne-eqb, eqb-true, not-true}
 use lib.Dec.{eqb}
+use Rattle.base_common.specs.Upto.{any}
 use Rattle.base_common.specs.UptoLaws.{and-left}
 use Rattle.base_common.specs.Tests.{within}
 use Rattle.base_common.specs.Bools.{never, or-first, or-second, either, in-range, range-of}
-use Rattle.table_records.specs.Table.{kindOf, parentOf, count, extraOf}
+use Rattle.table_records.specs.Table.{kindOf, parentOf, count, extraOf, ancestors}
 use Rattle.table_records.specs.Facts.{Tree}
 use Rattle.table_records.specs.Extras as extra
 use Rattle.table_children.specs.Children.{valueOf, isNode}
 use Rattle.ecma_trees.specs.Trail.{unitOf}
-use Rattle.ecma_trees.specs.TrailLaws.{handedLaw}
+use Rattle.table_ancestry.specs.AncestryLaws.{ancestors-up}
+use Rattle.ecma_trees.specs.TrailLaws.{handedLaw, handedRoot}
 use Rattle.ecma_base.specs.Contains.{initializer, comes}
-use Rattle.ecma_strict.specs.Contains.{containsInto, staticBlock, blockBegin, awaitEdge, argumentsBegin, argumentsInto, argumentsEdge, argumentsHome, parameter, parameterBegin, parameterEdge, lexicalDeclaration, boundBegin, unbound, boundInto, boundEdge}
+use Rattle.ecma_strict.specs.Contains.{containsInto, staticBlock, blockBegin, argumentsBegin, argumentsInto, parameter, parameterBegin, lexicalDeclaration, boundBegin, unbound, boundInto, reached}
+use Rattle.ecma_strict.specs.Changed.{awaitEdge, argumentsEdge, argumentsHome, parameterEdge, boundEdge}
 use Rattle.ecma_base.specs.ContainsLaws.{upward, unitUp, unitRoot, comesHome}
 use Rattle.ecma_strict.specs.SearchLaws.{positive}
+
+-- some member of a list passes a test
+anyHit : (p : ℕ → Bool) (u : ℕ) → p u ≡ true → (l : List ℕ) → any (λ a. eqb a u) l ≡ true → any p l ≡ true
+anyHit p u q [] e = e
+anyHit p u q (a ∷ l) e = ⊎-elim (λ x. ap (λ (b : Bool). b || any p l) (ap p (eqb-true a u x) ∙ q)) (λ x. ap (λ (b : Bool). p a || b) (anyHit p u q l x) ∙ orTrue (p a)) (either (eqb a u) (any (λ a. eqb a u) l) e)
+  where
+    orTrue : (b : Bool) → (b || true) ≡ true
+    orTrue true = refl
+    orTrue false = refl
+
+anyFind : (p : ℕ → Bool) (Q : Type 0) → ((u : ℕ) → p u ≡ true → Q) → (l : List ℕ) → any p l ≡ true → Q
+anyFind p Q f [] e = never (sym e)
+anyFind p Q f (a ∷ l) e = ⊎-elim (λ x. f a x) (λ x. anyFind p Q f l x) (either (p a) (any p l) e)
 
 -- an operation that begins at a node of which `home` holds comes to n
 pub record Reached (ns : List ℕ) (into begin : ℕ → ℕ → Bool) (home : ℕ → Bool) (n : ℕ) : Type 0 where
@@ -93,6 +109,54 @@ module _ (ns : List ℕ) (t : Tree ns) (into begin edge : ℕ → ℕ → Bool) 
         down : Reached ns into begin home n → home (unitOf ns edge n) ≡ true
         down r = comesHome ns t into begin edge home (r .at) (r .here) (λ j. first (r .at) j (r .here)) on' n h (r .to)
 
+    -- what the operation of u comes to stands below u, and u is where one begins
+    law : (u j : ℕ) → 0 < j → j < count ns → comes ns begin into u j ≡ cond (eqb (parentOf ns j) u) (begin (parentOf ns j) j) (comes ns begin into u (parentOf ns j) && into (parentOf ns j) j)
+    law u j z h = handedLaw ns (λ i k r. cond (eqb i u) (begin i k) (r && into i k)) false t j z h
+
+    none : (u : ℕ) → comes ns begin into u 0 ≡ false
+    none u = handedRoot ns (λ i k r. cond (eqb i u) (begin i k) (r && into i k)) false
+
+    comesAbove : (u n : ℕ) → n < count ns → comes ns begin into u n ≡ true → any (λ a. eqb a u) (ancestors ns n) ≡ true
+    comesAbove u = upward ns t (λ j. comes ns begin into u j ≡ true → any (λ a. eqb a u) (ancestors ns j) ≡ true) (λ e. never (sym e ∙ none u)) step
+      where
+        step : (j : ℕ) → 0 < j → j < count ns → (comes ns begin into u (parentOf ns j) ≡ true → any (λ a. eqb a u) (ancestors ns (parentOf ns j)) ≡ true)
+            → comes ns begin into u j ≡ true → any (λ a. eqb a u) (ancestors ns j) ≡ true
+        step j z h r e = ancestors-up (λ a r. eqb a u || r) false ns t j z h ∙ go (eqb (parentOf ns j) u) refl
+          where
+            go : (b : Bool) → eqb (parentOf ns j) u ≡ b → (eqb (parentOf ns j) u || any (λ a. eqb a u) (ancestors ns (parentOf ns j))) ≡ true
+            go true b = rw b
+            go false b =
+                ap (λ (x : Bool). x || any (λ a. eqb a u) (ancestors ns (parentOf ns j))) b
+                ∙ r (and-left (comes ns begin into u (parentOf ns j)) (into (parentOf ns j) j) (sym (law u j z h ∙ rw b) ∙ e))
+
+    begun : ((u j : ℕ) → begin u j ≡ true → home u ≡ true) → (u n : ℕ) → n < count ns → comes ns begin into u n ≡ true → home u ≡ true
+    begun s u = upward ns t (λ j. comes ns begin into u j ≡ true → home u ≡ true) (λ e. never (sym e ∙ none u)) step
+      where
+        step : (j : ℕ) → 0 < j → j < count ns → (comes ns begin into u (parentOf ns j) ≡ true → home u ≡ true) → comes ns begin into u j ≡ true → home u ≡ true
+        step j z h r e = go (eqb (parentOf ns j) u) refl
+          where
+            go : (b : Bool) → eqb (parentOf ns j) u ≡ b → home u ≡ true
+            go true b = ap home (sym (eqb-true (parentOf ns j) u b)) ∙ s (parentOf ns j) j (sym (law u j z h ∙ rw b) ∙ e)
+            go false b = r (and-left (comes ns begin into u (parentOf ns j)) (into (parentOf ns j) j) (sym (law u j z h ∙ rw b) ∙ e))
+
+    pub reachedIs : ((u j : ℕ) → begin u j ≡ true → home u ≡ true) → (n : ℕ) → n < count ns → reached ns begin into n ≡ home (unitOf ns edge n)
+    reachedIs s n h = both (reached ns begin into n) (home (unitOf ns edge n)) down up
+      where
+        both : (a b : Bool) → (a ≡ true → b ≡ true) → (b ≡ true → a ≡ true) → a ≡ b
+        both true b f g = sym (f refl)
+        both false true f g = g refl
+        both false false f g = refl
+
+        down : reached ns begin into n ≡ true → home (unitOf ns edge n) ≡ true
+        down e =
+            anyFind (λ u. comes ns begin into u n) (home (unitOf ns edge n) ≡ true)
+            (λ u q. nodeRule n h .1 (record { at = u; here = begun s u n h q; to = q })) (ancestors ns n) e
+
+        up : home (unitOf ns edge n) ≡ true → reached ns begin into n ≡ true
+        up e =
+            let r = nodeRule n h .0 e in
+            anyHit (λ u. comes ns begin into u n) (r .at) (r .to) (ancestors ns n) (comesAbove (r .at) n h (r .to))
+
 clash : {A : Type 0} → false ≡ true → A
 clash e = never (sym e)
 
@@ -109,8 +173,8 @@ above a hi n e = let r = range-of a 0 hi e in in-range a 1 hi (positive a n) (r 
 
 module _ (ns : List ℕ) (t : Tree ns) (n : ℕ) (h : n < count ns) where
   -- 15.7.1, Contains
-  pub awaitRule : (staticBlock ns (unitOf ns (awaitEdge ns) n) ≡ true) ↔ Reached ns (containsInto ns) (blockBegin ns) (staticBlock ns) n
-  awaitRule = nodeRule ns t (containsInto ns) (blockBegin ns) (awaitEdge ns) (staticBlock ns) first on (λ u j a e. a) through (rw (t .root)) n h
+  pub awaitUp : reached ns (blockBegin ns) (containsInto ns) n ≡ staticBlock ns (unitOf ns (awaitEdge ns) n)
+  awaitUp = reachedIs ns t (containsInto ns) (blockBegin ns) (awaitEdge ns) (staticBlock ns) first on (λ u j a e. a) through (rw (t .root)) (λ u j e. e) n h
     where
       first : (u j : ℕ) → staticBlock ns u ≡ true → blockBegin ns u j ≡ true → awaitEdge ns u j ≡ true
       first u j a e = rw (eqb-true (kindOf ns u) 3 a)
@@ -127,8 +191,8 @@ module _ (ns : List ℕ) (t : Tree ns) (n : ℕ) (h : n < count ns) where
           rw (fewer (kindOf ns i) 1 3 (or-first (within (kindOf ns i) 0 3) (initializer ns i j) e), or-second (within (kindOf ns i) 0 3) (initializer ns i j) e)
 
   -- 15.7.1, ContainsArguments
-  pub argumentsRule : (argumentsHome ns (unitOf ns (argumentsEdge ns) n) ≡ true) ↔ Reached ns (argumentsInto ns) (argumentsBegin ns) (argumentsHome ns) n
-  argumentsRule = nodeRule ns t (argumentsInto ns) (argumentsBegin ns) (argumentsEdge ns) (argumentsHome ns) first on back through (rw (t .root)) n h
+  pub argumentsUp : reached ns (argumentsBegin ns) (argumentsInto ns) n ≡ argumentsHome ns (unitOf ns (argumentsEdge ns) n)
+  argumentsUp = reachedIs ns t (argumentsInto ns) (argumentsBegin ns) (argumentsEdge ns) (argumentsHome ns) first on back through (rw (t .root)) begins n h
     where
       first : (u j : ℕ) → argumentsHome ns u ≡ true → argumentsBegin ns u j ≡ true → argumentsEdge ns u j ≡ true
       first u j a e = by (within (kindOf ns u) 0 1) (eqb (kindOf ns u) 3) (initializer ns u j) e
@@ -150,6 +214,14 @@ module _ (ns : List ℕ) (t : Tree ns) (n : ℕ) (h : n < count ns) where
           by false q false true d e = refl
           by false q false false d e = e
 
+      begins : (u j : ℕ) → argumentsBegin ns u j ≡ true → argumentsHome ns u ≡ true
+      begins u j e = by (eqb (kindOf ns u) 3) (within (kindOf ns u) 29 30) (isNode (valueOf ns u) j) e
+        where
+          by : (x y z : Bool) → (x || (y && z)) ≡ true → (x || y) ≡ true
+          by true y z e = refl
+          by false true z e = refl
+          by false false z e = e
+
       back : (u j : ℕ) → argumentsHome ns u ≡ true → argumentsEdge ns u j ≡ true → argumentsBegin ns u j ≡ true
       back u j a e = by (within (kindOf ns u) 0 1) refl (eqb (kindOf ns u) 3) refl (initializer ns u j) e
         where
@@ -169,8 +241,8 @@ module _ (ns : List ℕ) (t : Tree ns) (n : ℕ) (h : n < count ns) where
           rw (ne-eqb (kindOf ns i) 1 (λ q. clash (sym (or-first (within (kindOf ns i) 0 1) (eqb (kindOf ns i) 3) o) ∙ in-range (kindOf ns i) 0 1 (omega arith) (omega arith))))
 
   -- 15.3.1 and others, Contains
-  pub parameterRule : (parameter ns (unitOf ns (parameterEdge ns) n) ≡ true) ↔ Reached ns (containsInto ns) (parameterBegin ns) (parameter ns) n
-  parameterRule = nodeRule ns t (containsInto ns) (parameterBegin ns) (parameterEdge ns) (parameter ns) first on (λ u j a e. a) through (rw (t .root)) n h
+  pub parameterUp : reached ns (parameterBegin ns) (containsInto ns) n ≡ parameter ns (unitOf ns (parameterEdge ns) n)
+  parameterUp = reachedIs ns t (containsInto ns) (parameterBegin ns) (parameterEdge ns) (parameter ns) first on (λ u j a e. a) through (rw (t .root)) (λ u j e. e) n h
     where
       first : (u j : ℕ) → parameter ns u ≡ true → parameterBegin ns u j ≡ true → parameterEdge ns u j ≡ true
       first u j a e = by (within (kindOf ns u) 0 3) (parameter ns u) (initializer ns u j) a
@@ -194,8 +266,8 @@ module _ (ns : List ℕ) (t : Tree ns) (n : ℕ) (h : n < count ns) where
           rw (fewer (kindOf ns i) 1 3 (or-first (within (kindOf ns i) 0 3) (parameter ns i) o), or-second (within (kindOf ns i) 0 3 || parameter ns i) (initializer ns i j) e)
 
   -- 14.3.1.1, BoundNames
-  pub letRule : (lexicalDeclaration ns (unitOf ns (boundEdge ns) n) ≡ true) ↔ Reached ns (boundInto ns) (boundBegin ns) (lexicalDeclaration ns) n
-  letRule = nodeRule ns t (boundInto ns) (boundBegin ns) (boundEdge ns) (lexicalDeclaration ns) first on (λ u j a e. a) through (rw (t .root)) n h
+  pub letUp : reached ns (boundBegin ns) (boundInto ns) n ≡ lexicalDeclaration ns (unitOf ns (boundEdge ns) n)
+  letUp = reachedIs ns t (boundInto ns) (boundBegin ns) (boundEdge ns) (lexicalDeclaration ns) first on (λ u j a e. a) through (rw (t .root)) (λ u j e. e) n h
     where
       first : (u j : ℕ) → lexicalDeclaration ns u ≡ true → boundBegin ns u j ≡ true → boundEdge ns u j ≡ true
       first u j a e = by (within (kindOf ns u) 0 2) (eqb (kindOf ns u) 24) (unbound ns u j) (and-left (eqb (kindOf ns u) 24) (not (eqb (extraOf ns u) extra.Var)) a)

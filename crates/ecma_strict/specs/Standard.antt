@@ -30,7 +30,8 @@ use Rattle.ecma_strict.specs.Identifiers.{identifier, identifierError, a
 use Rattle.ecma_strict.specs.IdentifiersLaws.{useStrictAgrees}
 use Rattle.ecma_strict.specs.NamesLaws.{namesAgree, namesAgreeOnly, namesSound}
 use Rattle.ecma_strict.specs.ParametersLaws.{yieldFrom, awaitTold, awaitOnly, blockAwait}
-use Rattle.ecma_strict.specs.Contains.{letName, argumentsReference, awaitOrYield, awaitExpression, forAwait, awaitUsing, awaitInBlock, argumentsInClass, awaitInParameter, letBound, lexicalDeclaration, boundEdge, awaitEdge, argumentsEdge, parameter, parameterEdge}
+use Rattle.ecma_strict.specs.Contains.{letName, argumentsReference, awaitOrYield, awaitExpression, forAwait, awaitUsing, awaitInBlock, argumentsInClass, awaitInParameter, letBound, lexicalDeclaration, parameter}
+use Rattle.ecma_strict.specs.NodeRules.{awaitUp, argumentsUp, parameterUp, letUp}
 use Rattle.ecma_base.specs.Scopes.{scopesFollow}
 use Rattle.ecma_base.specs.ScopesLaws.{notProgram}
 use Rattle.ecma_strict.specs.ScopesLaws.{scopesTold, directiveScope, usingScope}
@@ -38,7 +39,7 @@ use Rattle.ecma_strict.specs.AgreeLaws.{letAgrees, argumentsAgree, param
 use Rattle.ecma_strict.specs.Functions.{functionMisplaced, functionMisplacedElse, labelsFunction, labelledFunctionAt}
 use Rattle.ecma_strict.specs.FunctionsLaws.{labelledAgrees, labelledStrict, misplacedAgrees, misplacedElseAgrees}
 use Rattle.ecma_strict.specs.Theorems.{code3, code5, code6, code9, code10, code11, code12, code13, code14, code15, code16, code24, code25, code32, code33, beyond, code2}
-use Rattle.ecma_strict.specs.Changed.{sloppyFunction, sloppyFunctionElse, BlockTold, LetTold, ArgumentsTold, DirectiveTold, UsingTold, HeadTold, DeleteTold, ParameterTold, letEdge, letBoundSaid, fieldEdge, fieldHome, classPart, argumentsSaid, topUsing, deletesPrivateAnywhere, awaitInParameterSaid, toldOctal, toldNonOctal, firstOctalEscape, firstNonOctalEscape, BaseTold, EscapesTold, useStrictScoped, awaitNameScoped, scopedInBlock, labelledFunctionSaid, OrdinaryHeld, reservedName, NameTold}
+use Rattle.ecma_strict.specs.Changed.{boundEdge, awaitEdge, argumentsEdge, parameterEdge, sloppyFunction, sloppyFunctionElse, BlockTold, LetTold, ArgumentsTold, DirectiveTold, UsingTold, HeadTold, DeleteTold, ParameterTold, letEdge, letBoundSaid, fieldEdge, fieldHome, classPart, argumentsSaid, topUsing, deletesPrivateAnywhere, awaitInParameterSaid, toldOctal, toldNonOctal, firstOctalEscape, firstNonOctalEscape, BaseTold, EscapesTold, useStrictScoped, awaitNameScoped, scopedInBlock, labelledFunctionSaid, OrdinaryHeld, reservedName, NameTold}
 
 module _ (t : ℕ) (ns ss source names : List ℕ) (w : WellFormed t ns ss source names) (n : ℕ) (h : n < count ns) where
   abbrev at : ℕ → List ℕ
@@ -83,7 +84,7 @@ module _ (t : ℕ) (ns ss source names : List ℕ) (w : WellFormed t ns ss sourc
 
       go : (a : Bool) → scopedInBlock ns ss n ≡ a → (b : Bool) → awaitInBlock ns n ≡ b → scopedInBlock ns ss n ≡ awaitInBlock ns n
       go true x b y = by (q .field x)
-      go false x true y = let u = eqb-true (kindOf ns (unitOf ns (awaitEdge ns) n)) 3 y in by (rw u)
+      go false x true y = let u = eqb-true (kindOf ns (unitOf ns (awaitEdge ns) n)) 3 (sym (awaitUp ns (w .input .tree) n h) ∙ y) in by (rw u)
       go false x false y = x ∙ sym y
 
   -- 3 at what is no name
@@ -107,7 +108,7 @@ module _ (t : ℕ) (ns ss source names : List ℕ) (w : WellFormed t ns ss sourc
           let s = and-right (letName ns names n) (not (strictCode ns ss n) && lexicalDeclaration ns (unitOf ns (letEdge ns) n)) x in
           by (not-true (strictCode ns ss n) (and-left (not (strictCode ns ss n)) (lexicalDeclaration ns (unitOf ns (letEdge ns) n)) s)) (q .declared x)
       go false x true y =
-          let l = and-right (letName ns names n) (lexicalDeclaration ns (unitOf ns (boundEdge ns) n)) y in
+          let l = and-right (letName ns names n) (lexicalDeclaration ns (unitOf ns (boundEdge ns) n)) (sym (ap (λ (b : Bool). letName ns names n && b) (letUp ns (w .input .tree) n h)) ∙ y) in
           by (q .sloppy y) (and-left (eqb (kindOf ns (unitOf ns (boundEdge ns) n)) 24) (not (eqb (extraOf ns (unitOf ns (boundEdge ns) n)) extra.Var)) l)
       go false x false y = x ∙ sym y
 
@@ -121,7 +122,7 @@ module _ (t : ℕ) (ns ss source names : List ℕ) (w : WellFormed t ns ss sourc
       -- what the Rust's rule says is an error: in an auto-accessor too
       accessor : argumentsReference ns names n ≡ true → (c : Bool) → eqb (kindOf ns (unitOf ns (argumentsEdge ns) n)) k.AccessorProperty ≡ c → assignsEval ns ss names n ≡ false → argumentsSaid ns ss names n ≡ true
           → argumentsSaid ns ss names n ≡ argumentsInClass ns names n
-      accessor r true c s x = let u = eqb-true (kindOf ns (unitOf ns (argumentsEdge ns) n)) 30 c in x ∙ sym (rw (r, u))
+      accessor r true c s x = let u = eqb-true (kindOf ns (unitOf ns (argumentsEdge ns) n)) 30 c in x ∙ sym (rw (argumentsUp ns (w .input .tree) n h, r, u))
       accessor r false c s x = by s c
 
       go : (a : Bool) → argumentsSaid ns ss names n ≡ a → (b : Bool) → argumentsInClass ns names n ≡ b → argumentsSaid ns ss names n ≡ argumentsInClass ns names n
@@ -271,5 +272,5 @@ module _ (t : ℕ) (ns ss source names : List ℕ) (w : WellFormed t ns ss sourc
       go true x b y = parameterAgrees ns n (w .input .tree) h (q x)
       go false x true y =
           let u = unitOf ns (parameterEdge ns) n in
-          parameterAgrees ns n (w .input .tree) h (part u (eqb (kindOf ns u) k.FormalParameter) refl (and-right (awaitOrYield ns n) (parameter ns u) y))
+          parameterAgrees ns n (w .input .tree) h (part u (eqb (kindOf ns u) k.FormalParameter) refl (and-right (awaitOrYield ns n) (parameter ns u) (sym (ap (λ (b : Bool). awaitOrYield ns n && b) (parameterUp ns (w .input .tree) n h)) ∙ y)))
       go false x false y = x ∙ sym y
