@@ -17,8 +17,9 @@ use Rattle.refusal_input.specs.WellFormed.{WellFormed}
 use Rattle.refusal_input.specs.Input.{inputRefusal}
 use Rattle.refusal_input.specs.InputLaws.{input-well-formed}
 use Rattle.route_completion.specs.Route.{route}
-use Rattle.code_flat.specs.Code.{unit}
-use Rattle.code_flat.specs.Machine.{codeRoute}
+use Rattle.code_flat.specs.Code.{unit, RoomAll}
+use Rattle.code_flat.specs.Machine.{room, codeRoute}
+use Rattle.code_flat.specs.Room.{noTryRoom}
 use Rattle.code_flat.specs.Claims.{claims}
 use Rattle.code_stores.specs.Over.{over}
 use Rattle.code_unit.specs.Unit.{unitOf}
@@ -81,9 +82,13 @@ module _ (sourceType : ℕ) (ns ss source names : List ℕ) (u len : ℕ) (e : c
         held = λ b q. unit-held sourceType ns ss source names formed u (sound .below) (unit-kind (kindOf ns u) (sound .unit)) (record { 0 = b }) q;
       }
 
+-- The finally blocks of a unit find room: it has none.
+pub unit-room : (ns names : List ℕ) (u : ℕ) → RoomAll (unitOf ns names u) room
+unit-room ns names u = noTryRoom (unitOf ns names u) room (unit-no-try ns names u)
+
 -- The run of the unit's code is its route by the completion rules.
 pub code-route : (ns names : List ℕ) (u : ℕ) (answers : List ℕ) → codeRoute (unit (unitOf ns names u)) answers ≡ route (unitOf ns names u) answers
-code-route ns names u answers = claims (unitOf ns names u) (unit-no-try ns names u) answers .same
+code-route ns names u answers = claims (unitOf ns names u) (unit-room ns names u) answers .same
 
 -- The front of a slice that has the code.
 pub front-code : (l s : List ℕ) (n : ℕ) → n ≡ length l → take n (over l s) ≡ l

@@ -1,7 +1,7 @@
 -- THE CLAIM OF ROUTES, over tables: for every tree and unit that is not refused, and every list of answers, the flat code, made before any answer
 -- is known, gives the list, the answers taken and the end of the standard's completion rules.
 use Prim.Native.Nat.{ℕ, _+_, _*_, _≤_, _<_}
-use mathlib.Core.Path.{_≡_, ap, sym, _∙_}
+use mathlib.Core.Path.{_≡_, ap, sym, _∙_, subst}
 use mathlib.Core.Bool.{true}
 use mathlib.Core.List.{List, _∷_}
 use lib.ListN.{length, drop}
@@ -10,7 +10,10 @@ use Rattle.table_records.specs.Kinds as k
 use Rattle.table_records.specs.declared.Found.the-variants.{At}
 use Rattle.refusal_verdict.specs.declared.Verdict.the-variants.{Passed}
 use Rattle.refusal_input.specs.Input.{inputRefusal}
+use Rattle.route_completion.specs.Sem.{execs}
 use Rattle.route_completion.specs.Route.{route, parts, AllOnce}
+use Rattle.route_completion.specs.Entries.{Each}
+use Rattle.route_completion.specs.EntriesLaws.{execsEach}
 use Rattle.code_flat.specs.Code.{unit}
 use Rattle.code_flat.specs.Machine.{started, codeRoute}
 use Rattle.code_flat.specs.Own.{sUnit, total, shapesAll}
@@ -18,19 +21,25 @@ use Rattle.code_flat.specs.Claims.{claims}
 use Rattle.code_unit.specs.Unit.{holderOf, unitOf}
 use Rattle.code_words.specs.Words.{on, off}
 use Rattle.code_words.specs.Made.{code-is, code-length}
-use Rattle.code_held.specs.Held.{good, unit-held, unit-once, unit-no-try}
+use Rattle.code_held.specs.Held.{good, unit-held, unit-once}
 use Rattle.code_maker.specs.ReadyLaws as ready
 use Rattle.refusal_state.specs.Targets.{hasTarget, stateAnswer}
 use Rattle.refusal_state.specs.TargetsLaws.{state-passed, targets-found}
 use Rattle.code_scoped.specs.Passed.{passed-scoped}
 use Rattle.code_scoped.specs.NoTry.{no-try}
 use Rattle.refusal_input.specs.InputLaws.{input-well-formed}
-use Rattle.call_routes.specs.CallsLaws.{unit-kind}
+use Rattle.call_routes.specs.CallsLaws.{unit-kind, unit-room}
+use Rattle.call_routes.specs.Asking.{ByKind}
+use Rattle.call_routes.specs.AskingLaws.{unit-by-kind}
 
 -- What holds of the unit u and the answers.
 pub record Routes (ns names : List ℕ) (u : ℕ) (answers : List ℕ) : Type 0 where
   -- The run of the code lists the same statements in the same order, takes as many answers, and ends with the same number as the completion rules say,
   pub same : codeRoute (unit (unitOf ns names u)) answers ≡ route (unitOf ns names u) answers
+  -- .. and its entries, those that take an answer among them, are the completion rules' own,
+  pub entries : started (unit (unitOf ns names u)) answers .nodes ≡ execs (unitOf ns names u) answers .nodes
+  -- .. each of which takes an answer exactly if its node is a loop, an If or a Switch,
+  pub asking : Each (ByKind ns) (started (unit (unitOf ns names u)) answers .nodes)
   -- .. and leaves the answers that follow those taken.
   pub left : started (unit (unitOf ns names u)) answers .rest ≡ drop (route (unitOf ns names u) answers .taken) answers
   -- "Ends: 0 fell through, 1 returned, 2 thrown, 3 answers spent"
@@ -66,9 +75,11 @@ module _ (sourceType : ℕ) (ns ss source names : List ℕ) (u : ℕ)
     routes answers =
         let w = input-well-formed sourceType ns ss source names formed in
         let s = state-passed sourceType ns ss source names u passed in
-        let c = claims (unitOf ns names u) (unit-no-try ns names u) answers in
+        let c = claims (unitOf ns names u) (unit-room ns names u) answers in
         record {
           same = c .same;
+          entries = c .entries;
+          asking = subst (Each (ByKind ns)) (sym (c .entries)) (execsEach (ByKind ns) (unitOf ns names u) (unit-by-kind ns names u) answers);
           left = c .left;
           ends = c .ends (passed-scoped sourceType ns ss source names u (good sourceType ns ss source names w) passed);
           once = c .once (unit-once sourceType ns ss source names w u (s .below) (unit-kind (kindOf ns u) (s .unit)));
