@@ -46,7 +46,7 @@ and-off false = refl
 
 module _ (ns : List ℕ) (t : Tree ns) (li : Listed ns) (pl : Placed ns) where
   -- A static block is entered from a class or an export.
-  static-up : (j : ℕ) → j < count ns → kindOf ns j ≡ k.StaticBlock → shapeAt ns (upOf ns j) ≡ Class
+  pub static-up : (j : ℕ) → j < count ns → kindOf ns j ≡ k.StaticBlock → shapeAt ns (upOf ns j) ≡ Class
   unfolding upOf
   static-up j l e =
       ap (λ x. shapeAt ns (cond x (enteredBy ns (parentOf ns (parentOf ns j))) (parentOf ns j))) (eq-eqb (kindOf ns j) k.StaticBlock e)
@@ -76,7 +76,7 @@ module _ (ns : List ℕ) (t : Tree ns) (li : Listed ns) (pl : Placed ns) where
           (export (kindOf ns (parentOf ns (parentOf ns (parentOf ns j)))) (range-of (kindOf ns (parentOf ns (parentOf ns (parentOf ns j)))) 53 54 (and-left _ _ q)))
       go false q = class-shape (kindOf ns (parentOf ns (parentOf ns j))) (inl class)
 
-  plain-up : (j : ℕ) → eqb (kindOf ns j) k.StaticBlock ≡ false → upOf ns j ≡ parentOf ns j
+  pub plain-up : (j : ℕ) → eqb (kindOf ns j) k.StaticBlock ≡ false → upOf ns j ≡ parentOf ns j
   unfolding upOf
   plain-up j e = ap (λ x. cond x (enteredBy ns (parentOf ns (parentOf ns j))) (parentOf ns j)) e
 

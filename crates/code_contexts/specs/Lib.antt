@@ -1,0 +1,4 @@
+pub mod Contexts
+pub mod EndLaws
+pub mod PlacesLaws
+pub mod OffsetLaws
