@@ -30,7 +30,7 @@ fn is_module(source_type: u32) -> bool
 }
 
 // Why strict code has a name reserved: a class, a module, or neither.
-fn strict_context(source_type: u32, nodes: &[u32], n: NodeId) -> u32
+fn unexpected_identifier_assign_context(source_type: u32, nodes: &[u32], n: NodeId) -> u32
     requires { ⌜ Tree (now nodes) ⌝ }
     requires { ⌜ n .0 < count (now nodes) ⌝ }
     ensures { λ r. ⌜ r ≡ strictContext «source_type» (now (nodes .entry)) (n .0) ⌝ }
@@ -119,7 +119,7 @@ pub fn check_identifier(
     if !strict_mode(nodes, scopes, n) {
         return Raised::Clear;
     }
-    let context = strict_context(source_type, nodes, n);
+    let context = unexpected_identifier_assign_context(source_type, nodes, n);
     error_at(nodes, codes::RESERVED_KEYWORD, n, n, context)
 }
 
@@ -182,7 +182,7 @@ pub fn check_binding_identifier(
 {
     if strict_mode(nodes, scopes, n) {
         if is_eval_or_arguments(nodes, names, n) {
-            let context = strict_context(source_type, nodes, n);
+            let context = unexpected_identifier_assign_context(source_type, nodes, n);
             return error_at(nodes, codes::UNEXPECTED_IDENTIFIER_ASSIGN, n, n, context);
         }
         return Raised::Clear;
@@ -260,7 +260,7 @@ pub fn check_identifier_reference(
     ensures { λ r. ⌜ r ≡ checkIdentifierReference «source_type» (now (nodes .entry)) (now (scopes .entry)) (now (names .entry)) (n .0) ⌝ }
 {
     if is_invalid_target(nodes, scopes, names, n) {
-        let context = strict_context(source_type, nodes, n);
+        let context = unexpected_identifier_assign_context(source_type, nodes, n);
         return error_at(nodes, codes::UNEXPECTED_IDENTIFIER_ASSIGN, n, n, context);
     }
     if !name_is(nodes, names, n, b"arguments") {

@@ -27,12 +27,12 @@ pub fn check_function_declaration(
     scopes: &[u32],
     n: NodeId,
     stmt: NodeId,
-    is_if: bool,
+    is_if_stmt_or_labeled_stmt: bool,
 ) -> Raised
     requires { ⌜ Scoped (now nodes) (now scopes) ⌝ }
     requires { ⌜ n .0 < count (now nodes) ⌝ }
     requires { ⌜ stmt .0 < count (now nodes) ⌝ }
-    ensures { λ r. ⌜ r ≡ checkFunctionDeclaration (now (nodes .entry)) (now (scopes .entry)) (n .0) «is_if» (stmt .0) ⌝ }
+    ensures { λ r. ⌜ r ≡ checkFunctionDeclaration (now (nodes .entry)) (now (scopes .entry)) (n .0) «is_if_stmt_or_labeled_stmt» (stmt .0) ⌝ }
 {
     let kind = table_records::kind(nodes, stmt);
     if kind != kinds::FUNCTION {
@@ -47,7 +47,7 @@ pub fn check_function_declaration(
             contexts::NONE,
         );
     }
-    if is_if {
+    if is_if_stmt_or_labeled_stmt {
         return Raised::Clear;
     }
     error_at(

@@ -69,7 +69,7 @@ pub fn reach(nodes: &[u32], scopes: &[u32], n: NodeId) -> Reach
     ensures { λ r. ⌜ underivedIn (now (nodes .entry)) r ⌝ }
 {
     let call = check_supers::is_call(nodes, n);
-    let mut class = table_ancestry::nearest(nodes, n, kinds::CLASS_BODY, kinds::CLASS_BODY);
+    let mut class = check_supers::class_around(nodes, n);
     let mut start = n;
     let mut left = Scopes::From(table_records::scope(nodes, n));
     'scopes: loop {

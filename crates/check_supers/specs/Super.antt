@@ -12,6 +12,8 @@ use Rattle.table_records.specs.NodeFlag as flag
 use Rattle.table_records.specs.ScopeFlag as scope
 use Rattle.table_records.specs.declared.Found.{Found}
 use Rattle.table_records.specs.declared.Found.the-variants.{At, Nothing}
+use Rattle.check_class_table.specs.declared.Current.{Current}
+use Rattle.check_class_table.specs.declared.Current.the-variants.{Class, Outside}
 use Rattle.table_children.specs.Children.{valueOf, firstNode, isNode}
 use Rattle.table_ancestry.specs.Ancestry.{nearestOf}
 use Rattle.check_diagnostics.specs.Finding.{errorAt, errorBetween}
@@ -86,6 +88,11 @@ functionUse ns n call class f =
     (cond (eqb (kindOf ns (parentOf ns f)) k.ObjectProperty) (objectUse ns call (parentOf ns f) f)
     (cond (eqb (kindOf ns (parentOf ns f)) k.MethodDefinition) (methodUse ns n call class (parentOf ns f) f)
     Illegal))
+
+-- the ClassBody of the class that is current, if one is
+abbrev pub bodyOf : Current → Found
+bodyOf (Class c) = At (record { 0 = c .0 })
+bodyOf Outside = Nothing
 
 -- s is the scope of the class with this ClassBody
 abbrev pub isClassScope : List ℕ → Found → ℕ → Bool

@@ -4,7 +4,9 @@ ghost use Prim.Native.Nat.{_<_};
 ghost use Rattle.table_records.specs.Table.{count, countScopes, scopeNodeOf};
 ghost use Rattle.table_records.specs.Facts.{Tree};
 ghost use Rattle.table_children.specs.Children.{below};
-ghost use Rattle.check_supers.specs.Super.{isCall, ifCall, partOf, partAt, isValueOf, isMethodLike, heritageUse, firstClass, dummyUse, derivedUse, objectUse, methodUse, functionUse, isClassScope, scopeStep, leaveClass};
+ghost use Rattle.check_supers.specs.Super.{isCall, ifCall, partOf, partAt, isValueOf, isMethodLike, heritageUse, firstClass, dummyUse, derivedUse, objectUse, methodUse, functionUse, isClassScope, scopeStep, classAbove, leaveClass, bodyOf};
+use check_class_table::Current;
+use table_records::ClassId;
 use table_records::Found;
 use table_records::NodeId;
 use table_records::ScopeId;
@@ -101,13 +103,18 @@ pub fn part_at(nodes: &[u32], a: NodeId, x: NodeId) -> ElementPart
     ElementPart::NoElement
 }
 
-// A call in the constructor of the class with this ClassBody.
-fn heritage_use(nodes: &[u32], b: NodeId) -> Reach
+// A call in the constructor of the class c.
+// > ClassTail : ClassHeritageopt { ClassBody }
+// > * It is a Syntax Error if ClassHeritage is not present and the following algorithm returns true:
+// >   1. Let constructor be ConstructorMethod of ClassBody.
+// >   2. If constructor is empty, return false.
+// >   3. Return HasDirectSuper of constructor.
+fn heritage_use(nodes: &[u32], c: ClassId) -> Reach
     requires { ⌜ Tree (now nodes) ⌝ }
-    requires { ⌜ b .0 < count (now nodes) ⌝ }
-    ensures { λ r. ⌜ r ≡ heritageUse (now (nodes .entry)) (b .0) ⌝ }
+    requires { ⌜ c .0 < count (now nodes) ⌝ }
+    ensures { λ r. ⌜ r ≡ heritageUse (now (nodes .entry)) (c .0) ⌝ }
 {
-    let class = table_records::parent(nodes, b);
+    let class = table_records::parent(nodes, NodeId(c.0));
     if table_records::has_flag(table_records::flags(nodes, class), node_flag::HERITAGE) {
         return Reach::Legal;
     }
@@ -141,22 +148,22 @@ fn dummy_use(nodes: &[u32], n: NodeId) -> Reach
     };
     let class = table_records::parent(nodes, b);
     if table_ancestry::is_on_path(nodes, class.0, n) {
-        return heritage_use(nodes, b);
+        return heritage_use(nodes, ClassId(b.0));
     }
     Reach::Fails
 }
 
-// A call in a constructor: of the class with this ClassBody.
-fn derived_use(nodes: &[u32], n: NodeId, class: Found) -> Reach
+// A call in a constructor of the class, if one is current.
+fn derived_use(nodes: &[u32], n: NodeId, class: Current) -> Reach
     requires { ⌜ Tree (now nodes) ⌝ }
     requires { ⌜ n .0 < count (now nodes) ⌝ }
-    requires { ⌜ below (now nodes) class ⌝ }
-    ensures { λ r. ⌜ r ≡ derivedUse (now (nodes .entry)) (n .0) class ⌝ }
+    requires { ⌜ below (now nodes) (bodyOf class) ⌝ }
+    ensures { λ r. ⌜ r ≡ derivedUse (now (nodes .entry)) (n .0) (bodyOf class) ⌝ }
 {
-    let Found::At(b) = class else {
+    let Current::Class(c) = class else {
         return dummy_use(nodes, n);
     };
-    heritage_use(nodes, b)
+    heritage_use(nodes, c)
 }
 
 // Whether a property of an object is a method, getter or setter.
@@ -186,12 +193,12 @@ fn object_use(nodes: &[u32], call: bool, p: NodeId, f: NodeId) -> Reach
 }
 
 // A `super` in the function f, which is the value of a method of a class, or not.
-fn method_use(nodes: &[u32], n: NodeId, call: bool, class: Found, p: NodeId, f: NodeId) -> Reach
+fn method_use(nodes: &[u32], n: NodeId, call: bool, class: Current, p: NodeId, f: NodeId) -> Reach
     requires { ⌜ Tree (now nodes) ⌝ }
     requires { ⌜ n .0 < count (now nodes) ⌝ }
-    requires { ⌜ below (now nodes) class ⌝ }
+    requires { ⌜ below (now nodes) (bodyOf class) ⌝ }
     requires { ⌜ p .0 < count (now nodes) ⌝ }
-    ensures { λ r. ⌜ r ≡ methodUse (now (nodes .entry)) (n .0) call class (p .0) (f .0) ⌝ }
+    ensures { λ r. ⌜ r ≡ methodUse (now (nodes .entry)) (n .0) call (bodyOf class) (p .0) (f .0) ⌝ }
 {
     if !is_value_of(nodes, p, f) {
         return Reach::Illegal;
@@ -206,12 +213,12 @@ fn method_use(nodes: &[u32], n: NodeId, call: bool, class: Found, p: NodeId, f: 
 }
 
 // A `super` in the function f.
-fn function_use(nodes: &[u32], n: NodeId, call: bool, class: Found, f: NodeId) -> Reach
+fn function_use(nodes: &[u32], n: NodeId, call: bool, class: Current, f: NodeId) -> Reach
     requires { ⌜ Tree (now nodes) ⌝ }
     requires { ⌜ n .0 < count (now nodes) ⌝ }
-    requires { ⌜ below (now nodes) class ⌝ }
+    requires { ⌜ below (now nodes) (bodyOf class) ⌝ }
     requires { ⌜ f .0 < count (now nodes) ⌝ }
-    ensures { λ r. ⌜ r ≡ functionUse (now (nodes .entry)) (n .0) call class (f .0) ⌝ }
+    ensures { λ r. ⌜ r ≡ functionUse (now (nodes .entry)) (n .0) call (bodyOf class) (f .0) ⌝ }
 {
     if f.0 == 0 {
         return Reach::Fails;
@@ -227,17 +234,17 @@ fn function_use(nodes: &[u32], n: NodeId, call: bool, class: Found, f: NodeId) -
     Reach::Illegal
 }
 
-// Whether s is the scope of the class with this ClassBody.
-pub fn is_class_scope(nodes: &[u32], class: Found, s: ScopeId) -> bool
+// Whether s is the scope of the class (the first of get_class_details).
+pub fn is_class_scope(nodes: &[u32], class: Current, s: ScopeId) -> bool
     requires { ⌜ Tree (now nodes) ⌝ }
-    requires { ⌜ below (now nodes) class ⌝ }
-    ensures { λ r. ⌜ r ≡ isClassScope (now (nodes .entry)) class (s .0) ⌝ }
+    requires { ⌜ below (now nodes) (bodyOf class) ⌝ }
+    ensures { λ r. ⌜ r ≡ isClassScope (now (nodes .entry)) (bodyOf class) (s .0) ⌝ }
 {
-    let Found::At(b) = class else {
+    let Current::Class(c) = class else {
         return false;
     };
-    let c = table_records::parent(nodes, b);
-    s.0 == table_records::extra(nodes, c)
+    let class_node = table_records::parent(nodes, NodeId(c.0));
+    s.0 == table_records::extra(nodes, class_node)
 }
 
 // What the scope s of the search says, where it isn't the class's: `super.foo` is legal in static blocks, `super()` is not; scopes that are
@@ -249,15 +256,15 @@ pub fn scope_step(
     scopes: &[u32],
     n: NodeId,
     call: bool,
-    class: Found,
+    class: Current,
     s: ScopeId,
 ) -> Step
     requires { ⌜ Tree (now nodes) ⌝ }
     requires { ⌜ n .0 < count (now nodes) ⌝ }
-    requires { ⌜ below (now nodes) class ⌝ }
+    requires { ⌜ below (now nodes) (bodyOf class) ⌝ }
     requires { ⌜ s .0 < countScopes (now scopes) ⌝ }
     requires { ⌜ scopeNodeOf (now scopes) (s .0) < count (now nodes) ⌝ }
-    ensures { λ r. ⌜ r ≡ scopeStep (now (nodes .entry)) (now (scopes .entry)) (n .0) call class (s .0) ⌝ }
+    ensures { λ r. ⌜ r ≡ scopeStep (now (nodes .entry)) (now (scopes .entry)) (n .0) call (bodyOf class) (s .0) ⌝ }
 {
     let flags = table_records::scope_flags(scopes, s);
     if table_records::has_flag(flags, scope_flag::STATIC_BLOCK_SCOPE) {
@@ -273,15 +280,30 @@ pub fn scope_step(
     Step::Stop(function_use(nodes, n, call, class, f))
 }
 
-// The class around a class.
-pub fn leave_class(nodes: &[u32], class: Found) -> Found
+// The class around a node.
+pub fn class_around(nodes: &[u32], n: NodeId) -> Current
     requires { ⌜ Tree (now nodes) ⌝ }
-    requires { ⌜ below (now nodes) class ⌝ }
-    ensures { λ r. ⌜ r ≡ leaveClass (now (nodes .entry)) class ⌝ }
-    ensures { λ r. ⌜ below (now (nodes .entry)) r ⌝ }
+    requires { ⌜ n .0 < count (now nodes) ⌝ }
+    ensures { λ r. ⌜ bodyOf r ≡ classAbove (now (nodes .entry)) (n .0) ⌝ }
+    ensures { λ r. ⌜ below (now (nodes .entry)) (bodyOf r) ⌝ }
 {
-    let Found::At(b) = class else {
-        return Found::Nothing;
+    let Found::At(b) =
+        table_ancestry::nearest(nodes, n, kinds::CLASS_BODY, kinds::CLASS_BODY)
+    else {
+        return Current::Outside;
     };
-    table_ancestry::nearest(nodes, b, kinds::CLASS_BODY, kinds::CLASS_BODY)
+    Current::Class(ClassId(b.0))
+}
+
+// The class around a class.
+pub fn leave_class(nodes: &[u32], class: Current) -> Current
+    requires { ⌜ Tree (now nodes) ⌝ }
+    requires { ⌜ below (now nodes) (bodyOf class) ⌝ }
+    ensures { λ r. ⌜ bodyOf r ≡ leaveClass (now (nodes .entry)) (bodyOf class) ⌝ }
+    ensures { λ r. ⌜ below (now (nodes .entry)) (bodyOf r) ⌝ }
+{
+    let Current::Class(c) = class else {
+        return Current::Outside;
+    };
+    class_around(nodes, NodeId(c.0))
 }

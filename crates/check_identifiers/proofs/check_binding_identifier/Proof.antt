@@ -9,15 +9,15 @@ strict-mode-requires c κs = search needs
 is-eval-or-arguments-requires : tie.Need-is-eval-or-arguments-requires
 is-eval-or-arguments-requires c κs = search needs
 
-strict-context-requires : tie.Need-strict-context-requires
-strict-context-requires c κs = search needs
+unexpected-identifier-assign-context-requires : tie.Need-unexpected-identifier-assign-context-requires
+unexpected-identifier-assign-context-requires c κs = search needs
 
 error-at-requires : tie.Need-error-at-requires
 error-at-requires c κs = search needs
 
 returns : tie.Need-returns
 unfolding checkBindingIdentifier
-returns c = rw (← c .before .before .before .before .before .strict-mode .ensures, c .before .before .before .before .if1 .taken, ← c .before .before .before .is-eval-or-arguments .ensures, c .before .before .if2 .taken, ← c .before .strict-context .ensures, ← c .error-at .ensures)
+returns c = rw (← c .before .before .before .before .before .strict-mode .ensures, c .before .before .before .before .if1 .taken, ← c .before .before .before .is-eval-or-arguments .ensures, c .before .before .if2 .taken, ← c .before .unexpected-identifier-assign-context .ensures, ← c .error-at .ensures)
 
 returns-2 : tie.Need-returns-2
 unfolding checkBindingIdentifier
@@ -46,7 +46,7 @@ check-binding-identifier-spec =
     (tie.spec
     strict-mode-requires
     is-eval-or-arguments-requires
-    strict-context-requires
+    unexpected-identifier-assign-context-requires
     error-at-requires
     returns
     returns-2

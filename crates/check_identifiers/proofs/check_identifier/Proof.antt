@@ -31,15 +31,15 @@ returns-3 : tie.Need-returns-3
 unfolding checkIdentifier
 returns-3 c = rw (c .before .before .before .before .before .before .name-is-arg .given .1, ← c .before .before .before .before .before .name-is .ensures, c .before .before .before .before .if1 .left, ← c .before .before .before .is-strict-word .ensures, not-false (c .before .before .before .is-strict-word .result) (c .before .before .if2 .left), ← c .before .strict-mode .ensures, not-true (c .before .strict-mode .result) (c .if3 .taken))
 
-strict-context-requires : tie.Need-strict-context-requires
-strict-context-requires c κs = search needs
+unexpected-identifier-assign-context-requires : tie.Need-unexpected-identifier-assign-context-requires
+unexpected-identifier-assign-context-requires c κs = search needs
 
 error-at-requires : tie.Need-error-at-requires
 error-at-requires c κs = search needs
 
 returns-4 : tie.Need-returns-4
 unfolding checkIdentifier
-returns-4 c = rw (c .before .before .before .before .before .before .before .before .name-is-arg .given .1, ← c .before .before .before .before .before .before .before .name-is .ensures, c .before .before .before .before .before .before .if1 .left, ← c .before .before .before .before .before .is-strict-word .ensures, not-false (c .before .before .before .before .before .is-strict-word .result) (c .before .before .before .before .if2 .left), ← c .before .before .before .strict-mode .ensures, not-false (c .before .before .before .strict-mode .result) (c .before .before .if3 .left), ← c .before .strict-context .ensures, ← c .error-at .ensures)
+returns-4 c = rw (c .before .before .before .before .before .before .before .before .name-is-arg .given .1, ← c .before .before .before .before .before .before .before .name-is .ensures, c .before .before .before .before .before .before .if1 .left, ← c .before .before .before .before .before .is-strict-word .ensures, not-false (c .before .before .before .before .before .is-strict-word .result) (c .before .before .before .before .if2 .left), ← c .before .before .before .strict-mode .ensures, not-false (c .before .before .before .strict-mode .result) (c .before .before .if3 .left), ← c .before .unexpected-identifier-assign-context .ensures, ← c .error-at .ensures)
 
 pub check-identifier-spec : {M : Type 1} → statement M
 check-identifier-spec =
@@ -53,6 +53,6 @@ check-identifier-spec =
     returns-2
     strict-mode-requires
     returns-3
-    strict-context-requires
+    unexpected-identifier-assign-context-requires
     error-at-requires
     returns-4)

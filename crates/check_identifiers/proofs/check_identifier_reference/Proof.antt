@@ -7,15 +7,15 @@ use Rattle.check_identifiers.proofs.check_identifier_reference.Tie as t
 is-invalid-target-requires : tie.Need-is-invalid-target-requires
 is-invalid-target-requires c κs = search needs
 
-strict-context-requires : tie.Need-strict-context-requires
-strict-context-requires c κs = search needs
+unexpected-identifier-assign-context-requires : tie.Need-unexpected-identifier-assign-context-requires
+unexpected-identifier-assign-context-requires c κs = search needs
 
 error-at-requires : tie.Need-error-at-requires
 error-at-requires c κs = search needs
 
 returns : tie.Need-returns
 unfolding checkIdentifierReference
-returns c = rw (← c .before .before .before .is-invalid-target .ensures, c .before .before .if1 .taken, ← c .before .strict-context .ensures, ← c .error-at .ensures)
+returns c = rw (← c .before .before .before .is-invalid-target .ensures, c .before .before .if1 .taken, ← c .before .unexpected-identifier-assign-context .ensures, ← c .error-at .ensures)
 
 slice-aggregate-name-is : tie.Need-slice-aggregate-name-is
 slice-aggregate-name-is c = search needs
@@ -46,7 +46,7 @@ check-identifier-reference-spec =
     tie.close
     (tie.spec
     is-invalid-target-requires
-    strict-context-requires
+    unexpected-identifier-assign-context-requires
     error-at-requires
     returns
     slice-aggregate-name-is

@@ -8,7 +8,7 @@ parent-requires : tie.Need-parent-requires
 parent-requires c κs = search needs
 
 flags-requires : tie.Need-flags-requires
-flags-requires c κs = omega (arith, parent-in (c .before .before .args .nodes .now) (c .before .before .pre .0) (c .before .before .args .b .0) (c .before .before .pre .1))
+flags-requires c κs = omega (arith, parent-in (c .before .before .args .nodes .now) (c .before .before .pre .0) (c .before .before .args .c .0) (c .before .before .pre .1))
 
 has-flag-requires : tie.Need-has-flag-requires
 has-flag-requires c κs = search needs

@@ -1,6 +1,6 @@
 use Rattle.table_ancestry.specs.AncestryLaws.{parent-in}
-use Rattle.check_supers.specs.Super.{isClassScope}
-use Rattle.table_records.specs.declared.Found.{Found}
+use Rattle.check_supers.specs.Super.{isClassScope, bodyOf}
+use Rattle.check_class_table.specs.declared.Current.{Current}
 use native.Mathlib.Omega.{arith}
 use mathlib.Core.Path.{ap, sym, _∙_}
 use borrow.Author.Needs.{needs}
@@ -23,7 +23,7 @@ extra-requires : tie.Need-extra-requires
 extra-requires c κs = let f = rw (c .before .before .class .given .1) at (c .before .before .before .before .before .pre .1) in omega (arith, parent-in (c .before .before .before .before .before .args .nodes .now) (c .before .before .before .before .before .pre .0) (c .before .before .class .given .0 .0 .0) f)
 
 returns-2 : tie.Need-returns-2
-returns-2 c = sym (ap (λ (x : Found). isClassScope (c .before .before .before .before .before .before .before .args .nodes .now) x (c .before .before .before .before .before .before .before .args .s .0)) (c .before .before .before .before .class .given .1) ∙ rw (← c .before .before .parent .ensures, ← c .before .extra .ensures))
+returns-2 c = sym (ap (λ (x : Current). isClassScope (c .before .before .before .before .before .before .before .args .nodes .now) (bodyOf x) (c .before .before .before .before .before .before .before .args .s .0)) (c .before .before .before .before .class .given .1) ∙ rw (← c .before .before .parent .ensures, ← c .before .extra .ensures))
 
 pub is-class-scope-spec : {M : Type 1} → statement M
 is-class-scope-spec =
