@@ -1,5 +1,5 @@
 #!/usr/bin/env bash
-# What the source says of itself: the layout, no hole or axiom in a proof, no division or remainder in a walk up.
+# What the source says of itself: the layout, no hole or axiom in a proof, no long function.
 set -u
 cd "$(dirname "$0")/.." || exit 1
 export PATH="$PATH:/opt/rattle/bin"
@@ -24,12 +24,6 @@ listed() {
 # `?` as a term, and antt's two axioms.
 no_holes() { ! grep -rnE '(=|→|\(|,) *\?([a-z]*)?( |$|\)|,)|(^|[^[:alnum:]-])(lem|ac)([^[:alnum:]-]|$)' crates --include='*.antt'; }
 
-# A walk up goes through these crates; none of them divides, but for the count of records at a table's size.
-no_division() {
-    ! grep -nE '[^/]/[^/]|%' crates/table_ancestry/src/*.rt crates/table_children/src/*.rt crates/table_names/src/*.rt crates/table_scoping/src/*.rt |
-        grep -vE ':[0-9]+: *(//|ghost)'
-}
-
 small_functions() {
     awk 'FNR==1{n=0} /^(pub )?fn |^    pub fn /{name=$0; n=1; next} n{n++} /^}/{if(n>70){print FILENAME": "name" ("n" lines)"; bad=1} n=0} END{exit bad}' crates/*/src/*.rt
 }
@@ -37,7 +31,6 @@ small_functions() {
 check "every file in rt's layout" formatted
 check "every crate listed in crates.txt" listed
 check "no hole and no axiom" no_holes
-check "no division or remainder in a walk up" no_division
 check "no long function" small_functions
 echo "$passed passed, $failed failed"
 [ "$failed" -eq 0 ]
