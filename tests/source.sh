@@ -1,6 +1,6 @@
 #!/usr/bin/env bash
-# What the source says of itself: the layout, no hole or axiom in a proof, no division or remainder in a walk up, shell scripts without
-# warnings, documents in short lines.
+# What the source says of itself: the layout, no hole or axiom in a proof, no long function, shell scripts without warnings,
+# documents in short lines.
 # shellcheck source=tests/lib.bash
 source "$(dirname "$0")/lib.bash" || exit 1
 
@@ -16,12 +16,6 @@ listed() {
 
 # `?` as a term, and antt's two axioms.
 no_holes() { ! grep -rnE '(=|→|\(|,) *\?([a-z]*)?( |$|\)|,)|(^|[^[:alnum:]-])(lem|ac)([^[:alnum:]-]|$)' crates --include='*.antt'; }
-
-# A walk up goes through these crates; none of them divides, but for the count of records at a table's size.
-no_division() {
-    ! grep -nE '[^/]/[^/]|%' crates/table_ancestry/src/*.rt crates/table_children/src/*.rt crates/table_names/src/*.rt crates/table_scoping/src/*.rt |
-        grep -vE ':[0-9]+: *(//|ghost)'
-}
 
 # check_node is one match by kind, as checker/mod.rs has it: an arm a kind, and no other length
 small_functions() {
@@ -40,7 +34,6 @@ short_lines() { tools/setup node && tools/rewrap --check README.md docs/*.md com
 check "every file in rt's layout" formatted
 check "every crate listed in crates.txt" listed
 check "no hole and no axiom" no_holes
-check "no division or remainder in a walk up" no_division
 check "no long function" small_functions
 check "no warning of shellcheck" shell_scripts
 check "documents in lines of at most 120 columns" short_lines

@@ -287,8 +287,7 @@ pub fn class_around(nodes: &[u32], n: NodeId) -> Current
     ensures { λ r. ⌜ bodyOf r ≡ classAbove (now (nodes .entry)) (n .0) ⌝ }
     ensures { λ r. ⌜ below (now (nodes .entry)) (bodyOf r) ⌝ }
 {
-    let Found::At(b) =
-        table_ancestry::nearest(nodes, n, kinds::CLASS_BODY, kinds::CLASS_BODY)
+    let Found::At(b) = table_ancestry::nearest(nodes, n, kinds::CLASS_BODY, kinds::CLASS_BODY)
     else {
         return Current::Outside;
     };

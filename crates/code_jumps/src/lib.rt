@@ -149,6 +149,7 @@ pub fn fill_nor(nodes: &[u32], names: &[u8], b: NodeId, offs: &[u32], nors: &mut
 }
 
 // Where a jump leads that has no target: to the last end behind the code. A unit with such a jump is refused.
+// It is asked before a walk up and handed to it, since the table's size takes a division.
 fn no_target(nodes: &[u32], b: NodeId, offs: &[u32]) -> u32
     requires { ⌜ Tree (now nodes) ⌝ }
     requires { ⌜ Offs (now nodes) (b .0) (count (now nodes)) (now offs) ⌝ }
@@ -171,12 +172,11 @@ fn next_turn(nodes: &[u32], b: NodeId, offs: &[u32], p: NodeId) -> u32
 }
 
 // Where a break without a label leads: on from the nearest loop or switch.
-fn break_near(nodes: &[u32], names: &[u8], b: NodeId, offs: &[u32], nors: &[u32], n: NodeId) -> u32
+fn break_near(nodes: &[u32], names: &[u8], b: NodeId, nors: &[u32], lost: u32, n: NodeId) -> u32
     requires { ⌜ Held (now nodes) (now names) (b .0) ⌝ }
     requires { ⌜ n .0 < count (now nodes) ⌝ }
     requires { ⌜ live (now nodes) (b .0) (n .0) ≡ true ⌝ }
-    requires { ⌜ Offs (now nodes) (b .0) (count (now nodes)) (now offs) ⌝ }
-    requires { ⌜ count (now nodes) < length (now offs) ⌝ }
+    requires { ⌜ lost ≡ off (now nodes) (b .0) (count (now nodes)) + 6 ⌝ }
     requires { ⌜ Nors (now nodes) (now names) (b .0) (count (now nodes)) (now nors) ⌝ }
     requires { ⌜ count (now nodes) < length (now nors) ⌝ }
     ensures { λ r. ⌜ r ≡ aim (now (nodes .entry)) (now (names .entry)) (b .0) (n .0) (breaks near) ⌝ }
@@ -189,16 +189,17 @@ fn break_near(nodes: &[u32], names: &[u8], b: NodeId, offs: &[u32], nors: &[u32]
         }
         at = p.0;
     }
-    no_target(nodes, b, offs)
+    lost
 }
 
 // Where a continue without a label leads: to the nearest loop's next turn.
-fn continue_near(nodes: &[u32], names: &[u8], b: NodeId, offs: &[u32], n: NodeId) -> u32
+fn continue_near(nodes: &[u32], names: &[u8], b: NodeId, offs: &[u32], lost: u32, n: NodeId) -> u32
     requires { ⌜ Held (now nodes) (now names) (b .0) ⌝ }
     requires { ⌜ n .0 < count (now nodes) ⌝ }
     requires { ⌜ live (now nodes) (b .0) (n .0) ≡ true ⌝ }
     requires { ⌜ Offs (now nodes) (b .0) (count (now nodes)) (now offs) ⌝ }
     requires { ⌜ count (now nodes) < length (now offs) ⌝ }
+    requires { ⌜ lost ≡ off (now nodes) (b .0) (count (now nodes)) + 6 ⌝ }
     ensures { λ r. ⌜ r ≡ aim (now (nodes .entry)) (now (names .entry)) (b .0) (n .0) (continues near) ⌝ }
 {
     let mut at = n.0;
@@ -209,7 +210,7 @@ fn continue_near(nodes: &[u32], names: &[u8], b: NodeId, offs: &[u32], n: NodeId
         }
         at = p.0;
     }
-    no_target(nodes, b, offs)
+    lost
 }
 
 // Whether the label of p has the name of the label l.
@@ -281,16 +282,15 @@ fn break_named(
     nodes: &[u32],
     names: &[u8],
     b: NodeId,
-    offs: &[u32],
     nors: &[u32],
+    lost: u32,
     n: NodeId,
     l: NodeId,
 ) -> u32
     requires { ⌜ Held (now nodes) (now names) (b .0) ⌝ }
     requires { ⌜ n .0 < count (now nodes) ⌝ }
     requires { ⌜ live (now nodes) (b .0) (n .0) ≡ true ⌝ }
-    requires { ⌜ Offs (now nodes) (b .0) (count (now nodes)) (now offs) ⌝ }
-    requires { ⌜ count (now nodes) < length (now offs) ⌝ }
+    requires { ⌜ lost ≡ off (now nodes) (b .0) (count (now nodes)) + 6 ⌝ }
     requires { ⌜ Nors (now nodes) (now names) (b .0) (count (now nodes)) (now nors) ⌝ }
     requires { ⌜ count (now nodes) < length (now nors) ⌝ }
     requires { ⌜ l .0 < count (now nodes) ⌝ }
@@ -304,16 +304,25 @@ fn break_named(
         }
         at = p.0;
     }
-    no_target(nodes, b, offs)
+    lost
 }
 
 // Where a continue with the label l leads: to the next turn of the nearest loop that has this label.
-fn continue_named(nodes: &[u32], names: &[u8], b: NodeId, offs: &[u32], n: NodeId, l: NodeId) -> u32
+fn continue_named(
+    nodes: &[u32],
+    names: &[u8],
+    b: NodeId,
+    offs: &[u32],
+    lost: u32,
+    n: NodeId,
+    l: NodeId,
+) -> u32
     requires { ⌜ Held (now nodes) (now names) (b .0) ⌝ }
     requires { ⌜ n .0 < count (now nodes) ⌝ }
     requires { ⌜ live (now nodes) (b .0) (n .0) ≡ true ⌝ }
     requires { ⌜ Offs (now nodes) (b .0) (count (now nodes)) (now offs) ⌝ }
     requires { ⌜ count (now nodes) < length (now offs) ⌝ }
+    requires { ⌜ lost ≡ off (now nodes) (b .0) (count (now nodes)) + 6 ⌝ }
     requires { ⌜ l .0 < count (now nodes) ⌝ }
     ensures { λ r. ⌜ r ≡ aim (now (nodes .entry)) (now (names .entry)) (b .0) (n .0) (continues (named (nameId (now (nodes .entry)) (now (names .entry)) (l .0)))) ⌝ }
 {
@@ -325,7 +334,7 @@ fn continue_named(nodes: &[u32], names: &[u8], b: NodeId, offs: &[u32], n: NodeI
         }
         at = p.0;
     }
-    no_target(nodes, b, offs)
+    lost
 }
 
 // Where the Break n leads.
@@ -346,10 +355,11 @@ pub fn break_target(
     requires { ⌜ count (now nodes) < length (now nors) ⌝ }
     ensures { λ r. ⌜ r ≡ aim (now (nodes .entry)) (now (names .entry)) (b .0) (n .0) (breaks (labAt (now (nodes .entry)) (now (names .entry)) (n .0))) ⌝ }
 {
+    let lost = no_target(nodes, b, offs);
     let Found::At(l) = table_children::label_of(nodes, n) else {
-        return break_near(nodes, names, b, offs, nors, n);
+        return break_near(nodes, names, b, nors, lost, n);
     };
-    break_named(nodes, names, b, offs, nors, n, l)
+    break_named(nodes, names, b, nors, lost, n, l)
 }
 
 // Where the Continue n leads.
@@ -361,8 +371,9 @@ pub fn continue_target(nodes: &[u32], names: &[u8], b: NodeId, offs: &[u32], n: 
     requires { ⌜ count (now nodes) < length (now offs) ⌝ }
     ensures { λ r. ⌜ r ≡ aim (now (nodes .entry)) (now (names .entry)) (b .0) (n .0) (continues (labAt (now (nodes .entry)) (now (names .entry)) (n .0))) ⌝ }
 {
+    let lost = no_target(nodes, b, offs);
     let Found::At(l) = table_children::label_of(nodes, n) else {
-        return continue_near(nodes, names, b, offs, n);
+        return continue_near(nodes, names, b, offs, lost, n);
     };
-    continue_named(nodes, names, b, offs, n, l)
+    continue_named(nodes, names, b, offs, lost, n, l)
 }

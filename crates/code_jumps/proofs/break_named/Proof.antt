@@ -16,19 +16,19 @@ use Rattle.code_jumps.proofs.break_named.Statement.{statement}
 use Rattle.code_jumps.proofs.break_named.Tie as tie
 
 abbrev Inv-loop : tie.InvT-loop
-Inv-loop nodes names b offs nors l at₀ at = (at < count nodes) × (live nodes (b .0) at ≡ true) × (aim nodes names (b .0) at (breaks (named (nameId nodes names (l .0)))) ≡ aim nodes names (b .0) at₀ (breaks (named (nameId nodes names (l .0)))))
+Inv-loop nodes names b nors lost l at₀ at = (at < count nodes) × (live nodes (b .0) at ≡ true) × (aim nodes names (b .0) at (breaks (named (nameId nodes names (l .0)))) ≡ aim nodes names (b .0) at₀ (breaks (named (nameId nodes names (l .0)))))
 
 abbrev μ-loop : tie.MeasureT-loop
-μ-loop nodes names b offs nors l at₀ at = at
+μ-loop nodes names b nors lost l at₀ at = at
 
 loop-holds : tie.Need-loop-holds Inv-loop μ-loop
-loop-holds c = (c .before .before .before .before .pre .1 .0, c .before .before .before .before .pre .1 .1 .0, refl)
+loop-holds c = (c .before .before .before .pre .1 .0, c .before .before .before .pre .1 .1 .0, refl)
 
 up-requires : tie.Need-up-requires Inv-loop μ-loop
 up-requires c κs = search needs
 
 is-labeled-as-requires : tie.Need-is-labeled-as-requires Inv-loop μ-loop
-is-labeled-as-requires c κs = (c .before .before .before .before .before .before .before .before .pre .0 .good .tree, (c .before .before .before .before .before .before .before .before .pre .0 .named, (omega arith, c .before .before .before .before .before .before .before .before .pre .1 .1 .1 .1 .1 .1 .1)))
+is-labeled-as-requires c κs = (c .before .before .before .before .before .before .before .pre .0 .good .tree, (c .before .before .before .before .before .before .before .pre .0 .named, (omega arith, c .before .before .before .before .before .before .before .pre .1 .1 .1 .1 .1 .1)))
 
 wide-requires : tie.Need-wide-requires Inv-loop μ-loop
 wide-requires c κs = search needs
@@ -41,48 +41,45 @@ shared-slice-read-result c = search needs
 
 returns : tie.Need-returns Inv-loop μ-loop
 returns c =
-    let a = c .before .before .before .before .before .before .before .before .before .before .before .before .args in
+    let a = c .before .before .before .before .before .before .before .before .before .before .before .args in
     let ns = a .nodes .now in
     let nm = a .names .now in
     let b = a .b .0 in
-    let t = c .before .before .before .before .before .before .before .before .before .before .before .before .pre .0 .good .tree in
+    let t = c .before .before .before .before .before .before .before .before .before .before .before .pre .0 .good .tree in
     let at = c .before .before .before .before .before .before .before .loop .at in
     let u = t .falls at (omega arith) (omega arith) in
     let v = live-parent ns nm b (t .falls) at (omega arith) (omega arith) (c .before .before .before .before .before .before .before .loop .inv .1) in
     let q = live-ge ns b (parentOf ns at) v in
     let e : (isLabeled (shapeAt ns (parentOf ns at)) && eqb (nameId ns nm (a .l .0)) (idAt ns nm (parentOf ns at))) ≡ true = sym (c .before .before .before .is-labeled-as .ensures ∙ ap (λ k. (isLabeled (shapeAt ns k) && eqb (nameId ns nm (a .l .0)) (idAt ns nm k))) (c .before .before .before .before .up .ensures .0)) ∙ c .before .before .if2 .taken in
-    cc (breN-hit ns nm b (t .falls) at (omega arith) (omega arith) (nameId ns nm (a .l .0)) e, c .before .before .before .before .before .before .before .before .before .before .before .before .pre .1 .1 .1 .1 .1 .0 .is (parentOf ns at) q (omega arith) v, c .before .before .before .before .up .ensures .0)
+    cc (breN-hit ns nm b (t .falls) at (omega arith) (omega arith) (nameId ns nm (a .l .0)) e, c .before .before .before .before .before .before .before .before .before .before .before .pre .1 .1 .1 .1 .0 .is (parentOf ns at) q (omega arith) v, c .before .before .before .before .up .ensures .0)
 
 loop-less : tie.Need-loop-less Inv-loop μ-loop
 loop-less c = search needs
 
 loop-again : tie.Need-loop-again Inv-loop μ-loop
 loop-again c =
-    let a = c .before .before .before .before .before .before .before .before .before .before .args in
+    let a = c .before .before .before .before .before .before .before .before .before .args in
     let ns = a .nodes .now in
     let nm = a .names .now in
     let b = a .b .0 in
-    let t = c .before .before .before .before .before .before .before .before .before .before .pre .0 .good .tree in
+    let t = c .before .before .before .before .before .before .before .before .before .pre .0 .good .tree in
     let at = c .before .before .before .before .before .loop .at in
     let u = t .falls at (omega arith) (omega arith) in
     let v = live-parent ns nm b (t .falls) at (omega arith) (omega arith) (c .before .before .before .before .before .loop .inv .1) in
     let e : (isLabeled (shapeAt ns (parentOf ns at)) && eqb (nameId ns nm (a .l .0)) (idAt ns nm (parentOf ns at))) ≡ false = sym (c .before .is-labeled-as .ensures ∙ ap (λ k. (isLabeled (shapeAt ns k) && eqb (nameId ns nm (a .l .0)) (idAt ns nm k))) (c .before .before .up .ensures .0)) ∙ c .if2 .left in
     (omega arith, cc v, ap (λ k. aim ns nm b k (breaks (named (nameId ns nm (a .l .0))))) (c .before .before .up .ensures .0) ∙ sym (breN-on ns nm b (t .falls) at (omega arith) (omega arith) (nameId ns nm (a .l .0)) e) ∙ c .before .before .before .before .before .loop .inv .2)
 
-no-target-requires : tie.Need-no-target-requires Inv-loop μ-loop
-no-target-requires c κs = (c .before .before .before .before .before .before .before .pre .0 .good .tree, (c .before .before .before .before .before .before .before .pre .1 .1 .1 .0, c .before .before .before .before .before .before .before .pre .1 .1 .1 .1 .0))
-
 returns-2 : tie.Need-returns-2 Inv-loop μ-loop
 returns-2 c =
-    let a = c .before .before .before .before .before .before .before .before .args in
+    let a = c .before .before .before .before .before .before .args in
     let ns = a .nodes .now in
     let nm = a .names .now in
     let b = a .b .0 in
-    let t = c .before .before .before .before .before .before .before .before .pre .0 .good .tree in
-    let at = c .before .before .before .loop .at in
-    let q = live-ge ns b at (c .before .before .before .loop .inv .1) in
+    let t = c .before .before .before .before .before .before .pre .0 .good .tree in
+    let at = c .before .before .loop .at in
+    let q = live-ge ns b at (c .before .before .loop .inv .1) in
     let y : at ≡ b = omega arith in
-    c .no-target .ensures ∙ sym (aim-root ns nm b (breaks (named (nameId ns nm (a .l .0))))) ∙ sym (aim-at-root ns nm b at y (breaks (named (nameId ns nm (a .l .0))))) ∙ c .before .before .before .loop .inv .2
+    c .before .before .before .before .before .before .pre .1 .1 .1 .0 ∙ sym (aim-root ns nm b (breaks (named (nameId ns nm (a .l .0))))) ∙ sym (aim-at-root ns nm b at y (breaks (named (nameId ns nm (a .l .0))))) ∙ c .before .before .loop .inv .2
 
 pub break-named-spec : {M : Type 1} → statement M
 break-named-spec =
@@ -99,5 +96,4 @@ break-named-spec =
     returns
     loop-less
     loop-again
-    no-target-requires
     returns-2)

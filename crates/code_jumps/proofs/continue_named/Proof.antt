@@ -15,10 +15,10 @@ use Rattle.code_jumps.proofs.continue_named.Statement.{statement}
 use Rattle.code_jumps.proofs.continue_named.Tie as tie
 
 abbrev Inv-loop : tie.InvT-loop
-Inv-loop nodes names b offs l at₀ at = (at < count nodes) × (live nodes (b .0) at ≡ true) × (aim nodes names (b .0) at (continues (named (nameId nodes names (l .0)))) ≡ aim nodes names (b .0) at₀ (continues (named (nameId nodes names (l .0)))))
+Inv-loop nodes names b offs lost l at₀ at = (at < count nodes) × (live nodes (b .0) at ≡ true) × (aim nodes names (b .0) at (continues (named (nameId nodes names (l .0)))) ≡ aim nodes names (b .0) at₀ (continues (named (nameId nodes names (l .0)))))
 
 abbrev μ-loop : tie.MeasureT-loop
-μ-loop nodes names b offs l at₀ at = at
+μ-loop nodes names b offs lost l at₀ at = at
 
 loop-holds : tie.Need-loop-holds Inv-loop μ-loop
 loop-holds c = (c .before .before .before .pre .1 .0, c .before .before .before .pre .1 .1 .0, refl)
@@ -36,7 +36,7 @@ takes-continue-requires c κs =
     let at = c .before .before .before .loop .at in
     let u = t .falls at (omega arith) (omega arith) in
     let v = live-parent ns nm b (t .falls) at (omega arith) (omega arith) (c .before .before .before .loop .inv .1) in
-    (c .before .before .before .before .before .before .before .pre .0, (omega arith, (cc v, c .before .before .before .before .before .before .before .pre .1 .1 .1 .1 .1)))
+    (c .before .before .before .before .before .before .before .pre .0, (omega arith, (cc v, c .before .before .before .before .before .before .before .pre .1 .1 .1 .1 .1 .1)))
 
 next-turn-requires : tie.Need-next-turn-requires Inv-loop μ-loop
 next-turn-requires c κs = (c .before .before .before .before .before .before .before .before .before .pre .0 .good .tree, (c .before .before .before .before .before .before .before .before .before .pre .1 .1 .1 .0, (c .before .before .before .before .before .before .before .before .before .pre .1 .1 .1 .1 .0, omega arith)))
@@ -71,20 +71,17 @@ loop-again c =
     let e : (isLoop (shapeAt ns (parentOf ns at)) && elem (nameId ns nm (a .l .0)) (setOf ns nm b (parentOf ns at))) ≡ false = sym (c .before .takes-continue .ensures ∙ ap (λ k. (isLoop (shapeAt ns k) && elem (nameId ns nm (a .l .0)) (setOf ns nm b k))) (c .before .before .up .ensures .0)) ∙ c .if2 .left in
     (omega arith, cc v, ap (λ k. aim ns nm b k (continues (named (nameId ns nm (a .l .0))))) (c .before .before .up .ensures .0) ∙ sym (conN-on ns nm b (t .falls) at (omega arith) (omega arith) (nameId ns nm (a .l .0)) e) ∙ c .before .before .before .before .before .loop .inv .2)
 
-no-target-requires : tie.Need-no-target-requires Inv-loop μ-loop
-no-target-requires c κs = (c .before .before .before .before .before .before .pre .0 .good .tree, (c .before .before .before .before .before .before .pre .1 .1 .1 .0, c .before .before .before .before .before .before .pre .1 .1 .1 .1 .0))
-
 returns-2 : tie.Need-returns-2 Inv-loop μ-loop
 returns-2 c =
-    let a = c .before .before .before .before .before .before .before .args in
+    let a = c .before .before .before .before .before .before .args in
     let ns = a .nodes .now in
     let nm = a .names .now in
     let b = a .b .0 in
-    let t = c .before .before .before .before .before .before .before .pre .0 .good .tree in
-    let at = c .before .before .before .loop .at in
-    let q = live-ge ns b at (c .before .before .before .loop .inv .1) in
+    let t = c .before .before .before .before .before .before .pre .0 .good .tree in
+    let at = c .before .before .loop .at in
+    let q = live-ge ns b at (c .before .before .loop .inv .1) in
     let y : at ≡ b = omega arith in
-    c .no-target .ensures ∙ sym (aim-root ns nm b (continues (named (nameId ns nm (a .l .0))))) ∙ sym (aim-at-root ns nm b at y (continues (named (nameId ns nm (a .l .0))))) ∙ c .before .before .before .loop .inv .2
+    c .before .before .before .before .before .before .pre .1 .1 .1 .1 .1 .0 ∙ sym (aim-root ns nm b (continues (named (nameId ns nm (a .l .0))))) ∙ sym (aim-at-root ns nm b at y (continues (named (nameId ns nm (a .l .0))))) ∙ c .before .before .loop .inv .2
 
 pub continue-named-spec : {M : Type 1} → statement M
 continue-named-spec =
@@ -99,5 +96,4 @@ continue-named-spec =
     returns
     loop-less
     loop-again
-    no-target-requires
     returns-2)

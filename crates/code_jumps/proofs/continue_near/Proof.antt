@@ -15,10 +15,10 @@ use Rattle.code_jumps.proofs.continue_near.Statement.{statement}
 use Rattle.code_jumps.proofs.continue_near.Tie as tie
 
 abbrev Inv-loop : tie.InvT-loop
-Inv-loop nodes names b offs at₀ at = (at < count nodes) × (live nodes (b .0) at ≡ true) × (aim nodes names (b .0) at (continues near) ≡ aim nodes names (b .0) at₀ (continues near))
+Inv-loop nodes names b offs lost at₀ at = (at < count nodes) × (live nodes (b .0) at ≡ true) × (aim nodes names (b .0) at (continues near) ≡ aim nodes names (b .0) at₀ (continues near))
 
 abbrev μ-loop : tie.MeasureT-loop
-μ-loop nodes names b offs at₀ at = at
+μ-loop nodes names b offs lost at₀ at = at
 
 loop-holds : tie.Need-loop-holds Inv-loop μ-loop
 loop-holds c = (c .before .before .before .pre .1 .0, c .before .before .before .pre .1 .1 .0, refl)
@@ -33,7 +33,7 @@ is-loop-requires : tie.Need-is-loop-requires Inv-loop μ-loop
 is-loop-requires c κs = search needs
 
 next-turn-requires : tie.Need-next-turn-requires Inv-loop μ-loop
-next-turn-requires c κs = (c .before .before .before .before .before .before .before .before .before .before .pre .0 .good .tree, (c .before .before .before .before .before .before .before .before .before .before .pre .1 .1 .1 .0, (c .before .before .before .before .before .before .before .before .before .before .pre .1 .1 .1 .1, omega arith)))
+next-turn-requires c κs = (c .before .before .before .before .before .before .before .before .before .before .pre .0 .good .tree, (c .before .before .before .before .before .before .before .before .before .before .pre .1 .1 .1 .0, (c .before .before .before .before .before .before .before .before .before .before .pre .1 .1 .1 .1 .0, omega arith)))
 
 returns : tie.Need-returns Inv-loop μ-loop
 returns c =
@@ -65,20 +65,17 @@ loop-again c =
     let e : isLoop (shapeAt ns (parentOf ns at)) ≡ false = sym (c .before .is-loop .ensures ∙ ap isLoop (c .before .before .shape-of .ensures) ∙ ap (λ k. isLoop (shapeAt ns k)) (c .before .before .before .up .ensures .0)) ∙ c .if2 .left in
     (omega arith, cc v, ap (λ k. aim ns nm b k (continues near)) (c .before .before .before .up .ensures .0) ∙ sym (con-on ns nm b (t .falls) at (omega arith) (omega arith) e) ∙ c .before .before .before .before .before .before .loop .inv .2)
 
-no-target-requires : tie.Need-no-target-requires Inv-loop μ-loop
-no-target-requires c κs = (c .before .before .before .before .before .before .pre .0 .good .tree, (c .before .before .before .before .before .before .pre .1 .1 .1 .0, c .before .before .before .before .before .before .pre .1 .1 .1 .1))
-
 returns-2 : tie.Need-returns-2 Inv-loop μ-loop
 returns-2 c =
-    let a = c .before .before .before .before .before .before .before .args in
+    let a = c .before .before .before .before .before .before .args in
     let ns = a .nodes .now in
     let nm = a .names .now in
     let b = a .b .0 in
-    let t = c .before .before .before .before .before .before .before .pre .0 .good .tree in
-    let at = c .before .before .before .loop .at in
-    let q = live-ge ns b at (c .before .before .before .loop .inv .1) in
+    let t = c .before .before .before .before .before .before .pre .0 .good .tree in
+    let at = c .before .before .loop .at in
+    let q = live-ge ns b at (c .before .before .loop .inv .1) in
     let y : at ≡ b = omega arith in
-    c .no-target .ensures ∙ sym (aim-root ns nm b (continues near)) ∙ sym (aim-at-root ns nm b at y (continues near)) ∙ c .before .before .before .loop .inv .2
+    c .before .before .before .before .before .before .pre .1 .1 .1 .1 .1 ∙ sym (aim-root ns nm b (continues near)) ∙ sym (aim-at-root ns nm b at y (continues near)) ∙ c .before .before .loop .inv .2
 
 pub continue-near-spec : {M : Type 1} → statement M
 continue-near-spec =
@@ -94,5 +91,4 @@ continue-near-spec =
     returns
     loop-less
     loop-again
-    no-target-requires
     returns-2)
