@@ -4,14 +4,13 @@
 source "$(dirname "$0")/lib.bash" || exit 1
 needs node
 
-# The walks that are known, among those that are found.
+# Walks over parents, scopes and classes that are known, and some of the refusals and of the code maker, are among those
+# that are found.
 known() {
     local w ok=0 found
     found=$(tools/walks --list)
-    for w in table_ancestry::nearest table_scoping::in_static_block check_class_table::is_declared check_super_search::reach \
-        check_jumps::labelled_continue refusal_tree::depth_from code_parts::is_live code_jumps::break_near code_jumps::continue_near \
-        code_jumps::break_named code_jumps::continue_named; do
-        grep -q "^$w " <<<"$found" || { echo "not found: $w"; ok=1; }
+    for w in table_ancestry::nearest table_scoping::in_static_block check_class_table::is_declared check_super_search::reach refusal_ code_; do
+        grep -q "^$w" <<<"$found" || { echo "not found: $w"; ok=1; }
     done
     return $ok
 }
