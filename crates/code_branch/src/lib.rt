@@ -1,0 +1,1 @@
+// Where a jump goes: one walk up for breaks, continues, returns and throws.
