@@ -15,6 +15,10 @@ use Rattle.code_layout.specs.Widths.{widthAt}
 use Rattle.code_layout.specs.Context.{offsetAt}
 use Rattle.code_targets.specs.Targets.{isLoop, isBreakable, isLabeled, catchesAt, target, depthAt, labelsAt}
 use Rattle.code_contexts.specs.Contexts.{Ready, Wide, Places}
+use Rattle.code_branch.specs.declared.Target.{Target}
+
+abbrev pub statOf : Target → Stat
+statOf t = at (t .place) (t .depth)
 
 module _ (ns names : List ℕ) (b : ℕ) where
   -- The completion c of the part j ends at its holder: a break at the nearest loop or Switch, or the Labeled of its name; a continue at the nearest loop, or the one that the Labeled of its name holds;
