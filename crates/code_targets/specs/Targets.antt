@@ -53,6 +53,19 @@ isLabeled Case = false
 isLabeled Try = false
 isLabeled Catch = false
 
+abbrev pub isCatch : Shape → Bool
+isCatch Leaf = false
+isCatch Class = false
+isCatch If = false
+isCatch With = false
+isCatch Block = false
+isCatch Label = false
+isCatch Loop = false
+isCatch Switch = false
+isCatch Case = false
+isCatch Try = false
+isCatch Catch = true
+
 -- There is one (0: none).
 abbrev pub some : ℕ → Bool
 some zero = false

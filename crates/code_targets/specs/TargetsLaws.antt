@@ -20,7 +20,7 @@ use Rattle.code_tree.specs.declared.Shape.the-variants.{Leaf, Class, If, With, 
 use Rattle.code_layout.specs.Widths.{hasRole, isTry, ownWidth, widthAt}
 use Rattle.code_layout.specs.Context.{ifz, before, behind, Context, partContext, contextAt, offsetAt}
 use Rattle.code_layout.specs.LayoutLaws.{context-root, context-up}
-use Rattle.code_targets.specs.Targets.{isLoop, isBreakable, isLabeled, some, goesOnBy, nextBy, catchesAt, target, depthAt, labelsAt}
+use Rattle.code_targets.specs.Targets.{isLoop, isBreakable, isLabeled, isCatch, some, goesOnBy, nextBy, catchesAt, target, depthAt, labelsAt}
 
 -- In a Try, by whether the part is the finally (x) and whether its throws are caught (y).
 module _ (ρ : Comp → Stat) (s : Stat) (e δ : ℕ) where
@@ -273,19 +273,6 @@ module _ (ns names : List ℕ) (b : ℕ) where
         go Case a o m e = refl
         go Try a o m e = tryThrow a o m
         go Catch a o m e = refl
-
-    abbrev isCatch : Shape → Bool
-    isCatch Leaf = false
-    isCatch Class = false
-    isCatch If = false
-    isCatch With = false
-    isCatch Block = false
-    isCatch Label = false
-    isCatch Loop = false
-    isCatch Switch = false
-    isCatch Case = false
-    isCatch Try = false
-    isCatch Catch = true
 
     -- The labels right above a node, with no statement but Labeled between.
     pub labels-up : (l : ℕ) → elem l (labelsAt ns names b j) ≡ cond (isLabeled (shapeAt ns (upOf ns j))) (eqb l (idAt ns names (upOf ns j)) || elem l (labelsAt ns names b (upOf ns j))) (isCatch (shapeAt ns (upOf ns j)) && elem l (labelsAt ns names b (upOf ns j)))

@@ -1,0 +1,3 @@
+pub mod Branch
+pub mod BranchLaws
+pub mod NextLaws

@@ -1,0 +1,1 @@
+// No node stands twice in a unit's statements.
