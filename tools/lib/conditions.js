@@ -45,7 +45,7 @@ const isStrict = (n, { scopes }) => (scopes[n.scope].flags & S.strict) !== 0;
 const inBlockScope = (n, { scopes }) => (scopes[n.scope].flags & S.staticBlock) !== 0;
 
 // children, and parts by their role, of each node; found once a tree
-const kids = ({ nodes, ...tree }) => {
+const kids = ({ nodes }) => {
   if (!kids.of.has(nodes)) {
     const all = nodes.map(() => []);
     nodes.forEach((n, i) => { if (i > 0) all[n.parent].push(i); });
@@ -107,11 +107,13 @@ const keysPlain = everywhere((n, i, tree) => {
   return key === undefined || tree.nodes[key].kind === K.IdentifierReference || nameOf(tree.nodes[key]) !== '__proto__' || writtenKey(tree, key);
 });
 
-// calledConstructor, and NameTold .reserved: no word that is reserved everywhere is a name
+// calledConstructor: not static, and with a key that is not private and is written `constructor`
 const calledConstructor = (tree, i) => {
   const key = part(tree, i, R.key);
   return (tree.nodes[i].flags & (F.static | F.privateKey)) === 0 && writtenKey(tree, key) && nameOf(tree.nodes[key]) === 'constructor';
 };
+
+// NameTold .reserved: no word that is reserved everywhere is a name
 const RESERVED = new Set(`break case catch class const continue debugger default delete do else enum export extends false finally for function if
   import in instanceof new null return super switch this throw true try typeof var void while with`.split(/\s+/));
 const notReserved = everywhere((n) => !isName(n) || !RESERVED.has(nameOf(n)));

@@ -30,6 +30,7 @@ use Rattle.ecma_labels.specs.Changed.{LabelsOnce}
 use Rattle.ecma_labels.specs.Findings.{ofUnit, breakFindings, continueFindings}
 use Rattle.ecma_labels.specs.Theorems as labels
 use Rattle.ecma_strict.specs.Identifiers.{simpleParameters, containsUseStrict}
+use Rattle.ecma_strict.specs.BoundNames.{bindsLet}
 use Rattle.ecma_strict.specs.Contains.{containsInto, staticBlock, blockBegin, awaitExpression, forAwait, awaitUsing, argumentsReference, argumentsBegin, argumentsInto, parameter, parameterBegin, awaitOrYield, lexicalDeclaration, boundBegin, boundInto, letName}
 use Rattle.ecma_strict.specs.Functions.{endsInStatement, endsInLabelled, labelsFunction, labelEdge}
 use Rattle.ecma_strict.specs.Changed.{fieldHome}
@@ -76,7 +77,7 @@ module _ (told : Telling) (t : ℕ) (ns ss source names : List ℕ) where
         → containsFrom ns (awaitOrYield ns) (containsInto ns) (parameterBegin ns) u ≡ some (found (awaitOrYield ns) (containsInto ns) (parameterBegin ns) u (at 33))
     -- 8.2.1 BoundNames, of a lexical declaration u; 2 in strict code
     pub boundNames : (u : ℕ) → u < count ns → lexicalDeclaration ns u ≡ true
-        → containsFrom ns (letName ns names) (boundInto ns) (boundBegin ns) u ≡ some (found (letName ns names) (boundInto ns) (boundBegin ns) u (λ j. at 5 j ++ at 2 j))
+        → bindsLet ns names u ≡ some (found (letName ns names) (boundInto ns) (boundBegin ns) u (λ j. at 5 j ++ at 2 j))
     -- 14.13.2 IsLabelledFunction, of a statement u that ends in a Statement; 15 in strict code
     pub isLabelledFunction : (u : ℕ) → u < count ns → endsInStatement ns u ≡ true
         → endsInLabelled ns u ≡ some (each (λ j. cond (eqb (unitOf ns (labelEdge ns) j) u && labelsFunction ns j) (at 16 j ++ at 15 j) []) (upto (u + 1) (count ns)))

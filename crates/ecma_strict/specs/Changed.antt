@@ -107,7 +107,7 @@ topUsing sourceType ns ss n = usingDeclaration ns n && (eqb sourceType 0 && topS
 unfoldable pub otherScope : List ℕ → ℕ → Bool
 otherScope ns n = any (λ a. within (kindOf ns a) k.Function k.Arrow || mayMakeScope (kindOf ns a)) (ancestors ns n)
 
--- where they agree: the scopes follow the tree, and the declaration is neither in no holder but in such another scope, nor in a clause of a switch
+-- where they agree: the scopes follow the tree; the declaration is in no clause of a switch, and where it is in such another scope, it is in a holder too
 pub record UsingTold (ns ss : List ℕ) (n : ℕ) : Type 0 where
   pub follow : scopesFollow ns ss ≡ true
   pub other : (otherScope ns n && not (heldUsing ns n)) ≡ false
@@ -124,8 +124,8 @@ reservedName sourceType ns ss names n =
 unfoldable pub awaitNameScoped : ℕ → List ℕ → List ℕ → List ℕ → ℕ → Bool
 awaitNameScoped sourceType ns ss names n = identifier ns n && (nameIs ns names n word.awaitWord && (not (goalModule sourceType) && blockScope ns ss n))
 
--- Where names stand, by the tree: the node i begins with its part j what it makes an own [Yield] and [Await] for: a function with all but the name of a declaration, an arrow with its body, a static block
--- with its statements, a field with its Initializer.
+-- Where a name stands, by the tree. The node i gives its part j a [Yield] and an [Await] of its own: a function all but the name of a declaration, an arrow its body, a static block its statements, a field
+-- its Initializer.
 abbrev pub ownEdge : List ℕ → ℕ → ℕ → Bool
 ownEdge ns i j =
     (eqb (kindOf ns i) k.Function && not (hasFlag (flagsOf ns i) flag.Declaration && eqb (kindOf ns j) k.BindingIdentifier))

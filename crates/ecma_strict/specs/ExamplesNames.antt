@@ -13,6 +13,7 @@ use Rattle.ecma_base.specs.Telling.{ordinary}
 use Rattle.ecma_base.specs.Scopes.{followsAt, flaggedAt, classAt, scopesFollow}
 use Rattle.ecma_strict.specs.ReservedWords.{reservedWords}
 use Rattle.ecma_strict.specs.Identifiers.{assignsEval, identifierError}
+use Rattle.ecma_strict.specs.BoundNames.{boundNames, boundNamesOf}
 use Rattle.ecma_strict.specs.Contains.{awaitInBlock, argumentsInClass, awaitInParameter, unbound, letBound}
 use Rattle.ecma_strict.specs.Changed.{scopedInBlock, awaitNameScoped, letBoundSaid, argumentsSaid, awaitInParameterSaid, reservedName}
 use Rattle.ecma_strict.specs.Parameters.{awaitParameter}
@@ -324,6 +325,10 @@ letPatternTree = record {
 pub letPattern : map (letBound (letPatternTree .nodes) (letPatternTree .names)) (7 ∷ 10 ∷ 12 ∷ 15 ∷ []) ≡ false ∷ true ∷ false ∷ false ∷ []
 unfolding letBound unbound same nameOf above climb upto range keep children isChild firstNode kids others forest partsOf trails.climb trails.trail
 letPattern = refl
+
+pub letPatternNames : boundNamesOf (letPatternTree .nodes) (partsOf (letPatternTree .nodes) 1) (λ j. true) ≡ 10 ∷ []
+unfolding boundNames boundNamesOf unbound upto range keep children kids others forest partsOf
+letPatternNames = refl
 
 -- .. and the Rust's rule, of code that is not strict
 pub letPatternSaid : map (letBoundSaid (letPatternTree .nodes) (letPatternTree .scopes) (letPatternTree .names)) (7 ∷ 10 ∷ 12 ∷ 15 ∷ []) ≡ false ∷ true ∷ false ∷ false ∷ []

@@ -4,6 +4,7 @@ pub mod Literals
 pub mod Delete
 pub mod Statements
 pub mod Contains
+pub mod BoundNames
 pub mod Parameters
 pub mod ReservedWords
 pub mod Identifiers
@@ -18,6 +19,7 @@ pub mod IdentifiersLaws
 pub mod NamesLaws
 pub mod SearchLaws
 pub mod NodeRules
+pub mod BoundNamesLaws
 pub mod AgreeLaws
 pub mod ScopesLaws
 pub mod ParametersLaws

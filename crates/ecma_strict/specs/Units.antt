@@ -30,6 +30,8 @@ use Rattle.ecma_base.specs.Strict.{strictCode}
 use Rattle.ecma_base.specs.Telling.{ordinary}
 use Rattle.ecma_strict.specs.Identifiers.{strictReserved, bindsEval, assignsEval, useStrictDirective, simpleParameters, containsUseStrict, useStrictThere}
 use Rattle.ecma_base.specs.Contains.{containsFrom, initializer, containsIn, comes}
+use Rattle.ecma_strict.specs.BoundNames.{bindsLet}
+use Rattle.ecma_strict.specs.BoundNamesLaws.{bindsLetIs}
 use Rattle.ecma_strict.specs.Contains.{containsInto, staticBlock, blockBegin, awaitExpression, forAwait, awaitUsing, argumentsReference, argumentsBegin, argumentsInto, parameter, parameterBegin, awaitOrYield, lexicalDeclaration, unbound, boundBegin, boundInto, letName}
 use Rattle.ecma_base.specs.Scopes.{scopesFollow}
 use Rattle.ecma_strict.specs.ScopesLaws.{scopesTold}
@@ -202,10 +204,11 @@ module _ (t : ℕ) (ns ss source names : List ℕ) (w : WellFormed t ns ss sourc
 
   -- 14.3.1.1: "the BoundNames of BindingList contains "let"": 5, or 2 in strict code
   pub declarationBindsLet : (u : ℕ) → u < count ns → lexicalDeclaration ns u ≡ true
-      → containsFrom ns (letName ns names) (boundInto ns) (boundBegin ns) u ≡ some (foundBelow (letName ns names) (boundInto ns) (boundBegin ns) u (λ j. at 5 j ++ at 2 j))
+      → bindsLet ns names u ≡ some (foundBelow (letName ns names) (boundInto ns) (boundBegin ns) u (λ j. at 5 j ++ at 2 j))
   unfolding letBoundSaid reservedName
   declarationBindsLet u h q =
-      comesIs ns (w .input .tree) (letName ns names) (boundInto ns) (boundBegin ns) u (λ j. at 5 j ++ at 2 j) (λ j l e f. someAppend (at 5 j) (at 2 j) ∙ go j l e f (strictCode ns ss j) refl) h
+      bindsLetIs ns names u q
+      ∙ comesIs ns (w .input .tree) (letName ns names) (boundInto ns) (boundBegin ns) u (λ j. at 5 j ++ at 2 j) (λ j l e f. someAppend (at 5 j) (at 2 j) ∙ go j l e f (strictCode ns ss j) refl) h
     where
       reserved : (j : ℕ) → nameIs ns names j word.letWord ≡ true → any (λ x. nameIs ns names j x) strictReserved ≡ true
       reserved j e =
