@@ -18,7 +18,7 @@ use Rattle.refusal_input.specs.Input.{inputRefusal}
 use Rattle.refusal_input.specs.InputLaws.{input-well-formed}
 use Rattle.route_completion.specs.Route.{route}
 use Rattle.code_flat.specs.Code.{unit, RoomAll}
-use Rattle.code_flat.specs.Machine.{room, codeRoute}
+use Rattle.code_flat.specs.Machine.{room as pendingRoom, codeRoute}
 use Rattle.code_flat.specs.Room.{noTryRoom}
 use Rattle.code_flat.specs.Claims.{claims}
 use Rattle.code_stores.specs.Over.{over}
@@ -83,8 +83,8 @@ module _ (sourceType : ℕ) (ns ss source names : List ℕ) (u len : ℕ) (e : c
       }
 
 -- The finally blocks of a unit find room: it has none.
-pub unit-room : (ns names : List ℕ) (u : ℕ) → RoomAll (unitOf ns names u) room
-unit-room ns names u = noTryRoom (unitOf ns names u) room (unit-no-try ns names u)
+pub unit-room : (ns names : List ℕ) (u : ℕ) → RoomAll (unitOf ns names u) pendingRoom
+unit-room ns names u = noTryRoom (unitOf ns names u) pendingRoom (unit-no-try ns names u)
 
 -- The run of the unit's code is its route by the completion rules.
 pub code-route : (ns names : List ℕ) (u : ℕ) (answers : List ℕ) → codeRoute (unit (unitOf ns names u)) answers ≡ route (unitOf ns names u) answers
