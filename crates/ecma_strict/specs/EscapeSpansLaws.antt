@@ -10,7 +10,6 @@ use native.Mathlib.Nat.{eq-or-lt-of-le}
 use borrow.Author.Tests.{leb-true, leb-false}
 use lib.Dec.{eqb, leb}
 use lib.ListN.{length, getD, drop}
-use lib.Seq.{drop-cons}
 use Rattle.base_common.specs.Bools.{never}
 use Rattle.base_common.specs.UptoLaws.{and-right}
 use Rattle.table_records.specs.Table.{kindOf, parentOf, extraOf}
@@ -23,7 +22,7 @@ use Rattle.check_diagnostics.specs.declared.Raised.the-variants.{Clear}
 use Rattle.table_scoping.specs.Scoping.{isStrict}
 use Rattle.check_literals.specs.declared.Escape.{Escape}
 use Rattle.check_literals.specs.declared.Escape.the-variants.{LegacyOctal, NonOctalDecimal, Fine}
-use Rattle.check_literals.specs.Escapes.{isFine, isLegacyOctal, isNonOctalDecimal, escapeOf, orElse, badEscape}
+use Rattle.check_literals.specs.Escapes.{isLegacyOctal, isNonOctalDecimal, escapeOf, orElse, badEscape}
 use Rattle.check_literals.specs.Literals.{sourceText, leadingZero, escapeFinding, checkStringLiteral, checkNumberLiteral}
 use Rattle.check_dispatch.specs.Findings.{jumpFindings, literalFindings, expressionFindings, findingsAt}
 use Rattle.ecma_strict.specs.Literals.{textOf, legacyOctalEscape, nonOctalDecimalEscape, escaped, forbiddenEscape, FirstForbidden}
