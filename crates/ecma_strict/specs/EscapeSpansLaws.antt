@@ -1,7 +1,7 @@
 -- The scan's answer is the first escape that 12.9.4.1 forbids, so the second span of a finding at a string is that escape.
 use Prim.Native.Nat.{ℕ, zero, suc, _+_, _≤_, _<_}
 use mathlib.Core.Path.{_≡_, refl, ap, sym, _∙_}
-use mathlib.Core.List.{List, [], _∷_, append-nil}
+use mathlib.Core.List.{List, [], _∷_}
 use mathlib.Core.Bool.{Bool, true, false, cond, not, _&&_, _||_}
 use mathlib.Core.Logic.{⊎-elim}
 use native.Mathlib.Omega.{arith}
@@ -24,7 +24,7 @@ use Rattle.check_literals.specs.declared.Escape.{Escape}
 use Rattle.check_literals.specs.declared.Escape.the-variants.{LegacyOctal, NonOctalDecimal, Fine}
 use Rattle.check_literals.specs.Escapes.{isLegacyOctal, isNonOctalDecimal, escapeOf, orElse, badEscape}
 use Rattle.check_literals.specs.Literals.{sourceText, leadingZero, escapeFinding, checkStringLiteral, checkNumberLiteral}
-use Rattle.check_dispatch.specs.Findings.{jumpFindings, literalFindings, expressionFindings, findingsAt}
+use Rattle.check_dispatch.specs.Findings.{findingsAt}
 use Rattle.ecma_strict.specs.Literals.{textOf, legacyOctalEscape, nonOctalDecimalEscape, escaped, forbiddenEscape, FirstForbidden}
 use Rattle.ecma_strict.specs.Changed.{looksPlain}
 use Rattle.ecma_strict.specs.EscapeSpans.{escapeError, StringTold, NumberTold, none, one}
@@ -138,12 +138,12 @@ module _ (l : List ℕ) where
 -- AT A NODE
 module _ (t : ℕ) (ns ss source names : List ℕ) (n : ℕ) where
   stringFindings : kindOf ns n ≡ k.StringLiteral → findingsAt t ns ss source names n ≡ listed (checkStringLiteral ns ss source n)
-  unfolding findingsAt jumpFindings literalFindings expressionFindings
-  stringFindings q = rw q (append-nil (listed (checkStringLiteral ns ss source n)))
+  unfolding findingsAt
+  stringFindings q = rw q
 
   numberFindings : kindOf ns n ≡ k.NumericLiteral → findingsAt t ns ss source names n ≡ listed (checkNumberLiteral ns ss source n)
-  unfolding findingsAt jumpFindings literalFindings expressionFindings
-  numberFindings q = rw q (append-nil (listed (checkNumberLiteral ns ss source n)))
+  unfolding findingsAt
+  numberFindings q = rw q
 
   -- what a string is told
   pub stringTold : kindOf ns n ≡ k.StringLiteral → StringTold ns ss source n (findingsAt t ns ss source names n)
