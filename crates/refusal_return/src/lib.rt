@@ -1,0 +1,1 @@
+// Refusal 15: a Return in a static block.
