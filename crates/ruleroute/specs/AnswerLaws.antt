@@ -1,8 +1,9 @@
 -- The answer as the code comes to it, from the slices that were read.
-use Prim.Native.Nat.{ℕ}
+use Prim.Native.Nat.{ℕ, zero, suc, _<_}
 use mathlib.Core.Path.{_≡_, refl, ap, sym, subst, _∙_}
-use mathlib.Core.List.{List}
-use lib.ListN.{length, take}
+use mathlib.Core.List.{List, [], _∷_}
+use native.Mathlib.Omega.{arith}
+use lib.ListN.{length, getD, take}
 use Rattle.route_viewer.specs.declared.Routed.{Routed}
 use Rattle.route_viewer.specs.declared.Routed.the-variants as routed
 use Rattle.call_routes.specs.Calls.{routeAnswer, routeSlice}
@@ -15,7 +16,40 @@ use Rattle.line_input.specs.Format.{Room, Reading, lent, readInput, front, Give
 use Rattle.line_input.specs.Route.{Asking, readRoute}
 use Rattle.line_input.specs.Sizes.{Sized, lines-told, asked-told, part}
 use Rattle.line_input.specs.Whole.{enough, input-whole, route-whole}
-use Rattle.ruleroute.specs.Answer.{answersRoom, codeRoom, routedBy, entriesBy, routedOf, entriesOf}
+use Rattle.line_print.specs.Print.{lineOf}
+use Rattle.line_answers.specs.Answer.{refusalText}
+use Rattle.ruleroute.specs.Answer.{lastLine, answersRoom, codeRoom, routedBy, entriesBy, routedOf, entriesOf}
+
+-- the numbers of a line
+pub number-one : (a : ℕ) → a < 4294967296 → (i : ℕ) → getD (a ∷ []) i 0 < 4294967296
+number-one a h zero = h
+number-one a h (suc i) = omega arith
+
+pub words-three : (a b d : ℕ) → a < 18446744073709551616 → b < 18446744073709551616 → d < 18446744073709551616 → (i : ℕ) → getD (a ∷ b ∷ d ∷ []) i 0 < 18446744073709551616
+words-three a b d p q r zero = p
+words-three a b d p q r (suc zero) = q
+words-three a b d p q r (suc (suc zero)) = r
+words-three a b d p q r (suc (suc (suc i))) = omega arith
+
+-- the last line by the answer
+module _ (r : Routed) where
+  pub last-route : (end entries taken : ℕ) → r ≡ routed.Route end entries taken → lastLine r ≡ lineOf 90 (end ∷ entries ∷ taken ∷ [])
+  unfolding lastLine
+  last-route end entries taken e = rw e
+
+  pub last-refused : (number place : ℕ) → r ≡ routed.Refused number place → lastLine r ≡ refusalText number place
+  unfolding lastLine
+  last-refused number place e = rw e
+
+  pub last-short : (needed : ℕ) → r ≡ routed.Short needed → lastLine r ≡ refusalText 12 0
+  unfolding lastLine
+  last-short needed e = rw e
+
+-- the route call's answer for the fronts of the slices
+pub fronted : (kind u len k : ℕ) (ns ss xs ms gs ns′ ss′ xs′ ms′ gs′ out : List ℕ) (r : Routed) (f : List ℕ) → ns ≡ ns′ → ss ≡ ss′ → xs ≡ xs′ → ms ≡ ms′ → gs ≡ gs′ → len ≡ codeRoom
+    → r ≡ routeAnswer kind ns ss xs ms u gs len k → f ≡ routeSlice kind ns ss xs ms u gs len out
+    → (r ≡ routeAnswer kind ns′ ss′ xs′ ms′ u gs′ codeRoom k) × (f ≡ routeSlice kind ns′ ss′ xs′ ms′ u gs′ codeRoom out)
+fronted kind u len k ns ss xs ms gs ns′ ss′ xs′ ms′ gs′ out r f p q s t v w a b = (rw (sym p, sym q, sym s, sym t, sym v, sym w) a, rw (sym p, sym q, sym s, sym t, sym v, sym w) b)
 
 -- by what `read_route` answers, in slices of the programs' lengths
 module _ (room : Room) (len : ℕ) (b : List ℕ) (q : room ≡ lent) (z : len ≡ answersRoom) (r : Route) (e : r ≡ readRoute room len b .answer) where

@@ -1,17 +1,25 @@
+-- `ruleroute::print_entries` meets its contract.
 use Prim.Native.Nat.{_≤_, _-_}
+use mathlib.Core.Path.{_≡_}
 use lib.ListN.{length}
 use borrow.Author.Needs.{needs}
 use Rattle.ruleroute.proofs.print_entries.Statement.{statement}
 use Rattle.ruleroute.proofs.print_entries.Tie as tie
 
 abbrev Inv-loop : tie.InvT-loop
-Inv-loop entries i₀ i = i ≤ length entries
+Inv-loop entries text₀ i₀ text i = (i ≤ length entries) × (length text ≡ length text₀)
 
 abbrev μ-loop : tie.MeasureT-loop
-μ-loop entries i₀ i = length entries - i
+μ-loop entries text₀ i₀ text i = length entries - i
 
 loop-holds : tie.Need-loop-holds Inv-loop μ-loop
 loop-holds c = search needs
+
+mul-print-entry : tie.Need-mul-print-entry Inv-loop μ-loop
+mul-print-entry c = search needs
+
+shared-slice-read-print-entry : tie.Need-shared-slice-read-print-entry Inv-loop μ-loop
+shared-slice-read-print-entry c = search needs
 
 print-entry-requires : tie.Need-print-entry-requires Inv-loop μ-loop
 print-entry-requires c κs = search needs
@@ -25,10 +33,11 @@ loop-less c = search needs
 loop-again : tie.Need-loop-again Inv-loop μ-loop
 loop-again c = search needs
 
+same-length : tie.Need-same-length Inv-loop μ-loop
+same-length c = search needs
+
 returns : tie.Need-returns Inv-loop μ-loop
 returns c = search needs
 
 pub print-entries-spec : {M : Type 1} → statement M
-print-entries-spec =
-    tie.close
-    (tie.spec Inv-loop μ-loop loop-holds print-entry-requires add-i loop-less loop-again returns)
+print-entries-spec = tie.close (tie.spec Inv-loop μ-loop loop-holds mul-print-entry shared-slice-read-print-entry print-entry-requires add-i loop-less loop-again same-length returns)
