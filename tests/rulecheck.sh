@@ -96,15 +96,15 @@ private='J,0,7,1\nS,0,2,0\nN,0,0,0,0,0,0,0,0,\nN,26,0,3,0,0,0,0,0,\nN,27,1,0,0,0
 is "a private name" "${private//@/34}" 'E,0'
 is "a private element whose key is a reference" "${private//@/32}" 'F,8,1,0,0,0,0,0\nE,1'
 
-# 1,024 scopes and 1,023 nodes in lines of 2,100 bytes, by leading zeros: 4.3 million bytes, of which nothing is cut; at the last line a finding
-zeros=$(head -c 2087 /dev/zero | tr '\0' 0)
+# 1,024 scopes and nodes in lines of 2,100 bytes, by leading zeros: 4.3 million bytes, of which none is cut; what is printed hangs on the last node
+zeros=$(head -c 2094 /dev/zero | tr '\0' 0)
 large() {
-    printf 'J,0,%s1024,1024\n' "${zeros:0:2085}"
-    printf 'S,%s0,2,0\n' "$zeros" | sed 's/^S,00/S,000000/'
-    for _ in $(seq 1023); do printf 'S,%s0,0,0\n' "${zeros}0000"; done
-    printf 'N,0,0,0,0,0,0,0,%s0,\n' "${zeros:0:2080}"
-    for _ in $(seq 1022); do printf 'N,55,0,0,0,0,0,0,%s0,\n' "${zeros:0:2079}"; done
-    printf 'N,%s,0,3,0,0,0,0,%s0,\n' "$1" "${zeros:0:2079}"
+    printf 'J,0,%s1024,1024\n' "${zeros:0:2087}"
+    printf 'S,0,2,%s\n' "$zeros"
+    for _ in $(seq 1023); do printf 'S,0,0,%s\n' "$zeros"; done
+    printf 'N,0,0,0,0,0,0,0,%s,\n' "${zeros:0:2083}"
+    for _ in $(seq 1022); do printf 'N,55,0,0,0,0,0,0,%s,\n' "${zeros:0:2082}"; done
+    printf 'N,%s,0,3,0,0,0,0,%s,\n' "$1" "${zeros:0:2082}"
     printf 'X,\n'
 }
 for last in 22:E,0 18:F,18,1023,0,0,0,0,0 99:R,2,1023; do

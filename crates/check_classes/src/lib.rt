@@ -261,6 +261,8 @@ fn duplicate_constructor(nodes: &[u32], n: NodeId, a: ElementId, b: ElementId) -
 }
 
 // The first two constructors of a class.
+// > ClassBody : ClassElementList
+// > It is a Syntax Error if PrototypePropertyNameList of ClassElementList contains more than one occurrence of "constructor".
 fn second_constructor(nodes: &[u32], n: NodeId) -> Raised
     requires { ⌜ Tree (now nodes) ⌝ }
     requires { ⌜ n .0 < count (now nodes) ⌝ }

@@ -96,7 +96,9 @@ fn put(findings: &mut [u32], at: usize, f: Finding)
     findings[at + 6] = f.context;
 }
 
-// Writes what was raised from `at` on, where there is room for it, and says where the next finding goes.
+// Writes what was raised from `at` on, where there is room for it, and says where the next finding goes. Places stay below 900,000,000,000:
+// a tree has at most 65,535 nodes, and a check raises at most one finding for each node, 7 × 65,535 = 458,745 numbers. The bounds of
+// those over this function leave it their own findings' room, so that no sum wraps.
 pub fn raise(findings: &mut [u32], at: usize, r: Raised) -> usize
     requires { ⌜ at ≤ 1000000000000 ⌝ }
     ensures { λ w. ⌜ w ≡ at + 7 * length (listed r) ⌝ }

@@ -119,6 +119,8 @@ fn differ(a: bool, b: bool) -> bool
 }
 
 // Whether element e repeats d, an earlier one of its name.
+// > It is a Syntax Error if PrivateBoundIdentifiers of ClassElementList contains any duplicate entries, unless the name is used once for a getter and
+// > once for a setter and in no other entries, and the getter and setter are either both static or both non-static.
 fn is_duplicate(nodes: &[u32], d: ElementId, e: ElementId) -> bool
     requires { ⌜ d .0 < count (now nodes) ⌝ }
     requires { ⌜ e .0 < count (now nodes) ⌝ }

@@ -45,6 +45,8 @@ fn unexpected_identifier_assign_context(source_type: u32, nodes: &[u32], n: Node
 }
 
 // `await` as a name.
+// > It is a Syntax Error if the goal symbol of the syntactic grammar is Module and the StringValue of IdentifierName is "await".
+// > It is a Syntax Error if ClassStaticBlockStatementList Contains await is true.
 fn check_await(source_type: u32, nodes: &[u32], scopes: &[u32], n: NodeId) -> Raised
     requires { ⌜ Scoped (now nodes) (now scopes) ⌝ }
     requires { ⌜ n .0 < count (now nodes) ⌝ }
@@ -63,6 +65,8 @@ fn check_await(source_type: u32, nodes: &[u32], scopes: &[u32], n: NodeId) -> Ra
 }
 
 // Whether a name is reserved in strict code.
+// > It is a Syntax Error if this phrase is contained in strict mode code and the StringValue of IdentifierName is: "implements", "interface", "let",
+// > "package", "private", "protected", "public", "static", or "yield".
 fn is_strict_word(nodes: &[u32], names: &[u8], n: NodeId) -> bool
     requires { ⌜ Named (now nodes) (now names) ⌝ }
     requires { ⌜ n .0 < count (now nodes) ⌝ }
@@ -147,6 +151,8 @@ fn let_bound(nodes: &[u32], n: NodeId, d: NodeId) -> Raised
 }
 
 // `let` as a name in sloppy code: the nearest declaration, if no function comes first, is no lexical one.
+// > LexicalDeclaration : LetOrConst BindingList ;
+// > * It is a Syntax Error if the BoundNames of BindingList contains "let".
 fn let_declared(nodes: &[u32], n: NodeId) -> Raised
     requires { ⌜ Tree (now nodes) ⌝ }
     requires { ⌜ n .0 < count (now nodes) ⌝ }
@@ -209,6 +215,10 @@ fn is_field_value(nodes: &[u32], p: NodeId, v: NodeId) -> bool
 }
 
 // `arguments` in a class: no function comes before a field's initialiser or a static block.
+// > FieldDefinition : ClassElementName Initializeropt
+// >   It is a Syntax Error if Initializer is present and ContainsArguments of Initializer is true.
+// > ClassStaticBlockBody : ClassStaticBlockStatementList
+// >   It is a Syntax Error if ContainsArguments of ClassStaticBlockStatementList is true.
 fn arguments_in_class(nodes: &[u32], n: NodeId) -> Raised
     requires { ⌜ Tree (now nodes) ⌝ }
     requires { ⌜ n .0 < count (now nodes) ⌝ }
@@ -299,6 +309,7 @@ fn is_not_simple(nodes: &[u32], f: NodeId) -> bool
 }
 
 // A function whose parameters are not simple has no "use strict".
+// > It is a Syntax Error if FunctionBodyContainsUseStrict of AsyncFunctionBody is true and IsSimpleParameterList of FormalParameters is false.
 pub fn check_directive(nodes: &[u32], scopes: &[u32], names: &[u8], n: NodeId) -> Raised
     requires { ⌜ Input (now nodes) (now scopes) (now names) ⌝ }
     requires { ⌜ n .0 < count (now nodes) ⌝ }

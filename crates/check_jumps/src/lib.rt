@@ -145,6 +145,8 @@ fn labelled_break(nodes: &[u32], names: &[u8], n: NodeId, label: NodeId) -> Rais
 }
 
 // A break has a target: without a label the nearest loop or switch, with one the nearest Labeled of that name.
+// > It is a Syntax Error if this BreakStatement is not nested, directly or indirectly (but not crossing function or static initialization block
+// > boundaries), within an IterationStatement or a SwitchStatement.
 pub fn check_break_statement(nodes: &[u32], names: &[u8], n: NodeId) -> Raised
     requires { ⌜ Tree (now nodes) ⌝ }
     requires { ⌜ Named (now nodes) (now names) ⌝ }
@@ -218,6 +220,8 @@ fn labelled_continue(nodes: &[u32], names: &[u8], n: NodeId, label: NodeId) -> R
 }
 
 // A continue has a target: the nearest loop, with a label the loop that the nearest Labeled of that name labels.
+// > It is a Syntax Error if this ContinueStatement is not nested, directly or indirectly (but not crossing function or static initialization block
+// > boundaries), within an IterationStatement.
 pub fn check_continue_statement(nodes: &[u32], names: &[u8], n: NodeId) -> Raised
     requires { ⌜ Tree (now nodes) ⌝ }
     requires { ⌜ Named (now nodes) (now names) ⌝ }

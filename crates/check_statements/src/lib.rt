@@ -152,6 +152,7 @@ fn check_labeled_item(nodes: &[u32], scopes: &[u32], n: NodeId, item: NodeId) ->
 }
 
 // A function declaration as the statement of a Labeled.
+// > It is a Syntax Error if IsLabelledFunction(Statement) is true.
 pub fn check_function_declaration_in_labeled_statement(
     nodes: &[u32],
     scopes: &[u32],
@@ -269,6 +270,8 @@ pub fn check_for_statement_left(nodes: &[u32], scopes: &[u32], n: NodeId, is_for
 }
 
 // No `for await` in a static block.
+// > ClassStaticBlockBody : ClassStaticBlockStatementList
+// >   It is a Syntax Error if ClassStaticBlockStatementList Contains await is true.
 pub fn check_for_of_statement(nodes: &[u32], scopes: &[u32], n: NodeId) -> Raised
     requires { ⌜ Chained (now scopes) ⌝ }
     requires { ⌜ Scoped (now nodes) (now scopes) ⌝ }
