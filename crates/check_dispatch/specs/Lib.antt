@@ -1,2 +1,5 @@
 pub mod Findings
 pub mod FindingsLaws
+pub mod Rule
+pub mod Reported
+pub mod ReportedLaws

@@ -113,9 +113,12 @@ module _ (t : ℕ) (ns ss source names : List ℕ) where
   wholeOther c e = whole c ∙ ap (λ l. l ++ flatMap (λ j. withCode c (findingsAt t ns ss source names j)) (upto 0 (count ns))) (codedNone c (1 ∷ []) (duplicateElements ns names) e (duplicateCodes ns names))
 
   -- NO OTHER CODE: every finding's code is one of those that document 01 lists
+  pub codedAt : (n : ℕ) → Coded listedCodes (findingsAt t ns ss source names n)
+  codedAt n = subst (Coded listedCodes) (sym (isTable t ns ss source names n)) (codedTable listedCodes (kindOf ns n) (table t ns ss source names n) refl)
+
   pub codesListed : all (λ f. within (f .code) 1 33) (findingsOf t ns ss source names) ≡ true
   unfolding findingsOf
   codesListed =
       eachCode (λ c. within c 1 33) listedCodes refl
       (codedAppend listedCodes (duplicateElements ns names) (flatMap (findingsAt t ns ss source names) (upto 0 (count ns))) (codedMore (1 ∷ []) listedCodes refl (duplicateCodes ns names))
-      (codedFlatMap listedCodes (findingsAt t ns ss source names) (λ n. subst (Coded listedCodes) (sym (isTable t ns ss source names n)) (codedTable listedCodes (kindOf ns n) (table t ns ss source names n) refl)) (upto 0 (count ns))))
+      (codedFlatMap listedCodes (findingsAt t ns ss source names) codedAt (upto 0 (count ns))))

@@ -5,5 +5,6 @@ pub mod Table
 pub mod TableLaws
 pub mod ByKind
 pub mod Dispatch
+pub mod OptionLaws
 pub mod NodesOf
 pub mod NodesOfLaws

@@ -1,3 +1,4 @@
 pub mod Findings
 pub mod Operations
 pub mod Standard
+pub mod AsyncBodies

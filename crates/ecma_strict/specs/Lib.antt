@@ -25,7 +25,9 @@ pub mod ScopesLaws
 pub mod ParametersLaws
 pub mod FunctionsLaws
 pub mod LabelledLaws
+pub mod Bodies
 pub mod Theorems
+pub mod BodiesLaws
 pub mod Standard
 pub mod Units
 pub mod ExampleTrees
