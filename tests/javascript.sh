@@ -45,11 +45,11 @@ check "a finding for people" says 'rules/block-label.js:1:1  `continue` names a 
   1 | a: { continue a; }
     | ^             ~
   put the label on the loop, or write `break`
-1 finding in 1 file' ./check-rule rules/block-label.js
+1 finding in 1 file' ./check-rule --no-engine rules/block-label.js
 
 check "an escape in a string, marked" says 'rules/old-escape.js:2:14  a legacy octal number or escape in strict code  [9]
   2 | const note = '"'Open from 8\\\\07230 to 17\\\\07230; ring at gate \\\\8.'"';
-    |              ^^^^^^^^^^^^~~^^^^^^^^^^^^^^^^^^^^^^^^^^^^^^^^^^^^^
+    |              ^^^^^^^^^^^^~~^^^^^^^^^^^^^^^^^^^^^^^^^^^^^^^^^^^
   write 0o17 for a number, \\x0f for an escape
 1 finding in 1 file' ./check-rule --no-engine rules/old-escape.js
 
