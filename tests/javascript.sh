@@ -87,6 +87,18 @@ check "status 2: outside the grammar" text_status 2 .js 'if ('
 check "status 2: the output's disk is full" status 2 to_full_disk
 check "status 2: the output is closed" status 2 to_closed
 check "a text for each code" tools/examples
+check "damaged trees: the tree maker's words are rulecheck's refusals" tools/shapes 600 3
+table() {
+    local lines
+    lines=$(mktemp)
+    printf '%b' "$1" >"$lines"
+    ./check-rule --table "$lines" | sed "s|$lines|TABLE|"
+    rm -f "$lines"
+}
+check "a misplaced child in words" says 'TABLE  no verdict: refused (13), node 2: Other with role 3 (body) under node 1, While: a While takes statements with role 3, and of the roles 4 and 5 none; Other is no statement
+0 findings, no verdict on 1 file in 1 file' table 'J,0,3,1\nS,0,2,0\nN,0,0,0,0,0,0,0,0,\nN,10,0,3,0,0,0,0,0,\nN,55,1,3,0,0,0,0,0,\nX,\n'
+check "a missing child in words" says 'TABLE  no verdict: refused (14), node 1: a Try takes a CatchClause (role 4), a Block with role 5, or both, and has neither
+0 findings, no verdict on 1 file in 1 file' table 'J,0,3,1\nS,0,2,0\nN,0,0,0,0,0,0,0,0,\nN,16,0,3,0,0,0,0,0,\nN,5,1,3,0,0,0,0,0,\nX,\n'
 
 check "a route: the answers go to a continue" says 'L,3\nL,6\nL,10\nL,3\nZ,0,4,3' lines 1,0,0
 check "a route: the answers go past it" says 'L,3\nL,6\nL,12\nL,3\nZ,0,4,3' lines 1,5,0

@@ -31,6 +31,26 @@ function linesOf(tree) {
   return Buffer.concat(out);
 }
 
+// The tree that lines tell, as far as it takes to say in words what a refusal is about; null where they can't be read.
+function treeIn(bytes) {
+  const lines = bytes.toString('latin1').split('\n');
+  const numbers = (line, letter, n) => {
+    const fields = line === undefined ? [] : line.split(',');
+    return fields[0] === letter && fields.length > n && fields.slice(1, n + 1).every((f) => /^\d+$/.test(f)) ? fields.slice(1, n + 1).map(Number) : null;
+  };
+  const head = numbers(lines[0], 'J', 3);
+  if (!head) return null;
+  const [type, size, scoped] = head;
+  const scopes = lines.slice(1, 1 + scoped).map((l) => numbers(l, 'S', 3));
+  const nodes = lines.slice(1 + scoped, 1 + scoped + size).map((l) => numbers(l, 'N', 8));
+  if (scopes.length !== scoped || nodes.length !== size || [...scopes, ...nodes].includes(null)) return null;
+  return {
+    type,
+    scopes: scopes.map(([parent, flags, node]) => ({ parent, flags, node })),
+    nodes: nodes.map(([kind, parent, role, start, end, scope, flags, extra]) => ({ kind, parent, role, start, end, scope, flags, extra })),
+  };
+}
+
 const lineOf = (answers) => ['A', ...answers].join();
 
 // Answers as they are written in a call: numbers with commas, nothing for none. Null where ruleroute couldn't read them.
@@ -63,4 +83,4 @@ function viewOf(tree) {
   return out.join('\n') + '\n';
 }
 
-module.exports = { linesOf, routeLinesOf, answersIn, viewOf, tooLarge, depthOf };
+module.exports = { linesOf, treeIn, routeLinesOf, answersIn, viewOf, tooLarge, depthOf };
