@@ -2,6 +2,8 @@
  *
  * A rule comes as two tables and two texts:
  *   source_type  0 script, 1 module
+ *   async_bodies 0 is off, any other number on: an async function or a generator (flag 8192) as body of an If or a label in
+ *                sloppy code is found too, as code 34; with 0 the findings are the Rust's, which leaves it to its parser
  *   nodes        ten numbers a node: kind, parent, role, span start, span end, scope, flags, extra, name start, name length
  *   scopes       three numbers a scope: parent, flags, node
  *   source       the rule's bytes; spans are half-open ranges of them
@@ -64,6 +66,7 @@ struct velkunshe_check_answer {
 /* Checks a rule. After a refusal the findings slice is as it was; no entry past the last one written is changed. */
 struct velkunshe_check_answer velkunshe_check(
     uint32_t source_type,
+    uint32_t async_bodies,
     const uint32_t *nodes, size_t nodes_length,
     const uint32_t *scopes, size_t scopes_length,
     const uint8_t *source, size_t source_length,
@@ -84,6 +87,7 @@ struct velkunshe_code_answer {
  * past the last one written is changed. */
 struct velkunshe_code_answer velkunshe_code(
     uint32_t source_type,
+    uint32_t async_bodies,
     const uint32_t *nodes, size_t nodes_length,
     const uint32_t *scopes, size_t scopes_length,
     const uint8_t *source, size_t source_length,
@@ -110,6 +114,7 @@ struct velkunshe_route_answer {
  * both slices are as they were, but after 12 the code slice holds the code; no entry past the last one written is changed. */
 struct velkunshe_route_answer velkunshe_route(
     uint32_t source_type,
+    uint32_t async_bodies,
     const uint32_t *nodes, size_t nodes_length,
     const uint32_t *scopes, size_t scopes_length,
     const uint8_t *source, size_t source_length,

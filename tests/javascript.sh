@@ -131,6 +131,8 @@ if [ -d ../shared/test262 ]; then check "test262" tools/test262; else unrun "tes
 check "the conditions of the theorems, on trees of texts" tools/conditions 4000 3 rules
 if [ -d ../shared/test262 ]; then check "the conditions of the theorems, on trees of test262" tools/conditions 0 3 ../shared/test262; else unrun "the conditions on test262" "its files are not beside the repository"; fi
 check "V8's verdicts" tools/v8-verdicts 1000 3
+async=target/cargo/checked/plain-rulecheck-async
+if [ -x $async ]; then check "V8's verdicts, the option on async bodies on" tools/v8-verdicts 1000 3 --checker $async --async-bodies; else unrun "V8's verdicts, the option on" "$async is not built"; fi
 check "a text for each disagreement" tools/v8-verdicts --texts
 check "each of them told" told < <(disagreements)
 check "each difference's text told" told < <(differences)

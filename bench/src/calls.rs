@@ -20,7 +20,14 @@ impl Input {
 
     fn rule(&self) -> Rule<'_> {
         let t = &self.tables;
-        Rule { source_type: t.source_type, nodes: &t.nodes, scopes: &t.scopes, source: &t.source, names: &t.names }
+        Rule {
+            source_type: t.source_type,
+            async_bodies: false,
+            nodes: &t.nodes,
+            scopes: &t.scopes,
+            source: &t.source,
+            names: &t.names,
+        }
     }
 }
 

@@ -18,7 +18,7 @@ static const uint8_t source[] = "a: { continue a; }";
 static const uint8_t names[] = "aa";
 
 static struct velkunshe_check_answer check(const uint32_t *table, size_t length, uint32_t *findings, size_t room) {
-    return velkunshe_check(0, table, length, scopes, 6, source, sizeof source - 1, names, sizeof names - 1, findings, room);
+    return velkunshe_check(0, 0, table, length, scopes, 6, source, sizeof source - 1, names, sizeof names - 1, findings, room);
 }
 
 static void print(struct velkunshe_check_answer a, const uint32_t *f) {
@@ -46,7 +46,7 @@ static const uint32_t routed_scopes[] = {0, 2, 0, 0, 0, 5, 1, 0, 6};
 static void show(const uint32_t *answers, size_t count, size_t room) {
     uint32_t code[13 * VELKUNSHE_CODE], route[8];
     struct velkunshe_route_answer a = velkunshe_route(
-        0, routed_nodes, sizeof routed_nodes / sizeof *routed_nodes, routed_scopes, 9, source, 0, (const uint8_t *)"atsc", 4, 0,
+        0, 0, routed_nodes, sizeof routed_nodes / sizeof *routed_nodes, routed_scopes, 9, source, 0, (const uint8_t *)"atsc", 4, 0,
         answers, count, code, 13 * VELKUNSHE_CODE, route, room);
     for (uint64_t i = 0; i < a.entries; i++)
         printf("%" PRIu32 " ", route[i]);
@@ -67,7 +67,7 @@ int main(void) {
     show(answers, 1, 8);
     show(answers, 3, 3);
     struct velkunshe_code_answer made = velkunshe_code(
-        0, routed_nodes, sizeof routed_nodes / sizeof *routed_nodes, routed_scopes, 9, source, 0, (const uint8_t *)"atsc", 4, 1, code,
+        0, 0, routed_nodes, sizeof routed_nodes / sizeof *routed_nodes, routed_scopes, 9, source, 0, (const uint8_t *)"atsc", 4, 1, code,
         13 * VELKUNSHE_CODE);
     printf("R,%" PRIu32 ",%" PRIu32 "\n", made.refusal, made.place);
     return 0;

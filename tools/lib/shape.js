@@ -21,7 +21,7 @@ function onPath(nodes, a, i) {
 }
 
 function wrongFields(tree) {
-  return firstNode(tree, (n) => n.kind > 55 || n.role > 7 || n.flags > 8190 || n.flags % 2 !== 0 || n.extra > (MOST_EXTRA[n.kind] || 0));
+  return firstNode(tree, (n) => n.kind > 55 || n.role > 7 || (n.flags & (n.kind === K.Function ? ~F.asyncOrGenerator : ~0)) > 8190 || n.flags % 2 !== 0 || n.extra > (MOST_EXTRA[n.kind] || 0));
 }
 
 function wrongTree(tree) {

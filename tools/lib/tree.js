@@ -342,7 +342,7 @@ class Maker {
   FunctionExpression(n, role) { this.func(n, role, 0, n.start); }
 
   func(n, role, flags, start) {
-    const all = flags | (simple(n.params) ? F.simpleParameters : 0) | (n.id ? F.plainName : 0);
+    const all = flags | (simple(n.params) ? F.simpleParameters : 0) | (n.id ? F.plainName : 0) | (n.async || n.generator ? F.asyncOrGenerator : 0);
     const i = this.add(K.Function, role, start, n.end, { flags: all });
     this.made.set(n, i);
     this.made.set(n.body, i);

@@ -76,6 +76,8 @@ function verdictClass(run) {
   const known = (verdict ? MISSED : EXTRA).find(([, test]) => test(run));
   if (known) return `${verdict ? 'missed' : 'extra'}: ${known[0]}`;
   const why = verdict ? classOf(parsed, run.text) : null;
+  // with the option on these are found
+  if (why === 'parser:async-or-generator-body' && run.asyncBodies) return `fault: ${why}`;
   return why ? `left out: ${why}` : `fault: ${verdict ? 'nothing found, turned down' : 'found, taken'}`;
 }
 
@@ -90,7 +92,7 @@ const WORDS = {
   SloppyFunction: [16], StrictFunction: [15], StrictDelete: [31], StrictEvalArguments: [4], StrictEvalArgumentsBinding: [4, 2],
   StrictNumericEscape: [9, 11], StrictOctalLiteral: [9, 10], StrictWith: [17], SuperNotAllowed: [28, 29], UnexpectedSuper: [30, 29],
   UnexpectedReservedWord: [2, 3, 4], UnexpectedUsingDeclaration: [13], AwaitBindingIdentifier: [2, 3], YieldBindingIdentifier: [2],
-  AsyncFunctionInSingleStatementContext: [15, 16], GeneratorInSingleStatementContext: [15, 16],
+  AsyncFunctionInSingleStatementContext: [15, 16, 34], GeneratorInSingleStatementContext: [15, 16, 34],
 };
 
 // An error and a finding are about one place: the error lies in a span of the finding, or of the jump or label that
@@ -119,7 +121,7 @@ function parserClasses(run) {
 const ONLY_PARSER = [
   ['`await` and `yield` as names in async functions and generators, the parser\'s task',
     (e) => /^(Await|Yield)BindingIdentifier$/.test(e.reasonCode)],
-  ['an async function or generator as a body, the parser\'s task', (e) => /InSingleStatementContext$/.test(e.reasonCode)],
+  ['an async function or generator as a body, the parser\'s task', (e, { asyncBodies }) => !asyncBodies && /InSingleStatementContext$/.test(e.reasonCode)],
   ['difference: `await` below a further scope of a static block', (e) => e.reasonCode === 'AwaitBindingIdentifierInStaticBlock'],
   ['difference: a getter and a setter after another element of the private name are told once',
     (e, { findings }) => e.reasonCode === 'PrivateNameRedeclaration' && findings.some((f) => f[0] === 1)],

@@ -29,6 +29,7 @@ pub struct RouteAnswer {
 extern "C" {
     pub fn velkunshe_check(
         source_type: u32,
+        async_bodies: u32,
         nodes: *const u32,
         nodes_length: usize,
         scopes: *const u32,
@@ -43,6 +44,7 @@ extern "C" {
 
     pub fn velkunshe_code(
         source_type: u32,
+        async_bodies: u32,
         nodes: *const u32,
         nodes_length: usize,
         scopes: *const u32,
@@ -58,6 +60,7 @@ extern "C" {
 
     pub fn velkunshe_route(
         source_type: u32,
+        async_bodies: u32,
         nodes: *const u32,
         nodes_length: usize,
         scopes: *const u32,

@@ -17,6 +17,7 @@
 //!
 //! let rule = Rule {
 //!     source_type: 0,
+//!     async_bodies: false,
 //!     nodes: &[
 //!         // kind, parent, role, span, scope, flags, extra, name
 //!         0, 0, 0, 0, 18, 0, 0, 0, 0, 0, // Program
@@ -52,6 +53,7 @@
 //! let source = b"while (t) { if (s) break; x; }";
 //! let rule = Rule {
 //!     source_type: 0,
+//!     async_bodies: false,
 //!     nodes: &[
 //!         0, 0, 0, 0, 30, 0, 0, 0, 0, 0, // 0 Program
 //!         10, 0, 3, 0, 30, 0, 0, 0, 0, 0, // 1 While
@@ -103,6 +105,9 @@ pub const CODE: usize = 16;
 pub struct Rule<'a> {
     /// 0 script, 1 module.
     pub source_type: u32,
+    /// Whether an async function or a generator (flag 8192) as body of an If or a label in sloppy code is found, as code 34. Without it
+    /// the findings are the Rust's, which leaves that to its parser.
+    pub async_bodies: bool,
     /// Ten numbers a node: kind, parent, role, span start, span end, scope, flags, extra, name start, name length.
     pub nodes: &'a [u32],
     /// Three numbers a scope: parent, flags, node.
@@ -174,7 +179,7 @@ impl Error for Refusal {}
 /// One early error.
 #[derive(Clone, Copy, Debug, PartialEq, Eq)]
 pub struct Finding {
-    /// What is wrong, 1 to 33.
+    /// What is wrong, 1 to 33, or with [`Rule::async_bodies`] 34.
     pub code: u32,
     /// The node that raises it.
     pub node: u32,
@@ -204,6 +209,7 @@ pub fn check(rule: &Rule, out: &mut [u32]) -> Result<usize, Refusal> {
     let answer = unsafe {
         ffi::velkunshe_check(
             rule.source_type,
+            rule.async_bodies.into(),
             rule.nodes.as_ptr(),
             rule.nodes.len(),
             rule.scopes.as_ptr(),
@@ -285,6 +291,7 @@ pub fn code(rule: &Rule, unit: u32, out: &mut [u32]) -> Result<usize, Refusal> {
     let answer = unsafe {
         ffi::velkunshe_code(
             rule.source_type,
+            rule.async_bodies.into(),
             rule.nodes.as_ptr(),
             rule.nodes.len(),
             rule.scopes.as_ptr(),
@@ -316,6 +323,7 @@ pub fn route(rule: &Rule, unit: u32, answers: &[u32], code: &mut [u32], out: &mu
     let answer = unsafe {
         ffi::velkunshe_route(
             rule.source_type,
+            rule.async_bodies.into(),
             rule.nodes.as_ptr(),
             rule.nodes.len(),
             rule.scopes.as_ptr(),

@@ -3,11 +3,13 @@
 use velkunshe::{check, code, findings, route, route_of, End, Refusal, Rule, Shown, CODE, FINDING};
 
 /// A script with nothing in it.
-const EMPTY: Rule = Rule { source_type: 0, nodes: &[0; 10], scopes: &[0, 2, 0], source: b"", names: b"" };
+const EMPTY: Rule =
+    Rule { source_type: 0, async_bodies: false, nodes: &[0; 10], scopes: &[0, 2, 0], source: b"", names: b"" };
 
 /// `with (a) ;` in strict code, twice: two findings of code 17.
 const TWO: Rule = Rule {
     source_type: 1,
+    async_bodies: false,
     nodes: &[
         0, 0, 0, 0, 20, 0, 0, 0, 0, 0, //
         13, 0, 3, 0, 10, 0, 0, 0, 0, 0, 22, 1, 3, 9, 10, 0, 0, 0, 0, 0, //
@@ -21,6 +23,7 @@ const TWO: Rule = Rule {
 /// `a: while(t){ switch(s){ case c: continue a; } x; }`
 const ROUTED: Rule = Rule {
     source_type: 0,
+    async_bodies: false,
     nodes: &[
         0, 0, 0, 0, 0, 0, 0, 0, 0, 0, // 0 Program
         6, 0, 3, 0, 0, 0, 0, 0, 0, 0, 33, 1, 6, 0, 0, 0, 0, 0, 0, 1, // 1 Labeled, a
@@ -40,6 +43,70 @@ const ROUTED: Rule = Rule {
 fn nothing_found() {
     assert_eq!(check(&EMPTY, &mut []), Ok(0));
     assert_eq!(findings(&EMPTY), Ok(vec![]));
+}
+
+/// `if (t) async function f() {}` in sloppy code: nothing with the option off, 34 at the If with it on, and 9 of the routes.
+#[test]
+fn async_bodies() {
+    let nodes = [
+        0,
+        0,
+        0,
+        0,
+        29,
+        0,
+        0,
+        0,
+        0,
+        0, //
+        12,
+        0,
+        3,
+        0,
+        29,
+        0,
+        0,
+        0,
+        0,
+        0,
+        32,
+        1,
+        0,
+        4,
+        5,
+        0,
+        0,
+        0,
+        0,
+        0, //
+        1,
+        1,
+        3,
+        7,
+        29,
+        0,
+        8192 + 32 + 1024,
+        0,
+        0,
+        0,
+    ];
+    let off = Rule { nodes: &nodes, source: b"if (t) async function f() {}\n", ..EMPTY };
+    let on = Rule { async_bodies: true, ..off };
+    assert_eq!(findings(&off), Ok(vec![]));
+    let found = findings(&on).unwrap();
+    assert_eq!(
+        found.iter().map(|f| (f.code, f.node, f.first, f.second, f.context)).collect::<Vec<_>>(),
+        [(34, 1, (7, 29), (0, 0), 0)]
+    );
+    assert_eq!(route_of(&off, 0, &[1]).map(|r| r.nodes), Ok(vec![1, 3]));
+    assert_eq!(route_of(&on, 0, &[1]).map_err(|r| (r.number, r.place)).unwrap_err(), (9, 1));
+    let mut made = vec![77; CODE * on.node_count()];
+    assert_eq!(code(&on, 0, &mut made).map_err(|r| (r.number, r.place)), Err((9, 1)));
+    assert!(made.iter().all(|&n| n == 77));
+    // The flag is a Function's alone.
+    let mut arrow = nodes;
+    arrow[30] = 2;
+    assert_eq!(findings(&Rule { nodes: &arrow, ..off }).map_err(|r| (r.number, r.place)), Err((2, 3)));
 }
 
 #[test]

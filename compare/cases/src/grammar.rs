@@ -431,7 +431,8 @@ impl Grammar<'_> {
     /// A function with a scope of its own; `more` scope flags come on top.
     fn function(&mut self, role: u32, flags: u32, more: u32) {
         let simple = !self.rng.once_in(3);
-        let number = self.open(1, role, flags, 0, "");
+        let special = if self.rng.once_in(3) { 8192 } else { 0 };
+        let number = self.open(1, role, flags | special, 0, "");
         let outer = self.enter_scope(4 | more);
         if flags & 32 != 0 {
             let name = self.name();

@@ -16,7 +16,12 @@ const UNTOUCHED: u32 = 0xa5a5_5a5a;
 /// Entries before and behind a lent slice, which must stay as they are.
 const MARGIN: usize = 9;
 
+/// With the option on async bodies off and on.
 pub fn compare(t: &Tables, rng: &mut Rng, counts: &mut Counts) -> Result<(), String> {
+    [false, true].into_iter().try_for_each(|async_bodies| compare_calls(&Tables { async_bodies, ..*t }, rng, counts))
+}
+
+fn compare_calls(t: &Tables, rng: &mut Rng, counts: &mut Counts) -> Result<(), String> {
     let found = if plain::input_refusal(t).is_none() { plain::findings(t).len() } else { 0 };
     around(7 * found).into_iter().try_for_each(|length| check(t, length, counts))?;
     let no_unit = rng.below(t.node_count() + 2);
@@ -32,7 +37,14 @@ fn around(length: usize) -> Vec<usize> {
 }
 
 fn rule<'a>(t: &Tables<'a>) -> Rule<'a> {
-    Rule { source_type: t.source_type, nodes: t.nodes, scopes: t.scopes, source: t.source, names: t.names }
+    Rule {
+        source_type: t.source_type,
+        async_bodies: t.async_bodies,
+        nodes: t.nodes,
+        scopes: t.scopes,
+        source: t.source,
+        names: t.names,
+    }
 }
 
 fn refusal(r: velkunshe::Refusal) -> Refusal {

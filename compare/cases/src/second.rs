@@ -36,7 +36,8 @@ fn listed(r: &[u32]) -> bool {
         _ => 0,
     };
     let all_flags = 2 | 4 | 8 | 16 | 32 | 64 | 128 | 256 | 512 | 1024 | 2048 | 4096;
-    r[0] < 56 && r[2] < 8 && r[6] & !all_flags == 0 && r[7] <= most_extra
+    let own_flag = if r[0] == 1 { 8192 } else { 0 };
+    r[0] < 56 && r[2] < 8 && r[6] & !(all_flags | own_flag) == 0 && r[7] <= most_extra
 }
 
 /// A node and all above it, nearest first. Only where those before it are in place.

@@ -39,6 +39,7 @@ pub mod code {
     pub const DELETE_OF_NAME: u32 = 31;
     pub const DELETE_OF_PRIVATE: u32 = 32;
     pub const AWAIT_OR_YIELD_IN_PARAMETERS: u32 = 33;
+    pub const ASYNC_BODY: u32 = 34;
 }
 
 /// Contexts of document 01.
@@ -72,6 +73,9 @@ pub fn findings(t: &Tables) -> Vec<Finding> {
     for n in 0..t.node_count() {
         checker.node = n;
         checker.check(n);
+        if t.async_bodies {
+            checker.check_async_bodies(n);
+        }
     }
     checker.found
 }
@@ -398,6 +402,21 @@ impl Checker<'_, '_> {
         let holder = t.ancestors(n).map(|a| t.kind(a)).find(|&kind| kind != LABELED);
         if holder.is_some_and(|kind| is_loop_kind(kind) || kind == WITH || kind == IF) {
             self.error(code::SLOPPY_FUNCTION_DECLARATION, t.span(stmt));
+        }
+    }
+
+    /// An async function or a generator as body of an If or a label in sloppy code, which the Rust leaves to its parser.
+    fn check_async_bodies(&mut self, n: usize) {
+        let t = self.t;
+        let roles: &[u32] = match t.kind(n) {
+            IF => &[BODY, ALTERNATE],
+            LABELED => &[BODY],
+            _ => &[],
+        };
+        for stmt in roles.iter().filter_map(|&role| t.part(n, role)) {
+            if !t.strict(n) && t.kind(stmt) == FUNCTION && t.has(stmt, ASYNC_OR_GENERATOR) {
+                self.error(code::ASYNC_BODY, t.span(stmt));
+            }
         }
     }
 

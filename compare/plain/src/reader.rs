@@ -23,9 +23,11 @@ pub struct OwnedTables {
 }
 
 impl OwnedTables {
+    /// The tables, with the option on async bodies off.
     pub fn lend(&self) -> Tables<'_> {
         Tables {
             source_type: self.source_type,
+            async_bodies: false,
             nodes: &self.nodes,
             scopes: &self.scopes,
             source: &self.source,
@@ -175,13 +177,18 @@ fn hexadecimal(digits: &[u8]) -> Option<Vec<u8>> {
     digits.chunks(2).map(|pair| Some(16 * digit(pair[0])? + digit(pair[1])?)).collect()
 }
 
-/// What `rulecheck` prints for an input.
+/// What `rulecheck` prints for an input: the option on async bodies is off.
 pub fn rulecheck(input: &[u8]) -> String {
+    rulecheck_with(input, false)
+}
+
+/// The same with the option as given.
+pub fn rulecheck_with(input: &[u8], async_bodies: bool) -> String {
     let tables = match Reader::new(input).tables() {
         Ok(tables) => tables,
         Err(BadLine(line)) => return format!("R,0,{line}\n"),
     };
-    let t = tables.lend();
+    let t = Tables { async_bodies, ..tables.lend() };
     if let Some(r) = crate::input_refusal(&t) {
         return format!("R,{},{}\n", r.number, r.place);
     }

@@ -50,8 +50,12 @@ pub fn wrong_sizes(t: &Tables) -> bool {
 
 /// 2. A node's kind, role, flag sum or extra not listed.
 pub fn unlisted(t: &Tables) -> Option<usize> {
-    // The twelve flags are the powers of two from 2 to 4096; their sums are the even numbers up to 8190.
-    let listed_flags = |flags: u32| flags.is_multiple_of(2) && flags <= 8190;
+    // The twelve flags are the powers of two from 2 to 4096; their sums are the even numbers up to 8190. A Function
+    // may have 8192 besides.
+    let listed_flags = |kind: u32, flags: u32| {
+        let own = if kind == FUNCTION { ASYNC_OR_GENERATOR } else { 0 };
+        (flags & !own).is_multiple_of(2) && flags & !own <= 8190
+    };
     // A class's scope is tested by 5; the length of a string's value may be any number.
     let listed_extra = |kind: u32, extra: u32| match kind {
         VARIABLE_DECLARATION | NUMERIC_LITERAL => extra <= 4,
@@ -64,7 +68,7 @@ pub fn unlisted(t: &Tables) -> Option<usize> {
     (0..t.node_count()).find(|&n| {
         t.kind(n) > ANYTHING_ELSE
             || t.role(n) > LEFT
-            || !listed_flags(t.flags(n))
+            || !listed_flags(t.kind(n), t.flags(n))
             || !listed_extra(t.kind(n), t.extra(n))
     })
 }

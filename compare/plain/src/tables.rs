@@ -91,6 +91,8 @@ pub const PLAIN_NAME: u32 = 512;
 pub const SIMPLE_PARAMETERS: u32 = 1024;
 pub const IS_DELETE: u32 = 2048;
 pub const IS_DEFAULT: u32 = 4096;
+/// On a Function only.
+pub const ASYNC_OR_GENERATOR: u32 = 8192;
 
 // Flags of a scope.
 pub const STRICT: u32 = 1;
@@ -104,6 +106,8 @@ pub const IN_STATIC_BLOCK: u32 = 16;
 pub struct Tables<'a> {
     /// 0 script, 1 module.
     pub source_type: u32,
+    /// Whether async functions and generators as bodies are found: code 34, which the Rust leaves to its parser.
+    pub async_bodies: bool,
     pub nodes: &'a [u32],
     pub scopes: &'a [u32],
     pub source: &'a [u8],

@@ -9,7 +9,8 @@ use Rattle.check_diagnostics.specs.Finding.{flat}
 use Rattle.refusal_verdict.specs.declared.Verdict.{Verdict}
 use Rattle.refusal_verdict.specs.declared.Verdict.the-variants as verdict
 use Rattle.refusal_input.specs.Input.{inputRefusal}
-use Rattle.check_dispatch.specs.Findings.{findingsOf}
+use Rattle.check_dispatch.specs.Rule.{Rule}
+use Rattle.check_dispatch.specs.Reported.{reported}
 use Rattle.call_check.specs.declared.Checked.{Checked}
 use Rattle.call_check.specs.declared.Checked.the-variants.{Findings, Refused, Short}
 
@@ -30,10 +31,8 @@ sliceBy (verdict.Refused number place) refused passed = refused
 sliceBy verdict.Passed refused passed = passed
 
 -- "The check gives 1-6 and 10"; 13 and 14 "in every call that gives 6"
-unfoldable pub checkAnswer : ℕ → List ℕ → List ℕ → List ℕ → List ℕ → ℕ → Checked
-checkAnswer sourceType ns ss source names len =
-    answerBy (inputRefusal sourceType ns ss source names) (reportAnswer (findingsOf sourceType ns ss source names) len)
+unfoldable pub checkAnswer : Rule → ℕ → Checked
+checkAnswer r len = answerBy (inputRefusal (r .sourceType) (r .nodes) (r .scopes) (r .source) (r .names)) (reportAnswer (reported r) len)
 
-unfoldable pub checkSlice : ℕ → List ℕ → List ℕ → List ℕ → List ℕ → List ℕ → List ℕ
-checkSlice sourceType ns ss source names s =
-    sliceBy (inputRefusal sourceType ns ss source names) s (reportSlice (findingsOf sourceType ns ss source names) s)
+unfoldable pub checkSlice : Rule → List ℕ → List ℕ
+checkSlice r s = sliceBy (inputRefusal (r .sourceType) (r .nodes) (r .scopes) (r .source) (r .names)) s (reportSlice (reported r) s)

@@ -12,6 +12,7 @@ use Rattle.refusal_input.specs.Input.{inputRefusal}
 use Rattle.route_completion.specs.Route.{route}
 use Rattle.code_flat.specs.Code.{unit}
 use Rattle.code_unit.specs.Unit.{unitOf}
+use Rattle.check_dispatch.specs.Rule.{Rule}
 use Rattle.refusal_state.specs.Targets.{refusedOr, stateAnswer}
 use Rattle.call_routes.specs.declared.Coded.{Coded}
 use Rattle.call_routes.specs.declared.Coded.the-variants as coded
@@ -25,9 +26,9 @@ unfoldable pub roomRefusal : List ℕ → ℕ → Verdict
 roomRefusal ns len = cond (leb (16 * count ns) len) verdict.Passed (verdict.Refused refusal.CodeSlice 0)
 
 -- "the code call 1-9 and 11"; 13 and 14 "in every call that gives 6"; len is the length of the code slice
-unfoldable pub codeRefusal : ℕ → List ℕ → List ℕ → List ℕ → List ℕ → ℕ → ℕ → Verdict
-codeRefusal sourceType ns ss source names u len =
-    refusedOr (inputRefusal sourceType ns ss source names) (refusedOr (stateAnswer sourceType ns ss source names u) (roomRefusal ns len))
+unfoldable pub codeRefusal : Rule → ℕ → ℕ → Verdict
+codeRefusal r u len =
+    refusedOr (inputRefusal (r .sourceType) (r .nodes) (r .scopes) (r .source) (r .names)) (refusedOr (stateAnswer r u) (roomRefusal (r .nodes) len))
 
 -- the answer, or the slice, of a call: by the refusal, or else
 abbrev pub unless : {A : Type 0} → Verdict → (ℕ → ℕ → A) → A → A
@@ -35,20 +36,20 @@ unless (verdict.Refused number place) f a = f number place
 unless verdict.Passed f a = a
 
 -- the length of the unit's code
-unfoldable pub codeAnswer : ℕ → List ℕ → List ℕ → List ℕ → List ℕ → ℕ → ℕ → Coded
-codeAnswer sourceType ns ss source names u len =
-    unless (codeRefusal sourceType ns ss source names u len) coded.Refused (coded.Code (length (unit (unitOf ns names u))))
+unfoldable pub codeAnswer : Rule → ℕ → ℕ → Coded
+codeAnswer r u len =
+    unless (codeRefusal r u len) coded.Refused (coded.Code (length (unit (unitOf (r .nodes) (r .names) u))))
 
 -- the unit's code; a refusal leaves the slice as it was
-unfoldable pub codeSlice : ℕ → List ℕ → List ℕ → List ℕ → List ℕ → ℕ → List ℕ → List ℕ
-codeSlice sourceType ns ss source names u s =
-    unless (codeRefusal sourceType ns ss source names u (length s)) (λ number place. s) (over (unit (unitOf ns names u)) s)
+unfoldable pub codeSlice : Rule → ℕ → List ℕ → List ℕ
+codeSlice r u s =
+    unless (codeRefusal r u (length s)) (λ number place. s) (over (unit (unitOf (r .nodes) (r .names) u)) s)
 
 -- "the route call 1-9, 11 and 12": the route is the unit's by the completion rules. Of the code slice it leaves what the code call does, 12 or not.
-unfoldable pub routeAnswer : ℕ → List ℕ → List ℕ → List ℕ → List ℕ → ℕ → List ℕ → ℕ → ℕ → Routed
-routeAnswer sourceType ns ss source names u answers codeLen len =
-    unless (codeRefusal sourceType ns ss source names u codeLen) routed.Refused (shownAnswer (route (unitOf ns names u) answers) len)
+unfoldable pub routeAnswer : Rule → ℕ → List ℕ → ℕ → ℕ → Routed
+routeAnswer r u answers codeLen len =
+    unless (codeRefusal r u codeLen) routed.Refused (shownAnswer (route (unitOf (r .nodes) (r .names) u) answers) len)
 
-unfoldable pub routeSlice : ℕ → List ℕ → List ℕ → List ℕ → List ℕ → ℕ → List ℕ → ℕ → List ℕ → List ℕ
-routeSlice sourceType ns ss source names u answers codeLen s =
-    unless (codeRefusal sourceType ns ss source names u codeLen) (λ number place. s) (shownSlice (route (unitOf ns names u) answers) s)
+unfoldable pub routeSlice : Rule → ℕ → List ℕ → ℕ → List ℕ → List ℕ
+routeSlice r u answers codeLen s =
+    unless (codeRefusal r u codeLen) (λ number place. s) (shownSlice (route (unitOf (r .nodes) (r .names) u) answers) s)

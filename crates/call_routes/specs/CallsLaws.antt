@@ -26,6 +26,7 @@ use Rattle.code_unit.specs.Unit.{unitOf}
 use Rattle.code_held.specs.Held.{unit-held, unit-no-try}
 use Rattle.code_maker.specs.Ready.{Ready}
 use Rattle.check_jumps.specs.Jumps.{isUnit}
+use Rattle.check_dispatch.specs.Rule.{rule}
 use Rattle.refusal_state.specs.Targets.{refusedOr, stateAnswer}
 use Rattle.refusal_state.specs.TargetsLaws.{Sound, state-passed}
 use Rattle.call_routes.specs.Calls.{roomRefusal, codeRefusal}
@@ -57,22 +58,22 @@ room-passed ns len e = leb-true (16 * count ns) len (go (leb (16 * count ns) len
 pub unit-kind : (kind : ℕ) → isUnit kind ≡ true → kind ≤ 3
 unit-kind kind e = leb-true kind 3 (and-right (leb 0 kind) (leb kind 3) e)
 
-module _ (sourceType : ℕ) (ns ss source names : List ℕ) (u len : ℕ) (e : codeRefusal sourceType ns ss source names u len ≡ Passed) where
-  parted : (inputRefusal sourceType ns ss source names ≡ Passed) × (refusedOr (stateAnswer sourceType ns ss source names u) (roomRefusal ns len) ≡ Passed)
+module _ (sourceType asyncBodies : ℕ) (ns ss source names : List ℕ) (u len : ℕ) (e : codeRefusal (rule sourceType asyncBodies ns ss source names) u len ≡ Passed) where
+  parted : (inputRefusal sourceType ns ss source names ≡ Passed) × (refusedOr (stateAnswer (rule sourceType asyncBodies ns ss source names) u) (roomRefusal ns len) ≡ Passed)
   unfolding codeRefusal
-  parted = both (inputRefusal sourceType ns ss source names) (refusedOr (stateAnswer sourceType ns ss source names u) (roomRefusal ns len)) e
+  parted = both (inputRefusal sourceType ns ss source names) (refusedOr (stateAnswer (rule sourceType asyncBodies ns ss source names) u) (roomRefusal ns len)) e
 
   pub formed : WellFormed sourceType ns ss source names
   formed = input-well-formed sourceType ns ss source names (parted .0)
 
-  pub state-answer : stateAnswer sourceType ns ss source names u ≡ Passed
-  state-answer = both (stateAnswer sourceType ns ss source names u) (roomRefusal ns len) (parted .1) .0
+  pub state-answer : stateAnswer (rule sourceType asyncBodies ns ss source names) u ≡ Passed
+  state-answer = both (stateAnswer (rule sourceType asyncBodies ns ss source names) u) (roomRefusal ns len) (parted .1) .0
 
   pub room : 16 * count ns ≤ len
-  room = room-passed ns len (both (stateAnswer sourceType ns ss source names u) (roomRefusal ns len) (parted .1) .1)
+  room = room-passed ns len (both (stateAnswer (rule sourceType asyncBodies ns ss source names) u) (roomRefusal ns len) (parted .1) .1)
 
   pub sound : Sound sourceType ns ss source names u
-  sound = state-passed sourceType ns ss source names u state-answer
+  sound = state-passed sourceType asyncBodies ns ss source names u state-answer
 
   pub ready : Ready ns names u
   ready =

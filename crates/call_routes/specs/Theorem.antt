@@ -23,6 +23,7 @@ use Rattle.code_words.specs.Words.{on, off}
 use Rattle.code_words.specs.Made.{code-is, code-length}
 use Rattle.code_held.specs.Held.{good, unit-held, unit-once}
 use Rattle.code_maker.specs.ReadyLaws as ready
+use Rattle.check_dispatch.specs.Rule.{rule}
 use Rattle.refusal_state.specs.Targets.{hasTarget, stateAnswer}
 use Rattle.refusal_state.specs.TargetsLaws.{state-passed, targets-found}
 use Rattle.code_scoped.specs.Passed.{passed-scoped}
@@ -59,29 +60,29 @@ pub record Routes (ns names : List ℕ) (u : ℕ) (answers : List ℕ) : Type 0 
 abbrev pub Targeted : List ℕ → List ℕ → Type 0
 Targeted ns names = (n : ℕ) → n < count ns → k.Break ≤ kindOf ns n → kindOf ns n ≤ k.Continue → hasTarget ns names n ≡ true
 
-module _ (sourceType : ℕ) (ns ss source names : List ℕ) (u : ℕ)
+module _ (sourceType asyncBodies : ℕ) (ns ss source names : List ℕ) (u : ℕ)
     -- the tables are well-formed (1 to 6, 13, 14), u is a unit (7) without try (8), and the tree has no findings (9)
-    (formed : inputRefusal sourceType ns ss source names ≡ Passed) (passed : stateAnswer sourceType ns ss source names u ≡ Passed)
+    (formed : inputRefusal sourceType ns ss source names ≡ Passed) (passed : stateAnswer (rule sourceType asyncBodies ns ss source names) u ≡ Passed)
   where
     -- With no findings every break and continue has its target: the second half of refusal 9 is never met.
     pub targeted : Targeted ns names
     targeted =
         let w = input-well-formed sourceType ns ss source names formed in
-        let s = state-passed sourceType ns ss source names u passed in
+        let s = state-passed sourceType asyncBodies ns ss source names u passed in
         targets-found sourceType ns ss source names (w .input .tree) (s .clear)
 
     -- THE THEOREM
     pub routes : (answers : List ℕ) → Routes ns names u answers
     routes answers =
         let w = input-well-formed sourceType ns ss source names formed in
-        let s = state-passed sourceType ns ss source names u passed in
+        let s = state-passed sourceType asyncBodies ns ss source names u passed in
         let c = claims (unitOf ns names u) (unit-room ns names u) answers in
         record {
           same = c .same;
           entries = c .entries;
           asking = subst (Each (ByKind ns)) (sym (c .entries)) (execsEach (ByKind ns) (unitOf ns names u) (unit-by-kind ns names u) answers);
           left = c .left;
-          ends = c .ends (passed-scoped sourceType ns ss source names u (good sourceType ns ss source names w) passed);
+          ends = c .ends (passed-scoped sourceType asyncBodies ns ss source names u (good sourceType ns ss source names w) passed);
           once = c .once (unit-once sourceType ns ss source names w u (s .below) (unit-kind (kindOf ns u) (s .unit)));
           long = c .long;
           small = c .small;

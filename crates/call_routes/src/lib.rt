@@ -11,6 +11,7 @@ ghost use Rattle.code_stores.specs.Over.{over};
 ghost use Rattle.route_viewer.specs.Shown.{shownAnswer, shownSlice};
 ghost use Rattle.code_unit.specs.Unit.{unitOf};
 ghost use Rattle.code_maker.specs.Ready.{Ready};
+ghost use Rattle.check_dispatch.specs.Rule.{rule};
 ghost use Rattle.refusal_state.specs.Targets.{refusedOr, stateAnswer};
 ghost use Rattle.call_routes.specs.Calls.{roomRefusal, codeRefusal, codeAnswer, codeSlice, routeAnswer, routeSlice};
 use refusal_verdict::Verdict;
@@ -38,6 +39,7 @@ fn room_refusal(nodes: &[u32], len: usize) -> Verdict
 // The refusals of well-formed tables: 7, 8, 9 and 11.
 fn later_refusal(
     source_type: u32,
+    async_bodies: u32,
     nodes: &[u32],
     scopes: &[u32],
     source: &[u8],
@@ -46,9 +48,17 @@ fn later_refusal(
     len: usize,
 ) -> Verdict
     requires { ⌜ WellFormed «source_type» (now nodes) (now scopes) (now source) (now names) ⌝ }
-    ensures { λ r. ⌜ r ≡ refusedOr (stateAnswer «source_type» (now (nodes .entry)) (now (scopes .entry)) (now (source .entry)) (now (names .entry)) unit) (roomRefusal (now (nodes .entry)) len) ⌝ }
+    ensures { λ r. ⌜ r ≡ refusedOr (stateAnswer (rule «source_type» «async_bodies» (now (nodes .entry)) (now (scopes .entry)) (now (source .entry)) (now (names .entry))) unit) (roomRefusal (now (nodes .entry)) len) ⌝ }
 {
-    let verdict = refusal_state::state_refusal(source_type, nodes, scopes, source, names, unit);
+    let verdict = refusal_state::state_refusal(
+        source_type,
+        async_bodies,
+        nodes,
+        scopes,
+        source,
+        names,
+        unit,
+    );
     match verdict {
         Verdict::Refused(_, _) => verdict,
         Verdict::Passed => room_refusal(nodes, len),
@@ -58,6 +68,7 @@ fn later_refusal(
 // The refusals of both calls but 12; len is the length of the code slice.
 fn refusal(
     source_type: u32,
+    async_bodies: u32,
     nodes: &[u32],
     scopes: &[u32],
     source: &[u8],
@@ -65,18 +76,28 @@ fn refusal(
     unit: u32,
     len: usize,
 ) -> Verdict
-    ensures { λ r. ⌜ r ≡ codeRefusal «source_type» (now (nodes .entry)) (now (scopes .entry)) (now (source .entry)) (now (names .entry)) unit len ⌝ }
+    ensures { λ r. ⌜ r ≡ codeRefusal (rule «source_type» «async_bodies» (now (nodes .entry)) (now (scopes .entry)) (now (source .entry)) (now (names .entry))) unit len ⌝ }
 {
     let verdict = refusal_input::refusal(source_type, nodes, scopes, source, names);
     match verdict {
         Verdict::Refused(_, _) => verdict,
-        Verdict::Passed => later_refusal(source_type, nodes, scopes, source, names, unit, len),
+        Verdict::Passed => later_refusal(
+            source_type,
+            async_bodies,
+            nodes,
+            scopes,
+            source,
+            names,
+            unit,
+            len,
+        ),
     }
 }
 
 // Makes the flat code of a unit.
 pub fn code(
     source_type: u32,
+    async_bodies: u32,
     nodes: &[u32],
     scopes: &[u32],
     source: &[u8],
@@ -84,10 +105,19 @@ pub fn code(
     unit: u32,
     code: &mut [u32],
 ) -> Coded
-    ensures { λ r. ⌜ r ≡ codeAnswer «source_type» (now (nodes .entry)) (now (scopes .entry)) (now (source .entry)) (now (names .entry)) unit (length (now (code .entry))) ⌝ }
-    ensures { λ _. ⌜ now (code .exit) ≡ codeSlice «source_type» (now (nodes .entry)) (now (scopes .entry)) (now (source .entry)) (now (names .entry)) unit (now (code .entry)) ⌝ }
+    ensures { λ r. ⌜ r ≡ codeAnswer (rule «source_type» «async_bodies» (now (nodes .entry)) (now (scopes .entry)) (now (source .entry)) (now (names .entry))) unit (length (now (code .entry))) ⌝ }
+    ensures { λ _. ⌜ now (code .exit) ≡ codeSlice (rule «source_type» «async_bodies» (now (nodes .entry)) (now (scopes .entry)) (now (source .entry)) (now (names .entry))) unit (now (code .entry)) ⌝ }
 {
-    match refusal(source_type, nodes, scopes, source, names, unit, code.len()) {
+    match refusal(
+        source_type,
+        async_bodies,
+        nodes,
+        scopes,
+        source,
+        names,
+        unit,
+        code.len(),
+    ) {
         Verdict::Refused(number, place) => Coded::Refused(number, place),
         Verdict::Passed => Coded::Code(code_maker::code_unit(nodes, names, NodeId(unit), code)),
     }
@@ -123,6 +153,7 @@ fn made(
 // Makes the flat code of a unit, runs it over the answers, and shows the route.
 pub fn route(
     source_type: u32,
+    async_bodies: u32,
     nodes: &[u32],
     scopes: &[u32],
     source: &[u8],
@@ -132,11 +163,20 @@ pub fn route(
     code: &mut [u32],
     out: &mut [u32],
 ) -> Routed
-    ensures { λ r. ⌜ r ≡ routeAnswer «source_type» (now (nodes .entry)) (now (scopes .entry)) (now (source .entry)) (now (names .entry)) unit (now (answers .entry)) (length (now (code .entry))) (length (now (out .entry))) ⌝ }
-    ensures { λ _. ⌜ now (code .exit) ≡ codeSlice «source_type» (now (nodes .entry)) (now (scopes .entry)) (now (source .entry)) (now (names .entry)) unit (now (code .entry)) ⌝ }
-    ensures { λ _. ⌜ now (out .exit) ≡ routeSlice «source_type» (now (nodes .entry)) (now (scopes .entry)) (now (source .entry)) (now (names .entry)) unit (now (answers .entry)) (length (now (code .entry))) (now (out .entry)) ⌝ }
+    ensures { λ r. ⌜ r ≡ routeAnswer (rule «source_type» «async_bodies» (now (nodes .entry)) (now (scopes .entry)) (now (source .entry)) (now (names .entry))) unit (now (answers .entry)) (length (now (code .entry))) (length (now (out .entry))) ⌝ }
+    ensures { λ _. ⌜ now (code .exit) ≡ codeSlice (rule «source_type» «async_bodies» (now (nodes .entry)) (now (scopes .entry)) (now (source .entry)) (now (names .entry))) unit (now (code .entry)) ⌝ }
+    ensures { λ _. ⌜ now (out .exit) ≡ routeSlice (rule «source_type» «async_bodies» (now (nodes .entry)) (now (scopes .entry)) (now (source .entry)) (now (names .entry))) unit (now (answers .entry)) (length (now (code .entry))) (now (out .entry)) ⌝ }
 {
-    match refusal(source_type, nodes, scopes, source, names, unit, code.len()) {
+    match refusal(
+        source_type,
+        async_bodies,
+        nodes,
+        scopes,
+        source,
+        names,
+        unit,
+        code.len(),
+    ) {
         Verdict::Refused(number, place) => Routed::Refused(number, place),
         Verdict::Passed => made(nodes, names, NodeId(unit), answers, code, out),
     }

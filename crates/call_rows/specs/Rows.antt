@@ -6,7 +6,8 @@ use mathlib.Core.Path.{_≡_}
 use mathlib.Core.List.{List, [], _∷_, _++_}
 use lib.ListN.{length, drop}
 use Rattle.check_diagnostics.specs.Finding.{flat}
-use Rattle.check_dispatch.specs.Findings.{findingsOf}
+use Rattle.check_dispatch.specs.Rule.{rule}
+use Rattle.check_dispatch.specs.Reported.{reported}
 use Rattle.call_check.specs.Check.{checkAnswer, checkSlice}
 use Rattle.call_check.specs.declared.Checked.the-variants.{Findings}
 use Rattle.table_records.specs.Table.{count}
@@ -46,21 +47,21 @@ pub data Row : Type 0 where
   check : CheckRow → Row
   route : RouteRow → Row
 
--- these are the findings; the call refuses nothing where it has room, answers how many there are, and writes them from the slice's start
+-- these are the findings, the option on async bodies off; the call refuses nothing where it has room, answers how many there are, and writes them from the slice's start
 pub record Checks (r : CheckRow) : Type 0 where
-  pub found : flat (findingsOf (r .sourceType) (r .nodes) (r .scopes) (r .source) (r .names)) ≡ r .finds
-  pub answer : (s : List ℕ) → length (r .finds) ≤ length s → checkAnswer (r .sourceType) (r .nodes) (r .scopes) (r .source) (r .names) (length s) ≡ Findings (length (r .finds) / 7)
-  pub slice : (s : List ℕ) → length (r .finds) ≤ length s → checkSlice (r .sourceType) (r .nodes) (r .scopes) (r .source) (r .names) s ≡ r .finds ++ drop (length (r .finds)) s
+  pub found : flat (reported (rule (r .sourceType) 0 (r .nodes) (r .scopes) (r .source) (r .names))) ≡ r .finds
+  pub answer : (s : List ℕ) → length (r .finds) ≤ length s → checkAnswer (rule (r .sourceType) 0 (r .nodes) (r .scopes) (r .source) (r .names)) (length s) ≡ Findings (length (r .finds) / 7)
+  pub slice : (s : List ℕ) → length (r .finds) ≤ length s → checkSlice (rule (r .sourceType) 0 (r .nodes) (r .scopes) (r .source) (r .names)) s ≡ r .finds ++ drop (length (r .finds)) s
 
 -- this is the route by the completion rules and by the flat code; the call refuses nothing where it has room, answers with it, and writes its list from the slice's start
 pub record Shows (r : RouteRow) : Type 0 where
   pub ruled : ruledRoute (unitOf (r .nodes) (r .names) (r .unit)) (r .answers) ≡ r .shows
   pub coded : codeRoute (unit (unitOf (r .nodes) (r .names) (r .unit))) (r .answers) ≡ r .shows
   pub answer : (c s : List ℕ) → 16 * count (r .nodes) ≤ length c → length (r .shows .list) ≤ length s
-      → routeAnswer (r .sourceType) (r .nodes) (r .scopes) (r .source) (r .names) (r .unit) (r .answers) (length c) (length s)
+      → routeAnswer (rule (r .sourceType) 0 (r .nodes) (r .scopes) (r .source) (r .names)) (r .unit) (r .answers) (length c) (length s)
       ≡ Routed.Route (r .shows .end) (length (r .shows .list)) (r .shows .taken)
   pub slice : (c s : List ℕ) → 16 * count (r .nodes) ≤ length c → length (r .shows .list) ≤ length s
-      → routeSlice (r .sourceType) (r .nodes) (r .scopes) (r .source) (r .names) (r .unit) (r .answers) (length c) s ≡ r .shows .list ++ drop (length (r .shows .list)) s
+      → routeSlice (rule (r .sourceType) 0 (r .nodes) (r .scopes) (r .source) (r .names)) (r .unit) (r .answers) (length c) s ≡ r .shows .list ++ drop (length (r .shows .list)) s
 
 abbrev pub Holds : Row → Type 0
 Holds (check r) = Checks r

@@ -13,7 +13,7 @@ use Rattle.refusal_verdict.specs.First.{first}
 use Rattle.table_children.specs.Children.{keep, children, howMany, isChild, firstNode}
 use Rattle.table_ancestry.specs.Ancestry.{nearestOf}
 use Rattle.check_diagnostics.specs.Finding.{flat}
-use Rattle.refusal_fields.specs.Fields.{wrongTable, wrongSizes, listedFlags, mostExtra, listedExtra, unlistedAt, strayAt}
+use Rattle.refusal_fields.specs.Fields.{wrongTable, wrongSizes, ownFlag, listedFlags, mostExtra, listedExtra, unlistedAt, strayAt}
 use Rattle.refusal_tree.specs.Tree.{misplacedAt}
 use Rattle.refusal_scopes.specs.Scopes.{brokenAt, chainOn, misscopedAt}
 use Rattle.refusal_standing.specs.Standing.{isStatement, mayBeStatement, isHolder, strayStatement, strayHeld, strayAlternate, strayInSwitch, strayCase, strayInTry, strayClause, strayInClause, strayFunctionBody, strayClassBody, strayElement, strayValue, misplacedStatement, misplacedPart, misplacedElement, misplaced, misplacedChildAt}
@@ -29,7 +29,9 @@ use Rattle.check_class_table.specs.Elements.{elementName, elementSpan, hasBody,
 use Rattle.check_duplicates.specs.Duplicates.{lastOf, sideOf, previousOn, previousOf, isDuplicate, redeclaration, duplicateBy, duplicatesIn, duplicateElements}
 use Rattle.check_classes.specs.ClassChecks.{references, undeclaredIn, requireClassName, constructors, constructorSpan, checkClass}
 use Rattle.check_supers.specs.Super.{failsAt}
-use Rattle.check_dispatch.specs.Findings.{findingsAt, findingsOf}
+use Rattle.check_dispatch.specs.Findings.{findingsAt}
+use Rattle.check_dispatch.specs.Rule.{rule}
+use Rattle.check_dispatch.specs.Reported.{reportedAt, reported}
 use Rattle.check_diagnostics.specs.FindingLaws.{length-flat}
 use Rattle.check_diagnostics.specs.declared.Finding.{Finding}
 use Rattle.refusal_verdict.specs.declared.Verdict.{Verdict}
@@ -50,22 +52,22 @@ use Rattle.call_rows.specs.Rows.{CheckRow, RouteRow, Row, check, route, 
 
 -- what the call does with a row that no refusal turns down
 module _ (r : CheckRow) (passed : inputRefusal (r .sourceType) (r .nodes) (r .scopes) (r .source) (r .names) ≡ Passed)
-    (found : flat (findingsOf (r .sourceType) (r .nodes) (r .scopes) (r .source) (r .names)) ≡ r .finds)
+    (found : flat (reported (rule (r .sourceType) 0 (r .nodes) (r .scopes) (r .source) (r .names))) ≡ r .finds)
   where
     abbrev fs : List Finding
-    fs = findingsOf (r .sourceType) (r .nodes) (r .scopes) (r .source) (r .names)
+    fs = reported (rule (r .sourceType) 0 (r .nodes) (r .scopes) (r .source) (r .names))
 
     many : length (r .finds) ≡ 7 * length fs
     many = ap length (sym found) ∙ length-flat fs
 
-    answers : (s : List ℕ) → length (r .finds) ≤ length s → checkAnswer (r .sourceType) (r .nodes) (r .scopes) (r .source) (r .names) (length s) ≡ Findings (length (r .finds) / 7)
+    answers : (s : List ℕ) → length (r .finds) ≤ length s → checkAnswer (rule (r .sourceType) 0 (r .nodes) (r .scopes) (r .source) (r .names)) (length s) ≡ Findings (length (r .finds) / 7)
     unfolding checkAnswer
     answers s h =
         let m = many in
         let e : length fs ≡ length (r .finds) / 7 = omega arith in
         ap (λ (v : Verdict). answerBy v (reportAnswer fs (length s))) passed ∙ answer-room fs s (omega arith) ∙ ap (λ (n : ℕ). Findings n) e
 
-    writes : (s : List ℕ) → length (r .finds) ≤ length s → checkSlice (r .sourceType) (r .nodes) (r .scopes) (r .source) (r .names) s ≡ r .finds ++ drop (length (r .finds)) s
+    writes : (s : List ℕ) → length (r .finds) ≤ length s → checkSlice (rule (r .sourceType) 0 (r .nodes) (r .scopes) (r .source) (r .names)) s ≡ r .finds ++ drop (length (r .finds)) s
     unfolding checkSlice reportSlice
     writes s h =
         let m = many in
@@ -77,18 +79,18 @@ module _ (r : CheckRow) (passed : inputRefusal (r .sourceType) (r .nodes) (r .sc
 
 -- what the call does with a route row that no refusal turns down
 module _ (r : RouteRow) (passed : inputRefusal (r .sourceType) (r .nodes) (r .scopes) (r .source) (r .names) ≡ Passed)
-    (sound : stateAnswer (r .sourceType) (r .nodes) (r .scopes) (r .source) (r .names) (r .unit) ≡ Passed)
+    (sound : stateAnswer (rule (r .sourceType) 0 (r .nodes) (r .scopes) (r .source) (r .names)) (r .unit) ≡ Passed)
     (ruled : ruledRoute (unitOf (r .nodes) (r .names) (r .unit)) (r .answers) ≡ r .shows)
   where
-    unrefused : (c : List ℕ) → 16 * count (r .nodes) ≤ length c → codeRefusal (r .sourceType) (r .nodes) (r .scopes) (r .source) (r .names) (r .unit) (length c) ≡ Passed
+    unrefused : (c : List ℕ) → 16 * count (r .nodes) ≤ length c → codeRefusal (rule (r .sourceType) 0 (r .nodes) (r .scopes) (r .source) (r .names)) (r .unit) (length c) ≡ Passed
     unfolding codeRefusal
     unrefused c h =
-        ap (λ (v : Verdict). refusedOr v (refusedOr (stateAnswer (r .sourceType) (r .nodes) (r .scopes) (r .source) (r .names) (r .unit)) (roomRefusal (r .nodes) (length c)))) passed
+        ap (λ (v : Verdict). refusedOr v (refusedOr (stateAnswer (rule (r .sourceType) 0 (r .nodes) (r .scopes) (r .source) (r .names)) (r .unit)) (roomRefusal (r .nodes) (length c)))) passed
         ∙ ap (λ (v : Verdict). refusedOr v (roomRefusal (r .nodes) (length c))) sound
         ∙ sym (room-enough (r .nodes) (length c) h)
 
     told : (c s : List ℕ) → 16 * count (r .nodes) ≤ length c → length (r .shows .list) ≤ length s
-        → routeAnswer (r .sourceType) (r .nodes) (r .scopes) (r .source) (r .names) (r .unit) (r .answers) (length c) (length s)
+        → routeAnswer (rule (r .sourceType) 0 (r .nodes) (r .scopes) (r .source) (r .names)) (r .unit) (r .answers) (length c) (length s)
         ≡ routed.Route (r .shows .end) (length (r .shows .list)) (r .shows .taken)
     unfolding routeAnswer shownAnswer
     told c s h g =
@@ -97,7 +99,7 @@ module _ (r : RouteRow) (passed : inputRefusal (r .sourceType) (r .nodes) (r .sc
         ∙ rw (le-leb (length (r .shows .list)) (length s) g)
 
     kept : (c s : List ℕ) → 16 * count (r .nodes) ≤ length c → length (r .shows .list) ≤ length s
-        → routeSlice (r .sourceType) (r .nodes) (r .scopes) (r .source) (r .names) (r .unit) (r .answers) (length c) s ≡ r .shows .list ++ drop (length (r .shows .list)) s
+        → routeSlice (rule (r .sourceType) 0 (r .nodes) (r .scopes) (r .source) (r .names)) (r .unit) (r .answers) (length c) s ≡ r .shows .list ++ drop (length (r .shows .list)) s
     unfolding routeSlice shownSlice
     kept c s h g =
         ap (λ (v : Verdict). unless v (λ number place. s) (shownSlice (ruledRoute (unitOf (r .nodes) (r .names) (r .unit)) (r .answers)) s)) (unrefused c h)
@@ -111,10 +113,10 @@ module _ (r : RouteRow) (passed : inputRefusal (r .sourceType) (r .nodes) (r .sc
 abbrev Computed : Row → Type 0
 Computed (check r) =
     (inputRefusal (r .sourceType) (r .nodes) (r .scopes) (r .source) (r .names) ≡ Passed)
-    × (flat (findingsOf (r .sourceType) (r .nodes) (r .scopes) (r .source) (r .names)) ≡ r .finds)
+    × (flat (reported (rule (r .sourceType) 0 (r .nodes) (r .scopes) (r .source) (r .names))) ≡ r .finds)
 Computed (route r) =
     (inputRefusal (r .sourceType) (r .nodes) (r .scopes) (r .source) (r .names) ≡ Passed)
-    × (stateAnswer (r .sourceType) (r .nodes) (r .scopes) (r .source) (r .names) (r .unit) ≡ Passed)
+    × (stateAnswer (rule (r .sourceType) 0 (r .nodes) (r .scopes) (r .source) (r .names)) (r .unit) ≡ Passed)
     × (ruledRoute (unitOf (r .nodes) (r .names) (r .unit)) (r .answers) ≡ r .shows)
 
 holds : (r : Row) → Computed r → Holds r
@@ -126,7 +128,7 @@ each [] c = tt
 each (r ∷ rs) c = (holds r (c .0), each rs (c .1))
 
 computed : Each Computed rows
-unfolding rows upto range above climb first keep children howMany isChild wrongTable wrongSizes listedFlags mostExtra listedExtra unlistedAt strayAt misplacedAt brokenAt chainOn misscopedAt isStatement mayBeStatement isHolder strayStatement strayHeld strayAlternate strayInSwitch strayCase strayInTry strayClause strayInClause strayFunctionBody strayClassBody strayElement strayValue misplacedStatement misplacedPart misplacedElement misplaced misplacedChildAt isDefault defaults wrongBody wrongAlternate wrongDefault wrongTry wrongClause wrongLabel wrongFunction wrongClass wrongValue wrongElement wrongStatement wrongPart wrongHome wrongCountAt failsAt tablesOr shapeRefusal inputRefusal same nameOf firstNode nearestOf flat flatMap xor escapeOf badEscape sourceText checkStringLiteral checkNumberLiteral isStrictWord checkIdentifier checkBindingIdentifier checkIdentifierReference checkDirective walkUp sameLabel under plainContinueAt continueTo labelledContinueAt labeledAt checkFunctionDeclaration checkLabeledItem currentClass classesOf elementName elementSpan hasBody enters elements privates lastOf sideOf previousOn previousOf isDuplicate redeclaration duplicateBy duplicatesIn duplicateElements references undeclaredIn requireClassName constructors constructorSpan checkClass findingsAt findingsOf exec turns rounds asks shapeBy isPart parts nameId stmtAt bodyOf holderOf unitOf namesUnit inUnit tryIn holdsTry seek plainBreak namedBreak plainContinue namedContinue hasTarget lostAt statePlace unitRefusal stateAnswer
+unfolding rows upto range above climb first keep children howMany isChild wrongTable wrongSizes ownFlag listedFlags mostExtra listedExtra unlistedAt strayAt misplacedAt brokenAt chainOn misscopedAt isStatement mayBeStatement isHolder strayStatement strayHeld strayAlternate strayInSwitch strayCase strayInTry strayClause strayInClause strayFunctionBody strayClassBody strayElement strayValue misplacedStatement misplacedPart misplacedElement misplaced misplacedChildAt isDefault defaults wrongBody wrongAlternate wrongDefault wrongTry wrongClause wrongLabel wrongFunction wrongClass wrongValue wrongElement wrongStatement wrongPart wrongHome wrongCountAt failsAt tablesOr shapeRefusal inputRefusal same nameOf firstNode nearestOf flat flatMap xor escapeOf badEscape sourceText checkStringLiteral checkNumberLiteral isStrictWord checkIdentifier checkBindingIdentifier checkIdentifierReference checkDirective walkUp sameLabel under plainContinueAt continueTo labelledContinueAt labeledAt checkFunctionDeclaration checkLabeledItem currentClass classesOf elementName elementSpan hasBody enters elements privates lastOf sideOf previousOn previousOf isDuplicate redeclaration duplicateBy duplicatesIn duplicateElements references undeclaredIn requireClassName constructors constructorSpan checkClass findingsAt reportedAt reported exec turns rounds asks shapeBy isPart parts nameId stmtAt bodyOf holderOf unitOf namesUnit inUnit tryIn holdsTry seek plainBreak namedBreak plainContinue namedContinue hasTarget lostAt statePlace unitRefusal stateAnswer
 computed =
     ((refl, refl), ((refl, refl), ((refl, refl), ((refl, refl), ((refl, refl), ((refl, refl), ((refl, refl), ((refl, refl), ((refl, refl), ((refl, refl), ((refl, refl), ((refl, refl), ((refl, refl), ((refl, refl), ((refl, refl), ((refl, refl, refl), ((refl, refl, refl), ((refl, refl, refl), tt))))))))))))))))))
 

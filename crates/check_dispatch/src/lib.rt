@@ -5,7 +5,9 @@ ghost use lib.ListN.{length};
 ghost use Rattle.table_records.specs.Table.{count};
 ghost use Rattle.table_records.specs.Facts.{Input, Sourced};
 ghost use Rattle.check_diagnostics.specs.Raises.{Raises};
-ghost use Rattle.check_dispatch.specs.Findings.{findingsAt, findingsOf};
+ghost use Rattle.check_dispatch.specs.Findings.{findingsAt};
+ghost use Rattle.check_dispatch.specs.Rule.{rule};
+ghost use Rattle.check_dispatch.specs.Reported.{reportedAt, reported};
 use check_diagnostics::raise_one;
 use check_diagnostics::raise_three;
 use check_diagnostics::raise_two;
@@ -148,9 +150,36 @@ fn check_node(
     }
 }
 
+// The findings of a node, and with the option on those of async bodies behind them.
+fn check_node_and_bodies(
+    source_type: u32,
+    async_bodies: u32,
+    nodes: &[u32],
+    scopes: &[u32],
+    source: &[u8],
+    names: &[u8],
+    n: NodeId,
+    findings: &mut [u32],
+    at: usize,
+) -> usize
+    requires { ⌜ Input (now nodes) (now scopes) (now names) ⌝ }
+    requires { ⌜ Sourced (now nodes) (now source) ⌝ }
+    requires { ⌜ n .0 < count (now nodes) ⌝ }
+    requires { ⌜ at ≤ 800000000000 ⌝ }
+    ensures { λ w. ⌜ Raises (now (findings .entry)) (now (findings .exit)) at w (reportedAt (rule «source_type» «async_bodies» (now (nodes .entry)) (now (scopes .entry)) (now (source .entry)) (now (names .entry))) (n .0)) ⌝ }
+    ensures { λ w. ⌜ w ≤ at + 458794 ⌝ }
+{
+    let next = check_node(source_type, nodes, scopes, source, names, n, findings, at);
+    if async_bodies == 0 {
+        return next;
+    }
+    check_bodies::check_async_bodies(nodes, scopes, n, findings, next)
+}
+
 // The findings of the tree, each written where there is room for it; answers how many numbers they are.
 pub fn check_tree(
     source_type: u32,
+    async_bodies: u32,
     nodes: &[u32],
     scopes: &[u32],
     source: &[u8],
@@ -159,13 +188,14 @@ pub fn check_tree(
 ) -> usize
     requires { ⌜ Input (now nodes) (now scopes) (now names) ⌝ }
     requires { ⌜ Sourced (now nodes) (now source) ⌝ }
-    ensures { λ w. ⌜ Raises (now (findings .entry)) (now (findings .exit)) 0 w (findingsOf «source_type» (now (nodes .entry)) (now (scopes .entry)) (now (source .entry)) (now (names .entry))) ⌝ }
+    ensures { λ w. ⌜ Raises (now (findings .entry)) (now (findings .exit)) 0 w (reported (rule «source_type» «async_bodies» (now (nodes .entry)) (now (scopes .entry)) (now (source .entry)) (now (names .entry)))) ⌝ }
 {
     let mut at = check_duplicates::check_duplicate_class_elements(nodes, names, findings, 0);
     let mut i: u32 = 0;
     while table_records::is_node(nodes, i) {
-        at = check_node(
+        at = check_node_and_bodies(
             source_type,
+            async_bodies,
             nodes,
             scopes,
             source,

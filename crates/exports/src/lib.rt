@@ -1,6 +1,7 @@
 // The calls for programs in C and Rust: numbers and slices in, document 01's numbers out.
 ghost use mathlib.Core.Path.{_≡_};
 ghost use lib.ListN.{length};
+ghost use Rattle.check_dispatch.specs.Rule.{rule};
 ghost use Rattle.call_check.specs.Check.{checkAnswer, checkSlice};
 ghost use Rattle.call_routes.specs.Calls.{codeAnswer, codeSlice, routeAnswer, routeSlice};
 ghost use Rattle.exports.specs.Numbers.{checkNumbers, codeNumbers, routeNumbers};
@@ -66,16 +67,25 @@ fn check_numbers(answer: Checked) -> CheckAnswer
 #[no_mangle]
 pub extern "C" fn velkunshe_check(
     source_type: u32,
+    async_bodies: u32,
     nodes: &[u32],
     scopes: &[u32],
     source: &[u8],
     names: &[u8],
     findings: &mut [u32],
 ) -> CheckAnswer
-    ensures { λ r. ⌜ r ≡ checkNumbers (checkAnswer «source_type» (now (nodes .entry)) (now (scopes .entry)) (now (source .entry)) (now (names .entry)) (length (now (findings .entry)))) ⌝ }
-    ensures { λ _. ⌜ now (findings .exit) ≡ checkSlice «source_type» (now (nodes .entry)) (now (scopes .entry)) (now (source .entry)) (now (names .entry)) (now (findings .entry)) ⌝ }
+    ensures { λ r. ⌜ r ≡ checkNumbers (checkAnswer (rule «source_type» «async_bodies» (now (nodes .entry)) (now (scopes .entry)) (now (source .entry)) (now (names .entry))) (length (now (findings .entry)))) ⌝ }
+    ensures { λ _. ⌜ now (findings .exit) ≡ checkSlice (rule «source_type» «async_bodies» (now (nodes .entry)) (now (scopes .entry)) (now (source .entry)) (now (names .entry))) (now (findings .entry)) ⌝ }
 {
-    check_numbers(call_check::check(source_type, nodes, scopes, source, names, findings))
+    check_numbers(call_check::check(
+        source_type,
+        async_bodies,
+        nodes,
+        scopes,
+        source,
+        names,
+        findings,
+    ))
 }
 
 fn code_numbers(answer: Coded) -> CodeAnswer
@@ -99,6 +109,7 @@ fn code_numbers(answer: Coded) -> CodeAnswer
 #[no_mangle]
 pub extern "C" fn velkunshe_code(
     source_type: u32,
+    async_bodies: u32,
     nodes: &[u32],
     scopes: &[u32],
     source: &[u8],
@@ -106,10 +117,19 @@ pub extern "C" fn velkunshe_code(
     unit: u32,
     code: &mut [u32],
 ) -> CodeAnswer
-    ensures { λ r. ⌜ r ≡ codeNumbers (codeAnswer «source_type» (now (nodes .entry)) (now (scopes .entry)) (now (source .entry)) (now (names .entry)) unit (length (now (code .entry)))) ⌝ }
-    ensures { λ _. ⌜ now (code .exit) ≡ codeSlice «source_type» (now (nodes .entry)) (now (scopes .entry)) (now (source .entry)) (now (names .entry)) unit (now (code .entry)) ⌝ }
+    ensures { λ r. ⌜ r ≡ codeNumbers (codeAnswer (rule «source_type» «async_bodies» (now (nodes .entry)) (now (scopes .entry)) (now (source .entry)) (now (names .entry))) unit (length (now (code .entry)))) ⌝ }
+    ensures { λ _. ⌜ now (code .exit) ≡ codeSlice (rule «source_type» «async_bodies» (now (nodes .entry)) (now (scopes .entry)) (now (source .entry)) (now (names .entry))) unit (now (code .entry)) ⌝ }
 {
-    code_numbers(call_routes::code(source_type, nodes, scopes, source, names, unit, code))
+    code_numbers(call_routes::code(
+        source_type,
+        async_bodies,
+        nodes,
+        scopes,
+        source,
+        names,
+        unit,
+        code,
+    ))
 }
 
 fn route_numbers(answer: Routed) -> RouteAnswer
@@ -147,6 +167,7 @@ fn route_numbers(answer: Routed) -> RouteAnswer
 #[no_mangle]
 pub extern "C" fn velkunshe_route(
     source_type: u32,
+    async_bodies: u32,
     nodes: &[u32],
     scopes: &[u32],
     source: &[u8],
@@ -156,12 +177,13 @@ pub extern "C" fn velkunshe_route(
     code: &mut [u32],
     route: &mut [u32],
 ) -> RouteAnswer
-    ensures { λ r. ⌜ r ≡ routeNumbers (routeAnswer «source_type» (now (nodes .entry)) (now (scopes .entry)) (now (source .entry)) (now (names .entry)) unit (now (answers .entry)) (length (now (code .entry))) (length (now (route .entry)))) ⌝ }
-    ensures { λ _. ⌜ now (code .exit) ≡ codeSlice «source_type» (now (nodes .entry)) (now (scopes .entry)) (now (source .entry)) (now (names .entry)) unit (now (code .entry)) ⌝ }
-    ensures { λ _. ⌜ now (route .exit) ≡ routeSlice «source_type» (now (nodes .entry)) (now (scopes .entry)) (now (source .entry)) (now (names .entry)) unit (now (answers .entry)) (length (now (code .entry))) (now (route .entry)) ⌝ }
+    ensures { λ r. ⌜ r ≡ routeNumbers (routeAnswer (rule «source_type» «async_bodies» (now (nodes .entry)) (now (scopes .entry)) (now (source .entry)) (now (names .entry))) unit (now (answers .entry)) (length (now (code .entry))) (length (now (route .entry)))) ⌝ }
+    ensures { λ _. ⌜ now (code .exit) ≡ codeSlice (rule «source_type» «async_bodies» (now (nodes .entry)) (now (scopes .entry)) (now (source .entry)) (now (names .entry))) unit (now (code .entry)) ⌝ }
+    ensures { λ _. ⌜ now (route .exit) ≡ routeSlice (rule «source_type» «async_bodies» (now (nodes .entry)) (now (scopes .entry)) (now (source .entry)) (now (names .entry))) unit (now (answers .entry)) (length (now (code .entry))) (now (route .entry)) ⌝ }
 {
     route_numbers(call_routes::route(
         source_type,
+        async_bodies,
         nodes,
         scopes,
         source,

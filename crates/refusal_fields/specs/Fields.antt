@@ -9,6 +9,7 @@ use Rattle.table_records.specs.Table.{kindOf, roleOf, flagsOf, extraOf, spanSta
 use Rattle.table_records.specs.Kinds as k
 use Rattle.table_records.specs.Roles as role
 use Rattle.table_records.specs.Extras as extra
+use Rattle.check_bodies.specs.Bodies.{AsyncOrGenerator}
 
 -- 1. "A table is empty or no whole number of records; more than 65,535 records": a table of so many numbers, `width` to a record
 unfoldable pub wrongTable : ℕ → ℕ → Bool
@@ -19,9 +20,13 @@ unfoldable pub wrongSizes : ℕ → List ℕ → List ℕ → List ℕ → List 
 wrongSizes sourceType ns ss source names =
     wrongTable (length ns) 10 || (wrongTable (length ss) 3 || (ltb 1048576 (length source) || (ltb 1048576 (length names) || ltb 1 sourceType)))
 
--- a sum of some of the flags 2, 4, .., 4096: an even number up to 8190
-unfoldable pub listedFlags : ℕ → Bool
-listedFlags sum = leb sum 8190 && eqb (sum % 2) 0
+-- the flag that a kind has of its own: "8192, async or generator, allowed on Function only" (document 02, request 8)
+unfoldable pub ownFlag : ℕ → ℕ → ℕ
+ownFlag sourceType kind = cond (eqb kind k.Function) AsyncOrGenerator 0
+
+-- a sum of some of the flags 2, 4, .., 4096, an even number up to 8190, with the kind's own flag or without
+unfoldable pub listedFlags : ℕ → ℕ → ℕ → Bool
+listedFlags sourceType kind sum = eqb (sum % 2) 0 && (leb sum 8190 || (leb (ownFlag sourceType kind) sum && leb sum (ownFlag sourceType kind + 8190)))
 
 -- the largest extra of a kind; they are listed from 0 on
 unfoldable pub mostExtra : ℕ → ℕ
@@ -37,11 +42,11 @@ unfoldable pub listedExtra : ℕ → ℕ → Bool
 listedExtra kind x = eqb kind k.Class || (eqb kind k.StringLiteral || leb x (mostExtra kind))
 
 -- 2. "A node's kind, role, flag sum or extra not listed."
-unfoldable pub unlistedAt : List ℕ → ℕ → Bool
-unlistedAt ns i =
+unfoldable pub unlistedAt : ℕ → List ℕ → ℕ → Bool
+unlistedAt sourceType ns i =
     ltb k.AnythingElse (kindOf ns i)
     || (ltb role.Left (roleOf ns i)
-    || (not (listedFlags (flagsOf ns i))
+    || (not (listedFlags sourceType (kindOf ns i) (flagsOf ns i))
     || not (listedExtra (kindOf ns i) (extraOf ns i))))
 
 -- 4. "Span start after its end, or a span or name outside its bytes." A name of length 0 lies within them too.
@@ -65,6 +70,4 @@ pub record Sizes (sourceType : ℕ) (ns ss source names : List ℕ) : Type 0 whe
 pub record Listed (ns : List ℕ) : Type 0 where
   pub kind : (i : ℕ) → i < count ns → kindOf ns i ≤ 55
   pub role : (i : ℕ) → i < count ns → roleOf ns i ≤ 7
-  pub flags : (i : ℕ) → i < count ns → flagsOf ns i ≤ 8190
-  pub even : (i : ℕ) → i < count ns → flagsOf ns i % 2 ≡ 0
   pub extra : (i : ℕ) → i < count ns → listedExtra (kindOf ns i) (extraOf ns i) ≡ true

@@ -51,24 +51,19 @@ sizes-of sourceType ns ss source names e =
       type = ltb-false 1 sourceType (w .4);
     }
 
-pub listed-of : (ns : List ℕ) → first (unlistedAt ns) 0 (count ns) ≡ Nowhere → Listed ns
-unfolding unlistedAt listedFlags
-listed-of ns e = record {
+pub listed-of : (sourceType : ℕ) (ns : List ℕ) → first (unlistedAt sourceType ns) 0 (count ns) ≡ Nowhere → Listed ns
+unfolding unlistedAt
+listed-of sourceType ns e = record {
   kind = λ i l. ltb-false 55 (kindOf ns i) (fine i l .0);
   role = λ i l. ltb-false 7 (roleOf ns i) (fine i l .1);
-  flags = λ i l. leb-true (flagsOf ns i) 8190 (and-left (leb (flagsOf ns i) 8190) (eqb (flagsOf ns i % 2) 0) (sum i l));
-  even = λ i l. eqb-true (flagsOf ns i % 2) 0 (and-right (leb (flagsOf ns i) 8190) (eqb (flagsOf ns i % 2) 0) (sum i l));
   extra = λ i l. not-false (listedExtra (kindOf ns i) (extraOf ns i)) (fine i l .3);
 }
   where
     fine : (i : ℕ) → i < count ns →
-        (ltb 55 (kindOf ns i) ≡ false) × (ltb 7 (roleOf ns i) ≡ false) × (not (listedFlags (flagsOf ns i)) ≡ false) × (not (listedExtra (kindOf ns i) (extraOf ns i)) ≡ false)
+        (ltb 55 (kindOf ns i) ≡ false) × (ltb 7 (roleOf ns i) ≡ false) × (not (listedFlags sourceType (kindOf ns i) (flagsOf ns i)) ≡ false) × (not (listedExtra (kindOf ns i) (extraOf ns i)) ≡ false)
     fine i l =
-        or4 (ltb 55 (kindOf ns i)) (ltb 7 (roleOf ns i)) (not (listedFlags (flagsOf ns i))) (not (listedExtra (kindOf ns i) (extraOf ns i)))
-        (first-none (unlistedAt ns) (count ns) 0 e i (omega arith) l)
-
-    sum : (i : ℕ) → i < count ns → listedFlags (flagsOf ns i) ≡ true
-    sum i l = not-false (listedFlags (flagsOf ns i)) (fine i l .2)
+        or4 (ltb 55 (kindOf ns i)) (ltb 7 (roleOf ns i)) (not (listedFlags sourceType (kindOf ns i) (flagsOf ns i))) (not (listedExtra (kindOf ns i) (extraOf ns i)))
+        (first-none (unlistedAt sourceType ns) (count ns) 0 e i (omega arith) l)
 
 module _ (ns source names : List ℕ) (e : first (strayAt ns source names) 0 (count ns) ≡ Nowhere) where
   fine : (i : ℕ) → i < count ns →

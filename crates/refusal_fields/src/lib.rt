@@ -6,7 +6,7 @@ ghost use lib.ListN.{length};
 ghost use lib.Dec.{ltb, leb};
 ghost use Rattle.table_records.specs.Table.{count, countScopes, Some};
 ghost use Rattle.refusal_verdict.specs.First.{first};
-ghost use Rattle.refusal_fields.specs.Fields.{wrongTable, wrongSizes, listedFlags, mostExtra, listedExtra, unlistedAt, strayAt};
+ghost use Rattle.refusal_fields.specs.Fields.{wrongTable, wrongSizes, ownFlag, listedFlags, mostExtra, listedExtra, unlistedAt, strayAt};
 use base_common::and;
 use base_common::not;
 use base_common::or;
@@ -46,11 +46,26 @@ pub fn wrong_sizes(
     )
 }
 
-// Whether a number is a sum of flags.
-fn listed_flags(sum: u32) -> bool
-    ensures { λ r. ⌜ r ≡ listedFlags sum ⌝ }
+// The flag that a kind has of its own.
+fn own_flag(source_type: u32, k: u32) -> u32
+    ensures { λ r. ⌜ r ≡ ownFlag «source_type» k ⌝ }
+    ensures { λ r. ⌜ r ≤ 8192 ⌝ }
 {
-    and(sum <= 8190, sum % 2 == 0)
+    if k == kinds::FUNCTION {
+        return check_bodies::ASYNC_OR_GENERATOR;
+    }
+    0
+}
+
+// Whether a sum of flags is listed for a kind.
+fn listed_flags(source_type: u32, k: u32, sum: u32) -> bool
+    ensures { λ r. ⌜ r ≡ listedFlags «source_type» k sum ⌝ }
+{
+    let own = own_flag(source_type, k);
+    and(
+        sum % 2 == 0,
+        or(sum <= 8190, and(own <= sum, sum <= own + 8190)),
+    )
 }
 
 // The largest extra of a kind.
@@ -78,9 +93,9 @@ fn listed_extra(k: u32, x: u32) -> bool
 }
 
 // Whether a number of node n is not listed.
-fn unlisted_at(nodes: &[u32], n: NodeId) -> bool
+fn unlisted_at(source_type: u32, nodes: &[u32], n: NodeId) -> bool
     requires { ⌜ n .0 < count (now nodes) ⌝ }
-    ensures { λ r. ⌜ r ≡ unlistedAt (now (nodes .entry)) (n .0) ⌝ }
+    ensures { λ r. ⌜ r ≡ unlistedAt «source_type» (now (nodes .entry)) (n .0) ⌝ }
 {
     let k = table_records::kind(nodes, n);
     or(
@@ -88,7 +103,7 @@ fn unlisted_at(nodes: &[u32], n: NodeId) -> bool
         or(
             roles::LEFT < table_records::role(nodes, n),
             or(
-                not(listed_flags(table_records::flags(nodes, n))),
+                not(listed_flags(source_type, k, table_records::flags(nodes, n))),
                 not(listed_extra(k, table_records::extra(nodes, n))),
             ),
         ),
@@ -96,14 +111,14 @@ fn unlisted_at(nodes: &[u32], n: NodeId) -> bool
 }
 
 // The lowest node with a number that is not listed.
-pub fn unlisted(nodes: &[u32]) -> Place
+pub fn unlisted(source_type: u32, nodes: &[u32]) -> Place
     requires { ⌜ Some (count (now nodes)) ⌝ }
-    ensures { λ r. ⌜ r ≡ first (unlistedAt (now (nodes .entry))) 0 (count (now (nodes .entry))) ⌝ }
+    ensures { λ r. ⌜ r ≡ first (unlistedAt «source_type» (now (nodes .entry))) 0 (count (now (nodes .entry))) ⌝ }
 {
     let size = table_records::size(nodes);
     let mut i: u32 = 0;
     while i < size {
-        if unlisted_at(nodes, NodeId(i)) {
+        if unlisted_at(source_type, nodes, NodeId(i)) {
             return Place::Here(i);
         }
         i += 1;

@@ -46,7 +46,7 @@ module _ (sourceType : ℕ) (ns ss source names : List ℕ) where
   unfolding tablesOr
   behind r s f =
       pass-on-test refusal.Sizes 0 (wrongSizes sourceType ns ss source names) _ _
-      (pass-on refusal.Unlisted (first (unlistedAt ns) 0 (count ns)) _ _
+      (pass-on refusal.Unlisted (first (unlistedAt sourceType ns) 0 (count ns)) _ _
       (pass-on refusal.Tree (first (misplacedAt ns) 0 (count ns)) _ _
       (pass-on refusal.Bytes (first (strayAt ns source names) 0 (count ns)) _ _
       (pass-on refusal.Scopes (first (brokenAt ss) 0 (countScopes ss)) _ _

@@ -20,7 +20,7 @@ use Rattle.refusal_counts.specs.Counts.{wrongCountAt}
 unfoldable pub tablesOr : ℕ → List ℕ → List ℕ → List ℕ → List ℕ → Verdict → Verdict
 tablesOr sourceType ns ss source names later =
     cond (wrongSizes sourceType ns ss source names) (Refused refusal.Sizes 0)
-    (orNext refusal.Unlisted (first (unlistedAt ns) 0 (count ns))
+    (orNext refusal.Unlisted (first (unlistedAt sourceType ns) 0 (count ns))
     (orNext refusal.Tree (first (misplacedAt ns) 0 (count ns))
     (orNext refusal.Bytes (first (strayAt ns source names) 0 (count ns))
     (orNext refusal.Scopes (first (brokenAt ss) 0 (countScopes ss))

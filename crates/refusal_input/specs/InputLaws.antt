@@ -28,7 +28,7 @@ module _ (sourceType : ℕ) (ns ss source names : List ℕ) where
   unfolding inputRefusal tablesOr shapeRefusal
   input-well-formed e =
       let e1 = passed-test refusal.Sizes 0 (wrongSizes sourceType ns ss source names) _ e in
-      let e2 = passed refusal.Unlisted (first (unlistedAt ns) 0 (count ns)) _ (e1 .1) in
+      let e2 = passed refusal.Unlisted (first (unlistedAt sourceType ns) 0 (count ns)) _ (e1 .1) in
       let e3 = passed refusal.Tree (first (misplacedAt ns) 0 (count ns)) _ (e2 .1) in
       let e4 = passed refusal.Bytes (first (strayAt ns source names) 0 (count ns)) _ (e3 .1) in
       let e5 = passed refusal.Scopes (first (brokenAt ss) 0 (countScopes ss)) _ (e4 .1) in
@@ -42,7 +42,7 @@ module _ (sourceType : ℕ) (ns ss source names : List ℕ) where
       let c = chained-of ss (s .scopes) (e5 .0) in
       record {
         sizes = s;
-        listed = listed-of ns (e2 .0);
+        listed = listed-of sourceType ns (e2 .0);
         input = record {
           tree = t;
           chained = c;

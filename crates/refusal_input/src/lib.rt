@@ -61,7 +61,7 @@ pub fn refusal(
     if refusal_fields::wrong_sizes(source_type, nodes, scopes, source, names) {
         return Verdict::Refused(refusals::SIZES, 0);
     }
-    if let Place::Here(a) = refusal_fields::unlisted(nodes) {
+    if let Place::Here(a) = refusal_fields::unlisted(source_type, nodes) {
         return Verdict::Refused(refusals::UNLISTED, a);
     }
     if let Place::Here(b) = refusal_tree::misplaced(nodes) {

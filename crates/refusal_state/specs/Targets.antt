@@ -17,7 +17,8 @@ use Rattle.refusal_verdict.specs.Refusals as refusal
 use Rattle.refusal_verdict.specs.Verdict.{orNext}
 use Rattle.check_diagnostics.specs.declared.Finding.{Finding}
 use Rattle.check_jumps.specs.Jumps.{isUnit, isIteration, isBreakable, whenFound, sameLabel, labeledItem}
-use Rattle.check_dispatch.specs.Findings.{findingsOf}
+use Rattle.check_dispatch.specs.Rule.{Rule}
+use Rattle.check_dispatch.specs.Reported.{reported}
 
 -- 7: "The number named as unit is no node of kind 0-3."
 unfoldable pub namesUnit : List ℕ → ℕ → Bool
@@ -78,8 +79,8 @@ abbrev pub findingOr : List Finding → Place → Place
 findingOr [] lost = lost
 findingOr (f ∷ fs) lost = Here (f .node .0)
 
-unfoldable pub statePlace : ℕ → List ℕ → List ℕ → List ℕ → List ℕ → Place
-statePlace sourceType ns ss source names = findingOr (findingsOf sourceType ns ss source names) (first (lostAt ns names) 0 (count ns))
+unfoldable pub statePlace : Rule → Place
+statePlace r = findingOr (reported r) (first (lostAt (r .nodes) (r .names)) 0 (count (r .nodes)))
 
 -- 7, 8 and 9 in their order: "The lowest number wins"; "7 and 8 give the unit's number".
 unfoldable pub unitRefusal : List ℕ → ℕ → Verdict
@@ -89,5 +90,5 @@ abbrev pub refusedOr : Verdict → Verdict → Verdict
 refusedOr (Refused number place) r = Refused number place
 refusedOr Passed r = r
 
-unfoldable pub stateAnswer : ℕ → List ℕ → List ℕ → List ℕ → List ℕ → ℕ → Verdict
-stateAnswer sourceType ns ss source names u = refusedOr (unitRefusal ns u) (orNext refusal.Findings (statePlace sourceType ns ss source names) Passed)
+unfoldable pub stateAnswer : Rule → ℕ → Verdict
+stateAnswer r u = refusedOr (unitRefusal (r .nodes) u) (orNext refusal.Findings (statePlace r) Passed)

@@ -42,6 +42,9 @@ use Rattle.check_jumps.specs.Jumps.{isUnit, isIteration, isBreakable, whenFound
 use Rattle.check_jumps.specs.JumpsLaws.{walk-up}
 use Rattle.check_duplicates.specs.Duplicates.{duplicateElements}
 use Rattle.check_dispatch.specs.Findings.{findingsAt, findingsOf}
+use Rattle.check_dispatch.specs.Rule.{rule}
+use Rattle.check_dispatch.specs.Reported.{reported}
+use Rattle.check_dispatch.specs.ReportedLaws.{none-reported}
 use Rattle.refusal_state.specs.Targets.{namesUnit, isHome, inUnit, tryIn, holdsTry, seek, plainBreak, namedBreak, plainContinue, namedContinue, breakTarget, continueTarget, hasTarget, lostAt, findingOr, statePlace, unitRefusal, refusedOr, stateAnswer}
 
 -- a unit's way up: p is the parent of i
@@ -255,25 +258,27 @@ module _ (sourceType : ℕ) (ns ss source names : List ℕ) where
         ⊎-elim (λ (h : count ns ≤ i). first-end (lostAt ns names) i (count ns) h)
         (λ (h : i < count ns). first-on (lostAt ns names) i (count ns) h (none-lost i h) ∙ none-first f (i + 1) (omega arith)) (le-or-lt (count ns) i)
 
-    place-clear : statePlace sourceType ns ss source names ≡ Nowhere
-    unfolding statePlace
-    place-clear = ap (λ l. findingOr l (first (lostAt ns names) 0 (count ns))) e ∙ none-first (count ns) 0 (omega arith)
-
   -- the place of refusal 9, where there are no findings, and where the first was written to a slice of seven
-  pub place-none : Tree ns → length (findingsOf sourceType ns ss source names) ≡ 0 → statePlace sourceType ns ss source names ≡ Nowhere
-  place-none t h = place-clear t (go (findingsOf sourceType ns ss source names) h)
-    where
-      go : (l : List Finding) → length l ≡ 0 → l ≡ []
-      go [] h = refl
-      go (f ∷ fs) h = absurd (omega arith)
+  module _ (asyncBodies : ℕ) where
+    place-clear : Tree ns → reported (rule sourceType asyncBodies ns ss source names) ≡ [] → statePlace (rule sourceType asyncBodies ns ss source names) ≡ Nowhere
+    unfolding statePlace
+    place-clear t e = ap (λ l. findingOr l (first (lostAt ns names) 0 (count ns))) e ∙ none-first t (none-reported (rule sourceType asyncBodies ns ss source names) e) (count ns) 0 (omega arith)
 
-  pub place-some : (s : List ℕ) → length s ≡ 7 → (length (findingsOf sourceType ns ss source names) ≡ 0 → ⊥) → statePlace sourceType ns ss source names ≡ Here (getD (sink s 0 (findingsOf sourceType ns ss source names)) 1 0)
-  unfolding statePlace
-  place-some s q h = go (findingsOf sourceType ns ss source names) h
-    where
-      go : (l : List Finding) → (length l ≡ 0 → ⊥) → findingOr l (first (lostAt ns names) 0 (count ns)) ≡ Here (getD (sink s 0 l) 1 0)
-      go [] h = absurd (h refl)
-      go (f ∷ fs) h = ap Here (sym (first-written s f fs q))
+    pub place-none : Tree ns → length (reported (rule sourceType asyncBodies ns ss source names)) ≡ 0 → statePlace (rule sourceType asyncBodies ns ss source names) ≡ Nowhere
+    place-none t h = place-clear t (go (reported (rule sourceType asyncBodies ns ss source names)) h)
+      where
+        go : (l : List Finding) → length l ≡ 0 → l ≡ []
+        go [] h = refl
+        go (f ∷ fs) h = absurd (omega arith)
+
+    pub place-some : (s : List ℕ) → length s ≡ 7 → (length (reported (rule sourceType asyncBodies ns ss source names)) ≡ 0 → ⊥)
+        → statePlace (rule sourceType asyncBodies ns ss source names) ≡ Here (getD (sink s 0 (reported (rule sourceType asyncBodies ns ss source names))) 1 0)
+    unfolding statePlace
+    place-some s q h = go (reported (rule sourceType asyncBodies ns ss source names)) h
+      where
+        go : (l : List Finding) → (length l ≡ 0 → ⊥) → findingOr l (first (lostAt ns names) 0 (count ns)) ≡ Here (getD (sink s 0 l) 1 0)
+        go [] h = absurd (h refl)
+        go (f ∷ fs) h = ap Here (sym (first-written s f fs q))
 
 -- WHAT IS KNOWN WHERE NONE OF 7 TO 9 APPLIES
 pub record Sound (sourceType : ℕ) (ns ss source names : List ℕ) (u : ℕ) : Type 0 where
@@ -299,14 +304,14 @@ unit-passed ns u = go (namesUnit ns u) (holdsTry ns u)
     go true false e = (refl, refl)
     go false y e = no-pass refusal.Unit u e
 
-pub state-passed : (sourceType : ℕ) (ns ss source names : List ℕ) (u : ℕ) → stateAnswer sourceType ns ss source names u ≡ Passed → Sound sourceType ns ss source names u
+pub state-passed : (sourceType asyncBodies : ℕ) (ns ss source names : List ℕ) (u : ℕ) → stateAnswer (rule sourceType asyncBodies ns ss source names) u ≡ Passed → Sound sourceType ns ss source names u
 unfolding stateAnswer statePlace namesUnit
-state-passed sourceType ns ss source names u e =
-    let w = refused-or (unitRefusal ns u) (orNext refusal.Findings (statePlace sourceType ns ss source names) Passed) e in
+state-passed sourceType asyncBodies ns ss source names u e =
+    let w = refused-or (unitRefusal ns u) (orNext refusal.Findings (statePlace (rule sourceType asyncBodies ns ss source names)) Passed) e in
     let v = unit-passed ns u (w .0) in
     record {
       below = ltb-true u (count ns) (and-left (ltb u (count ns)) (isUnit (kindOf ns u)) (v .0));
       unit = and-right (ltb u (count ns)) (isUnit (kindOf ns u)) (v .0);
       noTry = v .1;
-      clear = no-finding (findingsOf sourceType ns ss source names) (first (lostAt ns names) 0 (count ns)) (passed refusal.Findings (statePlace sourceType ns ss source names) Passed (w .1) .0);
+      clear = none-reported (rule sourceType asyncBodies ns ss source names) (no-finding (reported (rule sourceType asyncBodies ns ss source names)) (first (lostAt ns names) 0 (count ns)) (passed refusal.Findings (statePlace (rule sourceType asyncBodies ns ss source names)) Passed (w .1) .0));
     }

@@ -3,6 +3,7 @@ ghost use mathlib.Core.Path.{_≡_};
 ghost use Prim.Native.Nat.{_<_};
 ghost use Rattle.table_records.specs.Table.{count};
 ghost use Rattle.table_records.specs.Facts.{Tree, Input, Sourced};
+ghost use Rattle.check_dispatch.specs.Rule.{rule};
 ghost use Rattle.refusal_state.specs.Targets.{namesUnit, isHome, inUnit, tryIn, holdsTry, statePlace, unitRefusal, stateAnswer};
 use base_common::or;
 use base_common::within;
@@ -102,6 +103,7 @@ pub fn unit_refusal(nodes: &[u32], u: u32) -> Verdict
 // The place of refusal 9. Where there are no findings each jump has its target, so that none is sought.
 pub fn state_place(
     source_type: u32,
+    async_bodies: u32,
     nodes: &[u32],
     scopes: &[u32],
     source: &[u8],
@@ -109,10 +111,18 @@ pub fn state_place(
 ) -> Place
     requires { ⌜ Input (now nodes) (now scopes) (now names) ⌝ }
     requires { ⌜ Sourced (now nodes) (now source) ⌝ }
-    ensures { λ r. ⌜ r ≡ statePlace «source_type» (now (nodes .entry)) (now (scopes .entry)) (now (source .entry)) (now (names .entry)) ⌝ }
+    ensures { λ r. ⌜ r ≡ statePlace (rule «source_type» «async_bodies» (now (nodes .entry)) (now (scopes .entry)) (now (source .entry)) (now (names .entry))) ⌝ }
 {
     let mut first: [u32; 7] = [0; 7];
-    let written = check_dispatch::check_tree(source_type, nodes, scopes, source, names, &mut first);
+    let written = check_dispatch::check_tree(
+        source_type,
+        async_bodies,
+        nodes,
+        scopes,
+        source,
+        names,
+        &mut first,
+    );
     if written == 0 {
         return Place::Nowhere;
     }
@@ -122,6 +132,7 @@ pub fn state_place(
 // Refusals 7, 8 and 9 of well-formed tables, in their order.
 pub fn state_refusal(
     source_type: u32,
+    async_bodies: u32,
     nodes: &[u32],
     scopes: &[u32],
     source: &[u8],
@@ -130,12 +141,19 @@ pub fn state_refusal(
 ) -> Verdict
     requires { ⌜ Input (now nodes) (now scopes) (now names) ⌝ }
     requires { ⌜ Sourced (now nodes) (now source) ⌝ }
-    ensures { λ r. ⌜ r ≡ stateAnswer «source_type» (now (nodes .entry)) (now (scopes .entry)) (now (source .entry)) (now (names .entry)) u ⌝ }
+    ensures { λ r. ⌜ r ≡ stateAnswer (rule «source_type» «async_bodies» (now (nodes .entry)) (now (scopes .entry)) (now (source .entry)) (now (names .entry))) u ⌝ }
 {
     let verdict = unit_refusal(nodes, u);
     match verdict {
         Verdict::Refused(_, _) => verdict,
-        Verdict::Passed => match state_place(source_type, nodes, scopes, source, names) {
+        Verdict::Passed => match state_place(
+            source_type,
+            async_bodies,
+            nodes,
+            scopes,
+            source,
+            names,
+        ) {
             Place::Here(n) => Verdict::Refused(refusals::FINDINGS, n),
             Place::Nowhere => Verdict::Passed,
         },

@@ -15,7 +15,9 @@ use Rattle.refusal_verdict.specs.Refusals as refusal
 use Rattle.refusal_verdict.specs.declared.Verdict.{Verdict}
 use Rattle.refusal_verdict.specs.declared.Verdict.the-variants as verdict
 use Rattle.refusal_input.specs.Input.{inputRefusal}
-use Rattle.check_dispatch.specs.Findings.{findingsOf}
+use Rattle.check_dispatch.specs.Rule.{rule}
+use Rattle.check_dispatch.specs.Reported.{reported}
+use Rattle.check_dispatch.specs.ReportedLaws.{off}
 use Rattle.call_check.specs.declared.Checked.{Checked}
 use Rattle.call_check.specs.declared.Checked.the-variants.{Findings, Short}
 use Rattle.call_check.specs.Check.{reportAnswer, reportSlice, answerBy, sliceBy, checkAnswer, checkSlice}
@@ -64,16 +66,18 @@ by-counted (verdict.Refused number place) fs len = tt
 by-counted verdict.Passed fs len = report-counted fs len
 
 module _ (kind : ℕ) (ns ss source names : List ℕ) where
-  pub check-text : (s : List ℕ) → length s ≡ findingsRoom → answerText (checkAnswer kind ns ss source names (length s)) (checkSlice kind ns ss source names s) ≡ checkText kind ns ss source names
+  pub check-text : (s : List ℕ) → length s ≡ findingsRoom → answerText (checkAnswer (rule kind 0 ns ss source names) (length s)) (checkSlice (rule kind 0 ns ss source names) s) ≡ checkText kind ns ss source names
   unfolding checkAnswer checkSlice checkText
-  check-text s h = by-text (findingsOf kind ns ss source names) s h (inputRefusal kind ns ss source names)
+  check-text s h =
+      by-text (reported (rule kind 0 ns ss source names)) s h (inputRefusal kind ns ss source names)
+      ∙ ap (verdictText (inputRefusal kind ns ss source names)) (off kind ns ss source names)
 
-  pub check-counted : (len : ℕ) → Counted (checkAnswer kind ns ss source names len) len
+  pub check-counted : (len : ℕ) → Counted (checkAnswer (rule kind 0 ns ss source names) len) len
   unfolding checkAnswer
-  check-counted len = by-counted (inputRefusal kind ns ss source names) (findingsOf kind ns ss source names) len
+  check-counted len = by-counted (inputRefusal kind ns ss source names) (reported (rule kind 0 ns ss source names)) len
 
 -- the same of the slices as the code has them
-module _ (kind : ℕ) (s g : List ℕ) (r : Checked) (ns ss xs ms : List ℕ) (h : length s ≡ findingsRoom) (a : r ≡ checkAnswer kind ns ss xs ms (length s)) (b : g ≡ checkSlice kind ns ss xs ms s) where
+module _ (kind : ℕ) (s g : List ℕ) (r : Checked) (ns ss xs ms : List ℕ) (h : length s ≡ findingsRoom) (a : r ≡ checkAnswer (rule kind 0 ns ss xs ms) (length s)) (b : g ≡ checkSlice (rule kind 0 ns ss xs ms) s) where
   pub checked-counted : length g ≡ length s → Counted r (length g)
   checked-counted e = rw (e, a) (check-counted kind ns ss xs ms (length s))
 

@@ -11,6 +11,9 @@ use line_answers::TEXT_ROOM;
 use line_input::ENOUGH;
 use line_input::Input;
 
+// The option on async and generator bodies, which `rulecheck` has off.
+const ASYNC_BODIES_OFF: u32 = 0;
+
 // Writes the text of the tables, which stand at the front of each slice. Says where it ends.
 fn check_text(
     kind: u32,
@@ -30,6 +33,7 @@ fn check_text(
 {
     let answer = call_check::check(
         kind,
+        ASYNC_BODIES_OFF,
         line_print::front_numbers(nodes, n),
         line_print::front_numbers(scopes, s),
         line_print::front(source, b),

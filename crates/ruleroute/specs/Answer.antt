@@ -4,6 +4,7 @@ use Prim.Native.Nat.{ℕ}
 use mathlib.Core.List.{List, [], _∷_}
 use Rattle.route_viewer.specs.declared.Routed.{Routed}
 use Rattle.route_viewer.specs.declared.Routed.the-variants as routed
+use Rattle.check_dispatch.specs.Rule.{rule}
 use Rattle.call_routes.specs.Calls.{routeAnswer, routeSlice}
 use Rattle.line_input.specs.declared.Route.{Route}
 use Rattle.line_input.specs.declared.Route.the-variants.{Asked, Unasked}
@@ -28,14 +29,14 @@ answersRoom = 1024
 abbrev pub codeRoom : ℕ
 codeRoom = 16384
 
--- what was read, the answers among it, and the length of the slice for the route
+-- the option on async bodies is off; what was read, the answers among it, and the length of the slice for the route
 unfoldable pub routedBy : Route → Reading → List ℕ → ℕ → Routed
 routedBy (Unasked line) d given room = routed.Refused 0 line
-routedBy (Asked kind n s x m u a) d given room = routeAnswer kind (d .nodes) (d .scopes) (d .source) (d .names) u given codeRoom room
+routedBy (Asked kind n s x m u a) d given room = routeAnswer (rule kind 0 (d .nodes) (d .scopes) (d .source) (d .names)) u given codeRoom room
 
 unfoldable pub entriesBy : Route → Reading → List ℕ → List ℕ → List ℕ
 entriesBy (Unasked line) d given out = out
-entriesBy (Asked kind n s x m u a) d given out = routeSlice kind (d .nodes) (d .scopes) (d .source) (d .names) u given codeRoom out
+entriesBy (Asked kind n s x m u a) d given out = routeSlice (rule kind 0 (d .nodes) (d .scopes) (d .source) (d .names)) u given codeRoom out
 
 -- the answer for the bytes b, and what the slice for the route holds then
 unfoldable pub routedOf : List ℕ → ℕ → Routed

@@ -6,6 +6,7 @@ use native.Mathlib.Omega.{arith}
 use lib.ListN.{length, getD, take}
 use Rattle.route_viewer.specs.declared.Routed.{Routed}
 use Rattle.route_viewer.specs.declared.Routed.the-variants as routed
+use Rattle.check_dispatch.specs.Rule.{rule}
 use Rattle.call_routes.specs.Calls.{routeAnswer, routeSlice}
 use Rattle.line_fields.specs.Split.{linesOf}
 use Rattle.line_input.specs.declared.Input.{Input}
@@ -47,8 +48,8 @@ module _ (r : Routed) where
 
 -- the route call's answer for the fronts of the slices
 pub fronted : (kind u len k : ℕ) (ns ss xs ms gs ns′ ss′ xs′ ms′ gs′ out : List ℕ) (r : Routed) (f : List ℕ) → ns ≡ ns′ → ss ≡ ss′ → xs ≡ xs′ → ms ≡ ms′ → gs ≡ gs′ → len ≡ codeRoom
-    → r ≡ routeAnswer kind ns ss xs ms u gs len k → f ≡ routeSlice kind ns ss xs ms u gs len out
-    → (r ≡ routeAnswer kind ns′ ss′ xs′ ms′ u gs′ codeRoom k) × (f ≡ routeSlice kind ns′ ss′ xs′ ms′ u gs′ codeRoom out)
+    → r ≡ routeAnswer (rule kind 0 ns ss xs ms) u gs len k → f ≡ routeSlice (rule kind 0 ns ss xs ms) u gs len out
+    → (r ≡ routeAnswer (rule kind 0 ns′ ss′ xs′ ms′) u gs′ codeRoom k) × (f ≡ routeSlice (rule kind 0 ns′ ss′ xs′ ms′) u gs′ codeRoom out)
 fronted kind u len k ns ss xs ms gs ns′ ss′ xs′ ms′ gs′ out r f p q s t v w a b = (rw (sym p, sym q, sym s, sym t, sym v, sym w) a, rw (sym p, sym q, sym s, sym t, sym v, sym w) b)
 
 -- by what `read_route` answers, in slices of the programs' lengths
@@ -60,8 +61,8 @@ module _ (room : Room) (len : ℕ) (b : List ℕ) (q : room ≡ lent) (z : len �
   module _ (kind n s x m u a : ℕ) (h : r ≡ Asked kind n s x m u a) (n₀ s₀ x₀ m₀ a₀ ns ss xs ms gs : List ℕ)
       (g : Given (readInput room b) n₀ s₀ x₀ m₀ ns ss xs ms) (k : gs ≡ front (readRoute room len b .answers) a₀) where
     pub routed-asked : (out : List ℕ)
-        → (routeAnswer kind (take n ns) (take s ss) (take x xs) (take m ms) u (take a gs) codeRoom (length out) ≡ routedOf b (length out))
-        × (routeSlice kind (take n ns) (take s ss) (take x xs) (take m ms) u (take a gs) codeRoom out ≡ entriesOf b out)
+        → (routeAnswer (rule kind 0 (take n ns) (take s ss) (take x xs) (take m ms)) u (take a gs) codeRoom (length out) ≡ routedOf b (length out))
+        × (routeSlice (rule kind 0 (take n ns) (take s ss) (take x xs) (take m ms)) u (take a gs) codeRoom out ≡ entriesOf b out)
     unfolding routedOf entriesOf routedBy entriesBy
     routed-asked out =
         let d : Reading = readInput room b in

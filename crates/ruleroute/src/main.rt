@@ -5,6 +5,7 @@ ghost use mathlib.Core.List.{[], _∷_};
 ghost use lib.ListN.{length, take};
 ghost use Rattle.base_common.specs.Wrote.{put};
 ghost use Rattle.line_print.specs.Print.{lineOf};
+ghost use Rattle.check_dispatch.specs.Rule.{rule};
 ghost use Rattle.call_routes.specs.Calls.{routeAnswer, routeSlice};
 ghost use Rattle.ruleroute.specs.Answer.{entryLine, lastLine, answersRoom, codeRoom, routedOf, entriesOf};
 use libc::STDIN_FILENO;
@@ -14,6 +15,8 @@ use line_input::Route;
 use refusal_verdict::refusals;
 use route_viewer::Routed;
 
+// The option on async and generator bodies, which `ruleroute` has off.
+const ASYNC_BODIES_OFF: u32 = 0;
 // Room for a line.
 const LINE: usize = 256;
 // Room for the code, 16 numbers a node, and for the route.
@@ -69,10 +72,11 @@ fn routed(
     out: &mut [u32],
 ) -> Routed
     requires { ⌜ length (now code) ≡ codeRoom ⌝ }
-    ensures { λ r. ⌜ (r ≡ routeAnswer kind (take n (now (nodes .entry))) (take s (now (scopes .entry))) (take b (now (source .entry))) (take m (now (names .entry))) unit (take a (now (answers .entry))) codeRoom (length (now (out .entry)))) × (now (out .exit) ≡ routeSlice kind (take n (now (nodes .entry))) (take s (now (scopes .entry))) (take b (now (source .entry))) (take m (now (names .entry))) unit (take a (now (answers .entry))) codeRoom (now (out .entry))) ⌝ }
+    ensures { λ r. ⌜ (r ≡ routeAnswer (rule kind 0 (take n (now (nodes .entry))) (take s (now (scopes .entry))) (take b (now (source .entry))) (take m (now (names .entry)))) unit (take a (now (answers .entry))) codeRoom (length (now (out .entry)))) × (now (out .exit) ≡ routeSlice (rule kind 0 (take n (now (nodes .entry))) (take s (now (scopes .entry))) (take b (now (source .entry))) (take m (now (names .entry)))) unit (take a (now (answers .entry))) codeRoom (now (out .entry))) ⌝ }
 {
     call_routes::route(
         kind,
+        ASYNC_BODIES_OFF,
         line_print::front_numbers(nodes, n),
         line_print::front_numbers(scopes, s),
         line_print::front(source, b),

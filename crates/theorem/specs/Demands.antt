@@ -3,12 +3,19 @@
 use Prim.Native.Nat.{ℕ}
 use mathlib.Core.Path.{_≡_}
 use mathlib.Core.List.{List}
+use mathlib.Core.Bool.{false}
+use lib.Dec.{eqb}
 use Rattle.refusal_verdict.specs.declared.Verdict.the-variants.{Passed}
 use Rattle.refusal_input.specs.Input.{inputRefusal}
+use Rattle.check_dispatch.specs.Findings.{findingsOf}
+use Rattle.check_dispatch.specs.Rule.{Rule, rule}
+use Rattle.check_dispatch.specs.Reported.{reported}
+use Rattle.check_dispatch.specs.ReportedLaws as option
 use Rattle.refusal_state.specs.Targets.{stateAnswer}
 use Rattle.ecma_base.specs.Telling.{Telling}
 use Rattle.ecma_standard.specs.Standard.{Standard, standard262}
 use Rattle.ecma_standard.specs.Findings.{Broken, findings262}
+use Rattle.ecma_standard.specs.AsyncBodies.{OptionOn, optionOn}
 use Rattle.call_routes.specs.Theorem.{Routes, Targeted, routes, targeted}
 use Rattle.call_rows.specs.Rows.{rows, Each, Holds}
 use Rattle.call_rows.specs.RowsHold.{rows-hold}
@@ -35,12 +42,16 @@ pub record Demands : Type 2 where
   pub standard : (told : Telling) (t : ℕ) (ns ss source names : List ℕ) → inputRefusal t ns ss source names ≡ Passed → Standard told t ns ss source names
   -- .. and by the changed rule of DIFFERENCES.md, of all well-formed tables.
   pub changed : (t : ℕ) (ns ss source names : List ℕ) → inputRefusal t ns ss source names ≡ Passed → Broken t ns ss source names
+  -- With the option on async and generator bodies off, the findings are the Rust's, of all tables; with it on, 34 is added and nothing else, and 15, 16 and 34 keep the standard's rules
+  -- without a condition on what an if or a label holds (document 02, request 8).
+  pub off : (t : ℕ) (ns ss source names : List ℕ) → reported (rule t 0 ns ss source names) ≡ findingsOf t ns ss source names
+  pub on : (told : Telling) (r : Rule) → inputRefusal (r .sourceType) (r .nodes) (r .scopes) (r .source) (r .names) ≡ Passed → eqb (r .asyncBodies) 0 ≡ false → OptionOn told r
   -- 3. "For every well-formed tree without findings, whose breaks and continues all have the target that ECMA-262 asks for inside their own unit": those without findings have it.
-  pub targets : (t : ℕ) (ns ss source names : List ℕ) (u : ℕ) → inputRefusal t ns ss source names ≡ Passed → stateAnswer t ns ss source names u ≡ Passed → Targeted ns names
+  pub targets : (t asyncBodies : ℕ) (ns ss source names : List ℕ) (u : ℕ) → inputRefusal t ns ss source names ≡ Passed → stateAnswer (rule t asyncBodies ns ss source names) u ≡ Passed → Targeted ns names
   -- "every unit of it without `try` and every list of answers, empty, too short or too long included: the flat jump code .. lists the same statements in the same order, takes the same
   -- answers and no more, and ends with the same number as a run of that unit on those answers by the standard's completion rules .. no part, the first and the last included, has a
   -- statement twice."
-  pub routes : (t : ℕ) (ns ss source names : List ℕ) (u : ℕ) → inputRefusal t ns ss source names ≡ Passed → stateAnswer t ns ss source names u ≡ Passed
+  pub routes : (t asyncBodies : ℕ) (ns ss source names : List ℕ) (u : ℕ) → inputRefusal t ns ss source names ≡ Passed → stateAnswer (rule t asyncBodies ns ss source names) u ≡ Passed
       → (answers : List ℕ) → Routes ns names u answers
   -- Document 01's rows, of the calls.
   pub rowsHold : Each Holds rows
@@ -53,7 +64,9 @@ demands = record {
   machine = run-proved.met;
   standard = standard262;
   changed = findings262;
-  targets = λ t ns ss source names u f p. targeted t ns ss source names u f p;
-  routes = λ t ns ss source names u f p. routes t ns ss source names u f p;
+  off = option.off;
+  on = optionOn;
+  targets = λ t asyncBodies ns ss source names u f p. targeted t asyncBodies ns ss source names u f p;
+  routes = λ t asyncBodies ns ss source names u f p. routes t asyncBodies ns ss source names u f p;
   rowsHold = rows-hold;
 }

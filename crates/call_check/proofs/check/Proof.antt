@@ -1,5 +1,6 @@
 use Rattle.call_check.specs.Check.{reportAnswer, reportSlice, answerBy, sliceBy, checkAnswer, checkSlice}
-use Rattle.check_dispatch.specs.Findings.{findingsOf}
+use Rattle.check_dispatch.specs.Rule.{rule}
+use Rattle.check_dispatch.specs.Reported.{reported}
 use Rattle.refusal_input.specs.InputLaws.{input-well-formed}
 use Rattle.refusal_verdict.specs.declared.Verdict.{Verdict}
 use lib.ListN.{length}
@@ -25,7 +26,7 @@ report-requires c κs = let a = c .before .before .before .before .before .befor
 returns : tie.Need-returns
 unfolding checkAnswer checkSlice
 returns c = let a = c .before .before .before .before .before .before .before .before .before .args in
-    let f = findingsOf (a .source-type) (a .nodes .now) (a .scopes .now) (a .source .now) (a .names .now) in
+    let f = reported (rule (a .source-type) (a .async-bodies) (a .nodes .now) (a .scopes .now) (a .source .now) (a .names .now)) in
     let e = sym (c .before .before .before .refusal .ensures) ∙ c .before .verdict .given .1 in
     (sym (ap (λ (v : Verdict). answerBy v (reportAnswer f (length (a .findings .now)))) e), sym (ap (λ (v : Verdict). sliceBy v (a .findings .now) (reportSlice f (a .findings .now))) e))
 
@@ -35,7 +36,7 @@ same-length c = search needs
 returns-2 : tie.Need-returns-2
 unfolding checkAnswer checkSlice
 returns-2 c = let a = c .before .before .before .before .before .before .before .before .before .before .before .before .args in
-    let f = findingsOf (a .source-type) (a .nodes .now) (a .scopes .now) (a .source .now) (a .names .now) in
+    let f = reported (rule (a .source-type) (a .async-bodies) (a .nodes .now) (a .scopes .now) (a .source .now) (a .names .now)) in
     let e = sym (c .before .before .before .before .before .before .refusal .ensures) ∙ c .before .before .before .before .enum-told .given .1 in
     (c .before .before .report .ensures .0 ∙ sym (ap (λ (v : Verdict). answerBy v (reportAnswer f (length (a .findings .now)))) e), c .before .before .report .ensures .1 ∙ sym (ap (λ (v : Verdict). sliceBy v (a .findings .now) (reportSlice f (a .findings .now))) e))
 

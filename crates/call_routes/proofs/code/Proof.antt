@@ -33,8 +33,8 @@ code-unit-requires c κs = let a = c .before .before .before .before .before .be
     let u = a .unit in
     let k = a .code .now in
     let e = sym (c .before .before .before .refusal .ensures) ∙ c .before .enum-told .given .1 in
-    let r = room t ns ss sr nm u (length k) e in
-    (ready t ns ss sr nm u (length k) e, omega (arith, r))
+    let r = room t (a .async-bodies) ns ss sr nm u (length k) e in
+    (ready t (a .async-bodies) ns ss sr nm u (length k) e, omega (arith, r))
 
 returns : tie.Need-returns
 unfolding codeAnswer codeSlice

@@ -1,5 +1,6 @@
 use Rattle.refusal_input.specs.InputLaws.{input-well-formed}
 use Rattle.call_routes.specs.Calls.{roomRefusal}
+use Rattle.check_dispatch.specs.Rule.{rule}
 use Rattle.refusal_state.specs.Targets.{refusedOr, stateAnswer}
 use Rattle.refusal_verdict.specs.declared.Verdict.{Verdict}
 use mathlib.Core.Path.{ap, sym, _∙_}
@@ -34,7 +35,7 @@ returns c = let a = c .before .before .before .before .before .before .before .a
     let ss = a .scopes .now in
     let sr = a .source .now in
     let nm = a .names .now in
-    c .enum-told .given .1 ∙ ap (λ (v : Verdict). refusedOr v (refusedOr (stateAnswer t ns ss sr nm (a .unit)) (roomRefusal ns (a .len)))) (sym (c .enum-told .given .1) ∙ c .before .before .refusal .ensures)
+    c .enum-told .given .1 ∙ ap (λ (v : Verdict). refusedOr v (refusedOr (stateAnswer (rule t (a .async-bodies) ns ss sr nm) (a .unit)) (roomRefusal ns (a .len)))) (sym (c .enum-told .given .1) ∙ c .before .before .refusal .ensures)
 
 returns-2 : tie.Need-returns-2
 unfolding codeRefusal
@@ -44,7 +45,7 @@ returns-2 c = let a = c .before .before .before .before .before .before .before 
     let ss = a .scopes .now in
     let sr = a .source .now in
     let nm = a .names .now in
-    c .later-refusal .ensures ∙ ap (λ (v : Verdict). refusedOr v (refusedOr (stateAnswer t ns ss sr nm (a .unit)) (roomRefusal ns (a .len)))) (sym (c .before .enum-told2 .given .1) ∙ c .before .before .before .refusal .ensures)
+    c .later-refusal .ensures ∙ ap (λ (v : Verdict). refusedOr v (refusedOr (stateAnswer (rule t (a .async-bodies) ns ss sr nm) (a .unit)) (roomRefusal ns (a .len)))) (sym (c .before .enum-told2 .given .1) ∙ c .before .before .before .refusal .ensures)
 
 pub refusal-spec : {M : Type 1} → statement M
 refusal-spec =

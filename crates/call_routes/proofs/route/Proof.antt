@@ -35,8 +35,8 @@ made-requires c κs = let a = c .before .before .before .before .before .before 
     let u = a .unit in
     let k = a .code .now in
     let e = sym (c .before .before .before .before .refusal .ensures) ∙ c .before .before .enum-told .given .1 in
-    let r = room t ns ss sr nm u (length k) e in
-    (ready t ns ss sr nm u (length k) e, omega (arith, r))
+    let r = room t (a .async-bodies) ns ss sr nm u (length k) e in
+    (ready t (a .async-bodies) ns ss sr nm u (length k) e, omega (arith, r))
 
 returns : tie.Need-returns
 unfolding routeAnswer codeSlice routeSlice

@@ -1,4 +1,5 @@
-use Rattle.check_dispatch.specs.Findings.{findingsAt, findingsOf}
+use Rattle.check_dispatch.specs.Rule.{rule}
+use Rattle.check_dispatch.specs.Reported.{reportedAt, reported}
 use Rattle.check_diagnostics.specs.RaisesLaws.{raises-then}
 use Rattle.check_diagnostics.specs.Gather.{flat-turn, flat-end, piece-place, piece-sink}
 use Rattle.check_duplicates.specs.Duplicates.{duplicateElements}
@@ -18,10 +19,10 @@ use Rattle.check_dispatch.proofs.check_tree.Statement.{statement}
 use Rattle.check_dispatch.proofs.check_tree.Tie as tie
 
 abbrev Inv-loop : tie.InvT-loop
-Inv-loop source-type nodes scopes source names findings₀ at₀ i₀ findings at i = (i ≤ count nodes) × (length findings ≡ length findings₀) × (at ≤ at₀ + 458780 * i) × (at + 7 * length (flatMap (findingsAt source-type nodes scopes source names) (upto i (count nodes))) ≡ at₀ + 7 * length (flatMap (findingsAt source-type nodes scopes source names) (upto 0 (count nodes)))) × (sink findings at (flatMap (findingsAt source-type nodes scopes source names) (upto i (count nodes))) ≡ sink findings₀ at₀ (flatMap (findingsAt source-type nodes scopes source names) (upto 0 (count nodes))))
+Inv-loop source-type async-bodies nodes scopes source names findings₀ at₀ i₀ findings at i = (i ≤ count nodes) × (length findings ≡ length findings₀) × (at ≤ at₀ + 458794 * i) × (at + 7 * length (flatMap (reportedAt (rule source-type async-bodies nodes scopes source names)) (upto i (count nodes))) ≡ at₀ + 7 * length (flatMap (reportedAt (rule source-type async-bodies nodes scopes source names)) (upto 0 (count nodes)))) × (sink findings at (flatMap (reportedAt (rule source-type async-bodies nodes scopes source names)) (upto i (count nodes))) ≡ sink findings₀ at₀ (flatMap (reportedAt (rule source-type async-bodies nodes scopes source names)) (upto 0 (count nodes))))
 
 abbrev μ-loop : tie.MeasureT-loop
-μ-loop source-type nodes scopes source names findings₀ at₀ i₀ findings at i = count nodes - i
+μ-loop source-type async-bodies nodes scopes source names findings₀ at₀ i₀ findings at i = count nodes - i
 
 check-duplicate-class-elements-requires :
     tie.Need-check-duplicate-class-elements-requires Inv-loop μ-loop
@@ -33,8 +34,8 @@ loop-holds c = (omega arith, search needs, omega arith, search needs, search nee
 is-node-requires : tie.Need-is-node-requires Inv-loop μ-loop
 is-node-requires c κs = search needs
 
-check-node-requires : tie.Need-check-node-requires Inv-loop μ-loop
-check-node-requires c κs = let h = ltb-true (c .before .before .before .loop .i) (count (c .before .before .before .before .before .before .before .before .before .before .before .before .before .args .nodes .now)) (sym (c .before .before .is-node .ensures) ∙ c .before .if1 .taken) in
+check-node-and-bodies-requires : tie.Need-check-node-and-bodies-requires Inv-loop μ-loop
+check-node-and-bodies-requires c κs = let h = ltb-true (c .before .before .before .loop .i) (count (c .before .before .before .before .before .before .before .before .before .before .before .before .before .args .nodes .now)) (sym (c .before .before .is-node .ensures) ∙ c .before .if1 .taken) in
     let z = c .before .before .before .before .before .before .before .before .before .before .before .before .before .pre .0 .tree .small in
     (c .before .before .before .before .before .before .before .before .before .before .before .before .before .pre .0, (c .before .before .before .before .before .before .before .before .before .before .before .before .before .pre .1, (h, omega (arith, c .before .before .before .loop .inv .2, c .before .before .before .before .before .before .check-duplicate-class-elements .ensures .1 .1))))
 
@@ -49,19 +50,19 @@ loop-less c = let h = ltb-true (c .before .before .before .before .before .befor
 loop-again : tie.Need-loop-again Inv-loop μ-loop
 loop-again c = let a = c .before .before .before .before .before .before .before .before .before .before .before .before .before .before .before .before .args in
     let h = ltb-true (c .before .before .before .before .before .before .loop .i) (count (a .nodes .now)) (sym (c .before .before .before .before .before .is-node .ensures) ∙ c .before .before .before .before .if1 .taken) in
-    let f = findingsAt (a .source-type) (a .nodes .now) (a .scopes .now) (a .source .now) (a .names .now) in
+    let f = reportedAt (rule (a .source-type) (a .async-bodies) (a .nodes .now) (a .scopes .now) (a .source .now) (a .names .now)) in
     let e = flat-turn f (c .before .before .before .before .before .before .loop .i) (count (a .nodes .now)) h in
-    let r = c .before .before .check-node .ensures .0 in
-    (omega arith, search needs, omega (arith, c .before .before .before .before .before .before .loop .inv .2, c .before .before .check-node .ensures .1), piece-place (c .before .before .before .before .before .before .loop .findings) (c .before .before .before .before .before .before .loop .findings) (c .before .before .before .before .before .before .loop .at) _ _ (f (c .before .before .before .before .before .before .loop .i)) _ e (r .place) ∙ c .before .before .before .before .before .before .loop .inv .3, piece-sink (c .before .before .before .before .before .before .loop .findings) _ (c .before .before .before .before .before .before .loop .at) _ _ (f (c .before .before .before .before .before .before .loop .i)) _ e (r .place) (r .slice) ∙ c .before .before .before .before .before .before .loop .inv .4)
+    let r = c .before .before .check-node-and-bodies .ensures .0 in
+    (omega arith, search needs, omega (arith, c .before .before .before .before .before .before .loop .inv .2, c .before .before .check-node-and-bodies .ensures .1), piece-place (c .before .before .before .before .before .before .loop .findings) (c .before .before .before .before .before .before .loop .findings) (c .before .before .before .before .before .before .loop .at) _ _ (f (c .before .before .before .before .before .before .loop .i)) _ e (r .place) ∙ c .before .before .before .before .before .before .loop .inv .3, piece-sink (c .before .before .before .before .before .before .loop .findings) _ (c .before .before .before .before .before .before .loop .at) _ _ (f (c .before .before .before .before .before .before .loop .i)) _ e (r .place) (r .slice) ∙ c .before .before .before .before .before .before .loop .inv .4)
 
 same-length : tie.Need-same-length Inv-loop μ-loop
 same-length c = search needs
 
 returns : tie.Need-returns Inv-loop μ-loop
-unfolding findingsOf
+unfolding reported
 returns c = let a = c .before .before .before .before .before .before .before .before .before .before .before .before .args in
     let h = ltb-false (c .before .before .loop .i) (count (a .nodes .now)) (sym (c .before .is-node .ensures) ∙ c .if1 .left) in
-    let f = findingsAt (a .source-type) (a .nodes .now) (a .scopes .now) (a .source .now) (a .names .now) in
+    let f = reportedAt (rule (a .source-type) (a .async-bodies) (a .nodes .now) (a .scopes .now) (a .source .now) (a .names .now)) in
     let z = flat-end f (c .before .before .loop .i) (count (a .nodes .now)) h in
     let d = c .before .before .before .before .before .check-duplicate-class-elements .ensures in
     raises-then _ _ _ _ _ _ (duplicateElements (a .nodes .now) (a .names .now)) (flatMap f (upto 0 (count (a .nodes .now)))) (record { place = d .0; slice = d .1 .0 }) (record { place = omega (arith, c .before .before .loop .inv .3, ap (λ (l : List Finding). length l) z); slice = sym (sink-nil (c .before .before .loop .findings) (c .before .before .loop .at)) ∙ ap (λ (l : List Finding). sink (c .before .before .loop .findings) (c .before .before .loop .at) l) (sym z) ∙ c .before .before .loop .inv .4 })
@@ -75,7 +76,7 @@ check-tree-spec =
     check-duplicate-class-elements-requires
     loop-holds
     is-node-requires
-    check-node-requires
+    check-node-and-bodies-requires
     add-i
     loop-less
     loop-again

@@ -10,10 +10,10 @@ use Rattle.refusal_fields.proofs.unlisted.Statement.{statement}
 use Rattle.refusal_fields.proofs.unlisted.Tie as tie
 
 abbrev Inv-loop : tie.InvT-loop
-Inv-loop nodes size i₀ i = (i ≤ size) × (first (unlistedAt nodes) i (count nodes) ≡ first (unlistedAt nodes) 0 (count nodes))
+Inv-loop source-type nodes size i₀ i = (i ≤ size) × (first (unlistedAt source-type nodes) i (count nodes) ≡ first (unlistedAt source-type nodes) 0 (count nodes))
 
 abbrev μ-loop : tie.MeasureT-loop
-μ-loop nodes size i₀ i = size - i
+μ-loop source-type nodes size i₀ i = size - i
 
 size-requires : tie.Need-size-requires Inv-loop μ-loop
 size-requires c κs = search needs
@@ -26,7 +26,7 @@ unlisted-at-requires c κs = search needs
 
 returns : tie.Need-returns Inv-loop μ-loop
 returns c =
-    cc (first-stop (unlistedAt (c .before .before .before .before .before .before .args .nodes .now)) (c .before .before .before .loop .i) (count (c .before .before .before .before .before .before .args .nodes .now)) (omega arith) (sym (c .before .unlisted-at .ensures) ∙ c .if1 .taken))
+    cc (first-stop (unlistedAt (c .before .before .before .before .before .before .args .source-type) (c .before .before .before .before .before .before .args .nodes .now)) (c .before .before .before .loop .i) (count (c .before .before .before .before .before .before .args .nodes .now)) (omega arith) (sym (c .before .unlisted-at .ensures) ∙ c .if1 .taken))
 
 add-i : tie.Need-add-i Inv-loop μ-loop
 add-i c = search needs
@@ -36,11 +36,11 @@ loop-less c = search needs
 
 loop-again : tie.Need-loop-again Inv-loop μ-loop
 loop-again c =
-    (search needs, cc (first-on (unlistedAt (c .before .before .before .before .before .before .args .nodes .now)) (c .before .before .before .loop .i) (count (c .before .before .before .before .before .before .args .nodes .now)) (omega arith) (sym (c .before .unlisted-at .ensures) ∙ c .if1 .left)))
+    (search needs, cc (first-on (unlistedAt (c .before .before .before .before .before .before .args .source-type) (c .before .before .before .before .before .before .args .nodes .now)) (c .before .before .before .loop .i) (count (c .before .before .before .before .before .before .args .nodes .now)) (omega arith) (sym (c .before .unlisted-at .ensures) ∙ c .if1 .left)))
 
 returns-2 : tie.Need-returns-2 Inv-loop μ-loop
 returns-2 c =
-    cc (first-end (unlistedAt (c .before .before .before .before .args .nodes .now)) (c .before .loop .i) (count (c .before .before .before .before .args .nodes .now)) (omega arith))
+    cc (first-end (unlistedAt (c .before .before .before .before .args .source-type) (c .before .before .before .before .args .nodes .now)) (c .before .loop .i) (count (c .before .before .before .before .args .nodes .now)) (omega arith))
 
 pub unlisted-spec : {M : Type 1} → statement M
 unlisted-spec =

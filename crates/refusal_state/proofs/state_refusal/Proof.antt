@@ -1,4 +1,5 @@
 use Rattle.refusal_state.specs.Targets.{statePlace, refusedOr, stateAnswer}
+use Rattle.check_dispatch.specs.Rule.{rule}
 use Rattle.refusal_verdict.specs.declared.Place.{Place}
 use Rattle.refusal_verdict.specs.Refusals as refusal
 use Rattle.refusal_verdict.specs.Verdict.{orNext}
@@ -30,17 +31,17 @@ enum-told-3 c = search needs
 returns : tie.Need-returns
 unfolding stateAnswer
 returns c = let a = c .before .before .before .before .before .before .before .args in
-    c .enum-told .given .1 ∙ ap (λ (v : Verdict). refusedOr v (orNext refusal.Findings (statePlace (a .source-type) (a .nodes .now) (a .scopes .now) (a .source .now) (a .names .now)) Passed)) (sym (c .enum-told .given .1) ∙ c .before .before .unit-refusal .ensures)
+    c .enum-told .given .1 ∙ ap (λ (v : Verdict). refusedOr v (orNext refusal.Findings (statePlace (rule (a .source-type) (a .async-bodies) (a .nodes .now) (a .scopes .now) (a .source .now) (a .names .now))) Passed)) (sym (c .enum-told .given .1) ∙ c .before .before .unit-refusal .ensures)
 
 returns-2 : tie.Need-returns-2
 unfolding stateAnswer
 returns-2 c = let a = c .before .before .before .before .before .before .before .before .before .before .before .args in
-    sym (ap (λ (v : Verdict). refusedOr v (orNext refusal.Findings (statePlace (a .source-type) (a .nodes .now) (a .scopes .now) (a .source .now) (a .names .now)) Passed)) (sym (c .before .before .before .before .before .before .unit-refusal .ensures) ∙ c .before .before .before .before .enum-told2 .given .1) ∙ ap (λ (q : Place). orNext refusal.Findings q Passed) (sym (c .before .before .before .state-place .ensures) ∙ c .before .n .given .1))
+    sym (ap (λ (v : Verdict). refusedOr v (orNext refusal.Findings (statePlace (rule (a .source-type) (a .async-bodies) (a .nodes .now) (a .scopes .now) (a .source .now) (a .names .now))) Passed)) (sym (c .before .before .before .before .before .before .unit-refusal .ensures) ∙ c .before .before .before .before .enum-told2 .given .1) ∙ ap (λ (q : Place). orNext refusal.Findings q Passed) (sym (c .before .before .before .state-place .ensures) ∙ c .before .n .given .1))
 
 returns-3 : tie.Need-returns-3
 unfolding stateAnswer
 returns-3 c = let a = c .before .before .before .before .before .before .before .before .before .before .args in
-    sym (ap (λ (v : Verdict). refusedOr v (orNext refusal.Findings (statePlace (a .source-type) (a .nodes .now) (a .scopes .now) (a .source .now) (a .names .now)) Passed)) (sym (c .before .before .before .before .before .unit-refusal .ensures) ∙ c .before .before .before .enum-told2 .given .1) ∙ ap (λ (q : Place). orNext refusal.Findings q Passed) (sym (c .before .before .state-place .ensures) ∙ c .enum-told3 .given .1))
+    sym (ap (λ (v : Verdict). refusedOr v (orNext refusal.Findings (statePlace (rule (a .source-type) (a .async-bodies) (a .nodes .now) (a .scopes .now) (a .source .now) (a .names .now))) Passed)) (sym (c .before .before .before .before .before .unit-refusal .ensures) ∙ c .before .before .before .enum-told2 .given .1) ∙ ap (λ (q : Place). orNext refusal.Findings q Passed) (sym (c .before .before .state-place .ensures) ∙ c .enum-told3 .given .1))
 
 pub state-refusal-spec : {M : Type 1} → statement M
 state-refusal-spec = tie.close (tie.spec unit-refusal-requires enum-told enum-told-2 state-place-requires enum-known-n enum-told-3 returns returns-2 returns-3)

@@ -25,8 +25,8 @@ answer-text-requires c κs =
     let a = c .before .before .before .before .before .before .before .before .before .before .before .before .before .before .before .before .args in
     let k = c .before .before .before .before .check .ensures in
     let p = c .before .before .before .before .before .before .before .before .before .before .before .before .before .before .before .before .pre in
-    let e = c .before .before .before .before .check .kept .1 .1 .1 .1 .1 .0 in
-    (checked-counted (a .kind) (a .findings .now) (c .before .before .before .before .check .last .1 .1 .1 .1 .1 .0) (c .before .before .before .before .check .result) (c .before .before .before .before .before .before .before .before .before .front-numbers .result .now) (c .before .before .before .before .before .before .before .before .front-numbers2 .result .now) (c .before .before .before .before .before .before .before .front .result .now) (c .before .before .before .before .before .before .front2 .result .now) (p .0) (k .0) (k .1) e, (omega arith, omega arith))
+    let e = c .before .before .before .before .check .kept .1 .1 .1 .1 .1 .1 .0 in
+    (checked-counted (a .kind) (a .findings .now) (c .before .before .before .before .check .last .1 .1 .1 .1 .1 .1 .0) (c .before .before .before .before .check .result) (c .before .before .before .before .before .before .before .before .before .front-numbers .result .now) (c .before .before .before .before .before .before .before .before .front-numbers2 .result .now) (c .before .before .before .before .before .before .before .front .result .now) (c .before .before .before .before .before .before .front2 .result .now) (p .0) (k .0) (k .1) e, (omega arith, omega arith))
 
 same-length : tie.Need-same-length
 same-length c = search needs
@@ -39,7 +39,7 @@ returns c =
     let a = c .before .before .before .before .before .before .before .before .before .before .before .before .before .before .before .before .before .before .before .args in
     let k = c .before .before .before .before .before .before .before .check .ensures in
     let t =
-    checked-text (a .kind) (a .findings .now) (c .before .before .before .before .before .before .before .check .last .1 .1 .1 .1 .1 .0) (c .before .before .before .before .before .before .before .check .result) (c .before .before .before .before .before .before .before .before .before .before .before .before .front-numbers .result .now) (c .before .before .before .before .before .before .before .before .before .before .before .front-numbers2 .result .now) (c .before .before .before .before .before .before .before .before .before .before .front .result .now) (c .before .before .before .before .before .before .before .before .before .front2 .result .now) (c .before .before .before .before .before .before .before .before .before .before .before .before .before .before .before .before .before .before .before .pre .0) (k .0) (k .1)
+    checked-text (a .kind) (a .findings .now) (c .before .before .before .before .before .before .before .check .last .1 .1 .1 .1 .1 .1 .0) (c .before .before .before .before .before .before .before .check .result) (c .before .before .before .before .before .before .before .before .before .before .before .before .front-numbers .result .now) (c .before .before .before .before .before .before .before .before .before .before .before .front-numbers2 .result .now) (c .before .before .before .before .before .before .before .before .before .before .front .result .now) (c .before .before .before .before .before .before .before .before .before .front2 .result .now) (c .before .before .before .before .before .before .before .before .before .before .before .before .before .before .before .before .before .before .before .pre .0) (k .0) (k .1)
     _ _ _ _ (c .before .before .before .before .before .before .before .before .before .before .before .before .front-numbers .ensures) (c .before .before .before .before .before .before .before .before .before .before .before .front-numbers2 .ensures) (c .before .before .before .before .before .before .before .before .before .before .front .ensures) (c .before .before .before .before .before .before .before .before .before .front2 .ensures) in
     front-put (a .out .now) _ _ _ _ t (c .before .before .answer-text .ensures)
 
