@@ -20,8 +20,14 @@ function onPath(nodes, a, i) {
   }
 }
 
+// the sum of the flags that any kind may have
+const MOST_FLAGS = 8190;
+
+// the flag that its kind alone may have, where it is set
+const ownFlag = (n) => (n.kind === K.Function && Math.floor(n.flags / F.asyncOrGenerator) % 2 === 1 ? F.asyncOrGenerator : 0);
+
 function wrongFields(tree) {
-  return firstNode(tree, (n) => n.kind > 55 || n.role > 7 || (n.flags & (n.kind === K.Function ? ~F.asyncOrGenerator : ~0)) > 8190 || n.flags % 2 !== 0 || n.extra > (MOST_EXTRA[n.kind] || 0));
+  return firstNode(tree, (n) => n.kind > 55 || n.role > 7 || n.flags - ownFlag(n) > MOST_FLAGS || n.flags % 2 !== 0 || n.extra > (MOST_EXTRA[n.kind] || 0));
 }
 
 function wrongTree(tree) {
