@@ -101,7 +101,14 @@ fn walks(t: &OwnedTables, divided: u32) {
 }
 
 fn rule(t: &OwnedTables) -> Rule<'_> {
-    Rule { source_type: t.source_type, nodes: &t.nodes, scopes: &t.scopes, source: &t.source, names: &t.names }
+    Rule {
+        source_type: t.source_type,
+        async_bodies: false,
+        nodes: &t.nodes,
+        scopes: &t.scopes,
+        source: &t.source,
+        names: &t.names,
+    }
 }
 
 fn check(t: &OwnedTables, slice: &mut [u32]) {
