@@ -13,7 +13,7 @@ bindings() { (cd bindings/rust && cargo "$@"); }
 
 check "the workspace in rustfmt's layout" cargo fmt --all --check
 check "bindings/rust in rustfmt's layout" bindings fmt --check
-check "no warning of clippy in the workspace" cargo clippy --workspace --all-targets --features cases/proved --offline -q -- -D warnings
+check "no warning of clippy in the workspace" cargo clippy --workspace --all-targets --features cases/proved,bench/walk --offline -q -- -D warnings
 check "no warning of clippy without the proved library" cargo clippy --all-targets --offline -q -- -D warnings
 check "no warning of clippy in bindings/rust" bindings clippy --all-targets --offline -q -- -D warnings
 rm -rf "$empty"

@@ -27,6 +27,18 @@ unsafe extern "C" {
         walks: u32,
         divided: u32,
     ) -> u32;
+
+    fn bench_refusal(
+        source_type: u32,
+        nodes: *const u32,
+        nodes_length: usize,
+        scopes: *const u32,
+        scopes_length: usize,
+        source: *const u8,
+        source_length: usize,
+        names: *const u8,
+        names_length: usize,
+    ) -> u32;
 }
 
 const DEPTH: u32 = 512;
@@ -38,10 +50,16 @@ const WALKS: u32 = 20_000;
 const BATCHES: usize = 15;
 
 fn main() {
+    let once = match std::env::args().nth(1).as_deref() {
+        None => false,
+        Some("--once") => true,
+        Some(other) => panic!("{other}: --once or nothing"),
+    };
+    let batches = if once { 1 } else { BATCHES };
     let tables = chain();
     // They take turns.
     let [mut plain, mut divided] = [f64::INFINITY; 2];
-    for _ in 0..BATCHES {
+    for _ in 0..batches {
         plain = plain.min(timed(|| walks(&tables, 0)));
         divided = divided.min(timed(|| walks(&tables, 1)));
     }
@@ -55,7 +73,7 @@ fn main() {
         let nodes = tables.nodes.len() / 10;
         let mut slice = vec![0; 16 * nodes];
         let [mut checked, mut coded] = [f64::INFINITY; 2];
-        for _ in 0..BATCHES {
+        for _ in 0..batches {
             checked = checked.min(timed(|| check(&tables, &mut slice)));
             coded = coded.min(timed(|| code(&tables, &mut slice)));
         }
@@ -76,7 +94,27 @@ fn chain() -> OwnedTables {
         tables.nodes.extend([kind, n.saturating_sub(1), role, 0, 0, 0, 0, 0, 0, 0]);
     }
     assert!(plain::input_refusal(&tables.lend()).is_none(), "well-formed tables");
+    assert_eq!(refusal(&tables), 0, "the archive of the benchmark takes them too");
     tables
+}
+
+/// What the archive of the benchmark says of the tables.
+fn refusal(t: &OwnedTables) -> u32 {
+    let (nodes, scopes, source, names) = (&t.nodes, &t.scopes, &t.source, &t.names);
+    // SAFETY: each pointer and length is a slice's; the call only reads.
+    unsafe {
+        bench_refusal(
+            t.source_type,
+            nodes.as_ptr(),
+            nodes.len(),
+            scopes.as_ptr(),
+            scopes.len(),
+            source.as_ptr(),
+            source.len(),
+            names.as_ptr(),
+            names.len(),
+        )
+    }
 }
 
 fn walks(t: &OwnedTables, divided: u32) {

@@ -94,3 +94,20 @@ pub extern "C" fn bench_walks(
         Verdict::Passed => walks_from_last(nodes, walks, divided),
     }
 }
+
+// Whether the tables are turned down: the refusal's number, or 0. It is a caller of the refusals beside bench_walks, so that the
+// compiler makes one function of them, as in the library, and the walks alone are timed.
+#[no_mangle]
+pub extern "C" fn bench_refusal(
+    source_type: u32,
+    nodes: &[u32],
+    scopes: &[u32],
+    source: &[u8],
+    names: &[u8],
+) -> u32 {
+    let verdict = refusal_input::refusal(source_type, nodes, scopes, source, names);
+    match verdict {
+        Verdict::Refused(number, _) => number,
+        Verdict::Passed => 0,
+    }
+}
