@@ -167,12 +167,15 @@ const methods = {
     return { start: i, end: i + m[0].length };
   },
 
-  // the name of a type parameter stands behind its modifiers
-  typeParameterName(n) {
+  // the name of a type parameter, which stands behind its modifiers
+  typeParameter(n) {
     let at = this.written(n.start);
     for (const word of ['in', 'out']) if (n[word]) at = this.written(this.skip(at.end));
-    return at;
+    this.add(K.BindingIdentifier, R.other, at.start, at.end, { name: n.name });
   },
+
+  // the key of a type's member names nothing that a check looks for
+  memberKey(n) { this.key(n.key, n.computed, false, true); },
 };
 
 const typeMakers = {
@@ -250,16 +253,6 @@ const typeMakers = {
 for (const kind of ['TSFunctionType', 'TSConstructorType', 'TSCallSignatureDeclaration', 'TSConstructSignatureDeclaration']) {
   typeMakers[kind] = function signature(n, role) { this.other(role, n, () => this.scoped(0, () => this.signature(n, n.start))); };
 }
-
-Object.assign(methods, {
-  typeParameter(n) {
-    const { start, end } = this.typeParameterName(n);
-    this.add(K.BindingIdentifier, R.other, start, end, { name: n.name });
-  },
-
-  // the key of a type's member names nothing that a check looks for
-  memberKey(n) { this.key(n.key, n.computed, false, true); },
-});
 
 const isThis = (p) => Boolean(p) && p.type === 'Identifier' && p.name === 'this';
 const isLink = (n) => /^Optional(Member|Call)Expression$/.test(n.type) || (n.type === 'TSNonNullExpression' && isLink(n.expression));
