@@ -101,6 +101,13 @@ check "status 1: findings" status 1 ./check-rule rules/block-label.js
 check "status 1: findings in one of several" status 1 ./check-rule rules
 check "status 1: a name declared twice, which document 01 leaves out" text_status 1 .js 'let a; let a;'
 check "status 1: no assignment target" text_status 1 .mjs '1 = 2;'
+check "status 2: no such file" status 2 ./check-rule rules/none.js
+check "status 2: an ending that doesn't tell what it is" text_status 2 .JS 'a;'
+check "status 2: no UTF-8" text_status 2 .js '\xff'
+check "status 2: outside the grammar" text_status 2 .js 'if ('
+check "status 2: the output's disk is full" status 2 to_full_disk
+check "status 2: the output is closed" status 2 to_closed
+check "a text for each code, and for each sentence on TypeScript" tools/examples
 check "status 0: TypeScript without findings" text_status 0 .ts 'class A<T> { m(): void; m(x?: T) {} }'
 check "status 1: a name twice in TypeScript" text_status 1 .mts 'class A { a = 1; a = 2; }'
 check "status 1: \`with\` in TypeScript" text_status 1 .ts 'with (a) b;'
@@ -126,13 +133,7 @@ check "no tree: a name that no line can hold" turned_down 'class A { "a\\nb" = 1
 check "no tree: a regular expression as a name" turned_down 'class A { [/a/] = 1 }' 'a regular expression as the name'
 check "no tree: parameter decorators" turned_down 'class A { m(@b a) {} }' 'Decorators cannot be used to decorate parameters'
 check "status 2: declarations alone" text_status 2 .d.ts 'export const a: number;'
-check "status 2: no such file" status 2 ./check-rule rules/none.js
-check "status 2: an ending that doesn't tell what it is" text_status 2 .JS 'a;'
-check "status 2: no UTF-8" text_status 2 .js '\xff'
-check "status 2: outside the grammar" text_status 2 .js 'if ('
-check "status 2: the output's disk is full" status 2 to_full_disk
-check "status 2: the output is closed" status 2 to_closed
-check "a text for each code, and for each sentence on TypeScript" tools/examples
+check "JavaScript read as TypeScript, and with types written into it" tools/typescript 200 3
 check "damaged trees: the tree maker's words are rulecheck's refusals" tools/shapes 600 3
 table() {
     local lines

@@ -2,11 +2,10 @@
 
 use std::fmt;
 
-use plain::tables::{ACCESSOR_PROPERTY, IDENTIFIER_REFERENCE, KEY, METHOD_DEFINITION, NO_FIXED_NAME, WITH};
 use plain::{Refusal, Route, Tables};
 
 use crate::Sort;
-use crate::second::Clash;
+use crate::clashes::Clash;
 
 /// One more than the highest number of a refusal.
 const NUMBERS: usize = 15;
@@ -84,6 +83,7 @@ impl Counts {
         if !t.is_typescript() {
             return;
         }
+        use plain::tables::{ACCESSOR_PROPERTY, IDENTIFIER_REFERENCE, KEY, METHOD_DEFINITION, NO_FIXED_NAME, WITH};
         let seen = &mut self.typescript;
         let count = |fits: &dyn Fn(&Clash) -> bool| clashes.iter().filter(|&clash| fits(clash)).count() as u64;
         seen.public_clashes += count(&|clash| !clash.0);

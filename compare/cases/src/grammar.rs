@@ -609,26 +609,6 @@ impl Grammar<'_> {
         }
     }
 
-    /// An element with nothing in it, of a TypeScript module: many in one class, with few names.
-    fn bare_element(&mut self) {
-        let private = if self.rng.once_in(2) { 4 } else { 0 };
-        let is_static = if self.rng.once_in(2) { 2 } else { 0 };
-        let unfixed = if self.rng.once_in(10) { NO_FIXED_NAME } else { 0 };
-        let (kind, extra) = self.rng.pick(&[(28, 1), (28, 2), (28, 2), (28, 3), (28, 3), (29, 0), (30, 0), (28, 0)]);
-        self.open(kind, 0, private + is_static + unfixed, extra, "");
-        self.typescript_key(private != 0);
-        if kind == 28 {
-            self.open(1, 1, 1024, 0, "");
-            let outer = self.enter_scope(4);
-            if !self.rng.once_in(8) {
-                self.leaf(4, 3, 0, 0, "");
-            }
-            self.scope = outer;
-            self.close();
-        }
-        self.close();
-    }
-
     /// The kind of a key with a name: a name as written, or the IdentifierReference of a computed key (`[a]`).
     fn name_or_reference(&mut self) -> u32 {
         if self.rng.once_in(6) { 32 } else { 55 }
@@ -669,6 +649,26 @@ impl Grammar<'_> {
             55
         };
         self.leaf(kind, 2, 0, 0, name);
+    }
+
+    /// An element with nothing in it, of a TypeScript module: many in one class, with few names.
+    fn bare_element(&mut self) {
+        let private = if self.rng.once_in(2) { 4 } else { 0 };
+        let is_static = if self.rng.once_in(2) { 2 } else { 0 };
+        let unfixed = if self.rng.once_in(10) { NO_FIXED_NAME } else { 0 };
+        let (kind, extra) = self.rng.pick(&[(28, 1), (28, 2), (28, 2), (28, 3), (28, 3), (29, 0), (30, 0), (28, 0)]);
+        self.open(kind, 0, private + is_static + unfixed, extra, "");
+        self.typescript_key(private != 0);
+        if kind == 28 {
+            self.open(1, 1, 1024, 0, "");
+            let outer = self.enter_scope(4);
+            if !self.rng.once_in(8) {
+                self.leaf(4, 3, 0, 0, "");
+            }
+            self.scope = outer;
+            self.close();
+        }
+        self.close();
     }
 
     fn export(&mut self, role: u32) {

@@ -6,6 +6,7 @@
 //!     compare stored FILE           the codes and routes of the file, as the plain version and the library give them now
 //!     compare store FILE TREES SEED    write such a file, by the proved library alone
 
+mod clashes;
 mod counts;
 #[cfg(feature = "proved")]
 mod proved;
@@ -156,8 +157,8 @@ fn compare(t: &Tables, sort: Sort, rng: &mut Rng, counts: &mut Counts) -> Result
         };
         same("findings, plain and the crate's text", &plain, &verdict)?;
         if let Verdict::Findings(found) = &verdict {
+            class_elements(t, found, counts)?;
             counts.findings(sort, found);
-            clashes(t, found, counts)?;
         } else {
             counts.stuck += 1;
         }
@@ -172,13 +173,13 @@ fn compare(t: &Tables, sort: Sort, rng: &mut Rng, counts: &mut Counts) -> Result
 }
 
 /// The findings at two class elements, which alone have code 1 or 35 at node 0.
-fn clashes(t: &Tables, found: &[[u32; 7]], counts: &mut Counts) -> Result<(), String> {
+fn class_elements(t: &Tables, found: &[[u32; 7]], counts: &mut Counts) -> Result<(), String> {
     if t.node_count() >= 2000 {
         return Ok(());
     }
-    let second = second::clashes(t);
-    counts.typescript(t, &second, found);
-    let second: Vec<[u32; 7]> = second.into_iter().map(|clash| clash.1).collect();
+    let clashes = clashes::of(t);
+    counts.typescript(t, &clashes, found);
+    let second: Vec<[u32; 7]> = clashes.into_iter().map(|clash| clash.1).collect();
     let found: Vec<[u32; 7]> = found.iter().copied().filter(|f| f[1] == 0 && matches!(f[0], 1 | 35)).collect();
     same("clashes of class elements, plain and second reading", &found, &second)
 }

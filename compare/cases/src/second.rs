@@ -1,8 +1,7 @@
-//! A second reading of documents 01 and 02: the refusals of the input but for Super's walks and routes, of which the
-//! crate's text says nothing, and the clashes of class elements, where its keys are a stand-in's. Written another way
-//! round than `plain`, to find slips: each rule is a test of one node by lists that are made anew each time, shape is
-//! two tables (Blocks, a CatchClause and a Function are counted by kind and role, where `plain` counts by role), and a
-//! route goes from statement to statement without a stack.
+//! A second reading of documents 01 and 02 where the crate's text says nothing: the refusals of the input but for
+//! Super's walks, and routes. Written another way round than `plain`, to find slips: each rule is a test of one node by lists that are
+//! made anew each time, shape is two tables (Blocks, a CatchClause and a Function are counted by kind and role, where
+//! `plain` counts by role), and a route goes from statement to statement without a stack.
 
 use plain::Tables;
 
@@ -153,50 +152,6 @@ fn counted(t: &Tables, n: usize) -> bool {
     let one_default = kind != 14 || count(&is_default) < 2;
     let some_way_out = kind != 16 || count(&|c| field(c, 2) == 4 || field(c, 2) == 5) > 0;
     counted && one_default && some_way_out
-}
-
-/// A finding at two class elements of one name, and whether the name is private.
-pub type Clash = (bool, [u32; 7]);
-
-/// The clashes of each class's elements. For each element the one before it that it is held against, by lists that are
-/// made anew each time: of one name and one privacy the last; but a private setter first looks for setters, and a
-/// private element of another sort for such as are no setters.
-pub fn clashes(t: &Tables) -> Vec<Clash> {
-    let bodies = (0..t.node_count()).filter(|&n| t.kind(n) == 27);
-    let clash_of = |e: usize| {
-        let (private, is_static) = (t.flags(e) & 4 != 0, t.flags(e) & 2 != 0);
-        let before: Vec<usize> = (t.parent(e)..e)
-            .filter(|&d| t.parent(d) == t.parent(e) && named(t, d).is_some() && named(t, d) == named(t, e))
-            .filter(|&d| (t.flags(d) & 4 != 0) == private)
-            .collect();
-        let alike = before.iter().rfind(|&&d| !private || (sort(t, d) == 3) == (sort(t, e) == 3));
-        let d = *alike.or(before.last())?;
-        let one_static = (t.flags(d) & 2 != 0) != is_static;
-        let pair = [sort(t, d), sort(t, e)];
-        let clash = match (pair == [2, 3] || pair == [3, 2], private) {
-            (true, private) => private && one_static,
-            (false, private) => private || !one_static,
-        };
-        let code = if private && one_static && t.source_type == 2 { 35 } else { 1 };
-        let [d, e] = [d, e].map(|n| t.span(held(t, n, 2).expect("a key")));
-        clash.then_some((private, [code, 0, d.0, d.1, e.0, e.1, 0]))
-    };
-    bodies.flat_map(|body| t.children(body).filter_map(clash_of).collect::<Vec<_>>()).collect()
-}
-
-/// The name under which an element is held against others, if it is.
-fn named<'a>(t: &Tables<'a>, e: usize) -> Option<&'a [u8]> {
-    let key = held(t, e, 2).filter(|_| (28..=30).contains(&t.kind(e)))?;
-    let bodiless = || t.children(held(t, e, 1).expect("a Function")).all(|c| t.kind(c) != 4);
-    let typescript = t.source_type == 2;
-    let fixed = if typescript { t.flags(e) & 16384 == 0 } else { t.kind(key) != 32 && t.name_length(key) > 0 };
-    let entered = fixed && (typescript || t.flags(e) & 4 != 0);
-    (entered && !(t.kind(e) == 28 && (t.extra(e) == 0 || bodiless()))).then(|| t.name(key))
-}
-
-/// 2 a getter, 3 a setter, else something else.
-fn sort(t: &Tables, e: usize) -> u32 {
-    if t.kind(e) == 28 { t.extra(e) } else { 0 }
 }
 
 /// Where a run is: before a statement, at the answer of one, behind one.
