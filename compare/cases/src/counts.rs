@@ -2,7 +2,7 @@
 
 use std::fmt;
 
-use plain::{Refusal, Route, Tables};
+use plain::{Refusal, Route};
 
 use crate::Sort;
 use crate::clashes::Clash;
@@ -79,7 +79,7 @@ impl Counts {
     }
 
     /// The clashes of a well-formed rule, and what else only a TypeScript module has.
-    pub fn typescript(&mut self, t: &Tables, clashes: &[Clash], found: &[[u32; 7]]) {
+    pub fn typescript(&mut self, t: &plain::Tables, clashes: &[Clash], found: &[[u32; 7]]) {
         if !t.is_typescript() {
             return;
         }
