@@ -178,8 +178,8 @@ function parse(text, { module = false, jsx = false, typescript = false } = {}) {
       file = babel.parse(source, options({ module, jsx, typescript }));
       errors = file.errors;
     } catch (e) {
-      if (!(e instanceof SyntaxError) && !(e instanceof RangeError)) throw e;
-      errors = [e];
+      // the parser itself fails on few texts (`await using a: new <T>(b: T) => C = d` is one): they have no tree either
+      errors = [e instanceof SyntaxError || e instanceof RangeError ? e : new SyntaxError(`the parser fails on this text: ${e.message}`)];
     }
     const wrong = file ? errors.filter((e) => sortOf(e, file.program, source) === 'grammar') : errors;
     if (wrong.length === 0 && misplacedMark(file.program, marks)) {
