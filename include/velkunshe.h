@@ -1,7 +1,8 @@
 /* Velkunshe: early errors of JavaScript rules, and the routes through them. Link libexports.a (`rt staticlib exports`), x86-64 Linux.
  *
  * A rule comes as two tables and two texts:
- *   source_type  0 script, 1 module
+ *   source_type  0 script, 1 module, 2 TypeScript module without ambient code: class elements of any name are compared, a static and an
+ *                instance private element of one name give 35, `with` gives 17 everywhere; flag 16384 marks an element without a fixed name
  *   async_bodies 0 is off, any other number on: an async function or a generator (flag 8192) as body of an If or a label in
  *                sloppy code is found too, as code 34; with 0 the findings are the Rust's, which leaves it to its parser
  *   nodes        ten numbers a node: kind, parent, role, span start, span end, scope, flags, extra, name start, name length

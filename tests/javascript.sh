@@ -53,6 +53,27 @@ check "an escape in a string, marked" says 'rules/old-escape.js:2:14  a legacy o
   write 0o17 for a number, \\x0f for an escape
 1 finding in 1 file' ./check-rule --no-engine rules/old-escape.js
 
+# of TypeScript V8 is not asked, and a rule is never called clean
+unasked='V8 was not asked, since it compiles no TypeScript: only the proved checks looked at this rule'
+check "a TypeScript rule: a name twice, private and not" says "rules/door-log.ts:3:3  a static and an instance element have one private name  [35]
+  3 |   #last: string = \"\";
+    |   ^^^^^
+  4 |   static #last: number = 0;
+    |          ~~~~~
+  give one of the two another name
+rules/door-log.ts:5:3  this name is declared twice in the class or object  [1]
+  5 |   count: number = 0;
+    |   ^^^^^
+  6 |   count(): number { return 1; }
+    |   ~~~~~
+  give one of the two another name
+rules/door-log.ts  $unasked
+2 findings in 1 file" ./check-rule rules/door-log.ts
+check "a TypeScript rule without findings, in words" says "rules/guests.mts  $unasked
+no findings in 1 file" ./check-rule rules/guests.mts
+check "a TypeScript rule without findings, for programs" says \
+    "{\"file\":\"rules/guests.mts\",\"verdict\":\"no findings\",\"unasked\":\"$unasked\"}" ./check-rule --json rules/guests.mts
+
 # status WANTED COMMAND..: the status of a command, whatever it prints
 status() {
     local want=$1 got
@@ -86,7 +107,33 @@ check "status 2: no UTF-8" text_status 2 .js '\xff'
 check "status 2: outside the grammar" text_status 2 .js 'if ('
 check "status 2: the output's disk is full" status 2 to_full_disk
 check "status 2: the output is closed" status 2 to_closed
-check "a text for each code" tools/examples
+check "a text for each code, and for each sentence on TypeScript" tools/examples
+check "status 0: TypeScript without findings" text_status 0 .ts 'class A<T> { m(): void; m(x?: T) {} }'
+check "status 1: a name twice in TypeScript" text_status 1 .mts 'class A { a = 1; a = 2; }'
+check "status 1: \`with\` in TypeScript" text_status 1 .ts 'with (a) b;'
+check "status 0: no TypeScript, no finding" text_status 0 .mjs 'class A { a = 1; a = 2; }'
+check "status 2: types in a script" text_status 2 .js 'let a: number;'
+# what is turned down in TypeScript, with how the sentence begins
+turned_down() {
+    local text=$1 why=$2 rule got
+    rule=$(mktemp --suffix=.ts)
+    printf '%b' "$text" >"$rule"
+    got=$(./check-rule "$rule") && { echo "a verdict on $text"; rm -f "$rule"; return 1; }
+    rm -f "$rule"
+    grep -qF "no verdict: no tree: $why" <<<"$got" || { echo "$got"; return 1; }
+}
+check "no tree: declare before a statement" turned_down 'declare const a: number;' '`declare` is ambient code'
+check "no tree: declare before an export's statement" turned_down 'export declare function f(): void;' '`declare` is ambient code'
+check "no tree: declare before a field" turned_down 'class A { declare a; }' '`declare` is ambient code'
+check "no tree: declare module" turned_down 'declare module "m" {}' '`declare` is ambient code'
+check "no tree: a namespace" turned_down 'namespace N {}' 'a namespace or module declaration is not taken'
+check "no tree: import =" turned_down 'import a = require("m");' '`import .. =` is not taken'
+check "no tree: export =" turned_down 'export = a;' '`export =` is not taken'
+check "no tree: a name that no line can hold" turned_down 'class A { "a\\nb" = 1; "" = 2 }' 'the name of this class element has a line feed'
+check "no tree: a regular expression as a name" turned_down 'class A { [/a/] = 1 }' 'a regular expression as the name'
+check "no tree: parameter decorators" turned_down 'class A { m(@b a) {} }' 'Decorators cannot be used to decorate parameters'
+check "status 2: declarations alone" text_status 2 .d.ts 'export const a: number;'
+check "JavaScript read as TypeScript, and with types written into it" tools/typescript 200 3
 check "damaged trees: the tree maker's words are rulecheck's refusals" tools/shapes 600 3
 table() {
     local lines
@@ -124,6 +171,12 @@ check "the question that waits" says 'route of the program with answers 1, 5
 it stopped for want of an answer after 3 entries and 2 answers; line 1 asks next: while(t)' ./show-route rules/while-switch.js 'y 5'
 check "the units of a rule" says '0  program  line 1, column 1
 3  function opens  line 3, column 1' ./show-route rules/office-hours.js --units
+check "the route of a TypeScript function" says 'route of the function at line 3 with answers 1, 0, 1
+1  line 4  for (const host of guest.hosts)  1: another turn
+2  line 5  if (here.has(host!))             0: no
+3  line 4  for (const host of guest.hosts)  1: another turn
+it stopped for want of an answer after 3 entries and 3 answers; line 5 asks next: if (here.has(host!))
+V8 was not asked, since it compiles no TypeScript' ./show-route rules/guests.mts 1,0,1 --unit welcome
 check "a page is not written over a rule" status 2 ./show-route rules/office-hours.js '' -o rules/office-hours.js
 check "no route of a rule that the engine refuses" text_status_of 2 .js 'let a; let a;' ./show-route ''
 

@@ -18,7 +18,7 @@ const R = Object.fromEntries(ROLES.map((name, i) => [name, i]));
 
 const F = {
   static: 2, privateKey: 4, written: 8, forAwait: 16, declaration: 32, heritage: 64, method: 128,
-  initialiser: 256, plainName: 512, simpleParameters: 1024, delete: 2048, default: 4096, asyncOrGenerator: 8192,
+  initialiser: 256, plainName: 512, simpleParameters: 1024, delete: 2048, default: 4096, asyncOrGenerator: 8192, noFixedName: 16384,
 };
 
 // scope flags

@@ -1,5 +1,5 @@
 'use strict';
-// Reads JavaScript with Debian's @babel/parser. A text that breaks only early errors still has a tree;
+// Reads JavaScript and TypeScript with Debian's @babel/parser. A text that breaks only early errors still has a tree;
 // a text outside the grammar has none. Which of the parser's errors are of which sort is listed here.
 
 const { spawnSync } = require('child_process');
@@ -104,9 +104,9 @@ function misplacedMark(ast, marks) {
 
 let babel = null;
 
-function options(module, jsx) {
+function options({ module, jsx, typescript }) {
   return {
-    sourceType: module ? 'module' : 'script',
+    sourceType: module || typescript ? 'module' : 'script',
     errorRecovery: true,
     createParenthesizedExpressions: true,
     attachComment: false,
@@ -114,7 +114,7 @@ function options(module, jsx) {
       'explicitResourceManagement',
       ['decorators', { decoratorsBeforeExport: false, allowCallParenthesized: true }],
       'decoratorAutoAccessors', 'regexpUnicodeSets', 'importAssertions',
-    ].concat(jsx ? ['jsx'] : []),
+    ].concat(jsx ? ['jsx'] : [], typescript ? ['typescript'] : []),
   };
 }
 
@@ -167,7 +167,7 @@ function repair(text, error, marks) {
 const NAME = ' \u03bd ';
 
 // A text's tree, with the parser's errors that matter; or why there is none.
-function parse(text, { module = false, jsx = false } = {}) {
+function parse(text, { module = false, jsx = false, typescript = false } = {}) {
   if (!babel) babel = load();
   const marks = { forAwait: new Set(), awaitUsing: new Map(), nameless: null };
   let source = text;
@@ -175,11 +175,11 @@ function parse(text, { module = false, jsx = false } = {}) {
     let file = null;
     let errors;
     try {
-      file = babel.parse(source, options(module, jsx));
+      file = babel.parse(source, options({ module, jsx, typescript }));
       errors = file.errors;
     } catch (e) {
-      if (!(e instanceof SyntaxError) && !(e instanceof RangeError)) throw e;
-      errors = [e];
+      // the parser itself fails on few texts (`await using a: new <T>(b: T) => C = d` is one): they have no tree either
+      errors = [e instanceof SyntaxError || e instanceof RangeError ? e : new SyntaxError(`the parser fails on this text: ${e.message}`)];
     }
     const wrong = file ? errors.filter((e) => sortOf(e, file.program, source) === 'grammar') : errors;
     if (wrong.length === 0 && misplacedMark(file.program, marks)) {

@@ -19,7 +19,7 @@ const CODES = {
   14: ['`await using` stands in a static block', 'write `using`, or move it out of the static block'],
   15: ['a function is declared where strict code takes only a statement', 'put braces around it'],
   16: ['a function is declared where only a statement may stand', 'put braces around it'],
-  17: ['`with` stands in strict code', 'name the object in front of each property'],
+  17: ['`with` stands in strict code or in TypeScript', 'name the object in front of each property'],
   18: ['`break` stands outside of a loop or switch', 'take it out, or put the code into a loop'],
   19: ['there is no such label around this jump', 'mend the label, or put it on a statement around'],
   20: ['this jump would leave a function or static block', 'return a value and jump outside'],

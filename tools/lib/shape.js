@@ -23,11 +23,17 @@ function onPath(nodes, a, i) {
 // the sum of the flags that any kind may have
 const MOST_FLAGS = 8190;
 
-// the flag that its kind alone may have, where it is set
-const ownFlag = (n) => (n.kind === K.Function && Math.floor(n.flags / F.asyncOrGenerator) % 2 === 1 ? F.asyncOrGenerator : 0);
+const TYPESCRIPT = 2;
+const isElement = (n) => n.kind >= K.MethodDefinition && n.kind <= K.AccessorProperty;
+
+// the flag that its kind alone may have, in type 2 class elements too, where it is set
+function ownFlag(n, type) {
+  const own = n.kind === K.Function ? F.asyncOrGenerator : type === TYPESCRIPT && isElement(n) ? F.noFixedName : 0;
+  return own > 0 && Math.floor(n.flags / own) % 2 === 1 ? own : 0;
+}
 
 function wrongFields(tree) {
-  return firstNode(tree, (n) => n.kind > 55 || n.role > 7 || n.flags - ownFlag(n) > MOST_FLAGS || n.flags % 2 !== 0 || n.extra > (MOST_EXTRA[n.kind] || 0));
+  return firstNode(tree, (n) => n.kind > 55 || n.role > 7 || n.flags - ownFlag(n, tree.type) > MOST_FLAGS || n.flags % 2 !== 0 || n.extra > (MOST_EXTRA[n.kind] || 0));
 }
 
 function wrongTree(tree) {
@@ -66,7 +72,7 @@ const onlyUnder = (n, p) => {
   if (n.kind === K.CatchClause && !(p.kind === K.Try && n.role === R.alternate)) return 'a CatchClause stands under a Try with role 4';
   if (n.kind === K.FunctionBody && p.kind !== K.Function && p.kind !== K.Arrow) return 'a FunctionBody stands under a Function or an Arrow';
   if (n.kind === K.ClassBody && p.kind !== K.Class) return 'a ClassBody stands under a Class';
-  const element = n.kind === K.StaticBlock || (n.kind >= K.MethodDefinition && n.kind <= K.AccessorProperty);
+  const element = n.kind === K.StaticBlock || isElement(n);
   return element && p.kind !== K.ClassBody ? `a ${KINDS[n.kind]} stands under a ClassBody` : null;
 };
 

@@ -3,6 +3,7 @@
 // them; a node's scope is the one current when the Rust leaves, and so checks, the node.
 
 const { K, R, F, S, DECLARES, METHODS, PROPERTIES } = require('./kinds.js');
+const { NoTree, methods, isThis, isLink } = require('./typescript.js');
 
 // UTF-8, with a lone surrogate in three bytes (WTF-8)
 function bytesOf(text) {
@@ -16,8 +17,10 @@ function bytesOf(text) {
   return Buffer.from(out);
 }
 
-// A line can't hold a name with a line's end in it. No check looks for such a name, so it is left out.
-function nameBytes(name) { return bytesOf(/[\n\r]/.test(name) ? '' : name); }
+// A line can't hold a name with a line's end in it. No check looks for such a name, so it is left out; but where class
+// elements are compared (TypeScript) there is no tree then.
+const fitsLine = (name) => !/[\n\r]/.test(name);
+function nameBytes(name) { return bytesOf(fitsLine(name) ? name : ''); }
 
 // from an index of the text to a byte offset
 function offsetsOf(text) {
@@ -48,12 +51,13 @@ function baseOf(raw, value) {
 const BLANK = /(?:\s+|\/\/[^\n\r\u2028\u2029]*|\/\*[^]*?\*\/|<!--[^\n\r\u2028\u2029]*)*/y;
 
 class Maker {
-  constructor(text, parsed, module) {
+  constructor(text, parsed, { module, typescript }) {
     this.text = text;
     this.byte = offsetsOf(text);
     this.marks = parsed.marks;
     this.unmark = parsed.unmark;
     this.module = module;
+    this.typescript = typescript;
     this.nodes = [];
     this.scopes = [];
     this.parent = 0;
@@ -75,9 +79,9 @@ class Maker {
     return this.nodes.length - 1;
   }
 
-  // a node of the parser's, and what is in it
-  node(kind, role, n, more, inside) {
-    const i = this.add(kind, role, n.start, n.end, more);
+  // a node of the parser's, and what is in it; its end where it has a type behind it, which is a node of its own
+  node(kind, role, n, { end = n.end, ...more } = {}, inside = null) {
+    const i = this.add(kind, role, n.start, end, more);
     if (!this.made.has(n)) this.made.set(n, i);
     if (inside) this.within(i, inside);
     return i;
@@ -130,7 +134,8 @@ class Maker {
 
   statement(n, role) {
     const make = this[n.type];
-    if (!make) throw new Error(`no statement: ${n.type}`);
+    if (!make) this.refuseStatement(n);
+    this.refuseAmbient(n);
     make.call(this, n, role);
   }
 
@@ -250,7 +255,12 @@ class Maker {
 
   CatchClause(n) {
     this.node(K.CatchClause, R.alternate, n, {}, () => this.scoped(0, () => {
-      if (n.param) this.other(R.other, n.param, () => this.binding(n.param, R.other));
+      if (n.param) {
+        this.other(R.other, n.param, () => {
+          this.binding(n.param, R.other);
+          this.types([n.param.typeAnnotation]);
+        });
+      }
       this.statement(n.body, R.body);
     }));
   }
@@ -269,6 +279,7 @@ class Maker {
         const flags = (d.init ? F.initialiser : 0) | (d.id.type === 'Identifier' ? F.plainName : 0);
         this.node(K.VariableDeclarator, R.other, d, { flags }, () => {
           this.binding(d.id, R.other);
+          this.types([d.id.typeAnnotation]);
           if (d.init) this.expression(d.init, R.value);
         });
       }
@@ -294,7 +305,7 @@ class Maker {
   ExportDefaultDeclaration(n, role) {
     const d = n.declaration;
     this.node(K.ExportDefault, role, n, {}, () => {
-      if (d.type === 'FunctionDeclaration' || d.type === 'ClassDeclaration') this.statement(d, R.other);
+      if (/^(Function|Class|TSInterface)Declaration$|^TSDeclareFunction$/.test(d.type)) this.statement(d, R.other);
       else this.expression(d, R.other);
     });
   }
@@ -345,11 +356,12 @@ class Maker {
     const all = flags | (simple(n.params) ? F.simpleParameters : 0) | (n.id ? F.plainName : 0) | (n.async || n.generator ? F.asyncOrGenerator : 0);
     const i = this.add(K.Function, role, start, n.end, { flags: all });
     this.made.set(n, i);
-    this.made.set(n.body, i);
-    this.within(i, () => this.scoped(S.function | (hasUseStrict(n.body.directives) ? S.strict : 0), () => {
+    if (n.body) this.made.set(n.body, i);
+    this.within(i, () => this.scoped(S.function | (n.body && hasUseStrict(n.body.directives) ? S.strict : 0), () => {
       if (n.id && n.type !== 'ObjectMethod') this.binding(n.id, R.other);
-      this.parameters(n, n.id ? n.id.end : start);
-      this.functionBody(n.body);
+      this.heading(n, n.id ? n.id.end : start);
+      // TypeScript has functions without one: overloads and abstract methods
+      if (n.body) this.functionBody(n.body);
     }));
   }
 
@@ -357,7 +369,7 @@ class Maker {
     const strict = n.body.type === 'BlockStatement' && hasUseStrict(n.body.directives) ? S.strict : 0;
     this.node(K.Arrow, role, n, { flags: simple(n.params) ? F.simpleParameters : 0 }, () => {
       this.scoped(S.function | S.arrow | strict, () => {
-        this.parameters(n, n.start);
+        this.heading(n, n.start);
         if (n.body.type === 'BlockStatement') { this.functionBody(n.body); return; }
         this.node(K.FunctionBody, R.body, n.body, {}, () => {
           this.node(K.Statement, R.body, n.body, {}, () => this.expression(n.body, R.other));
@@ -368,17 +380,26 @@ class Maker {
 
   functionBody(n) { this.node(K.FunctionBody, R.body, n, {}, () => this.body(n)); }
 
+  // the parameters, with TypeScript's parts around them
+  heading(n, from) {
+    this.types([n.typeParameters]);
+    this.thisParameter(n.params);
+    this.parameters(n, n.typeParameters ? n.typeParameters.end : from);
+    this.types([n.returnType]);
+  }
+
   // the list with its brackets, searched from a place after which only words and comments come
   parameters(n, from) {
     const [start, end] = this.brackets(n, from);
     const i = this.add(K.Other, R.other, start, end);
-    this.within(i, () => { for (const p of n.params) this.parameter(p); });
+    this.within(i, () => { for (const p of n.params) if (!isThis(p)) this.parameter(p); });
   }
 
   brackets(n, from) {
     const first = n.params[0];
     let open = from;
-    const stop = first ? first.start : n.body.start;
+    const behind = n.returnType || n.body;
+    const stop = first ? first.start : behind ? behind.start : n.end;
     while (open < stop && this.skip(open) < stop && this.char(this.skip(open)) !== '(') open = this.skip(open) + 1;
     open = this.skip(open);
     if (open >= stop) return [first.start, first.end];
@@ -398,14 +419,20 @@ class Maker {
   }
 
   parameter(p) {
-    const n = unwrapped(p);
+    const whole = unwrapped(p);
+    // a parameter that is a field too is one with its modifiers
+    const n = whole.type === 'TSParameterProperty' ? whole.parameter : whole;
     if (n.type === 'RestElement') {
-      this.node(K.FormalParameterRest, R.other, n, {}, () => this.binding(n, R.other));
+      this.node(K.FormalParameterRest, R.other, n, {}, () => {
+        this.binding(n, R.other);
+        this.types([n.typeAnnotation]);
+      });
       return;
     }
     const has = n.type === 'AssignmentPattern';
-    this.node(K.FormalParameter, R.other, n, { flags: has ? F.initialiser : 0 }, () => {
+    this.node(K.FormalParameter, R.other, whole, { flags: has ? F.initialiser : 0 }, () => {
       this.binding(has ? n.left : n, R.other);
+      this.types([(has ? n.left : n).typeAnnotation]);
       if (has) this.expression(n.right, R.value);
     });
   }
@@ -422,7 +449,9 @@ class Maker {
       this.scoped(S.strict, (scope) => {
         this.nodes[i].extra = scope;
         if (id) this.binding(id, R.other);
+        this.types([n.typeParameters]);
         if (n.superClass) this.expression(n.superClass, R.other);
+        this.types([n.superTypeParameters, ...(n.implements || [])]);
         this.node(K.ClassBody, R.body, n.body, {}, () => { for (const e of n.body.body) this.element(e); });
       });
     });
@@ -439,9 +468,11 @@ class Maker {
       });
       return;
     }
+    if (e.type === 'TSIndexSignature') { this.type(e, R.other); return; }
+    this.refuseAmbient(e);
     const hidden = e.key.type === 'PrivateName';
-    const flags = (e.static ? F.static : 0) | (hidden ? F.privateKey : 0);
-    if (e.type === 'ClassMethod' || e.type === 'ClassPrivateMethod') {
+    const flags = (e.static ? F.static : 0) | (hidden ? F.privateKey : 0) | this.unfixed(e);
+    if (/^(Class|ClassPrivate|TSDeclare)Method$/.test(e.type)) {
       this.node(K.MethodDefinition, R.other, e, { flags, extra: METHODS.indexOf(e.kind) }, () => {
         this.decorators(e);
         this.key(e.key, e.computed, true);
@@ -453,14 +484,25 @@ class Maker {
     this.node(kind, R.other, e, { flags: flags | (e.value ? F.initialiser : 0) }, () => {
       this.decorators(e);
       this.key(e.key, e.computed, true);
+      this.types([e.typeAnnotation]);
       if (e.value) this.expression(e.value, R.value);
     });
+  }
+
+  // In TypeScript elements are compared by their names: the flag of one that has no fixed name.
+  unfixed(e) {
+    if (!this.typescript || e.key.type === 'PrivateName') return 0;
+    if (e.key.type === 'RegExpLiteral') throw new NoTree('a regular expression as the name of a class element is not taken', e.key);
+    const name = literalName(e.key, e.computed);
+    if (name !== null && !fitsLine(name)) throw new NoTree('the name of this class element has a line feed or carriage return in it, which no line of a table can hold', e.key);
+    return name === null ? F.noFixedName : 0;
   }
 
   // a method's function begins at its parameters
   method(e) {
     let open = this.skip(e.key.end);
-    if (this.char(open) === ']') open = this.skip(open + 1);
+    // behind a key come its bracket and, in TypeScript, the mark of an optional method
+    for (const c of [']', '?']) if (this.char(open) === c) open = this.skip(open + 1);
     this.func({ ...e, id: null }, R.value, 0, open);
   }
 
@@ -486,10 +528,10 @@ class Maker {
     const n = unwrapped(p);
     switch (n.type) {
       case 'Identifier':
-        this.node(K.BindingIdentifier, role, n, { name: n.name });
+        this.node(K.BindingIdentifier, role, n, { name: n.name, end: this.identifierEnd(n) });
         return;
       case 'ObjectPattern':
-        this.other(role, n, () => {
+        this.node(K.Other, role, n, { end: this.patternEnd(n) }, () => {
           for (const q of n.properties) {
             if (q.type === 'RestElement') { this.binding(q, R.other); continue; }
             this.other(R.other, q, () => {
@@ -500,7 +542,7 @@ class Maker {
         });
         return;
       case 'ArrayPattern':
-        this.other(role, n, () => { for (const e of n.elements) if (e) this.binding(e, R.other); });
+        this.node(K.Other, role, n, { end: this.patternEnd(n) }, () => { for (const e of n.elements) if (e) this.binding(e, R.other); });
         return;
       case 'AssignmentPattern':
         this.other(role, n, () => {
@@ -509,7 +551,7 @@ class Maker {
         });
         return;
       case 'RestElement':
-        this.node(K.BindingRestElement, role, n, {}, () => this.binding(n.argument, R.other));
+        this.node(K.BindingRestElement, role, n, { end: n.typeAnnotation ? n.argument.end : n.end }, () => this.binding(n.argument, R.other));
         return;
       default:
         this.expression(n, role);
@@ -540,6 +582,12 @@ class Maker {
       case 'RestElement':
         this.other(role, n, () => this.target(n.argument, R.other));
         return;
+      case 'TSAsExpression':
+      case 'TSSatisfiesExpression':
+      case 'TSTypeAssertion':
+      case 'TSNonNullExpression':
+        this.ofType(n, role, (e) => this.target(e, R.value));
+        return;
       default:
         this.expression(n, role);
     }
@@ -564,7 +612,7 @@ class Maker {
 
   expression(n, role) {
     const make = this[n.type];
-    if (!make) throw new Error(`no expression: ${n.type}`);
+    if (!make) throw new NoTree(`${n.type} is not taken`, n);
     make.call(this, n, role);
   }
 
@@ -590,6 +638,7 @@ class Maker {
   TaggedTemplateExpression(n, role) {
     this.other(role, n, () => {
       this.expression(n.tag, R.other);
+      this.types([n.typeParameters]);
       this.expression(n.quasi, R.other);
     });
   }
@@ -676,6 +725,7 @@ class Maker {
     const imports = n.callee.type === 'Import';
     this.node(imports ? K.Other : K.Call, role, n, {}, () => {
       if (!imports) this.expression(n.callee, R.other);
+      this.types([n.typeParameters]);
       for (const a of n.arguments) this.expression(a, R.value);
     });
   }
@@ -683,6 +733,7 @@ class Maker {
   NewExpression(n, role) {
     this.node(K.New, role, n, {}, () => {
       this.expression(n.callee, R.other);
+      this.types([n.typeParameters]);
       for (const a of n.arguments) this.expression(a, R.value);
     });
   }
@@ -714,8 +765,11 @@ class Maker {
     } else if (n.type === 'OptionalCallExpression') {
       this.node(K.Call, role, n, {}, () => {
         this.link(n.callee, R.other);
+        this.types([n.typeParameters]);
         for (const a of n.arguments) this.expression(a, R.value);
       });
+    } else if (isLink(n)) {
+      this.ofType(n, role, (e) => this.link(e, R.value));
     } else {
       this.expression(n, role);
     }
@@ -766,6 +820,8 @@ class Maker {
   }
 }
 
+Object.assign(Maker.prototype, methods);
+
 function hasUseStrict(directives) {
   return (directives || []).some((d) => d.value.extra.raw.slice(1, -1) === 'use strict');
 }
@@ -776,14 +832,16 @@ function unwrapped(n) {
   return m;
 }
 
-function simple(params) { return params.every((p) => unwrapped(p).type === 'Identifier'); }
+function simple(params) {
+  return params.every((p) => { const n = unwrapped(p); return (n.type === 'TSParameterProperty' ? n.parameter : n).type === 'Identifier'; });
+}
 
 function literalName(n, computed) {
   switch (n.type) {
     case 'Identifier': return computed ? null : n.name;
     case 'StringLiteral': return n.value;
     case 'NumericLiteral': return String(n.value);
-    case 'BigIntLiteral': return n.value;
+    case 'BigIntLiteral': return String(BigInt(n.value));
     case 'NullLiteral': return 'null';
     case 'TemplateLiteral':
       return n.expressions.length === 0 && n.quasis[0].value.cooked !== undefined ? n.quasis[0].value.cooked : null;
@@ -792,10 +850,10 @@ function literalName(n, computed) {
 }
 
 // The tables of a parsed text: nodes and scopes in their order, the source's bytes and its type.
-function treeOf(text, parsed, { module = false } = {}) {
-  const maker = new Maker(text, parsed, module);
+function treeOf(text, parsed, { module = false, typescript = false } = {}) {
+  const maker = new Maker(text, parsed, { module: module || typescript, typescript });
   maker.program(parsed.program);
-  return { type: module ? 1 : 0, nodes: maker.nodes, scopes: maker.scopes, source: bytesOf(text), made: maker.made };
+  return { type: typescript ? 2 : module ? 1 : 0, nodes: maker.nodes, scopes: maker.scopes, source: bytesOf(text), made: maker.made };
 }
 
 module.exports = { treeOf, bytesOf };

@@ -103,7 +103,8 @@ pub const CODE: usize = 16;
 /// The tables of a rule. Nothing is asked of the numbers: what is no rule is turned down by a [`Refusal`].
 #[derive(Clone, Copy, Debug)]
 pub struct Rule<'a> {
-    /// 0 script, 1 module.
+    /// 0 script, 1 module, 2 TypeScript module without ambient code: named class elements that are not private are compared too, and flag
+    /// 16384 marks one without a fixed name.
     pub source_type: u32,
     /// Whether an async function or a generator (flag 8192) as body of an If or a label in sloppy code is found, as code 34. Without it
     /// the findings are the Rust's, which leaves that to its parser.

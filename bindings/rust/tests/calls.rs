@@ -138,7 +138,7 @@ fn refusals() {
     };
     assert_eq!(refused(Rule { nodes: &[], ..EMPTY }), (1, 0));
     assert_eq!(refused(Rule { nodes: &[0; 9], ..EMPTY }), (1, 0));
-    assert_eq!(refused(Rule { source_type: 2, ..EMPTY }), (1, 0));
+    assert_eq!(refused(Rule { source_type: 3, ..EMPTY }), (1, 0));
     assert_eq!(refused(Rule { nodes: &[56, 0, 0, 0, 0, 0, 0, 0, 0, 0], ..EMPTY }), (2, 0));
     assert_eq!(refused(Rule { nodes: &[5, 0, 0, 0, 0, 0, 0, 0, 0, 0], ..EMPTY }), (3, 0));
     assert_eq!(refused(Rule { nodes: &[0, 0, 0, 0, 1, 0, 0, 0, 0, 0], ..EMPTY }), (4, 0));

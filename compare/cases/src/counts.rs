@@ -5,12 +5,29 @@ use std::fmt;
 use plain::{Refusal, Route};
 
 use crate::Sort;
+use crate::clashes::Clash;
 
 /// One more than the highest number of a refusal.
 const NUMBERS: usize = 15;
 
 /// The refusals of the input, in the order in which they are looked for.
 const OF_INPUT: [usize; 8] = [1, 2, 3, 4, 5, 13, 14, 6];
+
+/// One more than the highest code. 34 is no code of the crate's text.
+const CODES: usize = 36;
+const ASYNC_BODY: usize = 34;
+
+/// What only a TypeScript module has.
+#[derive(Default)]
+struct TypeScript {
+    public_clashes: u64,
+    private_clashes: u64,
+    static_and_instance: u64,
+    sloppy_withs: u64,
+    no_fixed_name: u64,
+    empty_names: u64,
+    references_as_keys: u64,
+}
 
 pub struct Counts {
     pub differences: usize,
@@ -24,8 +41,11 @@ pub struct Counts {
     cases: [u64; 5],
     refusals: [[u64; 5]; NUMBERS],
     clean: u64,
-    codes: [[u64; 5]; 34],
+    codes: [[u64; 5]; CODES],
     contexts: [u64; 5],
+    /// Cases of source types 0, 1, 2 and others.
+    source_types: [u64; 4],
+    typescript: TypeScript,
     ends: [u64; 4],
     route_refusals: [u64; NUMBERS],
     /// Calls of the proved library, check, code and route, by refusal; 0 is success.
@@ -43,16 +63,41 @@ impl Counts {
             cases: [0; 5],
             refusals: [[0; 5]; NUMBERS],
             clean: 0,
-            codes: [[0; 5]; 34],
+            codes: [[0; 5]; CODES],
             contexts: [0; 5],
+            source_types: [0; 4],
+            typescript: TypeScript::default(),
             ends: [0; 4],
             route_refusals: [0; NUMBERS],
             proved: [[0; NUMBERS]; 3],
         }
     }
 
-    pub fn case(&mut self, sort: Sort) {
+    pub fn case(&mut self, sort: Sort, source_type: u32) {
         self.cases[sort as usize] += 1;
+        self.source_types[source_type.min(3) as usize] += 1;
+    }
+
+    /// The clashes of a well-formed rule, and what else only a TypeScript module has.
+    pub fn typescript(&mut self, t: &plain::Tables, clashes: &[Clash], found: &[[u32; 7]]) {
+        if !t.is_typescript() {
+            return;
+        }
+        use plain::tables::{ACCESSOR_PROPERTY, IDENTIFIER_REFERENCE, KEY, METHOD_DEFINITION, NO_FIXED_NAME, WITH};
+        let seen = &mut self.typescript;
+        let count = |fits: &dyn Fn(&Clash) -> bool| clashes.iter().filter(|&clash| fits(clash)).count() as u64;
+        seen.public_clashes += count(&|clash| !clash.0);
+        seen.private_clashes += count(&|clash| clash.0 && clash.1[0] == 1);
+        seen.static_and_instance += count(&|clash| clash.1[0] == 35);
+        let withs = found.iter().filter(|f| t.kind(f[1] as usize) == WITH && f[0] == 17);
+        seen.sloppy_withs += withs.filter(|f| !t.strict(f[1] as usize)).count() as u64;
+        for e in (0..t.node_count()).filter(|&n| (METHOD_DEFINITION..=ACCESSOR_PROPERTY).contains(&t.kind(n))) {
+            let key = t.part(e, KEY).expect("a key");
+            let fixed = !t.has(e, NO_FIXED_NAME);
+            seen.no_fixed_name += u64::from(!fixed);
+            seen.empty_names += u64::from(fixed && t.name_length(key) == 0);
+            seen.references_as_keys += u64::from(fixed && t.kind(key) == IDENTIFIER_REFERENCE);
+        }
     }
 
     pub fn refusal(&mut self, sort: Sort, number: u32) {
@@ -70,7 +115,7 @@ impl Counts {
     /// Codes and input refusals that no case gave.
     pub fn unseen(&self) -> (Vec<usize>, Vec<usize>) {
         let none = |row: &[u64; 5]| row.iter().sum::<u64>() == 0;
-        let codes = (1..34).filter(|&code| none(&self.codes[code])).collect();
+        let codes = listed_codes().filter(|&code| none(&self.codes[code])).collect();
         (codes, OF_INPUT.into_iter().filter(|&number| none(&self.refusals[number])).collect())
     }
 
@@ -97,6 +142,11 @@ impl Counts {
     }
 }
 
+/// The codes that the crate's text gives.
+fn listed_codes() -> impl Iterator<Item = usize> {
+    (1..CODES).filter(|&code| code != ASYNC_BODY)
+}
+
 /// The refusal's number, or 0.
 #[cfg(feature = "proved")]
 fn number<T>(answer: &Result<T, Refusal>) -> usize {
@@ -120,7 +170,7 @@ impl fmt::Display for Counts {
         for number in OF_INPUT {
             row(f, &format!("refusal {number}"), &self.refusals[number])?;
         }
-        for code in 1..34 {
+        for code in listed_codes() {
             row(f, &format!("code {code}"), &self.codes[code])?;
         }
         writeln!(
@@ -130,6 +180,18 @@ impl fmt::Display for Counts {
         )?;
         writeln!(f, "of refusal 13 with a wrong count beside it {}, at a lower node {}", self.both, self.lower)?;
         writeln!(f, "contexts 0 to 4: {:?}", self.contexts)?;
+        writeln!(f, "cases of source type 0, 1, 2, others: {:?}", self.source_types)?;
+        let ts = &self.typescript;
+        writeln!(
+            f,
+            "of type 2, well-formed: clashes of public names {}, of private ones with 1 {}, with 35 {}; `with` in sloppy code {}",
+            ts.public_clashes, ts.private_clashes, ts.static_and_instance, ts.sloppy_withs
+        )?;
+        writeln!(
+            f,
+            "elements of type 2 without a fixed name {}, with the empty name {}, named by an IdentifierReference {}",
+            ts.no_fixed_name, ts.empty_names, ts.references_as_keys
+        )?;
         writeln!(f, "routes by end 0 to 3: {:?}, entries {}", self.ends, self.entries)?;
         writeln!(f, "routes refused by 7, 8, 9: {:?}", &self.route_refusals[7..10])?;
         if cfg!(feature = "proved") {

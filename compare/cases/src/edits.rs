@@ -46,6 +46,13 @@ fn parent(t: &OwnedTables, n: usize) -> usize {
     t.nodes[10 * n + 1] as usize
 }
 
+/// On class elements of a TypeScript module.
+const NO_FIXED_NAME: u32 = 16384;
+
+fn is_element(t: &OwnedTables, n: usize) -> bool {
+    (28..=30).contains(&kind(t, n))
+}
+
 /// The node and what is above it, as far as parents are smaller.
 fn path(t: &OwnedTables, n: usize) -> Vec<usize> {
     std::iter::successors(Some(n), |&n| Some(parent(t, n)).filter(|&p| p < n)).collect()
@@ -83,7 +90,10 @@ fn kind_like(rng: &mut Rng, kind: u32) -> u32 {
 pub fn gentle(rng: &mut Rng, t: &mut OwnedTables) {
     let n = rng.below(count(t));
     match rng.below(13) {
-        0 | 1 => *field(t, n, 6) ^= 2 << rng.below(12),
+        0 | 1 => {
+            let unfixed = t.source_type == 2 && is_element(t, n) && rng.once_in(2);
+            *field(t, n, 6) ^= if unfixed { NO_FIXED_NAME } else { 2 << rng.below(12) };
+        }
         2 => {
             let extra = extra_for(rng, t, kind(t, n));
             *field(t, n, 7) = extra;
@@ -264,8 +274,8 @@ pub fn rough(rng: &mut Rng, t: &mut OwnedTables) {
     }
     let n = rng.below(count(t));
     let s = rng.below(t.scopes.len() / 3);
-    let any = [0, 1, 2, 3, 31, 32, 55, 56, 255, 8190, 8191, 8192, 65_535, 4_294_967_295];
-    match rng.below(24) {
+    let any = [0, 1, 2, 3, 31, 32, 55, 56, 255, 8190, 8191, 8192, 16_384, 24_576, 65_535, 4_294_967_295];
+    match rng.below(26) {
         0 => {
             let at = rng.below(10);
             *field(t, n, at) = rng.pick(&any);
@@ -293,7 +303,16 @@ pub fn rough(rng: &mut Rng, t: &mut OwnedTables) {
             let kind = kind(t, n);
             insert(rng, t, n.saturating_sub(1), kind, role);
         }
-        22 if rng.once_in(4) => t.source_type = rng.number(4),
+        // On any node, or on an element that may have it or not as the source type is.
+        23 => *field(t, n, 6) ^= NO_FIXED_NAME,
+        24 => {
+            let elements: Vec<usize> = (0..count(t)).filter(|&n| is_element(t, n)).collect();
+            if !elements.is_empty() {
+                let element = rng.pick(&elements);
+                *field(t, element, 6) ^= NO_FIXED_NAME;
+            }
+        }
+        22 if rng.once_in(2) => t.source_type = rng.number(4),
         22 if rng.once_in(4) => t.nodes.truncate(rng.below(t.nodes.len() + 1)),
         22 if rng.once_in(4) => t.scopes.truncate(rng.below(t.scopes.len() + 1)),
         22 if rng.once_in(2) => t.source.truncate(rng.below(t.source.len() + 1)),

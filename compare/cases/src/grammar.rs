@@ -27,6 +27,10 @@ const NAMES: [&str; 16] = [
 ];
 const LABELS: [&str; 8] = ["a", "b", "c", "a", "b", "a", "await", "yield"];
 const PRIVATE: [&str; 3] = ["p", "q", "r"];
+/// Names of class elements in a TypeScript module, public and private ones; the empty name is one of them.
+const ELEMENTS: [&str; 4] = ["p", "q", "r", ""];
+const TYPESCRIPT: u32 = 2;
+const NO_FIXED_NAME: u32 = 16384;
 const NUMBERS: [(&str, u32); 12] = [
     ("0", 0),
     ("7", 0),
@@ -85,6 +89,16 @@ pub struct Grammar<'r> {
 pub fn tables(rng: &mut Rng, size: usize, calm: bool) -> OwnedTables {
     let source_type = u32::from(rng.once_in(3));
     let strict = source_type == 1 || rng.once_in(3);
+    tables_of(rng, size, calm, source_type, strict)
+}
+
+/// The same of a TypeScript module. A parser makes it strict; here some are not, for `with`.
+pub fn typescript(rng: &mut Rng, size: usize, calm: bool) -> OwnedTables {
+    let strict = !rng.once_in(3);
+    tables_of(rng, size, calm, TYPESCRIPT, strict)
+}
+
+fn tables_of(rng: &mut Rng, size: usize, calm: bool, source_type: u32, strict: bool) -> OwnedTables {
     let mut g = Grammar {
         rng,
         t: OwnedTables { source_type, ..OwnedTables::default() },
@@ -158,6 +172,10 @@ impl Grammar<'_> {
         outer
     }
 
+    fn is_typescript(&self) -> bool {
+        self.t.source_type == TYPESCRIPT
+    }
+
     fn is_strict(&self) -> bool {
         self.t.scopes[3 * self.scope as usize + 1] & 1 == 1
     }
@@ -201,7 +219,7 @@ impl Grammar<'_> {
                 }
                 self.close();
             }
-            11 if !(self.calm && self.is_strict()) => {
+            11 if !(self.calm && (self.is_strict() || self.is_typescript())) => {
                 self.open(13, role, 0, 0, "");
                 self.expression(1);
                 self.body(3);
@@ -532,6 +550,9 @@ impl Grammar<'_> {
             self.expression(0);
         }
         self.open(27, 0, 0, 0, "");
+        if !self.calm && self.once_in_typescript(2) {
+            (0..2 + self.rng.below(7)).for_each(|_| self.bare_element());
+        }
         for _ in 0..1 + self.rng.below(4) {
             if self.budget > 0 {
                 self.element();
@@ -546,6 +567,9 @@ impl Grammar<'_> {
         let is_static = u32::from(self.rng.once_in(3)) * 2;
         let key = if self.calm { 2 } else { self.rng.below(4) };
         let private = if key < 2 { 4 } else { 0 };
+        // A computed key has no fixed name as a rule, a key of another sort now and then.
+        let seldom = if key == 3 { !self.once_in_typescript(4) } else { self.once_in_typescript(8) };
+        let unfixed = if self.is_typescript() && seldom { NO_FIXED_NAME } else { 0 };
         match self.rng.below(10) {
             2 | 3 if self.calm => self.element(),
             0 | 1 => {
@@ -556,22 +580,23 @@ impl Grammar<'_> {
                 self.close();
             }
             2 | 3 => {
-                self.open(28, 0, 0, 0, "");
+                self.open(28, 0, unfixed, 0, "");
                 let kind = self.name_or_reference();
-                self.leaf(kind, 2, 0, 0, "constructor");
+                let name = if self.once_in_typescript(6) { "" } else { "constructor" };
+                self.leaf(kind, 2, 0, 0, name);
                 self.function(1, 0, 0);
                 self.close();
             }
             4..=6 => {
                 let extra = 1 + self.rng.number(3);
-                self.open(28, 0, is_static + private, extra, "");
+                self.open(28, 0, is_static + private + unfixed, extra, "");
                 self.key(key);
                 self.function(1, 0, 0);
                 self.close();
             }
             n => {
                 let kind = if n == 9 { 30 } else { 29 };
-                self.open(kind, 0, is_static + private, 0, "");
+                self.open(kind, 0, is_static + private + unfixed, 0, "");
                 if self.rng.once_in(8) {
                     self.expression(0); // A decorator.
                 }
@@ -589,9 +614,16 @@ impl Grammar<'_> {
         if self.rng.once_in(6) { 32 } else { 55 }
     }
 
+    /// Once in n, and only in a TypeScript module: the others are drawn as they were before there was one.
+    fn once_in_typescript(&mut self, n: usize) -> bool {
+        self.is_typescript() && self.rng.once_in(n)
+    }
+
     /// A private, a plain or a computed key; now and then a private one that is an IdentifierReference, as no text has.
     fn key(&mut self, which: usize) {
-        if which < 2 {
+        if self.is_typescript() && which < 3 {
+            self.typescript_key(which < 2);
+        } else if which < 2 {
             let name = self.rng.pick(&PRIVATE);
             let kind = if self.rng.once_in(12) { 32 } else { 34 };
             self.leaf(kind, 2, 0, 0, name);
@@ -600,6 +632,43 @@ impl Grammar<'_> {
         } else {
             self.expression(2);
         }
+    }
+
+    /// Names that are few, so that many elements have one name; in calm tables each has its own.
+    fn typescript_key(&mut self, private: bool) {
+        if self.calm {
+            let name = format!("x{}", self.t.nodes.len());
+            return self.leaf(55, 2, 0, 0, &name);
+        }
+        let name = self.rng.pick(&ELEMENTS);
+        let kind = if self.rng.once_in(8) {
+            32
+        } else if private {
+            34
+        } else {
+            55
+        };
+        self.leaf(kind, 2, 0, 0, name);
+    }
+
+    /// An element with nothing in it, of a TypeScript module: many in one class, with few names.
+    fn bare_element(&mut self) {
+        let private = if self.rng.once_in(2) { 4 } else { 0 };
+        let is_static = if self.rng.once_in(2) { 2 } else { 0 };
+        let unfixed = if self.rng.once_in(10) { NO_FIXED_NAME } else { 0 };
+        let (kind, extra) = self.rng.pick(&[(28, 1), (28, 2), (28, 2), (28, 3), (28, 3), (29, 0), (30, 0), (28, 0)]);
+        self.open(kind, 0, private + is_static + unfixed, extra, "");
+        self.typescript_key(private != 0);
+        if kind == 28 {
+            self.open(1, 1, 1024, 0, "");
+            let outer = self.enter_scope(4);
+            if !self.rng.once_in(8) {
+                self.leaf(4, 3, 0, 0, "");
+            }
+            self.scope = outer;
+            self.close();
+        }
+        self.close();
     }
 
     fn export(&mut self, role: u32) {

@@ -6,6 +6,7 @@
 //!     compare stored FILE           the codes and routes of the file, as the plain version and the library give them now
 //!     compare store FILE TREES SEED    write such a file, by the proved library alone
 
+mod clashes;
 mod counts;
 #[cfg(feature = "proved")]
 mod proved;
@@ -79,7 +80,8 @@ fn case(seed: u64, index: u64) -> (Sort, OwnedTables, Rng) {
         4..=7 => (Sort::Wild, rng.once_in(6)),
         _ => (Sort::Damaged, rng.once_in(3)),
     };
-    let mut tables = grammar::tables(&mut rng, size, calm);
+    let make = if index % 4 == 2 { grammar::typescript } else { grammar::tables };
+    let mut tables = make(&mut rng, size, calm);
     if sort == Sort::Wild || sort == Sort::Damaged {
         if rng.once_in(3) {
             edits::rescope(&mut rng, &mut tables);
@@ -118,7 +120,7 @@ fn compare_all(cases: u64, seed: u64) -> Counts {
     let mut counts = Counts::new();
     for index in 0..cases {
         let (sort, tables, mut rng) = case(seed, index);
-        counts.case(sort);
+        counts.case(sort, tables.source_type);
         if let Err(what) = compare(&tables.lend(), sort, &mut rng, &mut counts) {
             counts.differences += 1;
             println!("difference in case {index} of seed {seed}: {what}");
@@ -155,6 +157,7 @@ fn compare(t: &Tables, sort: Sort, rng: &mut Rng, counts: &mut Counts) -> Result
         };
         same("findings, plain and the crate's text", &plain, &verdict)?;
         if let Verdict::Findings(found) = &verdict {
+            class_elements(t, found, counts)?;
             counts.findings(sort, found);
         } else {
             counts.stuck += 1;
@@ -167,6 +170,18 @@ fn compare(t: &Tables, sort: Sort, rng: &mut Rng, counts: &mut Counts) -> Result
     #[cfg(feature = "proved")]
     proved::compare(t, rng, counts)?;
     Ok(())
+}
+
+/// The findings at two class elements, which alone have code 1 or 35 at node 0.
+fn class_elements(t: &Tables, found: &[[u32; 7]], counts: &mut Counts) -> Result<(), String> {
+    if t.node_count() >= 2000 {
+        return Ok(());
+    }
+    let clashes = clashes::of(t);
+    counts.typescript(t, &clashes, found);
+    let second: Vec<[u32; 7]> = clashes.into_iter().map(|clash| clash.1).collect();
+    let found: Vec<[u32; 7]> = found.iter().copied().filter(|f| f[1] == 0 && matches!(f[0], 1 | 35)).collect();
+    same("clashes of class elements, plain and second reading", &found, &second)
 }
 
 /// The crate's text gives no second span for an escape of a string (codes 9 and 11), so that one is not compared with it.

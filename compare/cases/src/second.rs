@@ -10,14 +10,14 @@ pub fn refusal(t: &Tables) -> Option<(u32, usize)> {
     let sizes = [(t.nodes.len(), 10), (t.scopes.len(), 3)];
     let too_long = |bytes: &[u8]| bytes.len() > 1 << 20;
     let wrong = |(length, width): (usize, usize)| !(width..=65_535 * width).contains(&length) || length % width != 0;
-    if sizes.into_iter().any(wrong) || too_long(t.source) || too_long(t.names) || t.source_type >= 2 {
+    if sizes.into_iter().any(wrong) || too_long(t.source) || too_long(t.names) || t.source_type >= 3 {
         return Some((1, 0));
     }
     let (nodes, scopes) = (t.nodes.len() / 10, t.scopes.len() / 3);
     let lowest = |number: u32, range: std::ops::Range<usize>, bad: &dyn Fn(usize) -> bool| {
         range.into_iter().find(|&i| bad(i)).map(|i| (number, i))
     };
-    lowest(2, 0..nodes, &|n| !listed(&t.nodes[10 * n..][..10]))
+    lowest(2, 0..nodes, &|n| !listed(t.source_type, &t.nodes[10 * n..][..10]))
         .or_else(|| lowest(3, 0..nodes, &|n| !in_place(t, n)))
         .or_else(|| lowest(4, 0..nodes, &|n| !inside(t, n)))
         .or_else(|| lowest(5, 0..scopes, &|s| !scope_fits(t, s)))
@@ -26,7 +26,7 @@ pub fn refusal(t: &Tables) -> Option<(u32, usize)> {
         .or_else(|| lowest(14, 0..nodes, &|n| !counted(t, n)))
 }
 
-fn listed(r: &[u32]) -> bool {
+fn listed(source_type: u32, r: &[u32]) -> bool {
     let most_extra = match r[0] {
         24 | 35 => 4,
         26 | 36 => u32::MAX,
@@ -36,7 +36,11 @@ fn listed(r: &[u32]) -> bool {
         _ => 0,
     };
     let all_flags = 2 | 4 | 8 | 16 | 32 | 64 | 128 | 256 | 512 | 1024 | 2048 | 4096;
-    let own_flag = if r[0] == 1 { 8192 } else { 0 };
+    let own_flag = match (source_type, r[0]) {
+        (_, 1) => 8192,
+        (2, 28..=30) => 16384,
+        _ => 0,
+    };
     r[0] < 56 && r[2] < 8 && r[6] & !(all_flags | own_flag) == 0 && r[7] <= most_extra
 }
 

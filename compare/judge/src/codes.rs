@@ -3,7 +3,7 @@
 use oxc_diagnostics::OxcDiagnostic;
 
 /// How each code's message begins; two have one message and differ in their help.
-const MESSAGES: [(&str, u32); 32] = [
+const MESSAGES: [(&str, u32); 33] = [
     ("Identifier `", 1),
     ("The keyword '", 2),
     ("Cannot use await in class static initialization block", 3),
@@ -36,6 +36,7 @@ const MESSAGES: [(&str, u32); 32] = [
     ("Delete of an unqualified identifier in strict mode.", 31),
     ("The operand of a 'delete' operator cannot be a private identifier.", 32),
     ("expression not allowed in formal parameter", 33),
+    ("Duplicate identifier `#", 35),
 ];
 
 pub fn code_of(diagnostic: &OxcDiagnostic) -> u32 {

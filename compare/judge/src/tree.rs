@@ -89,8 +89,14 @@ impl<'a> Record<'a> {
 /// The children of one node, with the nodes made of them.
 type Children<'a> = [(Record<'a>, AstKind<'a>)];
 
-/// All nodes of the tree.
-pub fn build<'a>(arena: &'a Arena, nodes: &[u32], source: &'a [u8], names: &'a [u8]) -> Vec<AstKind<'a>> {
+/// All nodes of the tree, which in a TypeScript module has a mark for elements without a fixed name.
+pub fn build<'a>(
+    arena: &'a Arena,
+    nodes: &[u32],
+    source: &'a [u8],
+    names: &'a [u8],
+    typescript: bool,
+) -> Vec<AstKind<'a>> {
     let count = nodes.len() / 10;
     let mut children: Vec<Vec<(Record<'a>, AstKind<'a>)>> = vec![Vec::new(); count];
     let mut kinds = Vec::with_capacity(count);
@@ -98,7 +104,7 @@ pub fn build<'a>(arena: &'a Arena, nodes: &[u32], source: &'a [u8], names: &'a [
         let record = Record::read(nodes, names, number as u32);
         let mut own = std::mem::take(&mut children[number]);
         own.reverse();
-        let kind = node(arena, record, &own, source);
+        let kind = node(arena, record, &own, source, typescript);
         kinds.push(kind);
         if number > 0 {
             children[record.parent as usize].push((record, kind));
@@ -146,7 +152,22 @@ fn key<'a>(children: &Children<'a>, private: bool) -> PropertyKey<'a> {
     }
 }
 
-fn node<'a>(arena: &'a Arena, r: Record<'a>, children: &Children<'a>, source: &'a [u8]) -> AstKind<'a> {
+/// The key of a class element. In a TypeScript module flag 16384 alone says that it gives no name.
+fn element_key<'a>(children: &Children<'a>, r: &Record<'a>, typescript: bool) -> PropertyKey<'a> {
+    let mut key = key(children, r.has(4));
+    if typescript {
+        key.name = children.iter().find(|(r, _)| r.role == 2).map(|(r, _)| r.name).filter(|_| !r.has(16384));
+    }
+    key
+}
+
+fn node<'a>(
+    arena: &'a Arena,
+    r: Record<'a>,
+    children: &Children<'a>,
+    source: &'a [u8],
+    typescript: bool,
+) -> AstKind<'a> {
     macro_rules! make {
         ($kind:ident: $type:ident { $($field:ident: $value:expr),* $(,)? }) => {
             AstKind::$kind(arena.alloc($type { node_id: r.node_id(), span: r.span, $($field: $value,)* tree: PhantomData }))
@@ -242,15 +263,23 @@ fn node<'a>(arena: &'a Arena, r: Record<'a>, children: &Children<'a>, source: &'
                 2 => MethodDefinitionKind::Get,
                 _ => MethodDefinitionKind::Set,
             },
-            key: key(children, r.has(4)),
+            key: element_key(children, &r, typescript),
             value: match by_role(children, 1) {
                 Some(AstKind::Function(function)) => function,
                 _ => panic!("a method's function"),
             },
             r#static: r.has(2),
         }),
-        29 => make!(PropertyDefinition { key: key(children, r.has(4)), value: value(children), r#static: r.has(2) }),
-        30 => make!(AccessorProperty { key: key(children, r.has(4)), value: value(children), r#static: r.has(2) }),
+        29 => make!(PropertyDefinition {
+            key: element_key(children, &r, typescript),
+            value: value(children),
+            r#static: r.has(2),
+        }),
+        30 => make!(AccessorProperty {
+            key: element_key(children, &r, typescript),
+            value: value(children),
+            r#static: r.has(2),
+        }),
         31 => make!(BindingIdentifier { name: r.name }),
         32 => make!(IdentifierReference { name: r.name, reference_id: Cell::new(Some(ReferenceId::new(r.number))) }),
         33 => make!(LabelIdentifier { name: r.name }),

@@ -35,11 +35,12 @@ pub enum Verdict {
 /// the panic hook.
 pub fn judge(source_type: u32, nodes: &[u32], scopes: &[u32], source: &[u8], names: &[u8]) -> Verdict {
     let arena = Arena::default();
-    let kinds = build(&arena, nodes, source, names);
+    let typescript = source_type == 2;
+    let kinds = build(&arena, nodes, source, names, typescript);
     let mut visit = Visit {
         ctx: SemanticBuilder {
             source_text: RawText::new(source),
-            source_type: SourceType { module: source_type == 1 },
+            source_type: SourceType { module: source_type >= 1, typescript },
             errors: RefCell::new(Vec::new()),
             current_scope_id: ScopeId::new(0),
             stack: AncestryStack::default(),

@@ -82,7 +82,7 @@ impl<'a> Classes<'a> {
     }
 }
 
-/// Constructors, bodiless methods and nameless keys enter no element.
+/// Constructors, bodiless methods and elements without a name enter no element.
 fn element<'a>(t: &Tables<'a>, n: usize) -> Option<Element<'a>> {
     let kind = match (t.kind(n), t.extra(n)) {
         (METHOD_DEFINITION, 0) => return None,
@@ -95,8 +95,18 @@ fn element<'a>(t: &Tables<'a>, n: usize) -> Option<Element<'a>> {
         _ => return None,
     };
     let key = t.part(n, KEY)?;
-    let name = key_name(t, n)?;
+    let name = element_name(t, n)?;
     Some(Element { name, span: t.span(key), is_private: t.has(n, PRIVATE_KEY), is_static: t.has(n, IS_STATIC), kind })
+}
+
+/// The name of a class element. In a TypeScript module flag 16384 alone says that it has none: "without it, length 0 is
+/// here the empty name".
+pub fn element_name<'a>(t: &Tables<'a>, n: usize) -> Option<&'a [u8]> {
+    if t.is_typescript() {
+        t.part(n, KEY).filter(|_| !t.has(n, NO_FIXED_NAME)).map(|key| t.name(key))
+    } else {
+        key_name(t, n)
+    }
 }
 
 /// The name that its key gives an element or a property: an IdentifierReference is the expression of a computed key and gives none.

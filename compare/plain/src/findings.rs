@@ -1,6 +1,8 @@
 //! checker/mod.rs and checker/javascript.rs over well-formed tables. Functions bear the Rust's names.
 
-use crate::classes::{has_body, key_name, Classes, Element, ElementKind};
+use std::collections::HashMap;
+
+use crate::classes::{element_name, has_body, key_name, Classes, Element, ElementKind};
 use crate::supers::{self, Walk};
 use crate::tables::*;
 
@@ -40,6 +42,7 @@ pub mod code {
     pub const DELETE_OF_PRIVATE: u32 = 32;
     pub const AWAIT_OR_YIELD_IN_PARAMETERS: u32 = 33;
     pub const ASYNC_BODY: u32 = 34;
+    pub const STATIC_AND_INSTANCE_PRIVATE: u32 = 35;
 }
 
 /// Contexts of document 01.
@@ -161,23 +164,29 @@ impl Checker<'_, '_> {
 
     fn check_duplicate_class_elements(&mut self) {
         for c in 0..self.classes.classes.len() {
-            // Two places per private name: getter side (with all that is no setter) and setter side.
-            let mut places: Vec<(&[u8], [Option<Element>; 2])> = Vec::new();
+            // Two places per private name: getter side (with all that is no setter) and setter side. A public name,
+            // which only TypeScript compares, has the last such element in one of them.
+            let mut places = HashMap::new();
             let elements = self.classes.classes[c].elements.clone();
-            for element in elements.into_iter().filter(|e| e.is_private) {
-                let at = places.iter().position(|(name, _)| *name == element.name).unwrap_or_else(|| {
-                    places.push((element.name, [None; 2]));
-                    places.len() - 1
-                });
-                let side = usize::from(element.kind == ElementKind::Setter);
-                let previous = places[at].1[side].or(places[at].1[1 - side]);
-                places[at].1[side] = Some(element);
-                let Some(previous) = previous else { continue };
-                let both_accessors = element.kind.is_setter_or_getter() && previous.kind.is_setter_or_getter();
-                if !both_accessors || element.kind == previous.kind || element.is_static != previous.is_static {
-                    self.error_at_two(code::REDECLARATION, previous.span, element.span);
+            for element in elements.into_iter().filter(|e| e.is_private || self.t.is_typescript()) {
+                let places: &mut [Option<Element>; 2] =
+                    places.entry((element.name, element.is_private)).or_insert([None; 2]);
+                let side = usize::from(element.is_private && element.kind == ElementKind::Setter);
+                let previous = places[side].or(places[1 - side]);
+                places[side] = Some(element);
+                if let Some(previous) = previous.filter(|previous| clash(previous, &element)) {
+                    self.error_at_two(self.clash_code(&previous, &element), previous.span, element.span);
                 }
             }
+        }
+    }
+
+    /// Request 13: a static and an instance private element "give code 35 in place of 1".
+    fn clash_code(&self, previous: &Element, element: &Element) -> u32 {
+        if self.t.is_typescript() && element.is_private && element.is_static != previous.is_static {
+            code::STATIC_AND_INSTANCE_PRIVATE
+        } else {
+            code::REDECLARATION
         }
     }
 
@@ -211,7 +220,7 @@ impl Checker<'_, '_> {
             .children(body)
             .filter(|&e| t.kind(e) == METHOD_DEFINITION && t.extra(e) == 0 && has_body(t, e))
             .map(|e| match t.part(e, KEY) {
-                Some(key) if key_name(t, e).is_some() => t.span(key),
+                Some(key) if element_name(t, e).is_some() => t.span(key),
                 _ => t.span(e),
             });
         if let (Some(first), Some(second)) = (constructors.next(), constructors.next()) {
@@ -424,7 +433,7 @@ impl Checker<'_, '_> {
 
     fn check_with_statement(&mut self, n: usize) {
         let (start, _) = self.t.span(n);
-        if self.t.strict(n) {
+        if self.t.strict(n) || self.t.is_typescript() {
             self.error(code::WITH, (start, start + 4));
         }
     }
@@ -586,5 +595,18 @@ impl Checker<'_, '_> {
         if self.is_in_formal_parameters(n) {
             self.error(code::AWAIT_OR_YIELD_IN_PARAMETERS, self.t.span(n));
         }
+    }
+}
+
+/// Whether two elements of one name can't be in one class. A getter and a setter can: private ones if both are static
+/// or both are not, public ones in any case, as any two public ones can of which one alone is static.
+fn clash(previous: &Element, element: &Element) -> bool {
+    let same_static = element.is_static == previous.is_static;
+    let getter_and_setter =
+        element.kind != previous.kind && element.kind.is_setter_or_getter() && previous.kind.is_setter_or_getter();
+    if element.is_private {
+        !(getter_and_setter && same_static)
+    } else {
+        same_static && !getter_and_setter
     }
 }

@@ -37,7 +37,7 @@ pub fn refusal_before_walks(t: &Tables) -> Option<InputRefusal> {
 }
 
 /// 1. A table is empty or no whole number of records; more than 65,535 records; source or names above 1,048,576
-///    bytes; source type above 1.
+///    bytes; source type above 2 (request 13: "1 now begins at source type 3").
 pub fn wrong_sizes(t: &Tables) -> bool {
     let wrong =
         |length: usize, width: usize| length == 0 || !length.is_multiple_of(width) || length / width > MOST_RECORDS;
@@ -45,15 +45,19 @@ pub fn wrong_sizes(t: &Tables) -> bool {
         || wrong(t.scopes.len(), SCOPE)
         || t.source.len() > MOST_BYTES
         || t.names.len() > MOST_BYTES
-        || t.source_type > 1
+        || t.source_type > TYPESCRIPT
 }
 
 /// 2. A node's kind, role, flag sum or extra not listed.
 pub fn unlisted(t: &Tables) -> Option<usize> {
     // The twelve flags are the powers of two from 2 to 4096; their sums are the even numbers up to 8190. A Function
-    // may have 8192 besides.
+    // may have 8192 besides, a class element of a TypeScript module 16384.
     let listed_flags = |kind: u32, flags: u32| {
-        let own = if kind == FUNCTION { ASYNC_OR_GENERATOR } else { 0 };
+        let own = match kind {
+            FUNCTION => ASYNC_OR_GENERATOR,
+            METHOD_DEFINITION..=ACCESSOR_PROPERTY if t.is_typescript() => NO_FIXED_NAME,
+            _ => 0,
+        };
         (flags & !own).is_multiple_of(2) && flags & !own <= 8190
     };
     // A class's scope is tested by 5; the length of a string's value may be any number.

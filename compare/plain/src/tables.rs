@@ -93,6 +93,12 @@ pub const IS_DELETE: u32 = 2048;
 pub const IS_DEFAULT: u32 = 4096;
 /// On a Function only.
 pub const ASYNC_OR_GENERATOR: u32 = 8192;
+/// On class elements (kinds 28 to 30) of a TypeScript module only.
+pub const NO_FIXED_NAME: u32 = 16384;
+
+// Source types.
+pub const MODULE: u32 = 1;
+pub const TYPESCRIPT: u32 = 2;
 
 // Flags of a scope.
 pub const STRICT: u32 = 1;
@@ -104,7 +110,7 @@ pub const IN_STATIC_BLOCK: u32 = 16;
 /// The lent tables. Only `input_refusal` may be asked about tables of any kind; all else wants well-formed ones.
 #[derive(Clone, Copy, Debug)]
 pub struct Tables<'a> {
-    /// 0 script, 1 module.
+    /// 0 script, 1 module, 2 TypeScript module.
     pub source_type: u32,
     /// Whether async functions and generators as bodies are found: code 34, which the Rust leaves to its parser.
     pub async_bodies: bool,
@@ -224,8 +230,13 @@ impl<'a> Tables<'a> {
         self.scope_flags(self.scope(n)) & STRICT != 0
     }
 
+    /// A TypeScript module is a module too.
     pub fn is_module(&self) -> bool {
-        self.source_type == 1
+        matches!(self.source_type, MODULE | TYPESCRIPT)
+    }
+
+    pub fn is_typescript(&self) -> bool {
+        self.source_type == TYPESCRIPT
     }
 
     pub fn is_loop(&self, n: usize) -> bool {

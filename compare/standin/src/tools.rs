@@ -166,6 +166,7 @@ pub fn memchr_iter(byte: u8, bytes: &[u8]) -> impl Iterator<Item = usize> + '_ {
 #[derive(Clone, Copy, Debug)]
 pub struct SourceType {
     pub module: bool,
+    pub typescript: bool,
 }
 
 impl SourceType {
@@ -178,7 +179,7 @@ impl SourceType {
     }
 
     pub fn is_typescript(self) -> bool {
-        false
+        self.typescript
     }
 
     pub fn is_typescript_definition(self) -> bool {

@@ -25,8 +25,8 @@ use Rattle.check_identifiers.specs.Identifiers.{isStrictWord, checkIdentifier, 
 use Rattle.check_jumps.specs.Jumps.{walkUp, sameLabel, under, plainContinueAt, continueTo, labelledContinueAt, labeledAt}
 use Rattle.check_statements.specs.Statements.{checkFunctionDeclaration, checkLabeledItem}
 use Rattle.check_class_table.specs.Classes.{currentClass, classesOf}
-use Rattle.check_class_table.specs.Elements.{elementName, elementSpan, hasBody, enters, elements, privates}
-use Rattle.check_duplicates.specs.Duplicates.{lastOf, sideOf, previousOn, previousOf, isDuplicate, redeclaration, duplicateBy, duplicatesIn, duplicateElements}
+use Rattle.check_class_table.specs.Elements.{elementName, elementSpan, hasBody, fixedName, enters, elements, compared}
+use Rattle.check_duplicates.specs.Duplicates.{lastOf, sideOf, previousOn, previousOf, clashes, clashCode, redeclaration, duplicateBy, duplicatesIn, duplicateElements}
 use Rattle.check_classes.specs.ClassChecks.{references, undeclaredIn, requireClassName, constructors, constructorSpan, checkClass}
 use Rattle.check_supers.specs.Super.{failsAt}
 use Rattle.check_dispatch.specs.Findings.{findingsAt}
@@ -128,7 +128,7 @@ each [] c = tt
 each (r ∷ rs) c = (holds r (c .0), each rs (c .1))
 
 computed : Each Computed rows
-unfolding rows upto range above climb first keep children howMany isChild wrongTable wrongSizes ownFlag listedFlags mostExtra listedExtra unlistedAt strayAt misplacedAt brokenAt chainOn misscopedAt isStatement mayBeStatement isHolder strayStatement strayHeld strayAlternate strayInSwitch strayCase strayInTry strayClause strayInClause strayFunctionBody strayClassBody strayElement strayValue misplacedStatement misplacedPart misplacedElement misplaced misplacedChildAt isDefault defaults wrongBody wrongAlternate wrongDefault wrongTry wrongClause wrongLabel wrongFunction wrongClass wrongValue wrongElement wrongStatement wrongPart wrongHome wrongCountAt failsAt tablesOr shapeRefusal inputRefusal same nameOf firstNode nearestOf flat flatMap xor escapeOf badEscape sourceText checkStringLiteral checkNumberLiteral isStrictWord checkIdentifier checkBindingIdentifier checkIdentifierReference checkDirective walkUp sameLabel under plainContinueAt continueTo labelledContinueAt labeledAt checkFunctionDeclaration checkLabeledItem currentClass classesOf elementName elementSpan hasBody enters elements privates lastOf sideOf previousOn previousOf isDuplicate redeclaration duplicateBy duplicatesIn duplicateElements references undeclaredIn requireClassName constructors constructorSpan checkClass findingsAt reportedAt reported exec turns rounds asks shapeBy isPart parts nameId stmtAt bodyOf holderOf unitOf namesUnit inUnit tryIn holdsTry seek plainBreak namedBreak plainContinue namedContinue hasTarget lostAt statePlace unitRefusal stateAnswer
+unfolding rows upto range above climb first keep children howMany isChild wrongTable wrongSizes ownFlag listedFlags mostExtra listedExtra unlistedAt strayAt misplacedAt brokenAt chainOn misscopedAt isStatement mayBeStatement isHolder strayStatement strayHeld strayAlternate strayInSwitch strayCase strayInTry strayClause strayInClause strayFunctionBody strayClassBody strayElement strayValue misplacedStatement misplacedPart misplacedElement misplaced misplacedChildAt isDefault defaults wrongBody wrongAlternate wrongDefault wrongTry wrongClause wrongLabel wrongFunction wrongClass wrongValue wrongElement wrongStatement wrongPart wrongHome wrongCountAt failsAt tablesOr shapeRefusal inputRefusal same nameOf firstNode nearestOf flat flatMap xor escapeOf badEscape sourceText checkStringLiteral checkNumberLiteral isStrictWord checkIdentifier checkBindingIdentifier checkIdentifierReference checkDirective walkUp sameLabel under plainContinueAt continueTo labelledContinueAt labeledAt checkFunctionDeclaration checkLabeledItem currentClass classesOf elementName elementSpan hasBody fixedName enters elements compared lastOf sideOf previousOn previousOf clashes clashCode redeclaration duplicateBy duplicatesIn duplicateElements references undeclaredIn requireClassName constructors constructorSpan checkClass findingsAt reportedAt reported exec turns rounds asks shapeBy isPart parts nameId stmtAt bodyOf holderOf unitOf namesUnit inUnit tryIn holdsTry seek plainBreak namedBreak plainContinue namedContinue hasTarget lostAt statePlace unitRefusal stateAnswer
 computed =
     ((refl, refl), ((refl, refl), ((refl, refl), ((refl, refl), ((refl, refl), ((refl, refl), ((refl, refl), ((refl, refl), ((refl, refl), ((refl, refl), ((refl, refl), ((refl, refl), ((refl, refl), ((refl, refl), ((refl, refl), ((refl, refl, refl), ((refl, refl, refl), ((refl, refl, refl), tt))))))))))))))))))
 

@@ -1,10 +1,11 @@
 -- The elements of a class: `Element` and `ClassTableBuilder::declare_class_body`. An element has the number of its node.
 use Prim.Native.Nat.{ℕ}
 use mathlib.Core.List.{List, [], _∷_}
-use mathlib.Core.Bool.{Bool, false, not, _&&_}
+use mathlib.Core.Bool.{Bool, false, cond, not, _&&_, _||_}
 use lib.Dec.{eqb}
 use Rattle.base_common.specs.Upto.{any}
 use Rattle.base_common.specs.Tests.{within}
+use Rattle.table_source.specs.SourceType.{isTypescript}
 use Rattle.table_records.specs.Table.{kindOf, parentOf, spanStartOf, spanEndOf, flagsOf, extraOf, nameLenOf, hasFlag}
 use Rattle.table_records.specs.Kinds as k
 use Rattle.table_records.specs.Extras as extra
@@ -74,38 +75,61 @@ isConstructor ns e = isMethodOf ns e extra.Constructor
 unfoldable pub hasBody : List ℕ → ℕ → Bool
 hasBody ns e = hasBodyAt ns (valueOf ns e)
 
--- "constructors, bodiless methods and nameless keys enter no element"
-unfoldable pub enters : List ℕ → ℕ → Bool
-enters ns e = not (isConstructor ns e) && (not (isMethod ns e && not (hasBody ns e)) && hasName ns e)
+-- "Flag 16384 .. marks an element without a fixed name" (document 02, request 13)
+abbrev pub NoFixedName : ℕ
+NoFixedName = 16384
+
+-- whether an element has a fixed name: in TypeScript the flag alone decides, and "without it, length 0 is here the empty name"; else its key has a name
+unfoldable pub fixedName : ℕ → List ℕ → ℕ → Bool
+fixedName sourceType ns e = cond (isTypescript sourceType) (not (hasFlag (flagsOf ns e) NoFixedName)) (hasName ns e)
+
+-- "constructors, bodiless methods and nameless keys enter no element"; "an element without a fixed name .. is entered nowhere"
+unfoldable pub enters : ℕ → List ℕ → ℕ → Bool
+enters sourceType ns e = not (isConstructor ns e) && (not (isMethod ns e && not (hasBody ns e)) && fixedName sourceType ns e)
 
 -- MethodDefinition, PropertyDefinition or AccessorProperty
 abbrev pub isDefinition : List ℕ → ℕ → Bool
 isDefinition ns e = within (kindOf ns e) k.MethodDefinition k.AccessorProperty
 
 -- the elements of class c, in order
-unfoldable pub elements : List ℕ → ℕ → List ℕ
-elements ns c = keep (enters ns) (keep (isDefinition ns) (children ns c))
+unfoldable pub elements : ℕ → List ℕ → ℕ → List ℕ
+elements sourceType ns c = keep (enters sourceType ns) (keep (isDefinition ns) (children ns c))
 
 -- its private elements
-unfoldable pub privates : List ℕ → ℕ → List ℕ
-privates ns c = keep (isPrivate ns) (elements ns c)
+unfoldable pub privates : ℕ → List ℕ → ℕ → List ℕ
+privates sourceType ns c = keep (isPrivate ns) (elements sourceType ns c)
+
+-- those that are compared: private ones, and in TypeScript "named non-private elements are compared too"
+abbrev pub isCompared : ℕ → List ℕ → ℕ → Bool
+isCompared sourceType ns e = isTypescript sourceType || isPrivate ns e
+
+unfoldable pub compared : ℕ → List ℕ → ℕ → List ℕ
+compared sourceType ns c = keep (isCompared sourceType ns) (elements sourceType ns c)
 
 -- class c has a private element of this name: `has_private_definition`, and whether `get_element_ids` finds any
-unfoldable pub hasPrivate : List ℕ → List ℕ → ℕ → List ℕ → Bool
-hasPrivate ns names c name = any (λ e. same (elementName ns names e) name) (privates ns c)
+unfoldable pub hasPrivate : ℕ → List ℕ → List ℕ → ℕ → List ℕ → Bool
+hasPrivate sourceType ns names c name = any (λ e. same (elementName ns names e) name) (privates sourceType ns c)
 
 -- class c or a class around it has
-unfoldable pub isDeclared : List ℕ → List ℕ → ℕ → List ℕ → Bool
-isDeclared ns names c name = any (λ d. hasPrivate ns names d name) (c ∷ outerClasses ns c)
+unfoldable pub isDeclared : ℕ → List ℕ → List ℕ → ℕ → List ℕ → Bool
+isDeclared sourceType ns names c name = any (λ d. hasPrivate sourceType ns names d name) (c ∷ outerClasses ns c)
 
--- The same as tests of a node: e is a definition in the body of class c with a private key
-unfoldable pub isPrivateDefinition : List ℕ → ℕ → ℕ → Bool
-isPrivateDefinition ns c e = eqb (parentOf ns e) c && (isPrivate ns e && isDefinition ns e)
+-- "Public and private names belong to separate namespaces": e is private, or it is not
+abbrev pub isKeyed : List ℕ → Bool → ℕ → Bool
+isKeyed ns private e = cond private (isPrivate ns e) (not (isPrivate ns e))
 
--- .. it is a private element of class c
-unfoldable pub isPrivateElement : List ℕ → ℕ → ℕ → Bool
-isPrivateElement ns c e = isPrivateDefinition ns c e && enters ns e
+-- The same as tests of a node: e is a definition in the body of class c that is compared
+unfoldable pub isComparedDefinition : ℕ → List ℕ → ℕ → ℕ → Bool
+isComparedDefinition sourceType ns c e = eqb (parentOf ns e) c && (isCompared sourceType ns e && isDefinition ns e)
 
--- .. it is one of this name
-unfoldable pub isPrivateNamed : List ℕ → List ℕ → ℕ → List ℕ → ℕ → Bool
-isPrivateNamed ns names c name e = isPrivateDefinition ns c e && (same (elementName ns names e) name && enters ns e)
+-- .. it is a compared element of class c
+unfoldable pub isComparedElement : ℕ → List ℕ → ℕ → ℕ → Bool
+isComparedElement sourceType ns c e = isComparedDefinition sourceType ns c e && enters sourceType ns e
+
+-- .. it is a definition in the body of class c, private or not
+unfoldable pub isDefinitionIn : List ℕ → ℕ → Bool → ℕ → Bool
+isDefinitionIn ns c private e = eqb (parentOf ns e) c && (isKeyed ns private e && isDefinition ns e)
+
+-- .. it is an element of class c with this name, private or not
+unfoldable pub isNamed : ℕ → List ℕ → List ℕ → ℕ → Bool → List ℕ → ℕ → Bool
+isNamed sourceType ns names c private name e = isDefinitionIn ns c private e && (same (elementName ns names e) name && enters sourceType ns e)

@@ -18,7 +18,7 @@ use Rattle.table_children.specs.Children.{keep, children}
 use Rattle.table_children.specs.ChildrenLaws.{keep-keep}
 use Rattle.check_class_table.specs.Classes.{bodyAbove}
 use Rattle.check_class_table.specs.ClassesLaws.{outer-at, outer-none}
-use Rattle.check_class_table.specs.Elements.{elementName, isPrivate, isDefinition, enters, elements, privates, hasPrivate, isDeclared, isPrivateDefinition, isPrivateElement, isPrivateNamed}
+use Rattle.check_class_table.specs.Elements.{elementName, isPrivate, isDefinition, enters, elements, privates, isCompared, compared, hasPrivate, isDeclared, isComparedDefinition, isComparedElement, isDefinitionIn, isNamed}
 
 -- the tests in the order that costs least
 order : (a b c d : Bool) → (((a && b) && c) && d) ≡ ((a && (d && b)) && c)
@@ -62,45 +62,48 @@ pub any-same : (p q : ℕ → Bool) → ((i : ℕ) → p i ≡ q i) → (l : Lis
 any-same p q h [] = refl
 any-same p q h (i ∷ l) = rw (h i, any-same p q h l)
 
--- the private elements, as a scan meets them
-pub privates-scan : (ns : List ℕ) (c : ℕ) → privates ns c ≡ keep (isPrivateElement ns c) (upto (c + 1) (count ns))
-unfolding privates elements children isPrivateElement isPrivateDefinition
-privates-scan ns c =
-    ap (λ (l : List ℕ). keep (isPrivate ns) (keep (enters ns) l)) (keep-keep _ _ (upto (c + 1) (count ns)))
-    ∙ ap (keep (isPrivate ns)) (keep-keep _ _ (upto (c + 1) (count ns)))
-    ∙ keep-keep _ _ (upto (c + 1) (count ns))
-    ∙ keep-same _ _ (λ e. order (eqb (parentOf ns e) c) (isDefinition ns e) (enters ns e) (isPrivate ns e)) (upto (c + 1) (count ns))
+-- the elements that pass a test, as a scan meets them
+pub elements-scan : (t : ℕ) (ns : List ℕ) (c : ℕ) → elements t ns c ≡ keep (λ e. (eqb (parentOf ns e) c && isDefinition ns e) && enters t ns e) (upto (c + 1) (count ns))
+unfolding elements children
+elements-scan t ns c = ap (keep (enters t ns)) (keep-keep _ _ (upto (c + 1) (count ns))) ∙ keep-keep _ _ (upto (c + 1) (count ns))
 
-pub private-other : (ns : List ℕ) (c e : ℕ) → (parentOf ns e ≡ c → ⊥) → isPrivateElement ns c e ≡ false
-unfolding isPrivateElement isPrivateDefinition
-private-other ns c e n = rw (ne-eqb (parentOf ns e) c n)
+pub tested-scan : (t : ℕ) (ns : List ℕ) (c : ℕ) (q : ℕ → Bool)
+    → keep q (elements t ns c) ≡ keep (λ e. (eqb (parentOf ns e) c && (q e && isDefinition ns e)) && enters t ns e) (upto (c + 1) (count ns))
+tested-scan t ns c q =
+    ap (keep q) (elements-scan t ns c)
+    ∙ keep-keep _ _ (upto (c + 1) (count ns))
+    ∙ keep-same _ _ (λ e. order (eqb (parentOf ns e) c) (isDefinition ns e) (enters t ns e) (q e)) (upto (c + 1) (count ns))
+
+pub compared-scan : (t : ℕ) (ns : List ℕ) (c : ℕ) → compared t ns c ≡ keep (isComparedElement t ns c) (upto (c + 1) (count ns))
+unfolding compared isComparedElement isComparedDefinition
+compared-scan t ns c = tested-scan t ns c (isCompared t ns)
 
 -- past the nodes below c there is none
-pub private-out : (ns : List ℕ) → Tree ns → (c i j : ℕ) → c < i → parentOf ns i < c → i ≤ j → j < count ns → isPrivateElement ns c j ≡ false
-private-out ns t c i j h u x y = private-other ns c j (λ e. no-child (parentOf ns) (count ns) (t .order) c i j h u x y e)
+pub compared-out : (t : ℕ) (ns : List ℕ) → Tree ns → (c i j : ℕ) → c < i → parentOf ns i < c → i ≤ j → j < count ns → isComparedElement t ns c j ≡ false
+unfolding isComparedElement isComparedDefinition
+compared-out t ns w c i j h u x y = rw (ne-eqb (parentOf ns j) c (λ e. no-child (parentOf ns) (count ns) (w .order) c i j h u x y e))
 
--- a private element and its name
-pub named-same : (ns names : List ℕ) (c : ℕ) (name : List ℕ) (e : ℕ) → (isPrivateElement ns c e && same (elementName ns names e) name) ≡ isPrivateNamed ns names c name e
-unfolding isPrivateElement isPrivateNamed
-named-same ns names c name e = swap (isPrivateDefinition ns c e) (enters ns e) (same (elementName ns names e) name)
+named-out : (t : ℕ) (ns names : List ℕ) → Tree ns → (c i j : ℕ) (private : Bool) (name : List ℕ) → c < i → parentOf ns i < c → i ≤ j → j < count ns → isNamed t ns names c private name j ≡ false
+unfolding isNamed isDefinitionIn
+named-out t ns names w c i j private name h u x y = rw (ne-eqb (parentOf ns j) c (λ e. no-child (parentOf ns) (count ns) (w .order) c i j h u x y e))
 
 -- the search for a private element of a name, from node i on
-module _ (ns names : List ℕ) (c : ℕ) (name : List ℕ) where
+module _ (t : ℕ) (ns names : List ℕ) (c : ℕ) (name : List ℕ) where
   unfoldable pub hasPrivateFrom : ℕ → Bool
-  hasPrivateFrom i = any (isPrivateNamed ns names c name) (upto i (count ns))
+  hasPrivateFrom i = any (isNamed t ns names c true name) (upto i (count ns))
 
-  pub has-start : hasPrivateFrom (c + 1) ≡ hasPrivate ns names c name
-  unfolding hasPrivateFrom hasPrivate
+  pub has-start : hasPrivateFrom (c + 1) ≡ hasPrivate t ns names c name
+  unfolding hasPrivateFrom hasPrivate privates isNamed isDefinitionIn
   has-start =
-      sym (any-same (λ e. isPrivateElement ns c e && same (elementName ns names e) name) (isPrivateNamed ns names c name) (named-same ns names c name) (upto (c + 1) (count ns)))
-      ∙ sym (any-keep (λ e. same (elementName ns names e) name) (isPrivateElement ns c) (upto (c + 1) (count ns)))
-      ∙ ap (any (λ e. same (elementName ns names e) name)) (sym (privates-scan ns c))
+      sym (ap (any (λ e. same (elementName ns names e) name)) (tested-scan t ns c (isPrivate ns))
+      ∙ any-keep (λ e. same (elementName ns names e) name) _ (upto (c + 1) (count ns))
+      ∙ any-same _ _ (λ e. swap (eqb (parentOf ns e) c && (isPrivate ns e && isDefinition ns e)) (enters t ns e) (same (elementName ns names e) name)) (upto (c + 1) (count ns)))
 
-  pub has-stop : (i : ℕ) → i < count ns → isPrivateNamed ns names c name i ≡ true → hasPrivateFrom i ≡ true
+  pub has-stop : (i : ℕ) → i < count ns → isNamed t ns names c true name i ≡ true → hasPrivateFrom i ≡ true
   unfolding hasPrivateFrom
   has-stop i h e = fold-turn _ _ i (count ns) h ∙ rw e
 
-  pub has-on : (i : ℕ) → i < count ns → isPrivateNamed ns names c name i ≡ false → hasPrivateFrom i ≡ hasPrivateFrom (i + 1)
+  pub has-on : (i : ℕ) → i < count ns → isNamed t ns names c true name i ≡ false → hasPrivateFrom i ≡ hasPrivateFrom (i + 1)
   unfolding hasPrivateFrom
   has-on i h e = fold-turn _ _ i (count ns) h ∙ rw e
 
@@ -108,25 +111,25 @@ module _ (ns names : List ℕ) (c : ℕ) (name : List ℕ) where
   unfolding hasPrivateFrom
   has-end i h = fold-end _ _ i (count ns) h
 
-  has-none : (f i : ℕ) → count ns ≤ i + f → ((j : ℕ) → i ≤ j → j < count ns → isPrivateNamed ns names c name j ≡ false) → hasPrivateFrom i ≡ false
+  has-none : (f i : ℕ) → count ns ≤ i + f → ((j : ℕ) → i ≤ j → j < count ns → isNamed t ns names c true name j ≡ false) → hasPrivateFrom i ≡ false
   has-none zero i hf n = has-end i (omega arith)
   has-none (suc f) i hf n =
       ⊎-elim (λ (h : i < count ns). has-on i h (n i (omega arith) h) ∙ has-none f (i + 1) (omega arith) (λ j x y. n j (omega arith) y))
       (λ (h : count ns ≤ i). has-end i h) (lt-or-ge i (count ns))
 
   pub has-out : Tree ns → (i : ℕ) → c < i → i < count ns → parentOf ns i < c → hasPrivateFrom i ≡ false
-  has-out t i h l u = has-none (count ns) i (omega arith) (λ j x y. sym (named-same ns names c name j) ∙ rw (private-out ns t c i j h u x y))
+  has-out w i h l u = has-none (count ns) i (omega arith) (λ j x y. named-out t ns names w c i j true name h u x y)
 
 -- a name declared in a class or around it, one class at a time
-module _ (ns names : List ℕ) (t : Tree ns) (name : List ℕ) (c : ℕ) (h : c < count ns) where
-  pub declared-here : hasPrivate ns names c name ≡ true → isDeclared ns names c name ≡ true
+module _ (t : ℕ) (ns names : List ℕ) (w : Tree ns) (name : List ℕ) (c : ℕ) (h : c < count ns) where
+  pub declared-here : hasPrivate t ns names c name ≡ true → isDeclared t ns names c name ≡ true
   unfolding isDeclared
   declared-here e = rw e
 
-  pub declared-outer : (d : ℕ) → hasPrivate ns names c name ≡ false → bodyAbove ns c ≡ At (record { 0 = d }) → isDeclared ns names c name ≡ isDeclared ns names d name
+  pub declared-outer : (d : ℕ) → hasPrivate t ns names c name ≡ false → bodyAbove ns c ≡ At (record { 0 = d }) → isDeclared t ns names c name ≡ isDeclared t ns names d name
   unfolding isDeclared
-  declared-outer d e b = rw (e, outer-at ns t c d h b)
+  declared-outer d e b = rw (e, outer-at ns w c d h b)
 
-  pub declared-none : hasPrivate ns names c name ≡ false → bodyAbove ns c ≡ Nothing → isDeclared ns names c name ≡ false
+  pub declared-none : hasPrivate t ns names c name ≡ false → bodyAbove ns c ≡ Nothing → isDeclared t ns names c name ≡ false
   unfolding isDeclared
-  declared-none e b = rw (e, outer-none ns t c h b)
+  declared-none e b = rw (e, outer-none ns w c h b)

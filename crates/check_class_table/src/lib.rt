@@ -5,8 +5,10 @@ ghost use Rattle.table_records.specs.Table.{count, parentOf};
 ghost use Rattle.table_records.specs.Facts.{Tree, Named};
 ghost use Rattle.table_children.specs.Children.{below};
 ghost use Rattle.check_class_table.specs.Classes.{classAt, currentClass, parentClass, inTable, before};
-ghost use Rattle.check_class_table.specs.Elements.{spanAt, elementName, elementSpan, isStatic, isPrivate, isMethodOf, isGetter, isSetter, isConstructor, isDefinition, hasName, hasBody, enters, hasPrivate, isDeclared, isPrivateDefinition, isPrivateElement, isPrivateNamed};
+ghost use Rattle.check_class_table.specs.Elements.{spanAt, elementName, elementSpan, isStatic, isPrivate, isMethodOf, isGetter, isSetter, isConstructor, isDefinition, hasName, hasBody, fixedName, enters, hasPrivate, isDeclared, isComparedDefinition, isComparedElement, isKeyed, isDefinitionIn, isNamed};
 use base_common::and;
+use base_common::not;
+use base_common::or;
 use base_common::within;
 use table_ancestry::nearest;
 use table_records::ClassId;
@@ -16,6 +18,10 @@ use table_records::NodeId;
 use table_records::extras;
 use table_records::kinds;
 use table_records::node_flag;
+use table_source::is_typescript;
+
+// Of an element in TypeScript: it has no fixed name.
+pub const NO_FIXED_NAME: u32 = 16384;
 
 // The class that is current at a node, if there is one.
 pub enum Current {
@@ -172,7 +178,7 @@ pub fn element_name<'a>(nodes: &[u32], names: &'a [u8], e: ElementId) -> &'a [u8
 }
 
 // Whether an element's key has a name: an IdentifierReference is the expression of a computed key, and gives the element none.
-pub fn has_name(nodes: &[u32], e: ElementId) -> bool
+fn has_name(nodes: &[u32], e: ElementId) -> bool
     requires { ⌜ Tree (now nodes) ⌝ }
     requires { ⌜ e .0 < count (now nodes) ⌝ }
     ensures { λ r. ⌜ r ≡ hasName (now (nodes .entry)) (e .0) ⌝ }
@@ -201,11 +207,26 @@ pub fn has_body(nodes: &[u32], e: ElementId) -> bool
     true
 }
 
-// Constructors, bodiless methods and nameless keys enter no element.
-pub fn enters(nodes: &[u32], e: ElementId) -> bool
+// Whether an element has a fixed name: in TypeScript its flag alone says so.
+pub fn has_fixed_name(source_type: u32, nodes: &[u32], e: ElementId) -> bool
     requires { ⌜ Tree (now nodes) ⌝ }
     requires { ⌜ e .0 < count (now nodes) ⌝ }
-    ensures { λ r. ⌜ r ≡ enters (now (nodes .entry)) (e .0) ⌝ }
+    ensures { λ r. ⌜ r ≡ fixedName «source_type» (now (nodes .entry)) (e .0) ⌝ }
+{
+    if is_typescript(source_type) {
+        return not(table_records::has_flag(
+            table_records::flags(nodes, NodeId(e.0)),
+            NO_FIXED_NAME,
+        ));
+    }
+    has_name(nodes, e)
+}
+
+// Constructors, bodiless methods and elements without a fixed name enter no element.
+pub fn enters(source_type: u32, nodes: &[u32], e: ElementId) -> bool
+    requires { ⌜ Tree (now nodes) ⌝ }
+    requires { ⌜ e .0 < count (now nodes) ⌝ }
+    ensures { λ r. ⌜ r ≡ enters «source_type» (now (nodes .entry)) (e .0) ⌝ }
 {
     if is_constructor(nodes, e) {
         return false;
@@ -215,45 +236,78 @@ pub fn enters(nodes: &[u32], e: ElementId) -> bool
         if !has_body(nodes, e) {
             return false;
         }
-        return has_name(nodes, e);
+        return has_fixed_name(source_type, nodes, e);
     }
-    has_name(nodes, e)
+    has_fixed_name(source_type, nodes, e)
 }
 
-// Whether a node is a definition in the body of class c with a private key.
-fn is_private_definition(nodes: &[u32], c: ClassId, e: ElementId) -> bool
+// Whether a node is a definition in the body of class c that is compared with others: a private one, and in TypeScript any.
+fn is_compared_definition(source_type: u32, nodes: &[u32], c: ClassId, e: ElementId) -> bool
     requires { ⌜ e .0 < count (now nodes) ⌝ }
-    ensures { λ r. ⌜ r ≡ isPrivateDefinition (now (nodes .entry)) (c .0) (e .0) ⌝ }
+    ensures { λ r. ⌜ r ≡ isComparedDefinition «source_type» (now (nodes .entry)) (c .0) (e .0) ⌝ }
 {
     let p = table_records::parent(nodes, NodeId(e.0));
     if p.0 == c.0 {
-        return and(is_private(nodes, e), is_definition(nodes, e));
+        let compared = or(is_typescript(source_type), is_private(nodes, e));
+        return and(compared, is_definition(nodes, e));
     }
     false
 }
 
-// Whether a node is a private element of class c.
-pub fn is_private_element(nodes: &[u32], c: ClassId, e: ElementId) -> bool
+// Whether a node is a compared element of class c.
+pub fn is_compared_element(source_type: u32, nodes: &[u32], c: ClassId, e: ElementId) -> bool
     requires { ⌜ Tree (now nodes) ⌝ }
     requires { ⌜ e .0 < count (now nodes) ⌝ }
-    ensures { λ r. ⌜ r ≡ isPrivateElement (now (nodes .entry)) (c .0) (e .0) ⌝ }
+    ensures { λ r. ⌜ r ≡ isComparedElement «source_type» (now (nodes .entry)) (c .0) (e .0) ⌝ }
 {
-    if is_private_definition(nodes, c, e) {
-        return enters(nodes, e);
+    if is_compared_definition(source_type, nodes, c, e) {
+        return enters(source_type, nodes, e);
     }
     false
 }
 
-// Whether a node is a private element of class c with this name: whether it enters is asked last, since that costs most.
-pub fn is_private_named(nodes: &[u32], names: &[u8], c: ClassId, name: &[u8], e: ElementId) -> bool
+// Public and private names belong to separate namespaces: whether an element is of the one that is asked for.
+fn is_keyed(nodes: &[u32], private: bool, e: ElementId) -> bool
+    requires { ⌜ e .0 < count (now nodes) ⌝ }
+    ensures { λ r. ⌜ r ≡ isKeyed (now (nodes .entry)) private (e .0) ⌝ }
+{
+    let found = is_private(nodes, e);
+    if private {
+        return found;
+    }
+    !found
+}
+
+// Whether a node is a definition in the body of class c, private or not.
+fn is_definition_in(nodes: &[u32], c: ClassId, private: bool, e: ElementId) -> bool
+    requires { ⌜ e .0 < count (now nodes) ⌝ }
+    ensures { λ r. ⌜ r ≡ isDefinitionIn (now (nodes .entry)) (c .0) private (e .0) ⌝ }
+{
+    let p = table_records::parent(nodes, NodeId(e.0));
+    if p.0 == c.0 {
+        return and(is_keyed(nodes, private, e), is_definition(nodes, e));
+    }
+    false
+}
+
+// Whether a node is an element of class c with this name, private or not: whether it enters is asked last, since that costs most.
+pub fn is_named(
+    source_type: u32,
+    nodes: &[u32],
+    names: &[u8],
+    c: ClassId,
+    private: bool,
+    name: &[u8],
+    e: ElementId,
+) -> bool
     requires { ⌜ Tree (now nodes) ⌝ }
     requires { ⌜ Named (now nodes) (now names) ⌝ }
     requires { ⌜ e .0 < count (now nodes) ⌝ }
-    ensures { λ r. ⌜ r ≡ isPrivateNamed (now (nodes .entry)) (now (names .entry)) (c .0) (now (name .entry)) (e .0) ⌝ }
+    ensures { λ r. ⌜ r ≡ isNamed «source_type» (now (nodes .entry)) (now (names .entry)) (c .0) private (now (name .entry)) (e .0) ⌝ }
 {
-    if is_private_definition(nodes, c, e) {
+    if is_definition_in(nodes, c, private, e) {
         if table_names::same(element_name(nodes, names, e), name) {
-            return enters(nodes, e);
+            return enters(source_type, nodes, e);
         }
         return false;
     }
@@ -261,11 +315,17 @@ pub fn is_private_named(nodes: &[u32], names: &[u8], c: ClassId, name: &[u8], e:
 }
 
 // Whether a class has a private element of this name.
-pub fn has_private_definition(nodes: &[u32], names: &[u8], c: ClassId, name: &[u8]) -> bool
+pub fn has_private_definition(
+    source_type: u32,
+    nodes: &[u32],
+    names: &[u8],
+    c: ClassId,
+    name: &[u8],
+) -> bool
     requires { ⌜ Tree (now nodes) ⌝ }
     requires { ⌜ Named (now nodes) (now names) ⌝ }
     requires { ⌜ c .0 < count (now nodes) ⌝ }
-    ensures { λ r. ⌜ r ≡ hasPrivate (now (nodes .entry)) (now (names .entry)) (c .0) (now (name .entry)) ⌝ }
+    ensures { λ r. ⌜ r ≡ hasPrivate «source_type» (now (nodes .entry)) (now (names .entry)) (c .0) (now (name .entry)) ⌝ }
 {
     let mut i = c.0 + 1;
     while table_records::is_node(nodes, i) {
@@ -273,7 +333,7 @@ pub fn has_private_definition(nodes: &[u32], names: &[u8], c: ClassId, name: &[u
         if p.0 < c.0 {
             return false;
         }
-        if is_private_named(nodes, names, c, name, ElementId(i)) {
+        if is_named(source_type, nodes, names, c, true, name, ElementId(i)) {
             return true;
         }
         i += 1;
@@ -282,15 +342,15 @@ pub fn has_private_definition(nodes: &[u32], names: &[u8], c: ClassId, name: &[u
 }
 
 // Whether a class or a class around it has a private element of this name.
-pub fn is_declared(nodes: &[u32], names: &[u8], c: ClassId, name: &[u8]) -> bool
+pub fn is_declared(source_type: u32, nodes: &[u32], names: &[u8], c: ClassId, name: &[u8]) -> bool
     requires { ⌜ Tree (now nodes) ⌝ }
     requires { ⌜ Named (now nodes) (now names) ⌝ }
     requires { ⌜ c .0 < count (now nodes) ⌝ }
-    ensures { λ r. ⌜ r ≡ isDeclared (now (nodes .entry)) (now (names .entry)) (c .0) (now (name .entry)) ⌝ }
+    ensures { λ r. ⌜ r ≡ isDeclared «source_type» (now (nodes .entry)) (now (names .entry)) (c .0) (now (name .entry)) ⌝ }
 {
     let mut at = c;
     loop {
-        if has_private_definition(nodes, names, at, name) {
+        if has_private_definition(source_type, nodes, names, at, name) {
             return true;
         }
         let Current::Class(outer) = parent_class(nodes, at) else {

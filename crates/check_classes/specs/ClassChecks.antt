@@ -23,7 +23,7 @@ use Rattle.check_class_table.specs.declared.Current.{Current}
 use Rattle.check_class_table.specs.declared.Current.the-variants.{Class, Outside}
 use Rattle.check_class_table.specs.declared.Span.{Span}
 use Rattle.check_class_table.specs.Classes.{currentClass}
-use Rattle.check_class_table.specs.Elements.{elementSpan, isConstructor, hasName, hasBody, isDeclared}
+use Rattle.check_class_table.specs.Elements.{elementSpan, isConstructor, fixedName, hasBody, isDeclared}
 
 -- a private name where no class is current
 abbrev pub outsideBy : List ℕ → ℕ → Current → Raised
@@ -47,19 +47,19 @@ unfoldable pub references : List ℕ → ℕ → List ℕ
 references ns c = keep (λ m. isReference ns m && isClass c (currentClass ns m)) (upto (c + 1) (count ns))
 
 -- a reference whose name no private element of class c or of a class around it has
-unfoldable pub undeclaredAt : List ℕ → List ℕ → ℕ → ℕ → ℕ → Raised
-undeclaredAt ns names n c m = cond (isDeclared ns names c (nameOf ns names m)) Clear (errorAt ns code.privateFieldUndeclared n m context.none)
+unfoldable pub undeclaredAt : ℕ → List ℕ → List ℕ → ℕ → ℕ → ℕ → Raised
+undeclaredAt sourceType ns names n c m = cond (isDeclared sourceType ns names c (nameOf ns names m)) Clear (errorAt ns code.privateFieldUndeclared n m context.none)
 
-unfoldable pub undeclaredIn : List ℕ → List ℕ → ℕ → ℕ → List Finding
-undeclaredIn ns names n c = flatMap (λ m. listed (undeclaredAt ns names n c m)) (references ns c)
+unfoldable pub undeclaredIn : ℕ → List ℕ → List ℕ → ℕ → ℕ → List Finding
+undeclaredIn sourceType ns names n c = flatMap (λ m. listed (undeclaredAt sourceType ns names n c m)) (references ns c)
 
 -- `check_private_identifier`, raised at Class n
-abbrev pub undeclaredBy : List ℕ → List ℕ → ℕ → Current → List Finding
-undeclaredBy ns names n (Class c) = undeclaredIn ns names n (c .0)
-undeclaredBy ns names n Outside = []
+abbrev pub undeclaredBy : ℕ → List ℕ → List ℕ → ℕ → Current → List Finding
+undeclaredBy sourceType ns names n (Class c) = undeclaredIn sourceType ns names n (c .0)
+undeclaredBy sourceType ns names n Outside = []
 
-abbrev pub privateUndeclared : List ℕ → List ℕ → ℕ → List Finding
-privateUndeclared ns names n = undeclaredBy ns names n (currentClass ns n)
+abbrev pub privateUndeclared : ℕ → List ℕ → List ℕ → ℕ → List Finding
+privateUndeclared sourceType ns names n = undeclaredBy sourceType ns names n (currentClass ns n)
 
 -- the class has an id: a BindingIdentifier, with any role
 abbrev pub hasId : List ℕ → ℕ → Bool
@@ -76,35 +76,35 @@ requireClassName ns n =
 unfoldable pub constructors : List ℕ → ℕ → List ℕ
 constructors ns c = keep (λ e. isConstructor ns e && hasBody ns e) (children ns c)
 
--- `prop_name` gives the key's span, if the key has a name, or else it is the element's
-unfoldable pub constructorSpan : List ℕ → ℕ → Span
-constructorSpan ns e = cond (hasName ns e) (elementSpan ns e) (record { start = spanStartOf ns e; end = spanEndOf ns e })
+-- `prop_name` gives the key's span, if the constructor has a fixed name, or else it is the element's
+unfoldable pub constructorSpan : ℕ → List ℕ → ℕ → Span
+constructorSpan sourceType ns e = cond (fixedName sourceType ns e) (elementSpan ns e) (record { start = spanStartOf ns e; end = spanEndOf ns e })
 
 -- "It is a Syntax Error if PrototypePropertyNameList of ClassElementList contains more than one occurrence of "constructor"": the first pair alone
-abbrev pub duplicateConstructor : List ℕ → ℕ → ℕ → ℕ → Raised
-duplicateConstructor ns n a b =
+abbrev pub duplicateConstructor : ℕ → List ℕ → ℕ → ℕ → ℕ → Raised
+duplicateConstructor sourceType ns n a b =
     Error (record {
       code = code.duplicateConstructor;
       node = record { 0 = n };
-      start = constructorSpan ns a .start;
-      end = constructorSpan ns a .end;
-      start2 = constructorSpan ns b .start;
-      end2 = constructorSpan ns b .end;
+      start = constructorSpan sourceType ns a .start;
+      end = constructorSpan sourceType ns a .end;
+      start2 = constructorSpan sourceType ns b .start;
+      end2 = constructorSpan sourceType ns b .end;
       context = context.none;
     })
 
-abbrev pub firstPair : List ℕ → ℕ → List ℕ → Raised
-firstPair ns n [] = Clear
-firstPair ns n (a ∷ []) = Clear
-firstPair ns n (a ∷ b ∷ l) = duplicateConstructor ns n a b
+abbrev pub firstPair : ℕ → List ℕ → ℕ → List ℕ → Raised
+firstPair sourceType ns n [] = Clear
+firstPair sourceType ns n (a ∷ []) = Clear
+firstPair sourceType ns n (a ∷ b ∷ l) = duplicateConstructor sourceType ns n a b
 
-abbrev pub secondBy : List ℕ → ℕ → Found → Raised
-secondBy ns n (At b) = firstPair ns n (constructors ns (b .0))
-secondBy ns n Nothing = Clear
+abbrev pub secondBy : ℕ → List ℕ → ℕ → Found → Raised
+secondBy sourceType ns n (At b) = firstPair sourceType ns n (constructors ns (b .0))
+secondBy sourceType ns n Nothing = Clear
 
-abbrev pub secondConstructor : List ℕ → ℕ → Raised
-secondConstructor ns n = secondBy ns n (classBodyOf ns n)
+abbrev pub secondConstructor : ℕ → List ℕ → ℕ → Raised
+secondConstructor sourceType ns n = secondBy sourceType ns n (classBodyOf ns n)
 
 -- `check_class`
-unfoldable pub checkClass : List ℕ → List ℕ → ℕ → List Finding
-checkClass ns names n = privateUndeclared ns names n ++ (listed (requireClassName ns n) ++ listed (secondConstructor ns n))
+unfoldable pub checkClass : ℕ → List ℕ → List ℕ → ℕ → List Finding
+checkClass sourceType ns names n = privateUndeclared sourceType ns names n ++ (listed (requireClassName ns n) ++ listed (secondConstructor sourceType ns n))

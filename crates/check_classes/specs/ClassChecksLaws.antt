@@ -37,11 +37,11 @@ unfoldable pub isReferenceOf : List ℕ → ℕ → ℕ → Bool
 isReferenceOf ns c m = isReference ns m && isClass c (currentClass ns m)
 
 -- what node m raises as a reference of class c
-unfoldable pub raisedAt : List ℕ → List ℕ → ℕ → ℕ → ℕ → Raised
-raisedAt ns names n c m = cond (isReferenceOf ns c m) (undeclaredAt ns names n c m) Clear
+unfoldable pub raisedAt : ℕ → List ℕ → List ℕ → ℕ → ℕ → ℕ → Raised
+raisedAt t ns names n c m = cond (isReferenceOf ns c m) (undeclaredAt t ns names n c m) Clear
 
-unfoldable pub undeclaredFrom : List ℕ → List ℕ → ℕ → ℕ → ℕ → List Finding
-undeclaredFrom ns names n c i = flatMap (λ m. listed (raisedAt ns names n c m)) (upto i (count ns))
+unfoldable pub undeclaredFrom : ℕ → List ℕ → List ℕ → ℕ → ℕ → ℕ → List Finding
+undeclaredFrom t ns names n c i = flatMap (λ m. listed (raisedAt t ns names n c m)) (upto i (count ns))
 
 -- the class current at a PrivateIdentifier is the nearest ClassBody above
 current-name : (ns : List ℕ) (m : ℕ) → kindOf ns m ≡ k.PrivateIdentifier → currentClass ns m ≡ classAt (bodyAbove ns m)
@@ -61,35 +61,35 @@ reference-on ns t c m h e =
     let q : kindOf ns m ≡ k.PrivateIdentifier = eqb-true (kindOf ns m) k.PrivateIdentifier (and-left (eqb (kindOf ns m) k.PrivateIdentifier) (within (kindOf ns (parentOf ns m)) k.OtherMember k.PrivateIn) a) in
     over ns t k.ClassBody k.ClassBody m c h (class-found (bodyAbove ns m) c (sym (current-name ns m q) ∙ is-class c (currentClass ns m) b)) .over
 
-module _ (ns names : List ℕ) (n c : ℕ) where
-  pub from-start : undeclaredFrom ns names n c (c + 1) ≡ undeclaredIn ns names n c
+module _ (t : ℕ) (ns names : List ℕ) (n c : ℕ) where
+  pub from-start : undeclaredFrom t ns names n c (c + 1) ≡ undeclaredIn t ns names n c
   unfolding undeclaredFrom undeclaredIn raisedAt references isReferenceOf
   from-start =
-      flat-same _ _ (λ m. listed-cond (isReference ns m && isClass c (currentClass ns m)) (undeclaredAt ns names n c m)) (upto (c + 1) (count ns))
-      ∙ sym (flat-keep (λ m. listed (undeclaredAt ns names n c m)) (λ m. isReference ns m && isClass c (currentClass ns m)) (upto (c + 1) (count ns)))
+      flat-same _ _ (λ m. listed-cond (isReference ns m && isClass c (currentClass ns m)) (undeclaredAt t ns names n c m)) (upto (c + 1) (count ns))
+      ∙ sym (flat-keep (λ m. listed (undeclaredAt t ns names n c m)) (λ m. isReference ns m && isClass c (currentClass ns m)) (upto (c + 1) (count ns)))
 
-  pub from-turn : (i : ℕ) → i < count ns → undeclaredFrom ns names n c i ≡ listed (raisedAt ns names n c i) ++ undeclaredFrom ns names n c (i + 1)
+  pub from-turn : (i : ℕ) → i < count ns → undeclaredFrom t ns names n c i ≡ listed (raisedAt t ns names n c i) ++ undeclaredFrom t ns names n c (i + 1)
   unfolding undeclaredFrom
-  from-turn i h = flat-turn (λ m. listed (raisedAt ns names n c m)) i (count ns) h
+  from-turn i h = flat-turn (λ m. listed (raisedAt t ns names n c m)) i (count ns) h
 
-  pub from-end : (i : ℕ) → count ns ≤ i → undeclaredFrom ns names n c i ≡ []
+  pub from-end : (i : ℕ) → count ns ≤ i → undeclaredFrom t ns names n c i ≡ []
   unfolding undeclaredFrom
-  from-end i h = flat-end (λ m. listed (raisedAt ns names n c m)) i (count ns) h
+  from-end i h = flat-end (λ m. listed (raisedAt t ns names n c m)) i (count ns) h
 
-  raised-none : (j : ℕ) → (isReferenceOf ns c j ≡ true → ⊥) → listed (raisedAt ns names n c j) ≡ []
+  raised-none : (j : ℕ) → (isReferenceOf ns c j ≡ true → ⊥) → listed (raisedAt t ns names n c j) ≡ []
   unfolding raisedAt
   raised-none j e = go (isReferenceOf ns c j) refl
     where
-      go : (b : Bool) → isReferenceOf ns c j ≡ b → listed (cond b (undeclaredAt ns names n c j) Clear) ≡ []
+      go : (b : Bool) → isReferenceOf ns c j ≡ b → listed (cond b (undeclaredAt t ns names n c j) Clear) ≡ []
       go true x = absurd (e x)
       go false x = refl
 
   -- past the nodes below the body there is none
-  pub from-out : Tree ns → (i : ℕ) → c < i → i < count ns → parentOf ns i < c → undeclaredFrom ns names n c i ≡ []
+  pub from-out : Tree ns → (i : ℕ) → c < i → i < count ns → parentOf ns i < c → undeclaredFrom t ns names n c i ≡ []
   unfolding undeclaredFrom
-  from-out t i h l u =
-      flat-none (λ m. listed (raisedAt ns names n c m)) i (count ns)
-      (λ j x y. raised-none j (λ e. leaves (parentOf ns) (count ns) (t .order) c i h l u (interval (parentOf ns) (count ns) (t .order) c i j y (reference-on ns t c j y e) (omega arith) x)))
+  from-out v i h l u =
+      flat-none (λ m. listed (raisedAt t ns names n c m)) i (count ns)
+      (λ j x y. raised-none j (λ e. leaves (parentOf ns) (count ns) (v .order) c i h l u (interval (parentOf ns) (count ns) (v .order) c i j y (reference-on ns v c j y e) (omega arith) x)))
 
 -- node e is a constructor of class c with a body
 unfoldable pub isConstructorOf : List ℕ → ℕ → ℕ → Bool
@@ -111,30 +111,31 @@ module _ (ns : List ℕ) (c : ℕ) where
   pub constructor-out : Tree ns → (i : ℕ) → c < i → i < count ns → parentOf ns i < c → nextConstructor ns c i ≡ Nothing
   constructor-out t i h l u = no-node (isConstructorOf ns c) (count ns) i (λ j x y. other j (λ e. no-child (parentOf ns) (count ns) (t .order) c i j h u x y e))
 
-  -- what the two searches say of the first pair
-  pub none-found : (n : ℕ) → nextConstructor ns c (c + 1) ≡ Nothing → firstPair ns n (constructors ns c) ≡ Clear
-  none-found n e = rw (constructors-scan, kept-none (isConstructorOf ns c) (count ns) (c + 1) e)
+-- what the two searches say of the first pair
+module _ (t : ℕ) (ns : List ℕ) (c : ℕ) where
+  pub none-found : (n : ℕ) → nextConstructor ns c (c + 1) ≡ Nothing → firstPair t ns n (constructors ns c) ≡ Clear
+  none-found n e = rw (constructors-scan ns c, kept-none (isConstructorOf ns c) (count ns) (c + 1) e)
 
-  pub one-found : (n a : ℕ) → nextConstructor ns c (c + 1) ≡ At (record { 0 = a }) → nextConstructor ns c (a + 1) ≡ Nothing → firstPair ns n (constructors ns c) ≡ Clear
-  one-found n a e f = rw (constructors-scan, kept-first (isConstructorOf ns c) (count ns) (c + 1) a e, kept-none (isConstructorOf ns c) (count ns) (a + 1) f)
+  pub one-found : (n a : ℕ) → nextConstructor ns c (c + 1) ≡ At (record { 0 = a }) → nextConstructor ns c (a + 1) ≡ Nothing → firstPair t ns n (constructors ns c) ≡ Clear
+  one-found n a e f = rw (constructors-scan ns c, kept-first (isConstructorOf ns c) (count ns) (c + 1) a e, kept-none (isConstructorOf ns c) (count ns) (a + 1) f)
 
   pub two-found : (n a b : ℕ) → nextConstructor ns c (c + 1) ≡ At (record { 0 = a }) → nextConstructor ns c (a + 1) ≡ At (record { 0 = b })
-      → firstPair ns n (constructors ns c) ≡ firstPair ns n (a ∷ b ∷ [])
-  two-found n a b e f = rw (constructors-scan, kept-first (isConstructorOf ns c) (count ns) (c + 1) a e, kept-first (isConstructorOf ns c) (count ns) (a + 1) b f)
+      → firstPair t ns n (constructors ns c) ≡ firstPair t ns n (a ∷ b ∷ [])
+  two-found n a b e f = rw (constructors-scan ns c, kept-first (isConstructorOf ns c) (count ns) (c + 1) a e, kept-first (isConstructorOf ns c) (count ns) (a + 1) b f)
 
 -- the three parts of check_class in the slice
-module _ (ns names : List ℕ) (n : ℕ) (s s1 s2 : List ℕ) (w w1 w2 : ℕ)
-    (e1 : w1 ≡ w + 7 * length (privateUndeclared ns names n)) (x1 : s1 ≡ sink s w (privateUndeclared ns names n))
+module _ (t : ℕ) (ns names : List ℕ) (n : ℕ) (s s1 s2 : List ℕ) (w w1 w2 : ℕ)
+    (e1 : w1 ≡ w + 7 * length (privateUndeclared t ns names n)) (x1 : s1 ≡ sink s w (privateUndeclared t ns names n))
     (e2 : w2 ≡ w1 + 7 * length (listed (requireClassName ns n))) (x2 : s2 ≡ sink s1 w1 (listed (requireClassName ns n)))
   where
-    pub check-place : w2 + 7 * length (listed (secondConstructor ns n)) ≡ w + 7 * length (checkClass ns names n)
+    pub check-place : w2 + 7 * length (listed (secondConstructor t ns n)) ≡ w + 7 * length (checkClass t ns names n)
     unfolding checkClass
     check-place =
-        let a = length-append (privateUndeclared ns names n) (listed (requireClassName ns n) ++ listed (secondConstructor ns n)) in
-        let b = length-append (listed (requireClassName ns n)) (listed (secondConstructor ns n)) in
+        let a = length-append (privateUndeclared t ns names n) (listed (requireClassName ns n) ++ listed (secondConstructor t ns n)) in
+        let b = length-append (listed (requireClassName ns n)) (listed (secondConstructor t ns n)) in
         omega arith
 
-    pub check-sink : sink s2 w2 (listed (secondConstructor ns n)) ≡ sink s w (checkClass ns names n)
+    pub check-sink : sink s2 w2 (listed (secondConstructor t ns n)) ≡ sink s w (checkClass t ns names n)
     unfolding checkClass
     check-sink =
-        rw (sink-append s w (privateUndeclared ns names n) (listed (requireClassName ns n) ++ listed (secondConstructor ns n)), ← x1, ← e1, sink-append s1 w1 (listed (requireClassName ns n)) (listed (secondConstructor ns n)), ← x2, ← e2)
+        rw (sink-append s w (privateUndeclared t ns names n) (listed (requireClassName ns n) ++ listed (secondConstructor t ns n)), ← x1, ← e1, sink-append s1 w1 (listed (requireClassName ns n)) (listed (secondConstructor t ns n)), ← x2, ← e2)

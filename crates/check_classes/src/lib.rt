@@ -66,35 +66,56 @@ fn is_reference_of(nodes: &[u32], c: ClassId, m: NodeId) -> bool
 }
 
 // What a private reference of class c raises at node n.
-fn undeclared_at(nodes: &[u32], names: &[u8], n: NodeId, c: ClassId, m: NodeId) -> Raised
+fn undeclared_at(
+    source_type: u32,
+    nodes: &[u32],
+    names: &[u8],
+    n: NodeId,
+    c: ClassId,
+    m: NodeId,
+) -> Raised
     requires { ⌜ Tree (now nodes) ⌝ }
     requires { ⌜ Named (now nodes) (now names) ⌝ }
     requires { ⌜ c .0 < count (now nodes) ⌝ }
     requires { ⌜ m .0 < count (now nodes) ⌝ }
-    ensures { λ r. ⌜ r ≡ undeclaredAt (now (nodes .entry)) (now (names .entry)) (n .0) (c .0) (m .0) ⌝ }
+    ensures { λ r. ⌜ r ≡ undeclaredAt «source_type» (now (nodes .entry)) (now (names .entry)) (n .0) (c .0) (m .0) ⌝ }
 {
-    if check_class_table::is_declared(nodes, names, c, table_names::name(nodes, names, m)) {
+    if check_class_table::is_declared(
+        source_type,
+        nodes,
+        names,
+        c,
+        table_names::name(nodes, names, m),
+    ) {
         return Raised::Clear;
     }
     check_diagnostics::error_at(nodes, codes::PRIVATE_FIELD_UNDECLARED, n, m, contexts::NONE)
 }
 
 // What a node raises as a private reference of class c.
-fn raised_at(nodes: &[u32], names: &[u8], n: NodeId, c: ClassId, m: NodeId) -> Raised
+fn raised_at(
+    source_type: u32,
+    nodes: &[u32],
+    names: &[u8],
+    n: NodeId,
+    c: ClassId,
+    m: NodeId,
+) -> Raised
     requires { ⌜ Tree (now nodes) ⌝ }
     requires { ⌜ Named (now nodes) (now names) ⌝ }
     requires { ⌜ c .0 < count (now nodes) ⌝ }
     requires { ⌜ m .0 < count (now nodes) ⌝ }
-    ensures { λ r. ⌜ r ≡ raisedAt (now (nodes .entry)) (now (names .entry)) (n .0) (c .0) (m .0) ⌝ }
+    ensures { λ r. ⌜ r ≡ raisedAt «source_type» (now (nodes .entry)) (now (names .entry)) (n .0) (c .0) (m .0) ⌝ }
 {
     if is_reference_of(nodes, c, m) {
-        return undeclared_at(nodes, names, n, c, m);
+        return undeclared_at(source_type, nodes, names, n, c, m);
     }
     Raised::Clear
 }
 
 // What the private references of class c raise at node n.
 fn undeclared_in(
+    source_type: u32,
     nodes: &[u32],
     names: &[u8],
     n: NodeId,
@@ -106,8 +127,8 @@ fn undeclared_in(
     requires { ⌜ Named (now nodes) (now names) ⌝ }
     requires { ⌜ c .0 < count (now nodes) ⌝ }
     requires { ⌜ at ≤ 999999000000 ⌝ }
-    ensures { λ w. ⌜ w ≡ at + 7 * length (undeclaredIn (now (nodes .entry)) (now (names .entry)) (n .0) (c .0)) ⌝ }
-    ensures { λ _. ⌜ now (findings .exit) ≡ sink (now (findings .entry)) at (undeclaredIn (now (nodes .entry)) (now (names .entry)) (n .0) (c .0)) ⌝ }
+    ensures { λ w. ⌜ w ≡ at + 7 * length (undeclaredIn «source_type» (now (nodes .entry)) (now (names .entry)) (n .0) (c .0)) ⌝ }
+    ensures { λ _. ⌜ now (findings .exit) ≡ sink (now (findings .entry)) at (undeclaredIn «source_type» (now (nodes .entry)) (now (names .entry)) (n .0) (c .0)) ⌝ }
     ensures { λ w. ⌜ w ≤ at + 458745 ⌝ }
 {
     let mut w = at;
@@ -117,7 +138,11 @@ fn undeclared_in(
         if p.0 < c.0 {
             return w;
         }
-        w = check_diagnostics::raise(findings, w, raised_at(nodes, names, n, c, NodeId(i)));
+        w = check_diagnostics::raise(
+            findings,
+            w,
+            raised_at(source_type, nodes, names, n, c, NodeId(i)),
+        );
         i += 1;
     }
     w
@@ -125,6 +150,7 @@ fn undeclared_in(
 
 // Private names of the class that is current at node n which it and the classes around it do not declare.
 fn check_private_identifier(
+    source_type: u32,
     nodes: &[u32],
     names: &[u8],
     n: NodeId,
@@ -135,14 +161,14 @@ fn check_private_identifier(
     requires { ⌜ Named (now nodes) (now names) ⌝ }
     requires { ⌜ n .0 < count (now nodes) ⌝ }
     requires { ⌜ at ≤ 999999000000 ⌝ }
-    ensures { λ w. ⌜ w ≡ at + 7 * length (privateUndeclared (now (nodes .entry)) (now (names .entry)) (n .0)) ⌝ }
-    ensures { λ _. ⌜ now (findings .exit) ≡ sink (now (findings .entry)) at (privateUndeclared (now (nodes .entry)) (now (names .entry)) (n .0)) ⌝ }
+    ensures { λ w. ⌜ w ≡ at + 7 * length (privateUndeclared «source_type» (now (nodes .entry)) (now (names .entry)) (n .0)) ⌝ }
+    ensures { λ _. ⌜ now (findings .exit) ≡ sink (now (findings .entry)) at (privateUndeclared «source_type» (now (nodes .entry)) (now (names .entry)) (n .0)) ⌝ }
     ensures { λ w. ⌜ w ≤ at + 458745 ⌝ }
 {
     let Current::Class(c) = check_class_table::current_class(nodes, n) else {
         return at;
     };
-    undeclared_in(nodes, names, n, c, findings, at)
+    undeclared_in(source_type, nodes, names, n, c, findings, at)
 }
 
 fn has_id(nodes: &[u32], n: NodeId) -> bool
@@ -228,27 +254,33 @@ fn next_constructor(nodes: &[u32], c: ClassId, from: u32) -> Found
     Found::Nothing
 }
 
-// The span of a constructor: that of its key if this has a name.
-fn constructor_span(nodes: &[u32], e: ElementId) -> Span
+// The span of a constructor: that of its key if its name is fixed.
+fn constructor_span(source_type: u32, nodes: &[u32], e: ElementId) -> Span
     requires { ⌜ Tree (now nodes) ⌝ }
     requires { ⌜ e .0 < count (now nodes) ⌝ }
-    ensures { λ r. ⌜ r ≡ constructorSpan (now (nodes .entry)) (e .0) ⌝ }
+    ensures { λ r. ⌜ r ≡ constructorSpan «source_type» (now (nodes .entry)) (e .0) ⌝ }
 {
-    if check_class_table::has_name(nodes, e) {
+    if check_class_table::has_fixed_name(source_type, nodes, e) {
         return check_class_table::element_span(nodes, e);
     }
     check_class_table::span_at(nodes, Found::At(NodeId(e.0)))
 }
 
 // The finding that constructor b repeats a.
-fn duplicate_constructor(nodes: &[u32], n: NodeId, a: ElementId, b: ElementId) -> Raised
+fn duplicate_constructor(
+    source_type: u32,
+    nodes: &[u32],
+    n: NodeId,
+    a: ElementId,
+    b: ElementId,
+) -> Raised
     requires { ⌜ Tree (now nodes) ⌝ }
     requires { ⌜ a .0 < count (now nodes) ⌝ }
     requires { ⌜ b .0 < count (now nodes) ⌝ }
-    ensures { λ r. ⌜ r ≡ duplicateConstructor (now (nodes .entry)) (n .0) (a .0) (b .0) ⌝ }
+    ensures { λ r. ⌜ r ≡ duplicateConstructor «source_type» (now (nodes .entry)) (n .0) (a .0) (b .0) ⌝ }
 {
-    let first = constructor_span(nodes, a);
-    let second = constructor_span(nodes, b);
+    let first = constructor_span(source_type, nodes, a);
+    let second = constructor_span(source_type, nodes, b);
     Raised::Error(Finding {
         code: codes::DUPLICATE_CONSTRUCTOR,
         node: n,
@@ -263,10 +295,10 @@ fn duplicate_constructor(nodes: &[u32], n: NodeId, a: ElementId, b: ElementId) -
 // The first two constructors of a class.
 // > ClassBody : ClassElementList
 // > It is a Syntax Error if PrototypePropertyNameList of ClassElementList contains more than one occurrence of "constructor".
-fn second_constructor(nodes: &[u32], n: NodeId) -> Raised
+fn second_constructor(source_type: u32, nodes: &[u32], n: NodeId) -> Raised
     requires { ⌜ Tree (now nodes) ⌝ }
     requires { ⌜ n .0 < count (now nodes) ⌝ }
-    ensures { λ r. ⌜ r ≡ secondConstructor (now (nodes .entry)) (n .0) ⌝ }
+    ensures { λ r. ⌜ r ≡ secondConstructor «source_type» (now (nodes .entry)) (n .0) ⌝ }
 {
     let Found::At(body) = table_children::class_body_of(nodes, n) else {
         return Raised::Clear;
@@ -278,20 +310,27 @@ fn second_constructor(nodes: &[u32], n: NodeId) -> Raised
     let Found::At(b) = next_constructor(nodes, c, a.0 + 1) else {
         return Raised::Clear;
     };
-    duplicate_constructor(nodes, n, ElementId(a.0), ElementId(b.0))
+    duplicate_constructor(source_type, nodes, n, ElementId(a.0), ElementId(b.0))
 }
 
-pub fn check_class(nodes: &[u32], names: &[u8], n: NodeId, findings: &mut [u32], at: usize) -> usize
+pub fn check_class(
+    source_type: u32,
+    nodes: &[u32],
+    names: &[u8],
+    n: NodeId,
+    findings: &mut [u32],
+    at: usize,
+) -> usize
     requires { ⌜ Tree (now nodes) ⌝ }
     requires { ⌜ Named (now nodes) (now names) ⌝ }
     requires { ⌜ n .0 < count (now nodes) ⌝ }
     requires { ⌜ spanStartOf (now nodes) (n .0) ≤ 1048576 ⌝ }
     requires { ⌜ at ≤ 999999000000 ⌝ }
-    ensures { λ w. ⌜ w ≡ at + 7 * length (checkClass (now (nodes .entry)) (now (names .entry)) (n .0)) ⌝ }
-    ensures { λ _. ⌜ now (findings .exit) ≡ sink (now (findings .entry)) at (checkClass (now (nodes .entry)) (now (names .entry)) (n .0)) ⌝ }
+    ensures { λ w. ⌜ w ≡ at + 7 * length (checkClass «source_type» (now (nodes .entry)) (now (names .entry)) (n .0)) ⌝ }
+    ensures { λ _. ⌜ now (findings .exit) ≡ sink (now (findings .entry)) at (checkClass «source_type» (now (nodes .entry)) (now (names .entry)) (n .0)) ⌝ }
     ensures { λ w. ⌜ w ≤ at + 458759 ⌝ }
 {
-    let first = check_private_identifier(nodes, names, n, findings, at);
+    let first = check_private_identifier(source_type, nodes, names, n, findings, at);
     let second = check_diagnostics::raise(findings, first, require_class_name(nodes, n));
-    check_diagnostics::raise(findings, second, second_constructor(nodes, n))
+    check_diagnostics::raise(findings, second, second_constructor(source_type, nodes, n))
 }

@@ -27,7 +27,7 @@ findingsAt sourceType ns ss source names n =
     (cond (eqb (kindOf ns n) k.NumericLiteral) (listed (checkNumberLiteral ns ss source n))
     (cond (eqb (kindOf ns n) k.StringLiteral) (listed (checkStringLiteral ns ss source n))
     (cond (eqb (kindOf ns n) k.Directive) (listed (checkDirective ns ss names n))
-    (cond (eqb (kindOf ns n) k.With) (listed (checkBody ns ss n) ++ listed (checkWithStatement ns ss n))
+    (cond (eqb (kindOf ns n) k.With) (listed (checkBody ns ss n) ++ listed (checkWithStatement sourceType ns ss n))
     (cond (eqb (kindOf ns n) k.Break) (listed (checkBreakStatement ns names n))
     (cond (eqb (kindOf ns n) k.Continue) (listed (checkContinueStatement ns names n))
     (cond (eqb (kindOf ns n) k.Labeled) (listed (checkLabeledStatement ns names n) ++ listed (checkFunctionDeclarationInLabeledStatement ns ss n))
@@ -37,7 +37,7 @@ findingsAt sourceType ns ss source names n =
     (cond (eqb (kindOf ns n) k.DoWhile) (listed (checkBody ns ss n))
     (cond (eqb (kindOf ns n) k.For) (listed (checkBody ns ss n))
     (cond (eqb (kindOf ns n) k.If) (listed (checkConsequent ns ss n) ++ listed (checkAlternate ns ss n))
-    (cond (eqb (kindOf ns n) k.Class) (checkClass ns names n)
+    (cond (eqb (kindOf ns n) k.Class) (checkClass sourceType ns names n)
     (cond (eqb (kindOf ns n) k.Super) (listed (checkSuper ns ss n))
     (cond (eqb (kindOf ns n) k.Await) (checkAwaitExpression ns ss n)
     (cond (eqb (kindOf ns n) k.Object) (checkObjectExpression ns names n)
@@ -48,4 +48,4 @@ findingsAt sourceType ns ss source names n =
 
 -- the findings of the tree: duplicate class elements, which the Program raises, then node by node
 unfoldable pub findingsOf : ℕ → List ℕ → List ℕ → List ℕ → List ℕ → List Finding
-findingsOf sourceType ns ss source names = duplicateElements ns names ++ flatMap (findingsAt sourceType ns ss source names) (upto 0 (count ns))
+findingsOf sourceType ns ss source names = duplicateElements sourceType ns names ++ flatMap (findingsAt sourceType ns ss source names) (upto 0 (count ns))

@@ -3,3 +3,5 @@ pub mod FindingsLaws
 pub mod Rule
 pub mod Reported
 pub mod ReportedLaws
+pub mod Former
+pub mod FormerLaws

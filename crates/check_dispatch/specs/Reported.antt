@@ -16,4 +16,4 @@ unfoldable pub reportedAt : Rule → ℕ → List Finding
 reportedAt r n = findingsAt (r .sourceType) (r .nodes) (r .scopes) (r .source) (r .names) n ++ cond (eqb (r .asyncBodies) 0) [] (asyncBodiesAt (r .nodes) (r .scopes) n)
 
 unfoldable pub reported : Rule → List Finding
-reported r = duplicateElements (r .nodes) (r .names) ++ flatMap (reportedAt r) (upto 0 (count (r .nodes)))
+reported r = duplicateElements (r .sourceType) (r .nodes) (r .names) ++ flatMap (reportedAt r) (upto 0 (count (r .nodes)))

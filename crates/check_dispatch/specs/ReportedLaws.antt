@@ -27,7 +27,7 @@ module _ (sourceType : ℕ) (ns ss source names : List ℕ) where
 
   pub off : reported (rule sourceType 0 ns ss source names) ≡ findingsOf sourceType ns ss source names
   unfolding reported findingsOf
-  off = ap (λ (l : List Finding). duplicateElements ns names ++ l) (flat-same (reportedAt (rule sourceType 0 ns ss source names)) (findingsAt sourceType ns ss source names) off-at (upto 0 (count ns)))
+  off = ap (λ (l : List Finding). duplicateElements sourceType ns names ++ l) (flat-same (reportedAt (rule sourceType 0 ns ss source names)) (findingsAt sourceType ns ss source names) off-at (upto 0 (count ns)))
 
 -- without any there is none of the Rust's
 nil-both : (l m : List Finding) → l ++ m ≡ [] → (l ≡ []) × (m ≡ [])
@@ -42,7 +42,7 @@ flat-none f g h (n ∷ l) e = let w = nil-both (g n) (flatMap g l) e in rw (h n 
 pub none-reported : (r : Rule) → reported r ≡ [] → findingsOf (r .sourceType) (r .nodes) (r .scopes) (r .source) (r .names) ≡ []
 unfolding reported reportedAt findingsOf
 none-reported r e =
-    let w = nil-both (duplicateElements (r .nodes) (r .names)) (flatMap (reportedAt r) (upto 0 (count (r .nodes)))) e in
+    let w = nil-both (duplicateElements (r .sourceType) (r .nodes) (r .names)) (flatMap (reportedAt r) (upto 0 (count (r .nodes)))) e in
     rw (w .0)
     (flat-none (findingsAt (r .sourceType) (r .nodes) (r .scopes) (r .source) (r .names)) (reportedAt r) (λ n q. nil-both (findingsAt (r .sourceType) (r .nodes) (r .scopes) (r .source) (r .names) n) _ q .0)
     (upto 0 (count (r .nodes))) (w .1))

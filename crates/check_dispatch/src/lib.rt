@@ -82,7 +82,7 @@ fn check_node(
         ),
         kinds::WITH => {
             let a = check_statements::check_body(nodes, scopes, n);
-            let b = check_statements::check_with_statement(nodes, scopes, n);
+            let b = check_statements::check_with_statement(source_type, nodes, scopes, n);
             raise_two(findings, at, a, b)
         }
         kinds::BREAK => raise_one(
@@ -123,7 +123,7 @@ fn check_node(
             let b = check_statements::check_alternate(nodes, scopes, n);
             raise_two(findings, at, a, b)
         }
-        kinds::CLASS => check_classes::check_class(nodes, names, n, findings, at),
+        kinds::CLASS => check_classes::check_class(source_type, nodes, names, n, findings, at),
         kinds::SUPER => raise_one(
             findings,
             at,
@@ -190,7 +190,13 @@ pub fn check_tree(
     requires { ⌜ Sourced (now nodes) (now source) ⌝ }
     ensures { λ w. ⌜ Raises (now (findings .entry)) (now (findings .exit)) 0 w (reported (rule «source_type» «async_bodies» (now (nodes .entry)) (now (scopes .entry)) (now (source .entry)) (now (names .entry)))) ⌝ }
 {
-    let mut at = check_duplicates::check_duplicate_class_elements(nodes, names, findings, 0);
+    let mut at = check_duplicates::check_duplicate_class_elements(
+        source_type,
+        nodes,
+        names,
+        findings,
+        0,
+    );
     let mut i: u32 = 0;
     while table_records::is_node(nodes, i) {
         at = check_node_and_bodies(

@@ -5,6 +5,7 @@ use mathlib.Core.Bool.{Bool, false, cond, not, _&&_, _||_}
 use lib.Dec.{eqb}
 use Rattle.base_common.specs.Upto.{any}
 use Rattle.base_common.specs.Tests.{within}
+use Rattle.table_source.specs.SourceType.{isModule}
 use Rattle.table_records.specs.Table.{kindOf, parentOf, flagsOf, extraOf, scopeOf, scopeFlagsOf, scopeNodeOf, ancestors, hasFlag}
 use Rattle.table_records.specs.Kinds as k
 use Rattle.table_records.specs.Extras as extra
@@ -20,10 +21,6 @@ use Rattle.check_diagnostics.specs.Codes as code
 use Rattle.check_diagnostics.specs.Contexts as context
 use Rattle.check_diagnostics.specs.declared.Raised.{Raised}
 use Rattle.check_diagnostics.specs.declared.Raised.the-variants.{Clear}
-
--- "Source type: 0 script, 1 module"
-abbrev pub isModule : ℕ → Bool
-isModule t = eqb t 1
 
 -- why a name is reserved in strict code: it is in a class, or else in a module, or else the code says so
 unfoldable pub strictContext : ℕ → List ℕ → ℕ → ℕ

@@ -3,7 +3,7 @@ ghost use mathlib.Core.Path.{_≡_};
 ghost use Prim.Native.Nat.{_<_};
 ghost use Rattle.table_records.specs.Table.{count, scopeOf, scopeNodeOf};
 ghost use Rattle.table_records.specs.Facts.{Tree, Scoped, Named, Input};
-ghost use Rattle.check_identifiers.specs.Identifiers.{isModule, strictContext, awaitFinding, isStrictWord, checkIdentifier, isEvalOrArguments, letBound, letFrom, checkBindingIdentifier, isFieldValue, argumentsFrom, isInvalidTarget, checkIdentifierReference, isNotSimple, checkDirective};
+ghost use Rattle.check_identifiers.specs.Identifiers.{strictContext, awaitFinding, isStrictWord, checkIdentifier, isEvalOrArguments, letBound, letFrom, checkBindingIdentifier, isFieldValue, argumentsFrom, isInvalidTarget, checkIdentifierReference, isNotSimple, checkDirective};
 use base_common::and;
 use base_common::or;
 use base_common::within;
@@ -22,12 +22,7 @@ use table_records::node_flag;
 use table_records::scope_flag;
 use table_scoping::current_scope_flags;
 use table_scoping::strict_mode;
-
-fn is_module(source_type: u32) -> bool
-    ensures { λ r. ⌜ r ≡ isModule «source_type» ⌝ }
-{
-    source_type == 1
-}
+use table_source::is_module;
 
 // Why strict code has a name reserved: a class, a module, or neither.
 fn unexpected_identifier_assign_context(source_type: u32, nodes: &[u32], n: NodeId) -> u32

@@ -4,6 +4,7 @@ use mathlib.Core.List.{List, foldr}
 use mathlib.Core.Bool.{Bool, true, false, cond, not, _&&_, _||_}
 use lib.Dec.{eqb, leb}
 use Rattle.base_common.specs.Tests.{within}
+use Rattle.table_source.specs.SourceType.{isTypescript}
 use Rattle.table_records.specs.Table.{kindOf, flagsOf, extraOf, spanStartOf, scopeOf, scopeFlagsOf, hasFlag, ancestors}
 use Rattle.table_records.specs.Kinds as k
 use Rattle.table_records.specs.Roles as role
@@ -61,9 +62,9 @@ checkLabeledItem ns ss n s =
 abbrev pub checkFunctionDeclarationInLabeledStatement : List ℕ → List ℕ → ℕ → Raised
 checkFunctionDeclarationInLabeledStatement ns ss n = checkFound (heldOf ns n) (checkLabeledItem ns ss n)
 
--- no With in strict code: 17, with the four bytes of the word
-unfoldable pub checkWithStatement : List ℕ → List ℕ → ℕ → Raised
-checkWithStatement ns ss n = cond (isStrict ns ss n) (errorSpan code.withStatement n (spanStartOf ns n) (spanStartOf ns n + 4) context.none) Clear
+-- no With in strict code, and "`with` gives code 17 in sloppy code too" in TypeScript (document 02, request 13): 17, with the four bytes of the word
+unfoldable pub checkWithStatement : ℕ → List ℕ → List ℕ → ℕ → Raised
+checkWithStatement sourceType ns ss n = cond (isTypescript sourceType || isStrict ns ss n) (errorSpan code.withStatement n (spanStartOf ns n) (spanStartOf ns n + 4) context.none) Clear
 
 -- the left of a ForIn or a ForOf
 abbrev pub leftOf : List ℕ → ℕ → Found

@@ -169,14 +169,16 @@ pub fn check_function_declaration_in_labeled_statement(
     check_labeled_item(nodes, scopes, n, item)
 }
 
-// No With in strict code.
-pub fn check_with_statement(nodes: &[u32], scopes: &[u32], n: NodeId) -> Raised
+// No With in strict code, nor in TypeScript.
+pub fn check_with_statement(source_type: u32, nodes: &[u32], scopes: &[u32], n: NodeId) -> Raised
     requires { ⌜ Scoped (now nodes) (now scopes) ⌝ }
     requires { ⌜ Spanned (now nodes) ⌝ }
     requires { ⌜ n .0 < count (now nodes) ⌝ }
-    ensures { λ r. ⌜ r ≡ checkWithStatement (now (nodes .entry)) (now (scopes .entry)) (n .0) ⌝ }
+    ensures { λ r. ⌜ r ≡ checkWithStatement «source_type» (now (nodes .entry)) (now (scopes .entry)) (n .0) ⌝ }
 {
-    if table_scoping::strict_mode(nodes, scopes, n) {
+    let typescript = table_source::is_typescript(source_type);
+    let strict = table_scoping::strict_mode(nodes, scopes, n);
+    if or(typescript, strict) {
         let start = table_records::span_start(nodes, n);
         return error(codes::WITH_STATEMENT, n, start, start + 4, contexts::NONE);
     }

@@ -32,7 +32,8 @@ use Rattle.check_dispatch.specs.Findings.{findingsAt}
 use Rattle.ecma_dispatch.specs.WithCode.{withCode}
 use Rattle.ecma_dispatch.specs.Dispatch.{atCode}
 use Rattle.ecma_dispatch.specs.NodesOf.{nodesOf, raised}
-use Rattle.ecma_classes.specs.RaisingLaws.{keep-same, keep-alike}
+use Rattle.table_lists.specs.ListLaws.{keep-alike}
+use Rattle.ecma_classes.specs.RaisingLaws.{keep-same}
 use Rattle.ecma_dispatch.specs.NodesOfLaws.{raisedAgain}
 use Rattle.ecma_classes.specs.ClassElements.{nameFound, keyName, literalName, propName, isDefinition, isStatic, constructorWord, elementsIn, classElements, namesConstructor, constructorTwice, nameMissing}
 use Rattle.ecma_classes.specs.Changed.{bodyIn, isConstructor, writtenKey, keyedConstructor, calledConstructor, builtTwice, ConstructorsNamed}
@@ -45,21 +46,21 @@ pub body-in : (ns : List ℕ) (f : Found) → hasBodyAt ns f ≡ bodyIn ns f
 body-in ns (At m) = found-at (functionBodyOf ns (m .0))
 body-in ns Nothing = refl
 
-pairs : (ns : List ℕ) (n : ℕ) (l : List ℕ) → raised 27 (listed (firstPair ns n l)) ≡ only (ltb 1 (length l)) n
+pairs : (t : ℕ) (ns : List ℕ) (n : ℕ) (l : List ℕ) → raised 27 (listed (firstPair t ns n l)) ≡ only (ltb 1 (length l)) n
 unfolding nodesOf withCode
-pairs ns n [] = refl
-pairs ns n (a ∷ []) = refl
-pairs ns n (a ∷ b ∷ l) = rw (lt-ltb 1 (length (a ∷ b ∷ l)) (omega arith))
+pairs t ns n [] = refl
+pairs t ns n (a ∷ []) = refl
+pairs t ns n (a ∷ b ∷ l) = rw (lt-ltb 1 (length (a ∷ b ∷ l)) (omega arith))
 
 -- what the check counts
 counted : (ns : List ℕ) (l : List ℕ) → keep (λ x. e.isConstructor ns x && hasBody ns x) l ≡ keep (isConstructor ns) l
 unfolding isConstructor hasBody
 counted ns l = keep-same (λ x. e.isConstructor ns x && hasBody ns x) (isConstructor ns) (λ x. ap (λ (b : Bool). e.isConstructor ns x && b) (body-in ns (valueOf ns x))) l
 
-second-by : (ns : List ℕ) (n : ℕ) (f : Found) → raised 27 (listed (secondBy ns n f)) ≡ only (ltb 1 (length (keep (isConstructor ns) (elementsIn ns f)))) n
+second-by : (t : ℕ) (ns : List ℕ) (n : ℕ) (f : Found) → raised 27 (listed (secondBy t ns n f)) ≡ only (ltb 1 (length (keep (isConstructor ns) (elementsIn ns f)))) n
 unfolding constructors keep nodesOf withCode
-second-by ns n (At b) = pairs ns n (constructors ns (b .0)) ∙ rw (counted ns (children ns (b .0)))
-second-by ns n Nothing = refl
+second-by t ns n (At b) = pairs t ns n (constructors ns (b .0)) ∙ rw (counted ns (children ns (b .0)))
+second-by t ns n Nothing = refl
 
 require-by : (ns : List ℕ) (n : ℕ) → eqb (kindOf ns n) k.Class ≡ true → raised 26 (listed (requireClassName ns n)) ≡ only (nameMissing ns n) n
 unfolding requireClassName nameMissing nodesOf withCode
@@ -93,8 +94,8 @@ module _ (t : ℕ) (ns ss source names : List ℕ) (n : ℕ) where
   unfolding builtTwice classElements nodesOf withCode
   second-constructor = sym (raisedAgain 27 (findingsAt t ns ss source names n)) ∙ rw (atCode 27 t ns ss source names n) (go (eqb (kindOf ns n) k.Class))
     where
-      go : (b : Bool) → raised 27 (cond b (listed (secondConstructor ns n)) []) ≡ only (b && ltb 1 (length (keep (isConstructor ns) (elementsIn ns (classBodyOf ns n))))) n
-      go true = second-by ns n (classBodyOf ns n)
+      go : (b : Bool) → raised 27 (cond b (listed (secondConstructor t ns n)) []) ≡ only (b && ltb 1 (length (keep (isConstructor ns) (elementsIn ns (classBodyOf ns n))))) n
+      go true = second-by t ns n (classBodyOf ns n)
       go false = refl
 
 -- what is no definition is neither

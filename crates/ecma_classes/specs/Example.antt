@@ -163,35 +163,35 @@ findings = findingsOf 0 table scopes source bytes
 
 pub found26 : raised 26 findings ≡ 33 ∷ []
 unfolding nameMissing firstNode upto range isChild keep
-found26 = code26 0 table scopes source bytes well
+found26 = code26 0 (omega arith) table scopes source bytes well
 
 pub found27 : raised 27 findings ≡ 1 ∷ []
 unfolding builtTwice classElements isConstructor children firstNode upto range isChild keep
-found27 = code27 0 table scopes source bytes well
+found27 = code27 0 (omega arith) table scopes source bytes well
 
 pub found1 : raised 1 findings ≡ 0 ∷ 49 ∷ []
 unfolding privateAgain privateEntered isPrivateBound isEntered clashIn entries keyName matched protoAgain isKeyedProto children firstNode upto range isChild keep flatMap same nameOf xor
-found1 = code1 0 table scopes source bytes well
+found1 = code1 0 (omega arith) table scopes source bytes well
 
 pub found7 : raised 7 findings ≡ 38 ∷ []
 unfolding isOutside bodyAround a.climb a.above upto range keep
-found7 = code7 0 table scopes source bytes well
+found7 = code7 0 (omega arith) table scopes source bytes well
 
 pub found8 : withCode 8 findings ≡ record { code = 8; node = record { 0 = 1 }; start = 82; end = 84; start2 = 0; end2 = 0; context = 0 } ∷ []
 unfolding invalid isTableUse privateEntered isPrivateBound isEntered keyName bodyAround walk partsOf forest kids others children firstNode upto range isChild keep flatMap same nameOf a.climb a.above
-found8 = code8 0 table scopes source bytes well
+found8 = code8 0 (omega arith) table scopes source bytes well
 
 pub found28 : raised 28 findings ≡ 11 ∷ []
 unfolding isBare isTableCall isConstructorMethod isMethod hasHeritage begins trail climb firstNode upto range isChild keep
-found28 = code28 0 table scopes source bytes well fit
+found28 = code28 0 (omega arith) table scopes source bytes well fit
 
 pub found29 : raised 29 findings ≡ 28 ∷ 67 ∷ 75 ∷ 86 ∷ []
 unfolding isTableCall isConstructorMethod isMethod begins trail climb firstNode upto range isChild keep
-found29 = code29 0 table scopes source bytes well fit
+found29 = code29 0 (omega arith) table scopes source bytes well fit
 
 pub found30 : raised 30 findings ≡ 45 ∷ []
 unfolding isTableProperty barsProperty isMethod isObjectMethod begins trail climb firstNode upto range isChild keep
-found30 = code30 0 table scopes source bytes well fit
+found30 = code30 0 (omega arith) table scopes source bytes well fit
 
 -- the standard's rules: of the two constructors of C the first is asked of its SuperCall; a static method and an object's method are none, whatever their names
 pub first28 : keep (isFirstConstructor table bytes) (upto 0 87) ≡ 4 ∷ 60 ∷ []
@@ -250,4 +250,4 @@ named u h e = go (isTableConstructor table (parentOf table u)) (calledConstructo
     go false false x = refl
 
 pub applies : raised 29 findings ≡ keep (standardStray told table bytes) (upto 0 (count table))
-applies = code29-standard 0 table scopes source bytes well fit stand told named
+applies = code29-standard 0 (omega arith) table scopes source bytes well fit stand told named

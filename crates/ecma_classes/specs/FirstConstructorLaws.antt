@@ -22,7 +22,7 @@ use Rattle.table_ancestry.specs.AncestryLaws.{parent-in}
 use Rattle.refusal_fields.specs.Fields.{Listed}
 use Rattle.refusal_input.specs.WellFormed.{Shaped}
 use Rattle.ecma_trees.specs.Trail.{unitOf}
-use Rattle.ecma_classes.specs.ListLaws.{in-kept, upto-in}
+use Rattle.table_lists.specs.ListLaws.{in-kept, upto-in}
 use Rattle.ecma_classes.specs.ClassElements.{elementsIn, classElements, namesConstructor, constructorTwice, isConstructorKind, constructorMethod, isFirstConstructor}
 use Rattle.ecma_classes.specs.Supers.{begins, isMethod, isConstructorMethod, isBare, standardBare}
 use Rattle.ecma_classes.specs.Changed.{OneInClass, OneConstructor, eachBare}

@@ -4,7 +4,6 @@ pub mod Supers
 pub mod Raised
 pub mod Changed
 pub mod SupersByScopes
-pub mod ListLaws
 pub mod RaisingLaws
 pub mod ClassElementsLaws
 pub mod ObjectsLaws

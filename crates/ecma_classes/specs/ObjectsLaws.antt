@@ -26,7 +26,8 @@ use Rattle.check_dispatch.specs.Findings.{findingsAt}
 use Rattle.ecma_dispatch.specs.WithCode.{withCode}
 use Rattle.ecma_dispatch.specs.Dispatch.{atCode}
 use Rattle.ecma_dispatch.specs.NodesOf.{nodesOf, raised}
-use Rattle.ecma_classes.specs.RaisingLaws.{keep-upto, keep-alike}
+use Rattle.table_lists.specs.ListLaws.{keep-alike}
+use Rattle.ecma_classes.specs.RaisingLaws.{keep-upto}
 use Rattle.ecma_dispatch.specs.NodesOfLaws.{raisedAgain}
 use Rattle.ecma_classes.specs.ClassElements.{nameFound, keyName, literalName, propName, isProto, protoTwice}
 use Rattle.ecma_classes.specs.ClassElementsLaws.{literal-written}

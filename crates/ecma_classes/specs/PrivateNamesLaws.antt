@@ -39,15 +39,18 @@ use Rattle.check_diagnostics.specs.Gather.{flat-keep, kept-first, kept-none}
 use Rattle.check_class_table.specs.declared.Current.the-variants.{Class}
 use Rattle.check_class_table.specs.Classes.{classAt, bodyAbove, currentClass, outerClasses}
 use Rattle.check_class_table.specs.ClassesLaws.{within-one, over, outer-at}
-use Rattle.check_class_table.specs.Elements.{elementName, privates, hasPrivate, isDeclared}
-use Rattle.check_classes.specs.ClassChecks.{outsideBy, privateOutside, isClass, references, undeclaredAt, undeclaredIn, undeclaredBy, privateUndeclared}
+use Rattle.check_class_table.specs.Elements.{elementName}
+use Rattle.check_classes.specs.ClassChecks.{outsideBy, privateOutside, isClass, references}
+use Rattle.check_classes.specs.ClassChecks as now
+use Rattle.check_dispatch.specs.Former.{privates, hasPrivate, isDeclared, undeclaredAt, undeclaredIn, undeclaredBy, privateUndeclared}
+use Rattle.check_dispatch.specs.FormerLaws.{same-undeclared}
 use Rattle.check_dispatch.specs.Findings.{findingsAt}
 use Rattle.ecma_dispatch.specs.WithCode.{withCode}
 use Rattle.ecma_dispatch.specs.Dispatch.{atCode}
 use Rattle.ecma_dispatch.specs.NodesOf.{nodesOf, raised}
 use Rattle.ecma_classes.specs.RaisingLaws.{keep-upto, flat-upto, keep-from}
 use Rattle.ecma_dispatch.specs.NodesOfLaws.{raisedAgain}
-use Rattle.ecma_classes.specs.ListLaws.{kept-in, in-kept, keep-none, in-upto, upto-in}
+use Rattle.table_lists.specs.ListLaws.{kept-in, in-kept, keep-none, in-upto, upto-in}
 use Rattle.ecma_classes.specs.ClassElements.{keyName}
 use Rattle.ecma_classes.specs.PrivateNames.{privateBound, strings, isClassBody, newNames, valid, allValid, invalid, isUse, invalidIdentifiers}
 use Rattle.ecma_classes.specs.Raised.{sameNode, bodyAround}
@@ -333,13 +336,13 @@ module _ (ns names : List ℕ) (w : Tree ns) where
   unfolding currentClass
   at-class n e = rw e
 
-  pub private-undeclared : (t : ℕ) (ss source : List ℕ) (n : ℕ)
+  pub private-undeclared : (t : ℕ) → t ≤ 1 → (ss source : List ℕ) (n : ℕ)
       → withCode 8 (findingsAt t ns ss source names n)
       ≡ cond (eqb (kindOf ns n) k.Class) (flatMap (λ m. listed (errorAt ns code.privateFieldUndeclared n m context.none)) (keep (λ m. sameNode (bodyAround ns m) (classBodyOf ns n)) (invalidInTable ns names))) []
-  private-undeclared t ss source n = atCode 8 t ns ss source names n ∙ go (eqb (kindOf ns n) k.Class) refl
+  private-undeclared t s ss source n = atCode 8 t ns ss source names n ∙ go (eqb (kindOf ns n) k.Class) refl
     where
-      go : (b : Bool) → eqb (kindOf ns n) k.Class ≡ b → cond b (privateUndeclared ns names n) [] ≡ cond b (flatMap (error8 n) (keep (λ m. sameNode (bodyAround ns m) (classBodyOf ns n)) (invalidInTable ns names))) []
-      go true e = ap (undeclaredBy ns names n) (at-class n e) ∙ in-found n (classBodyOf ns n) refl
+      go : (b : Bool) → eqb (kindOf ns n) k.Class ≡ b → cond b (now.privateUndeclared t ns names n) [] ≡ cond b (flatMap (error8 n) (keep (λ m. sameNode (bodyAround ns m) (classBodyOf ns n)) (invalidInTable ns names))) []
+      go true e = same-undeclared t s ns names n ∙ ap (undeclaredBy ns names n) (at-class n e) ∙ in-found n (classBodyOf ns n) refl
       go false e = refl
 
   -- on the condition, the Rust's list is the standard's

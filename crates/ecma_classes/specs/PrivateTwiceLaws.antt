@@ -10,8 +10,7 @@ use lib.ListN.{length}
 use Rattle.base_common.specs.Upto.{upto, any}
 use Rattle.base_common.specs.Bools.{never}
 use Rattle.base_walk.specs.On.{member}
-use Rattle.table_records.specs.Table.{kindOf, parentOf, extraOf, count}
-use Rattle.table_records.specs.Kinds as k
+use Rattle.table_records.specs.Table.{parentOf, count}
 use Rattle.table_records.specs.declared.Found.{Found}
 use Rattle.table_records.specs.declared.Found.the-variants.{At, Nothing}
 use Rattle.table_names.specs.Name.{same}
@@ -21,35 +20,22 @@ use Rattle.table_children.specs.ChildrenLaws.{keep-keep}
 use Rattle.ecma_trees.specs.Walk.{some}
 use Rattle.check_diagnostics.specs.Finding.{listed}
 use Rattle.check_diagnostics.specs.declared.Raised.the-variants.{Clear}
-use Rattle.check_class_table.specs.Elements.{nameAt, hasNameAt, elementName, isDefinition, isPrivate, enters, elements, privates}
+use Rattle.check_class_table.specs.Elements.{nameAt, hasNameAt, elementName, isDefinition, isPrivate}
 use Rattle.check_class_table.specs.Elements as e
 use Rattle.check_duplicates.specs.declared.Place.{Place}
-use Rattle.check_duplicates.specs.Duplicates.{nowhere, here, step, lastOf, sideOf, isEarlier, previousOn, orElse, previousOf, isDuplicate, redeclaration, duplicateBy, duplicateAt, duplicatesIn}
+use Rattle.check_duplicates.specs.Duplicates.{nowhere, here, step, lastOf, orElse}
+use Rattle.check_dispatch.specs.Former.{enters, elements, privates, sideOf, isEarlier, previousOn, previousOf, isDuplicate, redeclaration, duplicateBy, duplicateAt, duplicatesIn}
+use Rattle.check_dispatch.specs.FormerLaws.{Sort, gets, sets, neither, sort}
 use Rattle.ecma_dispatch.specs.WithCode.{withCode}
 use Rattle.ecma_dispatch.specs.NodesOf.{nodesOf, raised}
 use Rattle.ecma_dispatch.specs.NodesOfLaws.{raisedFlat}
-use Rattle.ecma_classes.specs.RaisingLaws.{keep-same, keep-alike}
-use Rattle.ecma_classes.specs.ListLaws.{member-here, member-there, any-hit, any-find, kept-in, in-kept, keep-none, keep-all, Rising, keep-rising, upto-rising}
+use Rattle.ecma_classes.specs.RaisingLaws.{keep-same}
+use Rattle.table_lists.specs.ListLaws.{keep-alike, member-here, member-there, any-hit, any-find, kept-in, in-kept, keep-none, keep-all, Rising, keep-rising, upto-rising}
 use Rattle.ecma_classes.specs.ClassElements.{isStatic, nameFound, keyName}
 use Rattle.ecma_classes.specs.PrivateNames.{isPrivateBound, privateBound, entries, isGetter, isSetter, matched, allowed, privateTwice}
 use Rattle.ecma_classes.specs.Changed.{named, isEntered, privateEntered, PrivatesEntered, last, orFound, unlike, clashIn, privateAgain, OnceOrTwice}
 use Rattle.ecma_classes.specs.ClassElementsLaws.{body-in}
 use Rattle.ecma_classes.specs.Raised.{times}
-
--- what an entry is: a getter, a setter, or neither
-data Sort (ns : List ℕ) (e : ℕ) : Type 0 where
-  gets : isGetter ns e ≡ true → isSetter ns e ≡ false → extraOf ns e ≡ 2 → Sort ns e
-  sets : isGetter ns e ≡ false → isSetter ns e ≡ true → extraOf ns e ≡ 3 → Sort ns e
-  neither : isGetter ns e ≡ false → isSetter ns e ≡ false → Sort ns e
-
-sort : (ns : List ℕ) (e : ℕ) → Sort ns e
-sort ns e = go (eqb (kindOf ns e) k.MethodDefinition) refl (eqb (extraOf ns e) 2) refl (eqb (extraOf ns e) 3) refl
-  where
-    go : (a : Bool) → eqb (kindOf ns e) k.MethodDefinition ≡ a → (b : Bool) → eqb (extraOf ns e) 2 ≡ b → (c : Bool) → eqb (extraOf ns e) 3 ≡ c → Sort ns e
-    go true p true q c r = let x = eqb-true (extraOf ns e) 2 q in gets (rw (p, q)) (rw (p, x)) x
-    go true p false q true r = sets (rw (p, q)) (rw (p, r)) (eqb-true (extraOf ns e) 3 r)
-    go true p false q false r = neither (rw (p, q)) (rw (p, r))
-    go false p b q c r = neither (rw p) (rw p)
 
 module _ (ns : List ℕ) where
   unmatched : (a b : ℕ) → (isGetter ns a && isSetter ns b) ≡ false → (isSetter ns a && isGetter ns b) ≡ false → matched ns a b ≡ false

@@ -17,18 +17,7 @@ unfolding keep
 keep-same p q h [] = refl
 keep-same p q h (k ∷ l) = rw (h k, keep-same p q h l)
 
--- a test that two say alike of the members of a list
-pub keep-alike : (p q : ℕ → Bool) (l : List ℕ) → ((x : ℕ) → member x l ≡ true → p x ≡ q x) → keep p l ≡ keep q l
-unfolding keep
-keep-alike p q [] h = refl
-keep-alike p q (x ∷ l) h =
-    rw (h x (rw (eq-eqb x x refl)), keep-alike p q l (λ y m. h y (go y (eqb y x) m)))
-  where
-    go : (y : ℕ) (b : Bool) → member y l ≡ true → (b || member y l) ≡ true
-    go y true m = refl
-    go y false m = m
-
--- .. of the numbers from i up to n
+-- a test that two say alike of the numbers from i up to n
 pub keep-upto : (p q : ℕ → Bool) (i n : ℕ) → ((x : ℕ) → i ≤ x → x < n → p x ≡ q x) → keep p (upto i n) ≡ keep q (upto i n)
 unfolding upto range keep
 keep-upto p q i n h = go i (n - i) (λ x a b. h x a (omega arith))

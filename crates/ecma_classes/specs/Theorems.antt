@@ -1,6 +1,6 @@
 -- THE THEOREMS: in well-formed tables the findings with these codes are the breaches of ECMA-262's rules, one finding for each; where the Rust keeps a changed rule, they are
 -- breaches of that, and a law says on which condition it is the standard's. `raised c fs` is the nodes that raise the findings of fs with code c.
-use Prim.Native.Nat.{ℕ, _+_, _<_}
+use Prim.Native.Nat.{ℕ, _+_, _≤_, _<_}
 use mathlib.Core.Path.{_≡_, refl, ap, sym, subst, _∙_}
 use mathlib.Core.List.{List, [], _∷_, _++_, flatMap}
 use mathlib.Core.Bool.{Bool, true, false, cond, not, _&&_, _||_}
@@ -20,15 +20,16 @@ use Rattle.check_diagnostics.specs.Finding.{listed, errorAt}
 use Rattle.check_diagnostics.specs.Codes as code
 use Rattle.check_diagnostics.specs.Contexts as context
 use Rattle.check_class_table.specs.Classes.{classesOf}
-use Rattle.check_duplicates.specs.Duplicates.{duplicatesIn, duplicateElements}
 use Rattle.check_dispatch.specs.Findings.{findingsAt, findingsOf}
+use Rattle.check_dispatch.specs.Former.{duplicatesIn, duplicateElements}
+use Rattle.check_dispatch.specs.FormerLaws.{same-duplicates}
 use Rattle.refusal_input.specs.WellFormed.{WellFormed}
 use Rattle.ecma_dispatch.specs.WithCode.{withCode}
 use Rattle.ecma_dispatch.specs.Dispatch.{wholeOne, wholeOther}
 use Rattle.ecma_dispatch.specs.NodesOf.{raised}
 use Rattle.ecma_dispatch.specs.NodesOfLaws.{raisedAppend, raisedFlat, raisedAgain}
 use Rattle.ecma_classes.specs.RaisingLaws.{flat-upto, flat-members, keep-upto, any-upto, any-kept, any-three}
-use Rattle.ecma_classes.specs.ListLaws.{Rising, kept-in}
+use Rattle.table_lists.specs.ListLaws.{Rising, kept-in}
 use Rattle.ecma_classes.specs.ClassElements.{nameMissing, constructorTwice, isFirstConstructor, protoTwice}
 use Rattle.ecma_classes.specs.PrivateNames.{privateBound, entries, allowed, privateTwice, isClassBody, isUse, allPrivateIdentifiersValid, invalidIdentifiers}
 use Rattle.ecma_classes.specs.Supers.{isSuperCall, isSuperProperty, isBare, barsCall, barsProperty, bareError, callError, propertyError, superError, standardBare, standardStray, standardProperty, unit}
@@ -50,7 +51,7 @@ use Rattle.ecma_classes.specs.WholeLaws.{some-flat, some-times, below-of
 
 -- from each node to the whole tree
 module _ (t : ℕ) (ns ss source names : List ℕ) where
-  whole : (c : ℕ) → member c (1 ∷ []) ≡ false → (rule : ℕ → Bool) → ((j : ℕ) → j < count ns → raised c (findingsAt t ns ss source names j) ≡ only (rule j) j)
+  whole : (c : ℕ) → member c (1 ∷ 35 ∷ []) ≡ false → (rule : ℕ → Bool) → ((j : ℕ) → j < count ns → raised c (findingsAt t ns ss source names j) ≡ only (rule j) j)
       → raised c (findingsOf t ns ss source names) ≡ keep rule (upto 0 (count ns))
   unfolding flatMap keep
   whole c e rule h =
@@ -68,7 +69,7 @@ module _ (t : ℕ) (ns ss source names : List ℕ) where
       flat-only q [] = refl
       flat-only q (x ∷ l) = rw (flat-only q l) (put (q x) x (keep q l))
 
-module _ (t : ℕ) (ns ss source names : List ℕ) (w : WellFormed t ns ss source names) where
+module _ (t : ℕ) (js : t ≤ 1) (ns ss source names : List ℕ) (w : WellFormed t ns ss source names) where
   abbrev nodes : List ℕ
   nodes = upto 0 (count ns)
 
@@ -101,7 +102,7 @@ module _ (t : ℕ) (ns ss source names : List ℕ) (w : WellFormed t ns ss sourc
   unfolding duplicateElements classesOf
   code1 =
       sym (raisedAgain 1 findings)
-      ∙ ap (raised 1) (wholeOne t ns ss source names)
+      ∙ ap (raised 1) (wholeOne t ns ss source names js ∙ rw (same-duplicates t js ns names))
       ∙ raisedAppend 1 (duplicateElements ns names) (flatMap (λ j. withCode 1 (findingsAt t ns ss source names j)) nodes)
       ∙ rw (raisedFlat 1 (duplicatesIn ns names) (keep (isClassBody ns) nodes), raisedFlat 1 (λ j. withCode 1 (findingsAt t ns ss source names j)) nodes)
       (rw (
@@ -181,7 +182,7 @@ module _ (t : ℕ) (ns ss source names : List ℕ) (w : WellFormed t ns ss sourc
       wholeOther t ns ss source names 8 refl
       ∙ flat-upto (λ n. withCode 8 (findingsAt t ns ss source names n))
       (λ n. cond (eqb (kindOf ns n) k.Class) (flatMap (λ m. listed (errorAt ns code.privateFieldUndeclared n m context.none)) (keep (λ m. sameNode (bodyAround ns m) (classBodyOf ns n)) (invalidInTable ns names))) []) 0 (count ns)
-      (λ n a b. private-undeclared ns names (w .input .tree) t ss source n)
+      (λ n a b. private-undeclared ns names (w .input .tree) t js ss source n)
 
   pub code8-standard : PrivatesPlain ns → withCode 8 findings ≡ reported ns (invalidIdentifiers ns names)
   code8-standard p = code8 ∙ ap (reported ns) (invalid-same ns names (w .input .tree) p)

@@ -33,7 +33,7 @@ use Rattle.ecma_dispatch.specs.WithCode.{withCode}
 use Rattle.ecma_dispatch.specs.NodesOf.{nodesOf, raised}
 use Rattle.ecma_dispatch.specs.NodesOfLaws.{raisedFlat}
 use Rattle.ecma_classes.specs.RaisingLaws.{any-upto}
-use Rattle.ecma_classes.specs.ListLaws.{any-hit, any-find, kept-in, in-kept, member-here, in-upto}
+use Rattle.table_lists.specs.ListLaws.{any-hit, any-find, kept-in, in-kept, member-here, in-upto}
 use Rattle.ecma_classes.specs.Supers.{begins, unitContains}
 use Rattle.ecma_classes.specs.Raised.{times, sameNode, bodyAround, inUnit}
 use Rattle.ecma_classes.specs.PrivateTwiceLaws.{some-kept, both-ways}

@@ -1,13 +1,15 @@
 -- The codes that each check raises.
-use Prim.Native.Nat.{ℕ}
+use Prim.Native.Nat.{ℕ, _≤_}
 use mathlib.Core.Path.{_≡_, refl}
 use mathlib.Core.List.{List, [], _∷_}
-use mathlib.Core.Bool.{Bool, true, false}
+use mathlib.Core.Bool.{Bool, true, false, cond, _&&_}
+use Rattle.table_source.specs.SourceType.{isTypescript}
+use Rattle.table_source.specs.SourceTypeLaws.{no-typescript}
 use Rattle.table_records.specs.Table.{ancestors}
 use Rattle.table_records.specs.declared.Found.{Found}
 use Rattle.table_records.specs.declared.Found.the-variants.{At, Nothing}
 use Rattle.table_children.specs.Children.{labelOf, heldOf, alternateOf, valueOf, innerOf, classBodyOf}
-use Rattle.check_diagnostics.specs.declared.Raised.the-variants.{Clear}
+use Rattle.check_diagnostics.specs.declared.Raised.the-variants.{Error, Clear}
 use Rattle.check_diagnostics.specs.Finding.{listed, errorBetween}
 use Rattle.check_jumps.specs.Jumps.{walkUp, sameLabel, noLabel, plainBreakAt, labelledBreakAt, plainContinueAt, labelledContinueAt, continueTo, labeledAt, checkBreakStatement, checkContinueStatement, checkLabeledStatement}
 use Rattle.check_statements.specs.Statements.{checkFunctionDeclaration, checkBody, checkConsequent, checkAlternate, labelledFunction, checkLabeledItem, checkFunctionDeclarationInLabeledStatement, checkWithStatement, leftOf, declaratorOf, checkInitialiser, checkLeft, checkForStatementLeft, checkForOfStatement, checkUsing, checkAwaitUsing}
@@ -19,10 +21,10 @@ use Rattle.check_expressions.specs.Expressions.{repeats, repeatsAfter, errorPar
 use Rattle.check_class_table.specs.declared.Current.{Current}
 use Rattle.check_class_table.specs.declared.Current.the-variants.{Class, Outside}
 use Rattle.check_class_table.specs.Classes.{currentClass, classesOf}
-use Rattle.check_class_table.specs.Elements.{privates}
+use Rattle.check_class_table.specs.Elements.{elementSpan, isPrivate, compared}
 use Rattle.check_classes.specs.ClassChecks.{outsideBy, privateOutside, undeclaredAt, undeclaredIn, undeclaredBy, privateUndeclared, requireClassName, firstPair, secondBy, secondConstructor, constructors, references}
 use Rattle.check_duplicates.specs.declared.Place.{Place}
-use Rattle.check_duplicates.specs.Duplicates.{redeclaration, duplicateBy, duplicateAt, previousOf, duplicatesIn, duplicateElements}
+use Rattle.check_duplicates.specs.Duplicates.{isApart, clashCode, redeclaration, duplicateBy, duplicateAt, previousOf, duplicatesIn, duplicateElements}
 use Rattle.check_supers.specs.declared.Reach.{Reach}
 use Rattle.check_supers.specs.declared.Reach.the-variants.{Legal, Illegal, Underived, Fails}
 use Rattle.check_supers.specs.Super.{byReach, reachOf, checkSuper}
@@ -104,9 +106,9 @@ itemFine ns ss n s = let h = labelledOne ns n s n in simp (fineIf, fineError, fi
 pub labelledFunctionCodes : (ns ss : List ℕ) (n : ℕ) → Coded ofHeld (listed (checkFunctionDeclarationInLabeledStatement ns ss n))
 labelledFunctionCodes ns ss n = coded ofHeld _ (fineHeld ofHeld (heldOf ns n) (checkLabeledItem ns ss n) (itemFine ns ss n))
 
-pub withCodes : (ns ss : List ℕ) (n : ℕ) → Coded (17 ∷ []) (listed (checkWithStatement ns ss n))
+pub withCodes : (t : ℕ) (ns ss : List ℕ) (n : ℕ) → Coded (17 ∷ []) (listed (checkWithStatement t ns ss n))
 unfolding checkWithStatement
-withCodes ns ss n = coded (17 ∷ []) (checkWithStatement ns ss n) (simp (fineIf, fineError, fineClear, bothTrue))
+withCodes t ns ss n = coded (17 ∷ []) (checkWithStatement t ns ss n) (simp (fineIf, fineError, fineClear, bothTrue))
 
 initialiserFine : (ns ss : List ℕ) (n : ℕ) (isForIn : Bool) (d v : ℕ) → fine (24 ∷ []) (checkInitialiser ns ss n isForIn d v) ≡ true
 unfolding checkInitialiser
@@ -239,43 +241,66 @@ outsideFine ns n Outside = fineError (7 ∷ []) _
 pub outsideCodes : (ns : List ℕ) (n : ℕ) → Coded (7 ∷ []) (listed (privateOutside ns n))
 outsideCodes ns n = coded (7 ∷ []) _ (outsideFine ns n (currentClass ns n))
 
-undeclaredOne : (ns names : List ℕ) (n c m : ℕ) → fine (8 ∷ []) (undeclaredAt ns names n c m) ≡ true
+undeclaredOne : (t : ℕ) (ns names : List ℕ) (n c m : ℕ) → fine (8 ∷ []) (undeclaredAt t ns names n c m) ≡ true
 unfolding undeclaredAt
-undeclaredOne ns names n c m = simp (fineIf, fineError, fineClear, bothTrue)
+undeclaredOne t ns names n c m = simp (fineIf, fineError, fineClear, bothTrue)
 
-undeclaredBoth : (ns names : List ℕ) (n : ℕ) (c : Current) → Coded (8 ∷ []) (undeclaredBy ns names n c)
+undeclaredBoth : (t : ℕ) (ns names : List ℕ) (n : ℕ) (c : Current) → Coded (8 ∷ []) (undeclaredBy t ns names n c)
 unfolding undeclaredIn
-undeclaredBoth ns names n (Class c) = codedFlatMap (8 ∷ []) (λ m. listed (undeclaredAt ns names n (c .0) m)) (λ m. coded (8 ∷ []) _ (undeclaredOne ns names n (c .0) m)) (references ns (c .0))
-undeclaredBoth ns names n Outside = codedNil (8 ∷ [])
+undeclaredBoth t ns names n (Class c) = codedFlatMap (8 ∷ []) (λ m. listed (undeclaredAt t ns names n (c .0) m)) (λ m. coded (8 ∷ []) _ (undeclaredOne t ns names n (c .0) m)) (references ns (c .0))
+undeclaredBoth t ns names n Outside = codedNil (8 ∷ [])
 
-pub undeclaredCodes : (ns names : List ℕ) (n : ℕ) → Coded (8 ∷ []) (privateUndeclared ns names n)
-undeclaredCodes ns names n = undeclaredBoth ns names n (currentClass ns n)
+pub undeclaredCodes : (t : ℕ) (ns names : List ℕ) (n : ℕ) → Coded (8 ∷ []) (privateUndeclared t ns names n)
+undeclaredCodes t ns names n = undeclaredBoth t ns names n (currentClass ns n)
 
 pub classNameCodes : (ns : List ℕ) (n : ℕ) → Coded (26 ∷ []) (listed (requireClassName ns n))
 unfolding requireClassName
 classNameCodes ns n = coded (26 ∷ []) (requireClassName ns n) (simp (fineIf, fineError, fineClear, bothTrue))
 
-pairFine : (ns : List ℕ) (n : ℕ) (l : List ℕ) → fine (27 ∷ []) (firstPair ns n l) ≡ true
-pairFine ns n [] = fineClear (27 ∷ [])
-pairFine ns n (a ∷ []) = fineClear (27 ∷ [])
-pairFine ns n (a ∷ b ∷ l) = fineError (27 ∷ []) _
+pairFine : (t : ℕ) (ns : List ℕ) (n : ℕ) (l : List ℕ) → fine (27 ∷ []) (firstPair t ns n l) ≡ true
+pairFine t ns n [] = fineClear (27 ∷ [])
+pairFine t ns n (a ∷ []) = fineClear (27 ∷ [])
+pairFine t ns n (a ∷ b ∷ l) = fineError (27 ∷ []) _
 
-secondFine : (ns : List ℕ) (n : ℕ) (x : Found) → fine (27 ∷ []) (secondBy ns n x) ≡ true
-secondFine ns n (At b) = pairFine ns n (constructors ns (b .0))
-secondFine ns n Nothing = fineClear (27 ∷ [])
+secondFine : (t : ℕ) (ns : List ℕ) (n : ℕ) (x : Found) → fine (27 ∷ []) (secondBy t ns n x) ≡ true
+secondFine t ns n (At b) = pairFine t ns n (constructors ns (b .0))
+secondFine t ns n Nothing = fineClear (27 ∷ [])
 
-pub constructorCodes : (ns : List ℕ) (n : ℕ) → Coded (27 ∷ []) (listed (secondConstructor ns n))
-constructorCodes ns n = coded (27 ∷ []) _ (secondFine ns n (classBodyOf ns n))
+pub constructorCodes : (t : ℕ) (ns : List ℕ) (n : ℕ) → Coded (27 ∷ []) (listed (secondConstructor t ns n))
+constructorCodes t ns n = coded (27 ∷ []) _ (secondFine t ns n (classBodyOf ns n))
 
-duplicateOne : (ns : List ℕ) (e : ℕ) (p : Place) → fine (1 ∷ []) (duplicateBy ns e p) ≡ true
-unfolding duplicateBy redeclaration
-duplicateOne ns e p = simp (fineIf, fineError, fineClear, bothTrue)
+-- 1, and in TypeScript 35
+abbrev pub ofClash : List ℕ
+ofClash = 1 ∷ 35 ∷ []
 
-pub duplicateCodes : (ns names : List ℕ) → Coded (1 ∷ []) (duplicateElements ns names)
+clashFine : (t : ℕ) (ns : List ℕ) (d e : ℕ) → fine ofClash (redeclaration t ns d e) ≡ true
+unfolding redeclaration clashCode
+clashFine t ns d e = go (isTypescript t && (isPrivate ns e && isApart ns d e))
+  where
+    go : (b : Bool) → fine ofClash (Error (record { code = cond b 35 1; node = record { 0 = 0 }; start = elementSpan ns d .start; end = elementSpan ns d .end; start2 = elementSpan ns e .start; end2 = elementSpan ns e .end; context = 0 })) ≡ true
+    go true = fineError ofClash _
+    go false = fineError ofClash _
+
+duplicateOne : (t : ℕ) (ns : List ℕ) (e : ℕ) (p : Place) → fine ofClash (duplicateBy t ns e p) ≡ true
+unfolding duplicateBy
+duplicateOne t ns e p = let h = clashFine t ns (p .element .0) e in simp (fineIf, fineClear, bothTrue, h)
+
+pub duplicateCodes : (t : ℕ) (ns names : List ℕ) → Coded ofClash (duplicateElements t ns names)
 unfolding duplicateElements duplicatesIn
-duplicateCodes ns names =
-    codedFlatMap (1 ∷ []) (duplicatesIn ns names)
-    (λ c. codedFlatMap (1 ∷ []) (λ e. listed (duplicateAt ns names c e)) (λ e. coded (1 ∷ []) _ (duplicateOne ns e (previousOf ns names c e))) (privates ns c)) (classesOf ns)
+duplicateCodes t ns names =
+    codedFlatMap ofClash (duplicatesIn t ns names)
+    (λ c. codedFlatMap ofClash (λ e. listed (duplicateAt t ns names c e)) (λ e. coded ofClash _ (duplicateOne t ns e (previousOf t ns names c e))) (compared t ns c)) (classesOf ns)
+
+-- of types 0 and 1 code 1 alone
+formerFine : (t : ℕ) → t ≤ 1 → (ns : List ℕ) (e : ℕ) (p : Place) → fine (1 ∷ []) (duplicateBy t ns e p) ≡ true
+unfolding duplicateBy redeclaration clashCode
+formerFine t s ns e p = rw (no-typescript t s) (simp (fineIf, fineError, fineClear, bothTrue))
+
+pub formerDuplicates : (t : ℕ) → t ≤ 1 → (ns names : List ℕ) → Coded (1 ∷ []) (duplicateElements t ns names)
+unfolding duplicateElements duplicatesIn
+formerDuplicates t s ns names =
+    codedFlatMap (1 ∷ []) (duplicatesIn t ns names)
+    (λ c. codedFlatMap (1 ∷ []) (λ e. listed (duplicateAt t ns names c e)) (λ e. coded (1 ∷ []) _ (formerFine t s ns e (previousOf t ns names c e))) (compared t ns c)) (classesOf ns)
 
 -- SUPER
 abbrev pub ofSuper : List ℕ

@@ -1,5 +1,5 @@
 -- The dispatch as a table: for each kind its checks, in order, with the codes that each can raise; and with it the findings of a node with a code. A new code is a code of its check's row here.
-use Prim.Native.Nat.{ℕ}
+use Prim.Native.Nat.{ℕ, _≤_}
 use mathlib.Core.Path.{_≡_, refl, ap, sym, subst, _∙_}
 use mathlib.Core.List.{List, [], _∷_, _++_, flatMap}
 use mathlib.Core.Bool.{true, false, cond}
@@ -22,7 +22,7 @@ use Rattle.check_supers.specs.Super.{checkSuper}
 use Rattle.check_dispatch.specs.Findings.{findingsAt, findingsOf}
 use Rattle.ecma_dispatch.specs.WithCode.{withCode}
 use Rattle.ecma_dispatch.specs.WithCodeLaws.{withAppend, withFlatMap, Coded, codedNone, codedAll, codedAppend, codedFlatMap, codedMore, eachCode}
-use Rattle.ecma_dispatch.specs.CheckCodes.{ofBreak, ofContinue, ofLabel, ofHeld, ofName, ofBinding, ofReference, ofNumber, ofString, ofDelete, ofSuper, breakCodes, continueCodes, labelCodes, bodyCodes, consequentCodes, alternateCodes, labelledFunctionCodes, withCodes, leftCodes, forOfCodes, usingCodes, awaitUsingCodes, nameCodes, bindingCodes, referenceCodes, directiveCodes, stringCodes, numberCodes, objectCodes, unaryCodes, parameterCodes, blockCodes, outsideCodes, undeclaredCodes, classNameCodes, constructorCodes, duplicateCodes, superCodes}
+use Rattle.ecma_dispatch.specs.CheckCodes.{ofBreak, ofContinue, ofLabel, ofHeld, ofName, ofBinding, ofReference, ofNumber, ofString, ofDelete, ofSuper, breakCodes, continueCodes, labelCodes, bodyCodes, consequentCodes, alternateCodes, labelledFunctionCodes, withCodes, leftCodes, forOfCodes, usingCodes, awaitUsingCodes, nameCodes, bindingCodes, referenceCodes, directiveCodes, stringCodes, numberCodes, objectCodes, unaryCodes, parameterCodes, blockCodes, outsideCodes, undeclaredCodes, classNameCodes, constructorCodes, ofClash, duplicateCodes, formerDuplicates, superCodes}
 use Rattle.ecma_dispatch.specs.Table.{Check, Row, ofKind, byCode}
 use Rattle.ecma_dispatch.specs.TableLaws.{byCodeIs, codedTable}
 use Rattle.ecma_dispatch.specs.ByKind.{anyName, awaitOrYield, holders}
@@ -48,7 +48,7 @@ module _ (t : ℕ) (ns ss source names : List ℕ) (n : ℕ) where
       row k.NumericLiteral (check ofNumber (listed (checkNumberLiteral ns ss source n)) (numberCodes ns ss source n) ∷ []) ∷
       row k.StringLiteral (check ofString (listed (checkStringLiteral ns ss source n)) (stringCodes ns ss source n) ∷ []) ∷
       row k.Directive (check (12 ∷ []) (listed (checkDirective ns ss names n)) (directiveCodes ns ss names n) ∷ []) ∷
-      row k.With (check ofHeld (listed (checkBody ns ss n)) (bodyCodes ns ss n) ∷ check (17 ∷ []) (listed (checkWithStatement ns ss n)) (withCodes ns ss n) ∷ []) ∷
+      row k.With (check ofHeld (listed (checkBody ns ss n)) (bodyCodes ns ss n) ∷ check (17 ∷ []) (listed (checkWithStatement t ns ss n)) (withCodes t ns ss n) ∷ []) ∷
       row k.Break (check ofBreak (listed (checkBreakStatement ns names n)) (breakCodes ns names n) ∷ []) ∷
       row k.Continue (check ofContinue (listed (checkContinueStatement ns names n)) (continueCodes ns names n) ∷ []) ∷
       row k.Labeled (check ofLabel (listed (checkLabeledStatement ns names n)) (labelCodes ns names n) ∷ check ofHeld (listed (checkFunctionDeclarationInLabeledStatement ns ss n)) (labelledFunctionCodes ns ss n) ∷ []) ∷
@@ -58,7 +58,7 @@ module _ (t : ℕ) (ns ss source names : List ℕ) (n : ℕ) where
       row k.DoWhile (check ofHeld (listed (checkBody ns ss n)) (bodyCodes ns ss n) ∷ []) ∷
       row k.For (check ofHeld (listed (checkBody ns ss n)) (bodyCodes ns ss n) ∷ []) ∷
       row k.If (check ofHeld (listed (checkConsequent ns ss n)) (consequentCodes ns ss n) ∷ check ofHeld (listed (checkAlternate ns ss n)) (alternateCodes ns ss n) ∷ []) ∷
-      row k.Class (check (8 ∷ []) (privateUndeclared ns names n) (undeclaredCodes ns names n) ∷ check (26 ∷ []) (listed (requireClassName ns n)) (classNameCodes ns n) ∷ check (27 ∷ []) (listed (secondConstructor ns n)) (constructorCodes ns n) ∷ []) ∷
+      row k.Class (check (8 ∷ []) (privateUndeclared t ns names n) (undeclaredCodes t ns names n) ∷ check (26 ∷ []) (listed (requireClassName ns n)) (classNameCodes ns n) ∷ check (27 ∷ []) (listed (secondConstructor t ns n)) (constructorCodes t ns n) ∷ []) ∷
       row k.Super (check ofSuper (listed (checkSuper ns ss n)) (superCodes ns ss n) ∷ []) ∷
       row k.Await (check (33 ∷ []) (listed (inParameter ns n)) (parameterCodes ns n) ∷ check (3 ∷ []) (listed (inBlock ns ss n)) (blockCodes ns ss n) ∷ []) ∷
       row k.Object (check (1 ∷ []) (checkObjectExpression ns names n) (objectCodes ns names n) ∷ []) ∷
@@ -98,27 +98,35 @@ module _ (t : ℕ) (ns ss source names : List ℕ) (n : ℕ) where
   pub at33 : withCode 33 (findingsAt t ns ss source names n) ≡ cond (within (kindOf ns n) 47 48) (listed (inParameter ns n)) []
   at33 = atCode 33 t ns ss source names n ∙ awaitOrYield (kindOf ns n) (listed (inParameter ns n))
 
--- The findings of the tree with a code, node by node; duplicate class elements have code 1.
+-- The findings of the tree with a code, node by node; duplicate class elements have code 1, and in TypeScript 35.
 module _ (t : ℕ) (ns ss source names : List ℕ) where
-  whole : (c : ℕ) → withCode c (findingsOf t ns ss source names) ≡ withCode c (duplicateElements ns names) ++ flatMap (λ j. withCode c (findingsAt t ns ss source names j)) (upto 0 (count ns))
+  whole : (c : ℕ) → withCode c (findingsOf t ns ss source names) ≡ withCode c (duplicateElements t ns names) ++ flatMap (λ j. withCode c (findingsAt t ns ss source names j)) (upto 0 (count ns))
   unfolding findingsOf
   whole c =
-      withAppend c (duplicateElements ns names) (flatMap (findingsAt t ns ss source names) (upto 0 (count ns)))
-      ∙ ap (λ l. withCode c (duplicateElements ns names) ++ l) (withFlatMap c (findingsAt t ns ss source names) (upto 0 (count ns)))
+      withAppend c (duplicateElements t ns names) (flatMap (findingsAt t ns ss source names) (upto 0 (count ns)))
+      ∙ ap (λ l. withCode c (duplicateElements t ns names) ++ l) (withFlatMap c (findingsAt t ns ss source names) (upto 0 (count ns)))
 
-  pub wholeOne : withCode 1 (findingsOf t ns ss source names) ≡ duplicateElements ns names ++ flatMap (λ j. withCode 1 (findingsAt t ns ss source names j)) (upto 0 (count ns))
-  wholeOne = whole 1 ∙ ap (λ l. l ++ flatMap (λ j. withCode 1 (findingsAt t ns ss source names j)) (upto 0 (count ns))) (codedAll 1 (duplicateElements ns names) (duplicateCodes ns names))
+  wholeBut : (cs : List ℕ) → Coded cs (duplicateElements t ns names) → (c : ℕ) → member c cs ≡ false → withCode c (findingsOf t ns ss source names) ≡ flatMap (λ j. withCode c (findingsAt t ns ss source names j)) (upto 0 (count ns))
+  wholeBut cs d c e = whole c ∙ ap (λ l. l ++ flatMap (λ j. withCode c (findingsAt t ns ss source names j)) (upto 0 (count ns))) (codedNone c cs (duplicateElements t ns names) e d)
 
-  pub wholeOther : (c : ℕ) → member c (1 ∷ []) ≡ false → withCode c (findingsOf t ns ss source names) ≡ flatMap (λ j. withCode c (findingsAt t ns ss source names j)) (upto 0 (count ns))
-  wholeOther c e = whole c ∙ ap (λ l. l ++ flatMap (λ j. withCode c (findingsAt t ns ss source names j)) (upto 0 (count ns))) (codedNone c (1 ∷ []) (duplicateElements ns names) e (duplicateCodes ns names))
+  pub wholeOther : (c : ℕ) → member c ofClash ≡ false → withCode c (findingsOf t ns ss source names) ≡ flatMap (λ j. withCode c (findingsAt t ns ss source names j)) (upto 0 (count ns))
+  wholeOther c e = wholeBut ofClash (duplicateCodes t ns names) c e
 
-  -- NO OTHER CODE: every finding's code is one of those that document 01 lists
+  -- NO OTHER CODE: every finding's code is one of those that the documents list
   pub codedAt : (n : ℕ) → Coded listedCodes (findingsAt t ns ss source names n)
   codedAt n = subst (Coded listedCodes) (sym (isTable t ns ss source names n)) (codedTable listedCodes (kindOf ns n) (table t ns ss source names n) refl)
 
-  pub codesListed : all (λ f. within (f .code) 1 33) (findingsOf t ns ss source names) ≡ true
-  unfolding findingsOf
-  codesListed =
-      eachCode (λ c. within c 1 33) listedCodes refl
-      (codedAppend listedCodes (duplicateElements ns names) (flatMap (findingsAt t ns ss source names) (upto 0 (count ns))) (codedMore (1 ∷ []) listedCodes refl (duplicateCodes ns names))
-      (codedFlatMap listedCodes (findingsAt t ns ss source names) codedAt (upto 0 (count ns))))
+  -- of types 0 and 1
+  module _ (s : t ≤ 1) where
+    pub wholeOne : withCode 1 (findingsOf t ns ss source names) ≡ duplicateElements t ns names ++ flatMap (λ j. withCode 1 (findingsAt t ns ss source names j)) (upto 0 (count ns))
+    wholeOne = whole 1 ∙ ap (λ l. l ++ flatMap (λ j. withCode 1 (findingsAt t ns ss source names j)) (upto 0 (count ns))) (codedAll 1 (duplicateElements t ns names) (formerDuplicates t s ns names))
+
+    pub wholeScript : (c : ℕ) → member c (1 ∷ []) ≡ false → withCode c (findingsOf t ns ss source names) ≡ flatMap (λ j. withCode c (findingsAt t ns ss source names j)) (upto 0 (count ns))
+    wholeScript c e = wholeBut (1 ∷ []) (formerDuplicates t s ns names) c e
+
+    pub codesListed : all (λ f. within (f .code) 1 33) (findingsOf t ns ss source names) ≡ true
+    unfolding findingsOf
+    codesListed =
+        eachCode (λ c. within c 1 33) listedCodes refl
+        (codedAppend listedCodes (duplicateElements t ns names) (flatMap (findingsAt t ns ss source names) (upto 0 (count ns))) (codedMore (1 ∷ []) listedCodes refl (formerDuplicates t s ns names))
+        (codedFlatMap listedCodes (findingsAt t ns ss source names) codedAt (upto 0 (count ns))))

@@ -8,3 +8,4 @@ pub mod Dispatch
 pub mod OptionLaws
 pub mod NodesOf
 pub mod NodesOfLaws
+pub mod TypescriptLaws

@@ -81,7 +81,7 @@ module _ (g : ℕ → List Finding) (test : ℕ → Bool) (n : ℕ) (h : (j : �
   nodesKept = keptRange 0 (n - 0) (omega arith)
 
 -- the same of the findings of the tree with a code but 1
-pub nodesWhole : (t : ℕ) (ns ss source names : List ℕ) (c : ℕ) (test : ℕ → Bool) → member c (1 ∷ []) ≡ false
+pub nodesWhole : (t : ℕ) (ns ss source names : List ℕ) (c : ℕ) (test : ℕ → Bool) → member c (1 ∷ 35 ∷ []) ≡ false
     → ((j : ℕ) → j < count ns → nodesOf (withCode c (findingsAt t ns ss source names j)) ≡ cond (test j) (j ∷ []) [])
     → nodesOf (withCode c (findingsOf t ns ss source names)) ≡ keep test (upto 0 (count ns))
 nodesWhole t ns ss source names c test e h =

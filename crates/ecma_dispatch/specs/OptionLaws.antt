@@ -24,15 +24,15 @@ use Rattle.check_dispatch.specs.Reported.{reportedAt, reported}
 use Rattle.check_dispatch.specs.ReportedLaws.{nil-right}
 use Rattle.ecma_dispatch.specs.WithCode.{withCode, withoutCode}
 use Rattle.ecma_dispatch.specs.WithCodeLaws.{withAppend, withFlatMap, withNil, Coded, codedNone, codedAll, codedNil, codedAppend, codedCond, codedFlatMap, codedMore, eachCode, coded, fine, fineIf, fineError, fineClear, bothTrue, fineHeld}
-use Rattle.ecma_dispatch.specs.CheckCodes.{duplicateCodes}
+use Rattle.ecma_dispatch.specs.CheckCodes.{ofClash, duplicateCodes}
 use Rattle.ecma_dispatch.specs.Dispatch.{listedCodes, codedAt}
 
 abbrev ofBody : List ℕ
 ofBody = 34 ∷ []
 
--- the codes with the option on
+-- the codes with the option on; 35 in TypeScript alone
 abbrev codesOn : List ℕ
-codesOn = 34 ∷ listedCodes
+codesOn = 34 ∷ 35 ∷ listedCodes
 
 -- WITHOUT A CODE
 withoutAppend : (c : ℕ) (fs gs : List Finding) → withoutCode c (fs ++ gs) ≡ withoutCode c fs ++ withoutCode c gs
@@ -124,9 +124,9 @@ module _ (r : Rule) where
   pub without34 : withoutCode 34 (reported r) ≡ findingsOf (r .sourceType) (r .nodes) (r .scopes) (r .source) (r .names)
   unfolding reported findingsOf
   without34 =
-      withoutAppend 34 (duplicateElements (r .nodes) (r .names)) (flatMap (reportedAt r) (upto 0 (count (r .nodes))))
-      ∙ rw (withoutNone 34 (1 ∷ []) (duplicateElements (r .nodes) (r .names)) refl (duplicateCodes (r .nodes) (r .names)), withoutFlatMap 34 (reportedAt r) (upto 0 (count (r .nodes))))
-      (ap (λ l. duplicateElements (r .nodes) (r .names) ++ l) (flatSame (λ n. withoutCode 34 (reportedAt r n)) rust withoutAt (upto 0 (count (r .nodes)))))
+      withoutAppend 34 (duplicateElements (r .sourceType) (r .nodes) (r .names)) (flatMap (reportedAt r) (upto 0 (count (r .nodes))))
+      ∙ rw (withoutNone 34 ofClash (duplicateElements (r .sourceType) (r .nodes) (r .names)) refl (duplicateCodes (r .sourceType) (r .nodes) (r .names)), withoutFlatMap 34 (reportedAt r) (upto 0 (count (r .nodes))))
+      (ap (λ l. duplicateElements (r .sourceType) (r .nodes) (r .names) ++ l) (flatSame (λ n. withoutCode 34 (reportedAt r n)) rust withoutAt (upto 0 (count (r .nodes)))))
 
   -- .. with it those of the bodies, node by node, ..
   pub at34 : (n : ℕ) → withCode 34 (reportedAt r n) ≡ bodies n
@@ -136,8 +136,8 @@ module _ (r : Rule) where
   pub whole34 : withCode 34 (reported r) ≡ flatMap bodies (upto 0 (count (r .nodes)))
   unfolding reported
   whole34 =
-      withAppend 34 (duplicateElements (r .nodes) (r .names)) (flatMap (reportedAt r) (upto 0 (count (r .nodes))))
-      ∙ rw (codedNone 34 (1 ∷ []) (duplicateElements (r .nodes) (r .names)) refl (duplicateCodes (r .nodes) (r .names)))
+      withAppend 34 (duplicateElements (r .sourceType) (r .nodes) (r .names)) (flatMap (reportedAt r) (upto 0 (count (r .nodes))))
+      ∙ rw (codedNone 34 ofClash (duplicateElements (r .sourceType) (r .nodes) (r .names)) refl (duplicateCodes (r .sourceType) (r .nodes) (r .names)))
       (withFlatMap 34 (reportedAt r) (upto 0 (count (r .nodes))) ∙ flatSame (λ n. withCode 34 (reportedAt r n)) bodies at34 (upto 0 (count (r .nodes))))
 
   -- .. and with another code those of the Rust
@@ -146,9 +146,9 @@ module _ (r : Rule) where
   otherAt c e n = withAppend c (rust n) (bodies n) ∙ rw (codedNone c ofBody (bodies n) e (bodiesCoded n)) (nil-right (withCode c (rust n)))
 
   -- every finding's code is listed
-  pub codesOnListed : all (λ f. within (f .code) 1 34) (reported r) ≡ true
+  pub codesOnListed : all (λ f. within (f .code) 1 35) (reported r) ≡ true
   unfolding reported reportedAt
   codesOnListed =
-      eachCode (λ c. within c 1 34) codesOn refl
-      (codedAppend codesOn (duplicateElements (r .nodes) (r .names)) (flatMap (reportedAt r) (upto 0 (count (r .nodes)))) (codedMore (1 ∷ []) codesOn refl (duplicateCodes (r .nodes) (r .names)))
+      eachCode (λ c. within c 1 35) codesOn refl
+      (codedAppend codesOn (duplicateElements (r .sourceType) (r .nodes) (r .names)) (flatMap (reportedAt r) (upto 0 (count (r .nodes)))) (codedMore ofClash codesOn refl (duplicateCodes (r .sourceType) (r .nodes) (r .names)))
       (codedFlatMap codesOn (reportedAt r) (λ n. codedAppend codesOn (rust n) (bodies n) (codedMore listedCodes codesOn refl (rustCoded n)) (codedMore ofBody codesOn refl (bodiesCoded n))) (upto 0 (count (r .nodes)))))

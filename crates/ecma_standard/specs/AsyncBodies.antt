@@ -35,7 +35,7 @@ module _ (told : Telling) (r : Rule) where
     -- "turning it on adds exactly these": without 34 the findings are those with the option off; with any other code they are the same at each node, so that every rule of Standard.antt holds of them
     pub dropped : withoutCode 34 (reported r) ≡ findingsOf (r .sourceType) (r .nodes) (r .scopes) (r .source) (r .names)
     pub others : (c : ℕ) → member c (34 ∷ []) ≡ false → (n : ℕ) → withCode c (reportedAt r n) ≡ withCode c (findingsAt (r .sourceType) (r .nodes) (r .scopes) (r .source) (r .names) n)
-    pub codes : all (λ f. within (f .code) 1 34) (reported r) ≡ true
+    pub codes : all (λ f. within (f .code) 1 35) (reported r) ≡ true
     -- 14.6, 14.7, 14.11, 14.13, B.3.1, B.3.3, in sloppy code: 16 where no exception of Annex B applies, and for a labelled function; ..
     pub sloppyFunctions : (n : ℕ) → n < count (r .nodes) → strictCode (r .nodes) (r .scopes) n ≡ false
         → at 16 n

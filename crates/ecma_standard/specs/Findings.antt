@@ -2,7 +2,7 @@
 -- broken, one finding for each breach. 4, 15, 17, 18, 23, 26 and 31 are the standard's own rules; the others are the changed rules that docs/DIFFERENCES.md names with what differs. Standard.antt states the
 -- same by the standard's rules. 28 to 30 are stated of all such tables by the Rust's search through the scopes, and by the units in the tree where the scopes follow the tree.
 -- The second span of 9 and 11 at a string is stated by the standard too (`strict .stringSpans`). Other spans, contexts and the order between codes are those of `findingsOf` (crates/check_dispatch), which the calls equal to the last number.
-use Prim.Native.Nat.{ℕ}
+use Prim.Native.Nat.{ℕ, _≤_}
 use mathlib.Core.Path.{_≡_}
 use mathlib.Core.List.{List, _++_, flatMap}
 use mathlib.Core.Bool.{true, not, _&&_}
@@ -61,26 +61,26 @@ pub record Broken (t : ℕ) (ns ss source names : List ℕ) : Type 0 where
   pub code30 : scopesFollow ns ss ≡ true → raised 30 (findingsOf t ns ss source names) ≡ keep (tableProperty ns) (upto 0 (count ns))
 
 -- THE THEOREM
-pub findings262 : (t : ℕ) (ns ss source names : List ℕ) → inputRefusal t ns ss source names ≡ Passed → Broken t ns ss source names
-findings262 t ns ss source names e =
+pub findings262 : (t : ℕ) → t ≤ 1 → (ns ss source names : List ℕ) → inputRefusal t ns ss source names ≡ Passed → Broken t ns ss source names
+findings262 t js ns ss source names e =
     let w = input-well-formed t ns ss source names e in
     record {
-      strict = earlyErrors t ns ss source names w;
+      strict = earlyErrors t js ns ss source names w;
       code18 = labels.all18Are t ns ss source names w;
       code19 = labels.all19Are t ns ss source names w;
       code20 = labels.all20Are t ns ss source names w;
       code21 = labels.all21Are t ns ss source names w;
       code22 = labels.all22Are t ns ss source names w;
       code23 = labels.all23Are t ns ss source names w;
-      code1 = classes.code1 t ns ss source names w;
-      code7 = classes.code7 t ns ss source names w;
-      code8 = classes.code8 t ns ss source names w;
-      code26 = classes.code26 t ns ss source names w;
-      code27 = classes.code27 t ns ss source names w;
-      code28-scopes = classes.code28-scopes t ns ss source names w;
-      code29-scopes = classes.code29-scopes t ns ss source names w;
-      code30-scopes = classes.code30-scopes t ns ss source names w;
-      code28 = λ f. classes.code28 t ns ss source names w f;
-      code29 = λ f. classes.code29 t ns ss source names w f;
-      code30 = λ f. classes.code30 t ns ss source names w f;
+      code1 = classes.code1 t js ns ss source names w;
+      code7 = classes.code7 t js ns ss source names w;
+      code8 = classes.code8 t js ns ss source names w;
+      code26 = classes.code26 t js ns ss source names w;
+      code27 = classes.code27 t js ns ss source names w;
+      code28-scopes = classes.code28-scopes t js ns ss source names w;
+      code29-scopes = classes.code29-scopes t js ns ss source names w;
+      code30-scopes = classes.code30-scopes t js ns ss source names w;
+      code28 = λ f. classes.code28 t js ns ss source names w f;
+      code29 = λ f. classes.code29 t js ns ss source names w f;
+      code30 = λ f. classes.code30 t js ns ss source names w f;
     }

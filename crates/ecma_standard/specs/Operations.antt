@@ -1,6 +1,6 @@
 -- THE OPERATIONS OF ECMA-262 AND THE FINDINGS: of a unit, as the standard states its rules, an operation is true exactly if a finding is raised at one of the nodes that it finds there.
 -- On the conditions of the codes.
-use Prim.Native.Nat.{ℕ, _+_, _<_}
+use Prim.Native.Nat.{ℕ, _+_, _≤_, _<_}
 use mathlib.Core.Path.{_≡_}
 use mathlib.Core.List.{List, [], _++_}
 use mathlib.Core.Logic.{_↔_}
@@ -95,8 +95,8 @@ module _ (told : Telling) (t : ℕ) (ns ss source names : List ℕ) where
     pub superProperty : (u : ℕ) → u < count ns → propertyError ns u ≡ some (inUnit ns (standardProperty ns) u)
 
 -- THE THEOREM
-pub operations262 : (told : Telling) (t : ℕ) (ns ss source names : List ℕ) → inputRefusal t ns ss source names ≡ Passed → Operations told t ns ss source names
-operations262 told t ns ss source names e =
+pub operations262 : (told : Telling) (t : ℕ) → t ≤ 1 → (ns ss source names : List ℕ) → inputRefusal t ns ss source names ≡ Passed → Operations told t ns ss source names
+operations262 told t js ns ss source names e =
     let w = input-well-formed t ns ss source names e in
     record {
       labels = λ u c x.
@@ -117,10 +117,10 @@ operations262 told t ns ss source names e =
       boundNames = units.declarationBindsLet t ns ss source names w;
       isLabelledFunction = units.statementIsLabelled t ns ss source names w;
       bodyContainsUseStrict = units.bodyContainsUseStrict t ns ss source names w;
-      privateIdentifiersValid = classes.valid-clean t ns ss source names w;
-      validLists = classes.valid-lists t ns ss source names w;
-      classAbove = classes.code8-once t ns ss source names w;
-      superBare = classes.units28 t ns ss source names w;
-      superCall = classes.units29 t ns ss source names w told;
-      superProperty = classes.units30 t ns ss source names w;
+      privateIdentifiersValid = classes.valid-clean t js ns ss source names w;
+      validLists = classes.valid-lists t js ns ss source names w;
+      classAbove = classes.code8-once t js ns ss source names w;
+      superBare = classes.units28 t js ns ss source names w;
+      superCall = classes.units29 t js ns ss source names w told;
+      superProperty = classes.units30 t js ns ss source names w;
     }

@@ -1,7 +1,7 @@
 -- THE FINDINGS AGAINST THE RULES OF ECMA-262 THEMSELVES, all codes together: of well-formed tables, for every telling of the functions that are async or generators.
 -- Where a field has a condition, that is a named one (Changed.antt of each crate; docs/DIFFERENCES.md has a row for each, and a text where there is one); where it does not hold the Rust keeps another rule, which
 -- Findings.antt states of all tables. Operations.antt has the standard's operations of units.
-use Prim.Native.Nat.{ℕ, _<_}
+use Prim.Native.Nat.{ℕ, _≤_, _<_}
 use mathlib.Core.Path.{_≡_, ap, _∙_}
 use mathlib.Core.List.{List, [], _∷_, _++_, flatMap}
 use mathlib.Core.Logic.{_↔_}
@@ -25,7 +25,7 @@ use Rattle.ecma_dispatch.specs.NodesOf.{nodesOf, raised}
 use Rattle.ecma_base.specs.Telling.{Telling}
 use Rattle.ecma_base.specs.Scopes.{scopesFollow}
 use Rattle.ecma_base.specs.Strict.{strictCode}
-use Rattle.ecma_dispatch.specs.Dispatch.{wholeOther, codesListed}
+use Rattle.ecma_dispatch.specs.Dispatch.{wholeScript, codesListed}
 use Rattle.ecma_standard.specs.Operations.{Operations, operations262}
 use Rattle.ecma_labels.specs.Changed.{LabelsOnce, ContinuePlain}
 use Rattle.ecma_labels.specs.Labels.{isUnit, labelErrors}
@@ -153,8 +153,8 @@ unfolding reservedName
 noName t ns ss names n e = rw e
 
 -- THE THEOREM
-pub standard262 : (told : Telling) (t : ℕ) (ns ss source names : List ℕ) → inputRefusal t ns ss source names ≡ Passed → Standard told t ns ss source names
-standard262 told t ns ss source names e =
+pub standard262 : (told : Telling) (t : ℕ) → t ≤ 1 → (ns ss source names : List ℕ) → inputRefusal t ns ss source names ≡ Passed → Standard told t ns ss source names
+standard262 told t js ns ss source names e =
     let w = input-well-formed t ns ss source names e in
     record {
       labels = record {
@@ -183,7 +183,7 @@ standard262 told t ns ss source names e =
         strictFunctions = λ n h. strict.code15 t ns ss source names w n h told;
         sloppyFunctions = λ n h q s. rules.standard16 t ns ss source names w n h told q s;
         functions = λ n h q. rules.standard15with16 t ns ss source names w n h told q;
-        withStatement = λ n h. strict.code17 t ns ss source names w n h;
+        withStatement = λ n h. strict.code17 t ns ss source names w n h js;
         forHead = λ n h q. rules.standard24 t ns ss source names w n h q;
         forAwaitInBlock = λ n h q. rules.standard25 t ns ss source names w n h q;
         deleteOfName = λ n h. strict.code31 t ns ss source names w n h;
@@ -191,20 +191,20 @@ standard262 told t ns ss source names e =
         awaitInParameters = λ n h q. rules.standard33 t ns ss source names w n h q;
       };
       classes = record {
-        protos = classes.protos-at t ns ss source names w;
-        protosOnce = classes.protos-once-at t ns ss source names w;
-        privateNames = classes.privates-once t ns ss source names w;
-        redeclared = classes.redeclared t ns ss source names w;
-        privateOutside = classes.outside-at t ns ss source names w;
-        privateUndeclared = classes.code8-standard t ns ss source names w;
-        className = classes.class-name-at t ns ss source names w;
-        constructors = classes.constructors-at t ns ss source names w;
-        superBare = λ f n h q. classes.bare-at t ns ss source names w f told n h (q .0) (q .1) (q .2) (q .3);
-        superCall = λ f n h q. classes.stray-at t ns ss source names w f told n h (q .0) (q .1);
-        superProperty = λ f n h q. classes.property-at t ns ss source names w f n h q;
-        super = λ f s m c. classes.super-clean t ns ss source names w f s told m c;
+        protos = classes.protos-at t js ns ss source names w;
+        protosOnce = classes.protos-once-at t js ns ss source names w;
+        privateNames = classes.privates-once t js ns ss source names w;
+        redeclared = classes.redeclared t js ns ss source names w;
+        privateOutside = classes.outside-at t js ns ss source names w;
+        privateUndeclared = classes.code8-standard t js ns ss source names w;
+        className = classes.class-name-at t js ns ss source names w;
+        constructors = classes.constructors-at t js ns ss source names w;
+        superBare = λ f n h q. classes.bare-at t js ns ss source names w f told n h (q .0) (q .1) (q .2) (q .3);
+        superCall = λ f n h q. classes.stray-at t js ns ss source names w f told n h (q .0) (q .1);
+        superProperty = λ f n h q. classes.property-at t js ns ss source names w f n h q;
+        super = λ f s m c. classes.super-clean t js ns ss source names w f s told m c;
       };
-      whole = wholeOther t ns ss source names;
-      codes = codesListed t ns ss source names;
-      operations = operations262 told t ns ss source names e;
+      whole = wholeScript t ns ss source names js;
+      codes = codesListed t ns ss source names js;
+      operations = operations262 told t js ns ss source names e;
     }

@@ -86,7 +86,7 @@ unfolding nodesOf flatMap
 nodesFlat g [] = refl
 nodesFlat g (j ∷ l) = nodesAppend (g j) (flatMap g l) ∙ ap (λ m. nodesOf (g j) ++ m) (nodesFlat g l)
 
-pub wholeIs : (c t : ℕ) (ns ss source names : List ℕ) (rule : ℕ → List ℕ) → member c (1 ∷ []) ≡ false
+pub wholeIs : (c t : ℕ) (ns ss source names : List ℕ) (rule : ℕ → List ℕ) → member c (1 ∷ 35 ∷ []) ≡ false
     → ((j : ℕ) → j < count ns → raised c (findingsAt t ns ss source names j) ≡ rule j)
     → raised c (findingsOf t ns ss source names) ≡ each rule (upto 0 (count ns))
 wholeIs c t ns ss source names rule e h =

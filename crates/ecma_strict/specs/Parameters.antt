@@ -11,9 +11,9 @@ use Rattle.ecma_base.specs.Telling.{Telling}
 use Rattle.ecma_base.specs.Contains.{initializer}
 use Rattle.ecma_strict.specs.Contains.{staticBlock}
 
--- the goal symbol of the syntactic grammar is Module
+-- the goal symbol of the syntactic grammar is Module: source type 1, and 2, "a TypeScript module"
 abbrev pub goalModule : ℕ → Bool
-goalModule sourceType = eqb sourceType 1
+goalModule sourceType = eqb sourceType 1 || eqb sourceType 2
 
 pub record Parameters : Type 0 where
   pub yield : Bool

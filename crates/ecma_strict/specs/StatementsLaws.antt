@@ -1,5 +1,5 @@
 -- What the checks of statements raise is what the rules say.
-use Prim.Native.Nat.{ℕ, _+_}
+use Prim.Native.Nat.{ℕ, _+_, _≤_}
 use mathlib.Core.Path.{_≡_, refl, ap, sym, _∙_}
 use mathlib.Core.List.{List, [], _∷_}
 use mathlib.Core.Bool.{Bool, true, false, cond, not, _&&_, _||_}
@@ -9,6 +9,7 @@ use lib.Dec.{eqb}
 use lib.ListN.{length}
 use Rattle.base_common.specs.Upto.{upto}
 use Rattle.base_common.specs.Tests.{within}
+use Rattle.table_source.specs.SourceTypeLaws.{no-typescript}
 use Rattle.table_records.specs.Table.{kindOf, parentOf, count, extraOf, spanStartOf, spanEndOf}
 use Rattle.table_records.specs.Kinds as k
 use Rattle.table_records.specs.Extras as extra
@@ -35,9 +36,9 @@ ifOnly c s e n x true = rw (eq-eqb c c refl)
 ifOnly c s e n x false = refl
 
 -- CODE 17
-pub withIs : (ns ss : List ℕ) (n : ℕ) → kindOf ns n ≡ k.With → ofCheck code.withStatement (checkWithStatement ns ss n) ≡ only (strictWith ns ss n) n
+pub withIs : (t : ℕ) → t ≤ 1 → (ns ss : List ℕ) (n : ℕ) → kindOf ns n ≡ k.With → ofCheck code.withStatement (checkWithStatement t ns ss n) ≡ only (strictWith ns ss n) n
 unfolding checkWithStatement strictWith
-withIs ns ss n q = rw (eq-eqb (kindOf ns n) k.With q) (ifOnly 17 (spanStartOf ns n) (spanStartOf ns n + 4) n context.none (strictCode ns ss n))
+withIs t s ns ss n q = rw (eq-eqb (kindOf ns n) k.With q, no-typescript t s) (ifOnly 17 (spanStartOf ns n) (spanStartOf ns n + 4) n context.none (strictCode ns ss n))
 
 -- CODE 24
 -- what the Rust says of a head with one declaration: i an initialiser, s strict code, v a `var`, f a for-in, p a plain name

@@ -1,6 +1,6 @@
 -- THE THEOREMS: in well-formed tables, the findings of a node with a code are one, raised at it, where the rule is broken there, and none elsewhere. The rules without a mark are
 -- those of ECMA-262; those marked (changed) are the Rust's, and the laws named beside them say where they are the standard's.
-use Prim.Native.Nat.{ℕ, _<_}
+use Prim.Native.Nat.{ℕ, _≤_, _<_}
 use mathlib.Core.Path.{_≡_, refl, ap, sym, _∙_}
 use mathlib.Core.List.{List, [], _++_}
 use mathlib.Core.Bool.{Bool, true, false, cond, not, _&&_, _||_}
@@ -219,12 +219,12 @@ module _ (t : ℕ) (ns ss source names : List ℕ) (w : WellFormed t ns ss sourc
       ∙ alone (sloppyFunction ordinary ns ss n || labelledFunctionSaid ns ss n) (not (strictCode ns ss n)) (rw f))
       (λ x f g. let s = not (strictCode ns ss n) in rw (x, f, g) (andFalse ns ss n s ∙ left (s && false) false n refl ∙ alone (s && false || false) s refl))
 
-  -- 17: with in strict code (14.11.1)
-  pub code17 : raised 17 at ≡ only (strictWith ns ss n) n
+  -- 17: with in strict code (14.11.1), in JavaScript
+  pub code17 : t ≤ 1 → raised 17 at ≡ only (strictWith ns ss n) n
   unfolding strictWith
-  code17 =
-      atListed 17 n at (eqb (kindOf ns n) k.With) (strictWith ns ss n) (checkWithStatement ns ss n)
-      (λ e. withIs ns ss n (eqb-true (kindOf ns n) 13 e)) (λ e. rw e) (atCode 17 t ns ss source names n)
+  code17 s =
+      atListed 17 n at (eqb (kindOf ns n) k.With) (strictWith ns ss n) (checkWithStatement t ns ss n)
+      (λ e. withIs t s ns ss n (eqb-true (kindOf ns n) 13 e)) (λ e. rw e) (atCode 17 t ns ss source names n)
 
   -- 24 (changed: headAgrees): an Initializer in the head of a for-in or a for-of (14.7.5, B.3.5)
   pub code24 : raised 24 at ≡ only (saidHead ns ss n) n
@@ -302,8 +302,8 @@ pub record EarlyErrors (t : ℕ) (ns ss source names : List ℕ) : Type 0 where
   pub deleteOfPrivate : Exactly 32 t ns ss source names (λ n. only (deletesPrivateAnywhere ns n) n)
   pub awaitOrYieldInParameters : Exactly 33 t ns ss source names (λ n. only (awaitInParameterSaid ns n) n)
 
-pub earlyErrors : (t : ℕ) (ns ss source names : List ℕ) → WellFormed t ns ss source names → EarlyErrors t ns ss source names
-earlyErrors t ns ss source names w = record {
+pub earlyErrors : (t : ℕ) → t ≤ 1 → (ns ss source names : List ℕ) → WellFormed t ns ss source names → EarlyErrors t ns ss source names
+earlyErrors t s ns ss source names w = record {
   reservedWord = wholeIs 2 t ns ss source names (λ n. only (reservedName t ns ss names n) n) refl (code2 t ns ss source names w);
   awaitInBlock = wholeIs 3 t ns ss source names (λ n. only (awaitNameScoped t ns ss names n || (awaitExpression ns n && scopedInBlock ns ss n)) n) refl (code3 t ns ss source names w);
   evalAssigned = wholeIs 4 t ns ss source names (λ n. only (bindsEval ns ss names n || assignsEval ns ss names n) n) refl (code4 t ns ss source names w);
@@ -319,7 +319,7 @@ earlyErrors t ns ss source names w = record {
   awaitUsingInBlock = wholeIs 14 t ns ss source names (λ n. only (awaitUsing ns n && scopedInBlock ns ss n) n) refl (code14 t ns ss source names w);
   strictFunctions = λ told. wholeIs 15 t ns ss source names (λ n. only (strictFunction told ns ss n) n ++ only (strictFunctionElse told ns ss n) n) refl (λ n h. code15 t ns ss source names w n h told);
   sloppyFunctions = wholeIs 16 t ns ss source names (λ n. only (sloppyFunction ordinary ns ss n || labelledFunctionSaid ns ss n) n ++ only (sloppyFunctionElse ordinary ns ss n) n) refl (code16 t ns ss source names w);
-  withStatement = wholeIs 17 t ns ss source names (λ n. only (strictWith ns ss n) n) refl (code17 t ns ss source names w);
+  withStatement = wholeIs 17 t ns ss source names (λ n. only (strictWith ns ss n) n) refl (λ n h. code17 t ns ss source names w n h s);
   forHead = wholeIs 24 t ns ss source names (λ n. only (saidHead ns ss n) n) refl (code24 t ns ss source names w);
   forAwaitInBlock = wholeIs 25 t ns ss source names (λ n. only (forAwait ns n && scopedInBlock ns ss n) n) refl (code25 t ns ss source names w);
   deleteOfName = wholeIs 31 t ns ss source names (λ n. only (deletesName ns ss n) n) refl (code31 t ns ss source names w);
@@ -328,5 +328,5 @@ earlyErrors t ns ss source names w = record {
 }
 
 -- The same of tables that no refusal of the input turns down.
-pub earlyErrorsOf : (t : ℕ) (ns ss source names : List ℕ) → inputRefusal t ns ss source names ≡ Passed → EarlyErrors t ns ss source names
-earlyErrorsOf t ns ss source names e = earlyErrors t ns ss source names (input-well-formed t ns ss source names e)
+pub earlyErrorsOf : (t : ℕ) → t ≤ 1 → (ns ss source names : List ℕ) → inputRefusal t ns ss source names ≡ Passed → EarlyErrors t ns ss source names
+earlyErrorsOf t s ns ss source names e = earlyErrors t s ns ss source names (input-well-formed t ns ss source names e)

@@ -5,24 +5,29 @@ use mathlib.Core.List.{List}
 use mathlib.Core.Bool.{Bool, cond, not, _&&_, _||_, true}
 use lib.Dec.{eqb, ltb, leb}
 use lib.ListN.{length}
+use Rattle.base_common.specs.Tests.{within}
+use Rattle.table_source.specs.SourceType.{Typescript, isTypescript}
 use Rattle.table_records.specs.Table.{kindOf, roleOf, flagsOf, extraOf, spanStartOf, spanEndOf, nameStartOf, nameLenOf, count, countScopes, Some}
 use Rattle.table_records.specs.Kinds as k
 use Rattle.table_records.specs.Roles as role
 use Rattle.table_records.specs.Extras as extra
 use Rattle.check_bodies.specs.Bodies.{AsyncOrGenerator}
+use Rattle.check_class_table.specs.Elements.{NoFixedName}
 
 -- 1. "A table is empty or no whole number of records; more than 65,535 records": a table of so many numbers, `width` to a record
 unfoldable pub wrongTable : ℕ → ℕ → Bool
 wrongTable len width = eqb len 0 || (not (eqb (len % width) 0) || ltb 65535 (len / width))
 
--- 1. .. "source or names above 1,048,576 bytes; source type above 1"
+-- 1. .. "source or names above 1,048,576 bytes"; "1 now begins at source type 3" (document 02, request 13)
 unfoldable pub wrongSizes : ℕ → List ℕ → List ℕ → List ℕ → List ℕ → Bool
 wrongSizes sourceType ns ss source names =
-    wrongTable (length ns) 10 || (wrongTable (length ss) 3 || (ltb 1048576 (length source) || (ltb 1048576 (length names) || ltb 1 sourceType)))
+    wrongTable (length ns) 10 || (wrongTable (length ss) 3 || (ltb 1048576 (length source) || (ltb 1048576 (length names) || ltb Typescript sourceType)))
 
--- the flag that a kind has of its own: "8192, async or generator, allowed on Function only" (document 02, request 8)
+-- the flag that a kind has of its own: "8192, async or generator, allowed on Function only" (document 02, request 8); "Flag 16384 (on kinds 28 to 30 in type 2, refused by 2 elsewhere)" (request 13)
 unfoldable pub ownFlag : ℕ → ℕ → ℕ
-ownFlag sourceType kind = cond (eqb kind k.Function) AsyncOrGenerator 0
+ownFlag sourceType kind =
+    cond (eqb kind k.Function) AsyncOrGenerator
+    (cond (isTypescript sourceType && within kind k.MethodDefinition k.AccessorProperty) NoFixedName 0)
 
 -- a sum of some of the flags 2, 4, .., 4096, an even number up to 8190, with the kind's own flag or without
 unfoldable pub listedFlags : ℕ → ℕ → ℕ → Bool
@@ -64,7 +69,7 @@ pub record Sizes (sourceType : ℕ) (ns ss source names : List ℕ) : Type 0 whe
   pub wholeScopes : length ss ≡ countScopes ss * 3
   pub bytes : length source ≤ 1048576
   pub nameBytes : length names ≤ 1048576
-  pub type : sourceType ≤ 1
+  pub type : sourceType ≤ 2
 
 -- what is known where every number is listed
 pub record Listed (ns : List ℕ) : Type 0 where

@@ -36,7 +36,7 @@ right-table len width e =
 pub sizes-of : (sourceType : ℕ) (ns ss source names : List ℕ) → wrongSizes sourceType ns ss source names ≡ false → Sizes sourceType ns ss source names
 unfolding wrongSizes
 sizes-of sourceType ns ss source names e =
-    let w = or5 (wrongTable (length ns) 10) (wrongTable (length ss) 3) (ltb 1048576 (length source)) (ltb 1048576 (length names)) (ltb 1 sourceType) e in
+    let w = or5 (wrongTable (length ns) 10) (wrongTable (length ss) 3) (ltb 1048576 (length source)) (ltb 1048576 (length names)) (ltb 2 sourceType) e in
     let n = right-table (length ns) 10 (w .0) in
     let s = right-table (length ss) 3 (w .1) in
     let n0 = n .0 in
@@ -48,7 +48,7 @@ sizes-of sourceType ns ss source names e =
       wholeScopes = omega arith;
       bytes = ltb-false 1048576 (length source) (w .2);
       nameBytes = ltb-false 1048576 (length names) (w .3);
-      type = ltb-false 1 sourceType (w .4);
+      type = ltb-false 2 sourceType (w .4);
     }
 
 pub listed-of : (sourceType : ℕ) (ns : List ℕ) → first (unlistedAt sourceType ns) 0 (count ns) ≡ Nowhere → Listed ns

@@ -10,11 +10,14 @@ ghost use Rattle.refusal_fields.specs.Fields.{wrongTable, wrongSizes, ow
 use base_common::and;
 use base_common::not;
 use base_common::or;
+use base_common::within;
 use refusal_verdict::Place;
 use table_records::NodeId;
 use table_records::extras;
 use table_records::kinds;
 use table_records::roles;
+use table_source::TYPESCRIPT;
+use table_source::is_typescript;
 
 // Whether a table of so many numbers, `width` to a record, is empty, not whole or too long.
 fn wrong_table(len: usize, width: usize) -> bool
@@ -40,7 +43,7 @@ pub fn wrong_sizes(
             wrong_table(scopes.len(), 3),
             or(
                 1048576 < source.len(),
-                or(1048576 < names.len(), 1 < source_type),
+                or(1048576 < names.len(), TYPESCRIPT < source_type),
             ),
         ),
     )
@@ -49,10 +52,14 @@ pub fn wrong_sizes(
 // The flag that a kind has of its own.
 fn own_flag(source_type: u32, k: u32) -> u32
     ensures { λ r. ⌜ r ≡ ownFlag «source_type» k ⌝ }
-    ensures { λ r. ⌜ r ≤ 8192 ⌝ }
+    ensures { λ r. ⌜ r ≤ 16384 ⌝ }
 {
     if k == kinds::FUNCTION {
         return check_bodies::ASYNC_OR_GENERATOR;
+    }
+    let element = within(k, kinds::METHOD_DEFINITION, kinds::ACCESSOR_PROPERTY);
+    if and(is_typescript(source_type), element) {
+        return check_class_table::NO_FIXED_NAME;
     }
     0
 }

@@ -217,7 +217,7 @@ module _ (sourceType : ℕ) (ns ss source names : List ℕ) where
   -- without findings no node has one
   pub none-at : findingsOf sourceType ns ss source names ≡ [] → (n : ℕ) → n < count ns → findingsAt sourceType ns ss source names n ≡ []
   unfolding findingsOf
-  none-at e n l = none-by (findingsAt sourceType ns ss source names) (count ns) (count ns) 0 (omega arith) (none-both (duplicateElements ns names) (flatMap (findingsAt sourceType ns ss source names) (upto 0 (count ns))) e .1) n (omega arith) l
+  none-at e n l = none-by (findingsAt sourceType ns ss source names) (count ns) (count ns) 0 (omega arith) (none-both (duplicateElements sourceType ns names) (flatMap (findingsAt sourceType ns ss source names) (upto 0 (count ns))) e .1) n (omega arith) l
 
   module _ (n : ℕ) where
     at-break : kindOf ns n ≡ k.Break → findingsAt sourceType ns ss source names n ≡ [] → checkBreakStatement ns names n ≡ Clear

@@ -123,6 +123,26 @@ fn listed() {
     change(b"flag 1", &[55_00_0], 1, 6, 1);
 }
 
+// A class with a method, and the flags of one of its nodes.
+fn flagged(label: &[u8], source_type: u32, node: usize, flags: u32) {
+    let mut nodes = [0u32; 170];
+    fill(&[26_00_3, 27_01_0, 28_02_0, 32_03_2, 1_03_1], &mut nodes);
+    if node < 17 {
+        nodes[node * 10 + 6] = flags;
+    }
+    let scopes = [0u32, 2, 0, 0, 0, 1];
+    cut(label, source_type, &nodes, 60, &scopes, 6, b"abcd", 4, 2);
+}
+
+// 2. .. flag 16384, on class elements of TypeScript alone.
+fn listed_in_typescript() {
+    flagged(b"flag 16384 in TypeScript", 2, 3, 16384);
+    flagged(b"all flags with it", 2, 3, 24574);
+    flagged(b"flags 24576", 2, 3, 24576);
+    flagged(b"flag 16384 on a Class", 2, 1, 16384);
+    flagged(b"flag 16384 in a module", 1, 3, 16384);
+}
+
 // 2. .. or extra: kinds 24, 26, 28, 35, 36, 44, 55 and another.
 fn listed_extra() {
     change(b"await using", &[24_00_0], 1, 7, 4);
@@ -454,6 +474,7 @@ fn sizes() {
     cut(b"no scope", 0, &zeros, 10, &zeros, 0, b"", 0, 0);
     cut(b"4 numbers", 0, &zeros, 10, &zeros, 4, b"", 0, 0);
     cut(b"source type 2", 2, &zeros, 10, &zeros, 3, b"", 0, 0);
+    cut(b"source type 3", 3, &zeros, 10, &zeros, 3, b"", 0, 0);
 }
 
 // 1. .. more than 65,535 records (so many Programs are refused for another reason); source or names above 1,048,576 bytes.
@@ -478,6 +499,7 @@ fn main() {
     sizes();
     large();
     listed();
+    listed_in_typescript();
     listed_extra();
     tree();
     depth();

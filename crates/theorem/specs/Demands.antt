@@ -1,18 +1,25 @@
 -- THE THREE DEMANDS AS ONE STATEMENT. Each field is a sentence of the demands with its theorem; docs/CLAIMS.md says the same in words. What is not here is not claimed.
 -- `statement` of a call is its contract as it stands above the function in crates/exports/src/lib.rt: that the call, on any memory, ends, does nothing undefined and meets its `ensures`.
-use Prim.Native.Nat.{ℕ}
+use Prim.Native.Nat.{ℕ, _≤_}
 use mathlib.Core.Path.{_≡_}
-use mathlib.Core.List.{List}
+use mathlib.Core.List.{List, flatMap}
 use mathlib.Core.Bool.{false}
 use lib.Dec.{eqb}
 use Rattle.refusal_verdict.specs.declared.Verdict.the-variants.{Passed}
 use Rattle.refusal_input.specs.Input.{inputRefusal}
 use Rattle.check_dispatch.specs.Findings.{findingsOf}
+use Rattle.check_class_table.specs.Classes.{classesOf}
+use Rattle.check_duplicates.specs.Duplicates.{duplicateElements}
+use Rattle.check_pairs.specs.Pairs.{clashFindings}
+use Rattle.check_pairs.specs.PairsLaws.{each-clash}
+use Rattle.check_dispatch.specs.Former as Former
+use Rattle.check_dispatch.specs.FormerLaws.{former-of}
 use Rattle.check_dispatch.specs.Rule.{Rule, rule}
 use Rattle.check_dispatch.specs.Reported.{reported}
 use Rattle.check_dispatch.specs.ReportedLaws as option
 use Rattle.refusal_state.specs.Targets.{stateAnswer}
 use Rattle.ecma_base.specs.Telling.{Telling}
+use Rattle.ecma_dispatch.specs.TypescriptLaws.{Typescript, typescript}
 use Rattle.ecma_standard.specs.Standard.{Standard, standard262}
 use Rattle.ecma_standard.specs.Findings.{Broken, findings262}
 use Rattle.ecma_standard.specs.AsyncBodies.{OptionOn, optionOn}
@@ -38,14 +45,18 @@ pub record Demands : Type 2 where
   -- "A run reads the code and the answers, never the tables": the machine is lent nothing else, and is total on any list of numbers as code.
   pub machine : {M : Type 1} → machine-run.statement M
   -- 2. "On well-formed tables .. the findings .. save on the conditions listed in docs/DIFFERENCES.md, are proved against definitions from ECMA-262 with Annex B: one where a rule is
-  -- broken, none elsewhere": each code by the standard's own rule, for every telling of the functions that are async or generators; ..
-  pub standard : (told : Telling) (t : ℕ) (ns ss source names : List ℕ) → inputRefusal t ns ss source names ≡ Passed → Standard told t ns ss source names
+  -- broken, none elsewhere": each code by the standard's own rule, for every telling of the functions that are async or generators, in scripts and modules of JavaScript (types 0 and 1); ..
+  pub standard : (told : Telling) (t : ℕ) → t ≤ 1 → (ns ss source names : List ℕ) → inputRefusal t ns ss source names ≡ Passed → Standard told t ns ss source names
   -- .. and by the changed rule of DIFFERENCES.md, of all well-formed tables.
-  pub changed : (t : ℕ) (ns ss source names : List ℕ) → inputRefusal t ns ss source names ≡ Passed → Broken t ns ss source names
+  pub changed : (t : ℕ) → t ≤ 1 → (ns ss source names : List ℕ) → inputRefusal t ns ss source names ≡ Passed → Broken t ns ss source names
   -- With the option on async and generator bodies off, the findings are the Rust's, of all tables; with it on, 34 is added and nothing else, and 15, 16 and 34 keep the standard's rules
   -- without a condition on what an if or a label holds (document 02, request 8).
   pub off : (t : ℕ) (ns ss source names : List ℕ) → reported (rule t 0 ns ss source names) ≡ findingsOf t ns ss source names
   pub on : (told : Telling) (r : Rule) → inputRefusal (r .sourceType) (r .nodes) (r .scopes) (r .source) (r .names) ≡ Passed → eqb (r .asyncBodies) 0 ≡ false → OptionOn told r
+  -- "For types 0 and 1 findings are what they were"; in TypeScript "each clash, and nothing else, gives its one finding .. over both kinds of key"; what else differs there (document 02, request 13).
+  pub before : (t : ℕ) → t ≤ 1 → (ns ss source names : List ℕ) → findingsOf t ns ss source names ≡ Former.findingsOf t ns ss source names
+  pub clashes : (t : ℕ) (ns names : List ℕ) → duplicateElements t ns names ≡ flatMap (clashFindings t ns names) (classesOf ns)
+  pub typescript : (ns ss source names : List ℕ) → Typescript ns ss source names
   -- 3. "For every well-formed tree without findings, whose breaks and continues all have the target that ECMA-262 asks for inside their own unit": those without findings have it.
   pub targets : (t asyncBodies : ℕ) (ns ss source names : List ℕ) (u : ℕ) → inputRefusal t ns ss source names ≡ Passed → stateAnswer (rule t asyncBodies ns ss source names) u ≡ Passed → Targeted ns names
   -- "every unit of it without `try` and every list of answers, empty, too short or too long included: the flat jump code .. lists the same statements in the same order, takes the same
@@ -66,6 +77,9 @@ demands = record {
   changed = findings262;
   off = option.off;
   on = optionOn;
+  before = λ t s ns ss source names. former-of t s ns names ss source;
+  clashes = each-clash;
+  typescript = typescript;
   targets = λ t asyncBodies ns ss source names u f p. targeted t asyncBodies ns ss source names u f p;
   routes = λ t asyncBodies ns ss source names u f p. routes t asyncBodies ns ss source names u f p;
   rowsHold = rows-hold;

@@ -21,19 +21,19 @@ returns-2 : tie.Need-returns-2
 unfolding enters
 returns-2 c = rw (← c .before .before .before .before .before .is-constructor .ensures, c .before .before .before .before .if1 .left, ← c .before .before .before .kind .ensures, eq-eqb _ _ (c .before .before .if2 .taken), ← c .before .has-body .ensures, c .if3 .taken)
 
-has-name-requires : tie.Need-has-name-requires
-has-name-requires c κs = search needs
+has-fixed-name-requires : tie.Need-has-fixed-name-requires
+has-fixed-name-requires c κs = search needs
 
 returns-3 : tie.Need-returns-3
 unfolding enters
-returns-3 c = rw (← c .before .before .before .before .before .before .is-constructor .ensures, c .before .before .before .before .before .if1 .left, ← c .before .before .before .before .kind .ensures, eq-eqb _ _ (c .before .before .before .if2 .taken), ← c .before .before .has-body .ensures, c .before .if3 .left, ← c .has-name .ensures)
+returns-3 c = rw (← c .before .before .before .before .before .before .is-constructor .ensures, c .before .before .before .before .before .if1 .left, ← c .before .before .before .before .kind .ensures, eq-eqb _ _ (c .before .before .before .if2 .taken), ← c .before .before .has-body .ensures, c .before .if3 .left, ← c .has-fixed-name .ensures)
 
-has-name-requires-2 : tie.Need-has-name-requires-2
-has-name-requires-2 c κs = search needs
+has-fixed-name-requires-2 : tie.Need-has-fixed-name-requires-2
+has-fixed-name-requires-2 c κs = search needs
 
 returns-4 : tie.Need-returns-4
 unfolding enters
-returns-4 c = rw (← c .before .before .before .before .is-constructor .ensures, c .before .before .before .if1 .left, ← c .before .before .kind .ensures, ne-eqb _ _ (c .before .if2 .left), ← c .has-name2 .ensures)
+returns-4 c = rw (← c .before .before .before .before .is-constructor .ensures, c .before .before .before .if1 .left, ← c .before .before .kind .ensures, ne-eqb _ _ (c .before .if2 .left), ← c .has-fixed-name2 .ensures)
 
 pub enters-spec : {M : Type 1} → statement M
 enters-spec =
@@ -44,7 +44,7 @@ enters-spec =
     kind-requires
     has-body-requires
     returns-2
-    has-name-requires
+    has-fixed-name-requires
     returns-3
-    has-name-requires-2
+    has-fixed-name-requires-2
     returns-4)

@@ -12,10 +12,10 @@ use Rattle.check_class_table.proofs.is_declared.Statement.{statement}
 use Rattle.check_class_table.proofs.is_declared.Tie as tie
 
 abbrev Inv-loop : tie.InvT-loop
-Inv-loop nodes names name at₀ at = (at .0 < count nodes) × (isDeclared nodes names (at .0) name ≡ isDeclared nodes names (at₀ .0) name)
+Inv-loop source-type nodes names name at₀ at = (at .0 < count nodes) × (isDeclared source-type nodes names (at .0) name ≡ isDeclared source-type nodes names (at₀ .0) name)
 
 abbrev μ-loop : tie.MeasureT-loop
-μ-loop nodes names name at₀ at = at .0
+μ-loop source-type nodes names name at₀ at = at .0
 
 loop-holds : tie.Need-loop-holds Inv-loop μ-loop
 loop-holds c = search needs
@@ -25,7 +25,7 @@ has-private-definition-requires c κs = search needs
 
 returns : tie.Need-returns Inv-loop μ-loop
 returns c = let a = c .before .before .before .before .before .before .args in
-    cc (declared-here (a .nodes .now) (a .names .now) (c .before .before .before .before .before .before .pre .0) (a .name .now) (c .before .before .loop .at .0) (c .before .before .loop .inv .0) (sym (c .before .has-private-definition .ensures) ∙ c .if1 .taken))
+    cc (declared-here (a .source-type) (a .nodes .now) (a .names .now) (c .before .before .before .before .before .before .pre .0) (a .name .now) (c .before .before .loop .at .0) (c .before .before .loop .inv .0) (sym (c .before .has-private-definition .ensures) ∙ c .if1 .taken))
 
 parent-class-requires : tie.Need-parent-class-requires Inv-loop μ-loop
 parent-class-requires c κs = search needs
@@ -38,7 +38,7 @@ enum-told c = search needs
 
 returns-2 : tie.Need-returns-2 Inv-loop μ-loop
 returns-2 c = let a = c .before .before .before .before .before .before .before .before .before .args in
-    cc (declared-none (a .nodes .now) (a .names .now) (c .before .before .before .before .before .before .before .before .before .pre .0) (a .name .now) (c .before .before .before .before .before .loop .at .0) (c .before .before .before .before .before .loop .inv .0) (sym (c .before .before .before .before .has-private-definition .ensures) ∙ c .before .before .before .if1 .left) (class-none (bodyAbove (a .nodes .now) (c .before .before .before .before .before .loop .at .0)) (sym (c .before .before .parent-class .ensures .0) ∙ c .enum-told .given .1)))
+    cc (declared-none (a .source-type) (a .nodes .now) (a .names .now) (c .before .before .before .before .before .before .before .before .before .pre .0) (a .name .now) (c .before .before .before .before .before .loop .at .0) (c .before .before .before .before .before .loop .inv .0) (sym (c .before .before .before .before .has-private-definition .ensures) ∙ c .before .before .before .if1 .left) (class-none (bodyAbove (a .nodes .now) (c .before .before .before .before .before .loop .at .0)) (sym (c .before .before .parent-class .ensures .0) ∙ c .enum-told .given .1)))
 
 loop-less : tie.Need-loop-less Inv-loop μ-loop
 loop-less c = subst (λ (r : Current). before (c .before .before .before .before .before .before .loop .at .0) r) (c .before .outer .given .1) (c .before .before .before .parent-class .ensures .1)
@@ -47,7 +47,7 @@ loop-again : tie.Need-loop-again Inv-loop μ-loop
 loop-again c = let a = c .before .before .before .before .before .before .before .before .before .before .args in
     let l : c .before .outer .given .0 .0 .0 < c .before .before .before .before .before .before .loop .at .0 = subst (λ (r : Current). before (c .before .before .before .before .before .before .loop .at .0) r) (c .before .outer .given .1) (c .before .before .before .parent-class .ensures .1) in
     let h = c .before .before .before .before .before .before .loop .inv .0 in
-    (omega arith, cc (declared-outer (a .nodes .now) (a .names .now) (c .before .before .before .before .before .before .before .before .before .before .pre .0) (a .name .now) (c .before .before .before .before .before .before .loop .at .0) (c .before .before .before .before .before .before .loop .inv .0) (c .before .outer .given .0 .0 .0) (sym (c .before .before .before .before .before .has-private-definition .ensures) ∙ c .before .before .before .before .if1 .left) (class-found (bodyAbove (a .nodes .now) (c .before .before .before .before .before .before .loop .at .0)) (c .before .outer .given .0 .0 .0) (sym (c .before .before .before .parent-class .ensures .0) ∙ c .before .outer .given .1))))
+    (omega arith, cc (declared-outer (a .source-type) (a .nodes .now) (a .names .now) (c .before .before .before .before .before .before .before .before .before .before .pre .0) (a .name .now) (c .before .before .before .before .before .before .loop .at .0) (c .before .before .before .before .before .before .loop .inv .0) (c .before .outer .given .0 .0 .0) (sym (c .before .before .before .before .before .has-private-definition .ensures) ∙ c .before .before .before .before .if1 .left) (class-found (bodyAbove (a .nodes .now) (c .before .before .before .before .before .before .loop .at .0)) (c .before .outer .given .0 .0 .0) (sym (c .before .before .before .parent-class .ensures .0) ∙ c .before .outer .given .1))))
 
 pub is-declared-spec : {M : Type 1} → statement M
 is-declared-spec =

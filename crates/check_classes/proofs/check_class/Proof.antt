@@ -36,13 +36,13 @@ same-length c = search needs
 returns : tie.Need-returns
 returns c = let a = c .before .before .before .before .before .before .before .before .before .before .before .before .before .before .before .before .before .args in
     let q2 : c .before .before .before .before .before .before .before .raise .result ≡ c .before .before .before .before .before .before .before .before .before .before .before .before .check-private-identifier .result + 7 * length (listed (requireClassName (a .nodes .now) (a .n .0))) = c .before .before .before .before .before .before .before .raise .ensures .0 ∙ ap (λ (r : Raised). c .before .before .before .before .before .before .before .before .before .before .before .before .check-private-identifier .result + 7 * length (listed r)) (c .before .before .before .before .before .before .before .before .require-class-name .ensures) in
-    let x2 : c .before .before .before .before .before .before .before .raise .last .0 ≡ sink (c .before .before .before .before .before .before .before .before .before .before .before .before .check-private-identifier .last .1 .1 .1 .0) (c .before .before .before .before .before .before .before .before .before .before .before .before .check-private-identifier .result) (listed (requireClassName (a .nodes .now) (a .n .0))) = c .before .before .before .before .before .before .before .raise .ensures .1 ∙ ap (λ (r : Raised). sink (c .before .before .before .before .before .before .before .before .before .before .before .before .check-private-identifier .last .1 .1 .1 .0) (c .before .before .before .before .before .before .before .before .before .before .before .before .check-private-identifier .result) (listed r)) (c .before .before .before .before .before .before .before .before .require-class-name .ensures) in
-    let q3 : c .before .before .raise2 .result ≡ c .before .before .before .before .before .before .before .raise .result + 7 * length (listed (secondConstructor (a .nodes .now) (a .n .0))) = c .before .before .raise2 .ensures .0 ∙ ap (λ (r : Raised). c .before .before .before .before .before .before .before .raise .result + 7 * length (listed r)) (c .before .before .before .second-constructor .ensures) in
-    let x3 : c .before .before .raise2 .last .0 ≡ sink (c .before .before .before .before .before .before .before .raise .last .0) (c .before .before .before .before .before .before .before .raise .result) (listed (secondConstructor (a .nodes .now) (a .n .0))) = c .before .before .raise2 .ensures .1 ∙ ap (λ (r : Raised). sink (c .before .before .before .before .before .before .before .raise .last .0) (c .before .before .before .before .before .before .before .raise .result) (listed r)) (c .before .before .before .second-constructor .ensures) in
+    let x2 : c .before .before .before .before .before .before .before .raise .last .0 ≡ sink (c .before .before .before .before .before .before .before .before .before .before .before .before .check-private-identifier .last .1 .1 .1 .1 .0) (c .before .before .before .before .before .before .before .before .before .before .before .before .check-private-identifier .result) (listed (requireClassName (a .nodes .now) (a .n .0))) = c .before .before .before .before .before .before .before .raise .ensures .1 ∙ ap (λ (r : Raised). sink (c .before .before .before .before .before .before .before .before .before .before .before .before .check-private-identifier .last .1 .1 .1 .1 .0) (c .before .before .before .before .before .before .before .before .before .before .before .before .check-private-identifier .result) (listed r)) (c .before .before .before .before .before .before .before .before .require-class-name .ensures) in
+    let q3 : c .before .before .raise2 .result ≡ c .before .before .before .before .before .before .before .raise .result + 7 * length (listed (secondConstructor (a .source-type) (a .nodes .now) (a .n .0))) = c .before .before .raise2 .ensures .0 ∙ ap (λ (r : Raised). c .before .before .before .before .before .before .before .raise .result + 7 * length (listed r)) (c .before .before .before .second-constructor .ensures) in
+    let x3 : c .before .before .raise2 .last .0 ≡ sink (c .before .before .before .before .before .before .before .raise .last .0) (c .before .before .before .before .before .before .before .raise .result) (listed (secondConstructor (a .source-type) (a .nodes .now) (a .n .0))) = c .before .before .raise2 .ensures .1 ∙ ap (λ (r : Raised). sink (c .before .before .before .before .before .before .before .raise .last .0) (c .before .before .before .before .before .before .before .raise .result) (listed r)) (c .before .before .before .second-constructor .ensures) in
     let o2 = listed-one (requireClassName (a .nodes .now) (a .n .0)) in
-    let o3 = listed-one (secondConstructor (a .nodes .now) (a .n .0)) in
+    let o3 = listed-one (secondConstructor (a .source-type) (a .nodes .now) (a .n .0)) in
     let u = c .before .before .before .before .before .before .before .before .before .before .before .before .check-private-identifier .ensures .1 .1 in
-    (q3 ∙ check-place (a .nodes .now) (a .names .now) (a .n .0) (a .findings .now) (c .before .before .before .before .before .before .before .before .before .before .before .before .check-private-identifier .last .1 .1 .1 .0) (c .before .before .before .before .before .before .before .raise .last .0) (a .at) (c .before .before .before .before .before .before .before .before .before .before .before .before .check-private-identifier .result) (c .before .before .before .before .before .before .before .raise .result) (c .before .before .before .before .before .before .before .before .before .before .before .before .check-private-identifier .ensures .0) (c .before .before .before .before .before .before .before .before .before .before .before .before .check-private-identifier .ensures .1 .0) q2 x2, (x3 ∙ check-sink (a .nodes .now) (a .names .now) (a .n .0) (a .findings .now) (c .before .before .before .before .before .before .before .before .before .before .before .before .check-private-identifier .last .1 .1 .1 .0) (c .before .before .before .before .before .before .before .raise .last .0) (a .at) (c .before .before .before .before .before .before .before .before .before .before .before .before .check-private-identifier .result) (c .before .before .before .before .before .before .before .raise .result) (c .before .before .before .before .before .before .before .before .before .before .before .before .check-private-identifier .ensures .0) (c .before .before .before .before .before .before .before .before .before .before .before .before .check-private-identifier .ensures .1 .0) q2 x2, omega arith))
+    (q3 ∙ check-place (a .source-type) (a .nodes .now) (a .names .now) (a .n .0) (a .findings .now) (c .before .before .before .before .before .before .before .before .before .before .before .before .check-private-identifier .last .1 .1 .1 .1 .0) (c .before .before .before .before .before .before .before .raise .last .0) (a .at) (c .before .before .before .before .before .before .before .before .before .before .before .before .check-private-identifier .result) (c .before .before .before .before .before .before .before .raise .result) (c .before .before .before .before .before .before .before .before .before .before .before .before .check-private-identifier .ensures .0) (c .before .before .before .before .before .before .before .before .before .before .before .before .check-private-identifier .ensures .1 .0) q2 x2, (x3 ∙ check-sink (a .source-type) (a .nodes .now) (a .names .now) (a .n .0) (a .findings .now) (c .before .before .before .before .before .before .before .before .before .before .before .before .check-private-identifier .last .1 .1 .1 .1 .0) (c .before .before .before .before .before .before .before .raise .last .0) (a .at) (c .before .before .before .before .before .before .before .before .before .before .before .before .check-private-identifier .result) (c .before .before .before .before .before .before .before .raise .result) (c .before .before .before .before .before .before .before .before .before .before .before .before .check-private-identifier .ensures .0) (c .before .before .before .before .before .before .before .before .before .before .before .before .check-private-identifier .ensures .1 .0) q2 x2, omega arith))
 
 pub check-class-spec : {M : Type 1} → statement M
 check-class-spec =

@@ -24,8 +24,8 @@ enum-told c = search needs
 
 returns : tie.Need-returns
 returns c = let a = c .before .before .before .before .before .before .args in
-    let o : privateUndeclared (a .nodes .now) (a .names .now) (a .n .0) ≡ [] = ap (undeclaredBy (a .nodes .now) (a .names .now) (a .n .0)) (sym (c .before .before .current-class .ensures .0) ∙ c .enum-told .given .1) in
-    let l : length (privateUndeclared (a .nodes .now) (a .names .now) (a .n .0)) ≡ 0 = ap length o in
+    let o : privateUndeclared (a .source-type) (a .nodes .now) (a .names .now) (a .n .0) ≡ [] = ap (undeclaredBy (a .source-type) (a .nodes .now) (a .names .now) (a .n .0)) (sym (c .before .before .current-class .ensures .0) ∙ c .enum-told .given .1) in
+    let l : length (privateUndeclared (a .source-type) (a .nodes .now) (a .names .now) (a .n .0)) ≡ 0 = ap length o in
     (omega arith, (sym (sink-nil (a .findings .now) (a .at)) ∙ ap (sink (a .findings .now) (a .at)) (sym o), omega arith))
 
 undeclared-in-requires : tie.Need-undeclared-in-requires
@@ -37,7 +37,7 @@ same-length c = search needs
 
 returns-2 : tie.Need-returns-2
 returns-2 c = let a = c .before .before .before .before .before .before .before .before .before .before .before .args in
-    let o : privateUndeclared (a .nodes .now) (a .names .now) (a .n .0) ≡ undeclaredIn (a .nodes .now) (a .names .now) (a .n .0) (c .before .before .before .before .before .c .given .0 .0 .0) = ap (undeclaredBy (a .nodes .now) (a .names .now) (a .n .0)) (sym (c .before .before .before .before .before .before .before .current-class .ensures .0) ∙ c .before .before .before .before .before .c .given .1) in
+    let o : privateUndeclared (a .source-type) (a .nodes .now) (a .names .now) (a .n .0) ≡ undeclaredIn (a .source-type) (a .nodes .now) (a .names .now) (a .n .0) (c .before .before .before .before .before .c .given .0 .0 .0) = ap (undeclaredBy (a .source-type) (a .nodes .now) (a .names .now) (a .n .0)) (sym (c .before .before .before .before .before .before .before .current-class .ensures .0) ∙ c .before .before .before .before .before .c .given .1) in
     (c .before .before .undeclared-in .ensures .0 ∙ ap (λ (l : List Finding). a .at + 7 * length l) (sym o), (c .before .before .undeclared-in .ensures .1 .0 ∙ ap (sink (a .findings .now) (a .at)) (sym o), c .before .before .undeclared-in .ensures .1 .1))
 
 pub check-private-identifier-spec : {M : Type 1} → statement M

@@ -21,7 +21,7 @@ enum-told : tie.Need-enum-told
 enum-told c = search needs
 
 returns : tie.Need-returns
-returns c = let a = c .before .before .before .before .args in sym (ap (secondBy (a .nodes .now) (a .n .0)) (sym (c .before .before .class-body-of .ensures .0) ∙ c .enum-told .given .1))
+returns c = let a = c .before .before .before .before .args in sym (ap (secondBy (a .source-type) (a .nodes .now) (a .n .0)) (sym (c .before .before .class-body-of .ensures .0) ∙ c .enum-told .given .1))
 
 add-next-constructor : tie.Need-add-next-constructor
 add-next-constructor c = let a = c .before .before .before .before .before .before .args in
@@ -42,7 +42,7 @@ enum-told-2 c = search needs
 
 returns-2 : tie.Need-returns-2
 returns-2 c = let a = c .before .before .before .before .before .before .before .before .before .args in
-    sym (ap (secondBy (a .nodes .now) (a .n .0)) (sym (c .before .before .before .before .before .before .before .class-body-of .ensures .0) ∙ c .before .before .before .before .before .body .given .1) ∙ none-found (a .nodes .now) (c .before .before .before .before .before .body .given .0 .0 .0) (a .n .0) (sym (c .before .before .next-constructor .ensures .0) ∙ c .enum-told2 .given .1))
+    sym (ap (secondBy (a .source-type) (a .nodes .now) (a .n .0)) (sym (c .before .before .before .before .before .before .before .class-body-of .ensures .0) ∙ c .before .before .before .before .before .body .given .1) ∙ none-found (a .source-type) (a .nodes .now) (c .before .before .before .before .before .body .given .0 .0 .0) (a .n .0) (sym (c .before .before .next-constructor .ensures .0) ∙ c .enum-told2 .given .1))
 
 add-next-constructor-2 : tie.Need-add-next-constructor-2
 add-next-constructor-2 c = let a = c .before .before .before .before .before .before .before .before .before .before .before .args in
@@ -64,7 +64,7 @@ enum-told-3 c = search needs
 
 returns-3 : tie.Need-returns-3
 returns-3 c = let a = c .before .before .before .before .before .before .before .before .before .before .before .before .before .before .args in
-    sym (ap (secondBy (a .nodes .now) (a .n .0)) (sym (c .before .before .before .before .before .before .before .before .before .before .before .before .class-body-of .ensures .0) ∙ c .before .before .before .before .before .before .before .before .before .before .body .given .1) ∙ one-found (a .nodes .now) (c .before .before .before .before .before .before .before .before .before .before .body .given .0 .0 .0) (a .n .0) (c .before .before .before .before .before .a .given .0 .0 .0) (sym (c .before .before .before .before .before .before .before .next-constructor .ensures .0) ∙ c .before .before .before .before .before .a .given .1) (sym (c .before .before .next-constructor2 .ensures .0) ∙ c .enum-told3 .given .1))
+    sym (ap (secondBy (a .source-type) (a .nodes .now) (a .n .0)) (sym (c .before .before .before .before .before .before .before .before .before .before .before .before .class-body-of .ensures .0) ∙ c .before .before .before .before .before .before .before .before .before .before .body .given .1) ∙ one-found (a .source-type) (a .nodes .now) (c .before .before .before .before .before .before .before .before .before .before .body .given .0 .0 .0) (a .n .0) (c .before .before .before .before .before .a .given .0 .0 .0) (sym (c .before .before .before .before .before .before .before .next-constructor .ensures .0) ∙ c .before .before .before .before .before .a .given .1) (sym (c .before .before .next-constructor2 .ensures .0) ∙ c .enum-told3 .given .1))
 
 duplicate-constructor-requires : tie.Need-duplicate-constructor-requires
 duplicate-constructor-requires c κs = let a = c .before .before .before .before .before .before .before .before .before .before .before .before .before .before .before .args in
@@ -74,7 +74,7 @@ duplicate-constructor-requires c κs = let a = c .before .before .before .before
 
 returns-4 : tie.Need-returns-4
 returns-4 c = let a = c .before .before .before .before .before .before .before .before .before .before .before .before .before .before .before .before .args in
-    c .duplicate-constructor .ensures ∙ sym (ap (secondBy (a .nodes .now) (a .n .0)) (sym (c .before .before .before .before .before .before .before .before .before .before .before .before .before .before .class-body-of .ensures .0) ∙ c .before .before .before .before .before .before .before .before .before .before .before .before .body .given .1) ∙ two-found (a .nodes .now) (c .before .before .before .before .before .before .before .before .before .before .before .before .body .given .0 .0 .0) (a .n .0) (c .before .before .before .before .before .before .before .a .given .0 .0 .0) (c .before .before .b .given .0 .0 .0) (sym (c .before .before .before .before .before .before .before .before .before .next-constructor .ensures .0) ∙ c .before .before .before .before .before .before .before .a .given .1) (sym (c .before .before .before .before .next-constructor2 .ensures .0) ∙ c .before .before .b .given .1))
+    c .duplicate-constructor .ensures ∙ sym (ap (secondBy (a .source-type) (a .nodes .now) (a .n .0)) (sym (c .before .before .before .before .before .before .before .before .before .before .before .before .before .before .class-body-of .ensures .0) ∙ c .before .before .before .before .before .before .before .before .before .before .before .before .body .given .1) ∙ two-found (a .source-type) (a .nodes .now) (c .before .before .before .before .before .before .before .before .before .before .before .before .body .given .0 .0 .0) (a .n .0) (c .before .before .before .before .before .before .before .a .given .0 .0 .0) (c .before .before .b .given .0 .0 .0) (sym (c .before .before .before .before .before .before .before .before .before .next-constructor .ensures .0) ∙ c .before .before .before .before .before .before .before .a .given .1) (sym (c .before .before .before .before .next-constructor2 .ensures .0) ∙ c .before .before .b .given .1))
 
 pub second-constructor-spec : {M : Type 1} → statement M
 second-constructor-spec =

@@ -16,17 +16,17 @@ use Rattle.check_classes.proofs.undeclared_in.Statement.{statement}
 use Rattle.check_classes.proofs.undeclared_in.Tie as tie
 
 abbrev Inv-loop : tie.InvT-loop
-Inv-loop nodes names n c findings₀ at w₀ i₀ findings w i = (c .0 < i) × (i ≤ count nodes) × (w ≤ at + 7 * i) × (w + 7 * length (undeclaredFrom nodes names (n .0) (c .0) i) ≡ at + 7 * length (undeclaredIn nodes names (n .0) (c .0))) × (sink findings w (undeclaredFrom nodes names (n .0) (c .0) i) ≡ sink findings₀ at (undeclaredIn nodes names (n .0) (c .0)))
+Inv-loop source-type nodes names n c findings₀ at w₀ i₀ findings w i = (c .0 < i) × (i ≤ count nodes) × (w ≤ at + 7 * i) × (w + 7 * length (undeclaredFrom source-type nodes names (n .0) (c .0) i) ≡ at + 7 * length (undeclaredIn source-type nodes names (n .0) (c .0))) × (sink findings w (undeclaredFrom source-type nodes names (n .0) (c .0) i) ≡ sink findings₀ at (undeclaredIn source-type nodes names (n .0) (c .0)))
 
 abbrev μ-loop : tie.MeasureT-loop
-μ-loop nodes names n c findings₀ at w₀ i₀ findings w i = count nodes - i
+μ-loop source-type nodes names n c findings₀ at w₀ i₀ findings w i = count nodes - i
 
 add-i : tie.Need-add-i Inv-loop μ-loop
 add-i c = let s = c .before .before .before .before .pre .0 .small in omega arith
 
 loop-holds : tie.Need-loop-holds Inv-loop μ-loop
 loop-holds c = let a = c .before .before .before .before .args in
-    let s = from-start (a .nodes .now) (a .names .now) (a .n .0) (a .c .0) in
+    let s = from-start (a .source-type) (a .nodes .now) (a .names .now) (a .n .0) (a .c .0) in
     let l = ap length s in
     (search needs, search needs, omega arith, omega arith, ap (sink (a .findings .now) (a .at)) s)
 
@@ -38,14 +38,14 @@ parent-requires c κs = ltb-true (c .before .before .loop .i) (count (c .before 
 
 same-length : tie.Need-same-length Inv-loop μ-loop
 same-length c = let a = c .before .before .before .before .before .before .before .before .before .before .before .args in
-    sym (sink-length (c .before .before .before .before .before .before .loop .findings) (c .before .before .before .before .before .before .loop .w) (undeclaredFrom (a .nodes .now) (a .names .now) (a .n .0) (a .c .0) (c .before .before .before .before .before .before .loop .i))) ∙ ap length (c .before .before .before .before .before .before .loop .inv .4) ∙ sink-length (a .findings .now) (a .at) (undeclaredIn (a .nodes .now) (a .names .now) (a .n .0) (a .c .0))
+    sym (sink-length (c .before .before .before .before .before .before .loop .findings) (c .before .before .before .before .before .before .loop .w) (undeclaredFrom (a .source-type) (a .nodes .now) (a .names .now) (a .n .0) (a .c .0) (c .before .before .before .before .before .before .loop .i))) ∙ ap length (c .before .before .before .before .before .before .loop .inv .4) ∙ sink-length (a .findings .now) (a .at) (undeclaredIn (a .source-type) (a .nodes .now) (a .names .now) (a .n .0) (a .c .0))
 
 returns : tie.Need-returns Inv-loop μ-loop
 returns c = let a = c .before .before .before .before .before .before .before .before .before .before .before .args in
     let h = ltb-true (c .before .before .before .before .before .before .loop .i) (count (a .nodes .now)) (sym (c .before .before .before .before .before .is-node .ensures) ∙ c .before .before .before .before .if1 .taken) in
     let s = c .before .before .before .before .before .before .before .before .before .before .before .pre .0 .small in
-    let o : undeclaredFrom (a .nodes .now) (a .names .now) (a .n .0) (a .c .0) (c .before .before .before .before .before .before .loop .i) ≡ [] = from-out (a .nodes .now) (a .names .now) (a .n .0) (a .c .0) (c .before .before .before .before .before .before .before .before .before .before .before .pre .0) (c .before .before .before .before .before .before .loop .i) (omega arith) h (omega arith) in
-    let l : length (undeclaredFrom (a .nodes .now) (a .names .now) (a .n .0) (a .c .0) (c .before .before .before .before .before .before .loop .i)) ≡ 0 = ap length o in
+    let o : undeclaredFrom (a .source-type) (a .nodes .now) (a .names .now) (a .n .0) (a .c .0) (c .before .before .before .before .before .before .loop .i) ≡ [] = from-out (a .source-type) (a .nodes .now) (a .names .now) (a .n .0) (a .c .0) (c .before .before .before .before .before .before .before .before .before .before .before .pre .0) (c .before .before .before .before .before .before .loop .i) (omega arith) h (omega arith) in
+    let l : length (undeclaredFrom (a .source-type) (a .nodes .now) (a .names .now) (a .n .0) (a .c .0) (c .before .before .before .before .before .before .loop .i)) ≡ 0 = ap length o in
     (omega arith, (sym (sink-nil (c .before .before .before .before .before .before .loop .findings) (c .before .before .before .before .before .before .loop .w)) ∙ ap (sink (c .before .before .before .before .before .before .loop .findings) (c .before .before .before .before .before .before .loop .w)) (sym o) ∙ c .before .before .before .before .before .before .loop .inv .4, omega arith))
 
 raised-at-requires : tie.Need-raised-at-requires Inv-loop μ-loop
@@ -67,21 +67,21 @@ loop-again c = let a = c .before .before .before .before .before .before .before
     let h = ltb-true (c .before .before .before .before .before .before .before .before .before .before .before .loop .i) (count (a .nodes .now)) (sym (c .before .before .before .before .before .before .before .before .before .before .is-node .ensures) ∙ c .before .before .before .before .before .before .before .before .before .if1 .taken) in
     let o = listed-one (c .before .before .before .raised-at .result) in
     let q = c .before .before .raise .ensures .0 in
-    let all = undeclaredFrom (a .nodes .now) (a .names .now) (a .n .0) (a .c .0) (c .before .before .before .before .before .before .before .before .before .before .before .loop .i) in
-    let rest = undeclaredFrom (a .nodes .now) (a .names .now) (a .n .0) (a .c .0) (c .before .before .before .before .before .before .before .before .before .before .before .loop .i + 1) in
-    let e : all ≡ listed (c .before .before .before .raised-at .result) ++ rest = from-turn (a .nodes .now) (a .names .now) (a .n .0) (a .c .0) (c .before .before .before .before .before .before .before .before .before .before .before .loop .i) h ∙ ap (λ (x : Raised). listed x ++ rest) (sym (c .before .before .before .raised-at .ensures)) in
+    let all = undeclaredFrom (a .source-type) (a .nodes .now) (a .names .now) (a .n .0) (a .c .0) (c .before .before .before .before .before .before .before .before .before .before .before .loop .i) in
+    let rest = undeclaredFrom (a .source-type) (a .nodes .now) (a .names .now) (a .n .0) (a .c .0) (c .before .before .before .before .before .before .before .before .before .before .before .loop .i + 1) in
+    let e : all ≡ listed (c .before .before .before .raised-at .result) ++ rest = from-turn (a .source-type) (a .nodes .now) (a .names .now) (a .n .0) (a .c .0) (c .before .before .before .before .before .before .before .before .before .before .before .loop .i) h ∙ ap (λ (x : Raised). listed x ++ rest) (sym (c .before .before .before .raised-at .ensures)) in
     (omega arith, omega arith, omega arith, piece-place (c .before .before .before .before .before .before .before .before .before .before .before .loop .findings) (c .before .before .raise .last .0) (c .before .before .before .before .before .before .before .before .before .before .before .loop .w) (c .before .before .raise .result) all (listed (c .before .before .before .raised-at .result)) rest e q ∙ c .before .before .before .before .before .before .before .before .before .before .before .loop .inv .3, piece-sink (c .before .before .before .before .before .before .before .before .before .before .before .loop .findings) (c .before .before .raise .last .0) (c .before .before .before .before .before .before .before .before .before .before .before .loop .w) (c .before .before .raise .result) all (listed (c .before .before .before .raised-at .result)) rest e q (c .before .before .raise .ensures .1) ∙ c .before .before .before .before .before .before .before .before .before .before .before .loop .inv .4)
 
 same-length-2 : tie.Need-same-length-2 Inv-loop μ-loop
 same-length-2 c = let a = c .before .before .before .before .before .before .before .args in
-    sym (sink-length (c .before .before .loop .findings) (c .before .before .loop .w) (undeclaredFrom (a .nodes .now) (a .names .now) (a .n .0) (a .c .0) (c .before .before .loop .i))) ∙ ap length (c .before .before .loop .inv .4) ∙ sink-length (a .findings .now) (a .at) (undeclaredIn (a .nodes .now) (a .names .now) (a .n .0) (a .c .0))
+    sym (sink-length (c .before .before .loop .findings) (c .before .before .loop .w) (undeclaredFrom (a .source-type) (a .nodes .now) (a .names .now) (a .n .0) (a .c .0) (c .before .before .loop .i))) ∙ ap length (c .before .before .loop .inv .4) ∙ sink-length (a .findings .now) (a .at) (undeclaredIn (a .source-type) (a .nodes .now) (a .names .now) (a .n .0) (a .c .0))
 
 returns-2 : tie.Need-returns-2 Inv-loop μ-loop
 returns-2 c = let a = c .before .before .before .before .before .before .before .args in
     let h = ltb-false (c .before .before .loop .i) (count (a .nodes .now)) (sym (c .before .is-node .ensures) ∙ c .if1 .left) in
     let s = c .before .before .before .before .before .before .before .pre .0 .small in
-    let o : undeclaredFrom (a .nodes .now) (a .names .now) (a .n .0) (a .c .0) (c .before .before .loop .i) ≡ [] = from-end (a .nodes .now) (a .names .now) (a .n .0) (a .c .0) (c .before .before .loop .i) h in
-    let l : length (undeclaredFrom (a .nodes .now) (a .names .now) (a .n .0) (a .c .0) (c .before .before .loop .i)) ≡ 0 = ap length o in
+    let o : undeclaredFrom (a .source-type) (a .nodes .now) (a .names .now) (a .n .0) (a .c .0) (c .before .before .loop .i) ≡ [] = from-end (a .source-type) (a .nodes .now) (a .names .now) (a .n .0) (a .c .0) (c .before .before .loop .i) h in
+    let l : length (undeclaredFrom (a .source-type) (a .nodes .now) (a .names .now) (a .n .0) (a .c .0) (c .before .before .loop .i)) ≡ 0 = ap length o in
     (omega arith, (sym (sink-nil (c .before .before .loop .findings) (c .before .before .loop .w)) ∙ ap (sink (c .before .before .loop .findings) (c .before .before .loop .w)) (sym o) ∙ c .before .before .loop .inv .4, omega arith))
 
 pub undeclared-in-spec : {M : Type 1} → statement M

@@ -65,7 +65,7 @@ returns c = let a = c .before .before .before .before .before .before .before .b
     let f = reportedAt (rule (a .source-type) (a .async-bodies) (a .nodes .now) (a .scopes .now) (a .source .now) (a .names .now)) in
     let z = flat-end f (c .before .before .loop .i) (count (a .nodes .now)) h in
     let d = c .before .before .before .before .before .check-duplicate-class-elements .ensures in
-    raises-then _ _ _ _ _ _ (duplicateElements (a .nodes .now) (a .names .now)) (flatMap f (upto 0 (count (a .nodes .now)))) (record { place = d .0; slice = d .1 .0 }) (record { place = omega (arith, c .before .before .loop .inv .3, ap (λ (l : List Finding). length l) z); slice = sym (sink-nil (c .before .before .loop .findings) (c .before .before .loop .at)) ∙ ap (λ (l : List Finding). sink (c .before .before .loop .findings) (c .before .before .loop .at) l) (sym z) ∙ c .before .before .loop .inv .4 })
+    raises-then _ _ _ _ _ _ (duplicateElements (a .source-type) (a .nodes .now) (a .names .now)) (flatMap f (upto 0 (count (a .nodes .now)))) (record { place = d .0; slice = d .1 .0 }) (record { place = omega (arith, c .before .before .loop .inv .3, ap (λ (l : List Finding). length l) z); slice = sym (sink-nil (c .before .before .loop .findings) (c .before .before .loop .at)) ∙ ap (λ (l : List Finding). sink (c .before .before .loop .findings) (c .before .before .loop .at) l) (sym z) ∙ c .before .before .loop .inv .4 })
 
 pub check-tree-spec : {M : Type 1} → statement M
 check-tree-spec =

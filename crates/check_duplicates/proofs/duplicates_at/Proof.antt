@@ -21,8 +21,8 @@ kind-requires c κs = search needs
 returns : tie.Need-returns
 returns c = let a = c .before .before .before .before .before .args in
     let b : isClassBody (a .nodes .now) (a .i .0) ≡ false = ap (λ (x : ℕ). eqb x 27) (sym (c .before .kind .ensures)) ∙ ne-eqb (c .before .kind .result) 27 (c .if1 .taken) in
-    let o : classAt (a .nodes .now) (a .names .now) (a .i .0) ≡ [] = class-other (a .nodes .now) (a .names .now) (a .i .0) b in
-    let l : length (classAt (a .nodes .now) (a .names .now) (a .i .0)) ≡ 0 = ap length o in
+    let o : classAt (a .source-type) (a .nodes .now) (a .names .now) (a .i .0) ≡ [] = class-other (a .source-type) (a .nodes .now) (a .names .now) (a .i .0) b in
+    let l : length (classAt (a .source-type) (a .nodes .now) (a .names .now) (a .i .0)) ≡ 0 = ap length o in
     (omega arith, (sym (sink-nil (a .findings .now) (a .at)) ∙ ap (sink (a .findings .now) (a .at)) (sym o), omega arith))
 
 duplicates-in-requires : tie.Need-duplicates-in-requires
@@ -34,7 +34,7 @@ same-length c = search needs
 returns-2 : tie.Need-returns-2
 returns-2 c = let a = c .before .before .before .before .before .before .before .before .before .args in
     let b : isClassBody (a .nodes .now) (a .i .0) ≡ true = ap (λ (x : ℕ). eqb x 27) (sym (c .before .before .before .before .before .kind .ensures)) ∙ eq-eqb (c .before .before .before .before .before .kind .result) 27 (c .before .before .before .before .if1 .left) in
-    let o = class-here (a .nodes .now) (a .names .now) (a .i .0) b in
+    let o = class-here (a .source-type) (a .nodes .now) (a .names .now) (a .i .0) b in
     (c .before .before .duplicates-in .ensures .0 ∙ ap (λ (l : List Finding). a .at + 7 * length l) (sym o), (c .before .before .duplicates-in .ensures .1 .0 ∙ ap (sink (a .findings .now) (a .at)) (sym o), c .before .before .duplicates-in .ensures .1 .1))
 
 pub duplicates-at-spec : {M : Type 1} → statement M

@@ -3,6 +3,9 @@ use borrow.Author.Needs.{needs}
 use Rattle.check_duplicates.proofs.redeclaration.Statement.{statement}
 use Rattle.check_duplicates.proofs.redeclaration.Tie as tie
 
+clash-code-requires : tie.Need-clash-code-requires
+clash-code-requires c κs = search needs
+
 element-span-requires : tie.Need-element-span-requires
 element-span-requires c κs = search needs
 
@@ -14,4 +17,4 @@ unfolding redeclaration
 returns c = cc
 
 pub redeclaration-spec : {M : Type 1} → statement M
-redeclaration-spec = tie.close (tie.spec element-span-requires element-span-requires-2 returns)
+redeclaration-spec = tie.close (tie.spec clash-code-requires element-span-requires element-span-requires-2 returns)

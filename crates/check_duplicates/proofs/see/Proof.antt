@@ -3,8 +3,8 @@ use borrow.Author.Needs.{needs}
 use Rattle.check_duplicates.proofs.see.Statement.{statement}
 use Rattle.check_duplicates.proofs.see.Tie as tie
 
-is-private-named-requires : tie.Need-is-private-named-requires
-is-private-named-requires c κs = search needs
+is-named-requires : tie.Need-is-named-requires
+is-named-requires c κs = search needs
 
 side-requires : tie.Need-side-requires
 side-requires c κs = search needs
@@ -17,17 +17,17 @@ array-set-from-seen c = search needs
 
 returns : tie.Need-returns
 unfolding see
-returns c = rw (← c .before .before .is-private-named .ensures, c .before .if1 .taken, ← c .side .ensures .0)
+returns c = rw (← c .before .before .is-named .ensures, c .before .if1 .taken, ← c .side .ensures .0)
 
 returns-2 : tie.Need-returns-2
 unfolding see
-returns-2 c = rw (← c .before .is-private-named .ensures, c .if1 .left)
+returns-2 c = rw (← c .before .is-named .ensures, c .if1 .left)
 
 pub see-spec : {M : Type 1} → statement M
 see-spec =
     tie.close
     (tie.spec
-    is-private-named-requires
+    is-named-requires
     side-requires
     mul-seen
     array-set-from-seen

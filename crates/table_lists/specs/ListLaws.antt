@@ -82,6 +82,27 @@ unfolding keep
 keep-all q [] h = refl
 keep-all q (y ∷ l) h = rw (h y (member-here y l), keep-all q l (λ x m. h x (member-there x y l m)))
 
+-- a test that two say alike of the members of a list
+pub keep-alike : (p q : ℕ → Bool) (l : List ℕ) → ((x : ℕ) → member x l ≡ true → p x ≡ q x) → keep p l ≡ keep q l
+unfolding keep
+keep-alike p q [] h = refl
+keep-alike p q (x ∷ l) h = rw (h x (member-here x l), keep-alike p q l (λ y m. h y (member-there y x l m)))
+
+pub any-alike : (p q : ℕ → Bool) (l : List ℕ) → ((x : ℕ) → member x l ≡ true → p x ≡ q x) → any p l ≡ any q l
+any-alike p q [] h = refl
+any-alike p q (x ∷ l) h = rw (h x (member-here x l), any-alike p q l (λ y m. h y (member-there y x l m)))
+
+-- of two tests of which the first keeps nothing
+pub keep-second : (p q : ℕ → Bool) (l : List ℕ) → keep p l ≡ [] → keep (λ x. p x || q x) l ≡ keep q l
+unfolding keep
+keep-second p q [] h = refl
+keep-second p q (x ∷ l) h = go (p x) h (λ (e : keep p l ≡ []). keep-second p q l e)
+  where
+    go : (b : Bool) → cond b (x ∷ keep p l) (keep p l) ≡ [] → (keep p l ≡ [] → keep (λ x. p x || q x) l ≡ keep q l)
+        → cond (b || q x) (x ∷ keep (λ x. p x || q x) l) (keep (λ x. p x || q x) l) ≡ cond (q x) (x ∷ keep q l) (keep q l)
+    go true e r = let z : _≡_ {A = ℕ} 0 1 = cc in absurd (omega arith)
+    go false e r = rw (r e)
+
 -- each member is below those behind it
 abbrev pub Rising : List ℕ → Type 0
 Rising [] = Unit {0}

@@ -1,0 +1,1 @@
+// Laws of lists of nodes; no function of its own.

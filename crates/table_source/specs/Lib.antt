@@ -1,0 +1,2 @@
+pub mod SourceType
+pub mod SourceTypeLaws
