@@ -18,6 +18,7 @@ use Rattle.refusal_tree.specs.Tree.{misplacedAt}
 use Rattle.refusal_scopes.specs.Scopes.{brokenAt, chainOn, misscopedAt}
 use Rattle.refusal_standing.specs.Standing.{isStatement, mayBeStatement, isHolder, strayStatement, strayHeld, strayAlternate, strayInSwitch, strayCase, strayInTry, strayClause, strayInClause, strayFunctionBody, strayClassBody, strayElement, strayValue, misplacedStatement, misplacedPart, misplacedElement, misplaced, misplacedChildAt}
 use Rattle.refusal_counts.specs.Counts.{isDefault, defaults, wrongBody, wrongAlternate, wrongDefault, wrongTry, wrongClause, wrongLabel, wrongFunction, wrongClass, wrongValue, wrongElement, wrongStatement, wrongPart, wrongHome, wrongCountAt}
+use Rattle.refusal_return.specs.Return.{returnInStatic}
 use Rattle.refusal_input.specs.Input.{tablesOr, shapeRefusal, inputRefusal}
 use Rattle.check_literals.specs.Escapes.{escapeOf, badEscape}
 use Rattle.check_literals.specs.Literals.{sourceText, checkStringLiteral, checkNumberLiteral}
@@ -128,7 +129,7 @@ each [] c = tt
 each (r ∷ rs) c = (holds r (c .0), each rs (c .1))
 
 computed : Each Computed rows
-unfolding rows upto range above climb first keep children howMany isChild wrongTable wrongSizes ownFlag listedFlags mostExtra listedExtra unlistedAt strayAt misplacedAt brokenAt chainOn misscopedAt isStatement mayBeStatement isHolder strayStatement strayHeld strayAlternate strayInSwitch strayCase strayInTry strayClause strayInClause strayFunctionBody strayClassBody strayElement strayValue misplacedStatement misplacedPart misplacedElement misplaced misplacedChildAt isDefault defaults wrongBody wrongAlternate wrongDefault wrongTry wrongClause wrongLabel wrongFunction wrongClass wrongValue wrongElement wrongStatement wrongPart wrongHome wrongCountAt failsAt tablesOr shapeRefusal inputRefusal same nameOf firstNode nearestOf flat flatMap xor escapeOf badEscape sourceText checkStringLiteral checkNumberLiteral isStrictWord checkIdentifier checkBindingIdentifier checkIdentifierReference checkDirective walkUp sameLabel under plainContinueAt continueTo labelledContinueAt labeledAt checkFunctionDeclaration checkLabeledItem currentClass classesOf elementName elementSpan hasBody enters elements privates lastOf sideOf previousOn previousOf isDuplicate redeclaration duplicateBy duplicatesIn duplicateElements references undeclaredIn requireClassName constructors constructorSpan checkClass findingsAt reportedAt reported exec turns rounds asks shapeBy isPart parts nameId stmtAt bodyOf holderOf unitOf namesUnit inUnit tryIn holdsTry seek plainBreak namedBreak plainContinue namedContinue hasTarget lostAt statePlace unitRefusal stateAnswer
+unfolding rows upto range above climb first keep children howMany isChild wrongTable wrongSizes ownFlag listedFlags mostExtra listedExtra unlistedAt strayAt misplacedAt brokenAt chainOn misscopedAt isStatement mayBeStatement isHolder strayStatement strayHeld strayAlternate strayInSwitch strayCase strayInTry strayClause strayInClause strayFunctionBody strayClassBody strayElement strayValue misplacedStatement misplacedPart misplacedElement misplaced misplacedChildAt isDefault defaults wrongBody wrongAlternate wrongDefault wrongTry wrongClause wrongLabel wrongFunction wrongClass wrongValue wrongElement wrongStatement wrongPart wrongHome wrongCountAt failsAt returnInStatic tablesOr shapeRefusal inputRefusal same nameOf firstNode nearestOf flat flatMap xor escapeOf badEscape sourceText checkStringLiteral checkNumberLiteral isStrictWord checkIdentifier checkBindingIdentifier checkIdentifierReference checkDirective walkUp sameLabel under plainContinueAt continueTo labelledContinueAt labeledAt checkFunctionDeclaration checkLabeledItem currentClass classesOf elementName elementSpan hasBody enters elements privates lastOf sideOf previousOn previousOf isDuplicate redeclaration duplicateBy duplicatesIn duplicateElements references undeclaredIn requireClassName constructors constructorSpan checkClass findingsAt reportedAt reported exec turns rounds asks shapeBy isPart parts nameId stmtAt bodyOf holderOf unitOf namesUnit inUnit tryIn holdsTry seek plainBreak namedBreak plainContinue namedContinue hasTarget lostAt statePlace unitRefusal stateAnswer
 computed =
     ((refl, refl), ((refl, refl), ((refl, refl), ((refl, refl), ((refl, refl), ((refl, refl), ((refl, refl), ((refl, refl), ((refl, refl), ((refl, refl), ((refl, refl), ((refl, refl), ((refl, refl), ((refl, refl), ((refl, refl), ((refl, refl, refl), ((refl, refl, refl), ((refl, refl, refl), tt))))))))))))))))))
 
