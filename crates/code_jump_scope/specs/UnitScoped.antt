@@ -5,20 +5,16 @@ use mathlib.Core.Path.{_≡_, refl, ap, sym, subst, _∙_}
 use mathlib.Core.Logic.{_⊎_, inl, inr, ⊎-elim}
 use mathlib.Core.List.{List, [], _∷_}
 use mathlib.Core.Bool.{Bool, true, false, cond}
-use native.Mathlib.Nat.{eq-or-lt-of-le}
 use native.Mathlib.Omega.{arith}
 use borrow.Author.Tests.{eqb-true}
 use lib.Dec.{eqb}
-use Rattle.base_common.specs.Bools.{never, in-range, range-of}
-use Rattle.base_common.specs.Tests.{within}
+use Rattle.base_common.specs.Bools.{range-of}
 use Rattle.table_records.specs.Table.{kindOf, parentOf, roleOf, count}
 use Rattle.table_records.specs.Facts.{Tree}
 use Rattle.table_records.specs.Kinds as k
 use Rattle.table_records.specs.Roles as role
 use Rattle.table_records.specs.declared.Found.{Found}
 use Rattle.table_records.specs.declared.Found.the-variants.{At, Nothing}
-use Rattle.table_children.specs.Children.{functionBodyOf}
-use Rattle.table_children.specs.ChildrenLaws.{found-child}
 use Rattle.check_jumps.specs.Jumps.{isUnit}
 use Rattle.refusal_fields.specs.Fields.{Listed}
 use Rattle.refusal_standing.specs.Standing.{Placed}
@@ -36,7 +32,8 @@ use Rattle.code_tree.specs.declared.Shape.the-variants.{Leaf as Single, Class, 
 use Rattle.code_layout.specs.Shaped.{isCase, isSwitch, Two, Three, Good}
 use Rattle.code_wellformed.specs.Kinds.{case-kind, case-shape}
 use Rattle.code_wellformed.specs.Parts.{good}
-use Rattle.code_wellformed.specs.Ready.{Holds, block-shape}
+use Rattle.code_wellformed.specs.Ready.{block-shape}
+use Rattle.code_wellformed.specs.Holder.{holder-root, holder-in, holder-holds}
 use Rattle.code_jump_scope.specs.ScopeAt.{Scope, scopeOf, partScope, scopeAt, scope-root, scope-up, Member, member-root, member-down}
 use Rattle.code_jump_scope.specs.Reach.{Root, at-normal, at-returns, at-throws, reach-break, reach-continue}
 
@@ -190,46 +187,22 @@ module _ (ns names : List ℕ) (b : ℕ) (g : Good ns) (pl : Placed ns) (root : 
       (order ns b) (order-all ns b)
 
 -- The holder of a unit's statements.
-module _ (ns : List ℕ) (u : ℕ) (lu : u < count ns) (e : isUnit (kindOf ns u) ≡ true) where
-  -- A FunctionBody of the unit.
-  root-body : (m : ℕ) → functionBodyOf ns u ≡ At (record { 0 = m }) → Root ns m
-  root-body m h =
-      let v = found-child ns u k.FunctionBody k.FunctionBody 0 7 (u + 1) m h in
-      let x = v .from in
-      let y = v .kindLow in
-      let z = v .kindHigh in
-      let q : kindOf ns m ≡ k.FunctionBody = omega arith in
-      record {
-        below = v .below;
-        block = block-shape (kindOf ns m) (inr (inr q));
-        unit = inr (q, omega arith, ap (λ (p : ℕ). isUnit (kindOf ns p)) (v .parent) ∙ e);
-      }
-
-  -- A unit that is no function or arrow.
-  own : within (kindOf ns u) k.Function k.Arrow ≡ false → Holds (kindOf ns u)
-  own n =
-      let w = range-of (kindOf ns u) k.Program k.StaticBlock e in
-      let y = w .1 in
-      ⊎-elim (λ (z : 0 ≡ kindOf ns u). inl (sym z))
-      (λ (z : 0 < kindOf ns u).
-      ⊎-elim (λ (q : kindOf ns u ≡ 3). inr (inl q)) (λ (q : kindOf ns u < 3). never (sym (in-range (kindOf ns u) k.Function k.Arrow (omega arith) (omega arith)) ∙ n)) (eq-or-lt-of-le y))
-      (eq-or-lt-of-le (omega arith))
-
-  root-self : within (kindOf ns u) k.Function k.Arrow ≡ false → Root ns u
-  root-self n = record { below = lu; block = block-shape (kindOf ns u) (own n); unit = inl e }
+root-of : (ns : List ℕ) (u : ℕ) → u < count ns → isUnit (kindOf ns u) ≡ true → (b : ℕ) → holderOf ns u ≡ At (record { 0 = b }) → Root ns b
+root-of ns u lu e b h =
+    let low = range-of (kindOf ns u) k.Program k.StaticBlock e .1 in
+    record {
+      below = holder-in ns u lu low b h;
+      block = block-shape (kindOf ns b) (holder-holds ns u lu low b h);
+      unit =
+          ⊎-elim (λ w. inl (ap (λ (p : ℕ). isUnit (kindOf ns p)) (w .0) ∙ e))
+          (λ w. let x = w .1 in inr (w .0, omega arith, ap (λ (p : ℕ). isUnit (kindOf ns p)) (w .3) ∙ e)) (holder-root ns u lu low b h);
+    }
 
 module _ (ns names : List ℕ) (t : Tree ns) (li : Listed ns) (pl : Placed ns) (co : Counted ns) (targets : Targeted ns names) (u : ℕ) (lu : u < count ns) (e : isUnit (kindOf ns u) ≡ true) where
   pub unit-scoped : ScopedAll (unitOf ns names u) topScope
-  unfolding unitOf holderOf
-  unit-scoped = go (within (kindOf ns u) k.Function k.Arrow) refl
+  unfolding unitOf
+  unit-scoped = go (holderOf ns u) refl
     where
-      g : Good ns
-      g = good ns t li pl co
-
-      body : (x : Found) → functionBodyOf ns u ≡ x → ScopedAll (unitBy ns names x) topScope
-      body (At m) h = body-scoped ns names (m .0) g pl (root-body ns u lu e (m .0) h) targets
-      body Nothing h = tt
-
-      go : (x : Bool) → within (kindOf ns u) k.Function k.Arrow ≡ x → ScopedAll (unitBy ns names (cond x (functionBodyOf ns u) (At (record { 0 = u })))) topScope
-      go true q = body (functionBodyOf ns u) refl
-      go false q = body-scoped ns names u g pl (root-self ns u lu e q) targets
+      go : (x : Found) → holderOf ns u ≡ x → ScopedAll (unitBy ns names x) topScope
+      go (At m) h = body-scoped ns names (m .0) (good ns t li pl co) pl (root-of ns u lu e (m .0) h) targets
+      go Nothing h = tt

@@ -39,3 +39,19 @@ program-length = refl
 function-length : codeLength nested 1 ≡ 13
 unfolding codeLength ofUnit numberOf isHolder mayBeStatement above climb upto range
 function-length = refl
+
+-- `while (t) if (t) with (o) switch (s) { case c: x }`: 10, 7, 2, 7, 4 and 5, the unit 8.
+abbrev held : List ℕ
+held = node 0 0 0 0 (node 10 0 3 0 (node 12 1 3 0 (node 13 2 3 0 (node 14 3 3 0 (node 15 4 3 0 (node 22 5 3 0 []))))))
+
+held-length : codeLength held 0 ≡ 43
+unfolding codeLength ofUnit numberOf isHolder mayBeStatement above climb upto range
+held-length = refl
+
+-- `for (let a ..) x`: the declaration in the head, role 7, isn't a statement.
+abbrev head : List ℕ
+head = node 0 0 0 0 (node 7 0 3 0 (node 24 1 7 0 (node 22 1 3 0 [])))
+
+head-length : codeLength head 0 ≡ 23
+unfolding codeLength ofUnit numberOf isHolder mayBeStatement above climb upto range
+head-length = refl

@@ -149,20 +149,14 @@ holds-is = of-kinds (λ i. hasParts (shapeBy i)) openHolder refl
 pub part-is : (kind l r : ℕ) → kind ≤ 55 → partBy (shapeBy kind) l r ≡ true → (l ≡ k.StaticBlock) ⊎ ((role.Held ≤ r) × (r ≤ role.Finally) × (openHolder kind ≡ true))
 part-is kind l r h e = ⊎-elim (λ x. inl x) (λ w. inr (w .0, w .1, holds-is kind h (w .2))) (part-holding (shapeBy kind) l r e)
 
--- The numbers by two tests: a finally of a Try; a statement of its holder.
-abbrev numberWith : Bool → Bool → ℕ → ℕ
-numberWith finally held kind =
-    cond (eqb kind k.StaticBlock) 3
-    (cond (eqb kind k.Block) (cond finally 5 3)
-    (cond (within kind k.For k.DoWhile) 10
-    (cond (eqb kind k.If) 7
-    (cond (eqb kind k.With) 2
-    (cond (eqb kind k.Switch) 7
-    (cond (eqb kind k.SwitchCase) 4 (cond (within kind k.Break k.OtherStatement) 5 (cond (mayBeStatement kind && held) 5 0))))))))
+-- A statement of its holder that is no finally has the number that it has in the program; what is neither, the number of a node with role 0 there.
+number-held : (kind r above : ℕ) → (isHeld r && isHolder above) ≡ true → (eqb r role.Finally && eqb above k.Try) ≡ false → numberOf kind r above ≡ numberOf kind role.Held k.Program
+unfolding numberOf isHolder
+number-held kind r above h f = rw (h, f)
 
-number-with : (kind r above : ℕ) (x y : Bool) → (eqb r role.Finally && eqb above k.Try) ≡ x → (isHeld r && isHolder above) ≡ y → numberOf kind r above ≡ numberWith x y kind
-unfolding numberOf
-number-with kind r above x y e f = λ i. numberWith (e i) (f i) kind
+number-other : (kind r above : ℕ) → (isHeld r && isHolder above) ≡ false → (eqb r role.Finally && eqb above k.Try) ≡ false → numberOf kind r above ≡ numberOf kind role.Other k.Program
+unfolding numberOf isHolder
+number-other kind r above h f = rw (h, f)
 
 -- What the code has for a part: the number of its shape, at a finally two more.
 abbrev pub mayCount : ℕ → Bool
@@ -182,10 +176,11 @@ may-count kind w = or-right (eqb kind k.StaticBlock) _ (or-right (eqb kind k.Swi
 
 pub number-part : (kind r above : ℕ) → kind ≤ 55 → mayCount kind ≡ true → (isHeld r && isHolder above) ≡ true → (eqb r role.Finally && eqb above k.Try) ≡ false
     → numberBy (shapeBy kind) ≡ numberOf kind r above
-unfolding isStatement mayBeStatement shapeBy
+unfolding isStatement mayBeStatement isHolder shapeBy numberOf
 number-part kind r above h e held finally =
-    eqb-true (numberBy (shapeBy kind)) (numberWith false true kind) (of-kinds mayCount (λ i. eqb (numberBy (shapeBy i)) (numberWith false true i)) refl kind h e)
-    ∙ sym (number-with kind r above false true finally held)
+    eqb-true (numberBy (shapeBy kind)) (numberOf kind role.Held k.Program)
+    (of-kinds mayCount (λ i. eqb (numberBy (shapeBy i)) (numberOf i role.Held k.Program)) refl kind h e)
+    ∙ sym (number-held kind r above held finally)
 
 pub number-static : (kind r above : ℕ) → kind ≡ k.StaticBlock → numberBy (shapeBy kind) ≡ numberOf kind r above
 unfolding shapeBy numberOf
@@ -203,15 +198,25 @@ number-finally kind r above e f = ap (λ x. numberOf x r above) e ∙ ap (λ x. 
 abbrev pub counts : Bool → ℕ → Bool
 counts held kind = eqb kind k.StaticBlock || (eqb kind k.SwitchCase || (isStatement kind || held))
 
-none-but : (x y : Bool) → everyBelow (λ i. implies (not (eqb (numberWith x y i) 0)) (counts y i)) 56 ≡ true
-unfolding isStatement mayBeStatement
-none-but true true = refl
-none-but true false = refl
-none-but false true = refl
-none-but false false = refl
+few-count : (kind : ℕ) → kind ≤ 55 → not (eqb (numberOf kind role.Other k.Program) 0) ≡ true → counts false kind ≡ true
+unfolding isStatement mayBeStatement isHolder numberOf
+few-count = of-kinds (λ i. not (eqb (numberOf i role.Other k.Program) 0)) (counts false) refl
+
+-- A finally of a Try is held.
+no-finally : (r above : ℕ) → (isHeld r && isHolder above) ≡ false → (eqb r role.Finally && eqb above k.Try) ≡ false
+unfolding isHolder
+no-finally r above h = go (eqb r role.Finally && eqb above k.Try) refl
+  where
+    go : (x : Bool) → (eqb r role.Finally && eqb above k.Try) ≡ x → x ≡ false
+    go true e =
+        let p = eqb-true r role.Finally (and-left (eqb r role.Finally) (eqb above k.Try) e) in
+        let q = eqb-true above k.Try (and-right (eqb r role.Finally) (eqb above k.Try) e) in
+        never (sym (λ i. isHeld (p i) && isHolder (q i)) ∙ h)
+    go false e = refl
 
 pub number-some : (kind r above : ℕ) → kind ≤ 55 → eqb (numberOf kind r above) 0 ≡ false → counts (isHeld r && isHolder above) kind ≡ true
-number-some kind r above h e =
-    of-kinds (λ i. not (eqb (numberWith (eqb r role.Finally && eqb above k.Try) (isHeld r && isHolder above) i) 0)) (counts (isHeld r && isHolder above))
-    (none-but (eqb r role.Finally && eqb above k.Try) (isHeld r && isHolder above)) kind h
-    (ap not (sym (ap (λ x. eqb x 0) (number-with kind r above (eqb r role.Finally && eqb above k.Try) (isHeld r && isHolder above) refl refl)) ∙ e))
+number-some kind r above h e = go (isHeld r && isHolder above) refl
+  where
+    go : (x : Bool) → (isHeld r && isHolder above) ≡ x → counts x kind ≡ true
+    go true q = or-right (eqb kind k.StaticBlock) _ (or-right (eqb kind k.SwitchCase) _ (or-right (isStatement kind) true refl))
+    go false q = few-count kind h (ap not (sym (ap (λ x. eqb x 0) (number-other kind r above q (no-finally r above q))) ∙ e))

@@ -22,7 +22,7 @@ use Rattle.table_records.specs.NodeFlag as flag
 use Rattle.table_records.specs.declared.Found.{Found}
 use Rattle.table_records.specs.declared.Found.the-variants.{At, Nothing}
 use Rattle.table_children.specs.Children.{isChild, nextChild, functionBodyOf}
-use Rattle.table_children.specs.ChildrenLaws.{tally, tally-all, tally-turn, node-on, node-stop, found-child, number}
+use Rattle.table_children.specs.ChildrenLaws.{tally, tally-all, tally-turn, node-on, node-stop, number}
 use Rattle.table_ancestry.specs.AncestryLaws.{ancestors-up, ancestors-root}
 use Rattle.check_jumps.specs.Jumps.{isUnit}
 use Rattle.refusal_fields.specs.Fields.{Listed}
@@ -42,8 +42,8 @@ use Rattle.code_layout.specs.ExactLaws.{sum-none, upto-all, exact-length}
 use Rattle.code_layout.specs.LayoutLaws.{in-root, in-low, in-part, in-above, in-down}
 use Rattle.code_layout.specs.Sums.{sum-same}
 use Rattle.code_wellformed.specs.Kinds.{switch-shape, try-shape, class-shape}
-use Rattle.code_wellformed.specs.Parts.{static-up}
-use Rattle.code_wellformed.specs.Ready.{Holds, ready}
+use Rattle.code_wellformed.specs.Parts.{static-up, plain-up}
+use Rattle.code_wellformed.specs.Holder.{Root, holder-root, holder-in, holder-ready}
 use Rattle.code_length.specs.Length.{numberOf, unitNumber, isListed, isExported, isEntered, isClosed, ofUnit, addedBy, codeLength}
 use Rattle.code_length.specs.Kinds.{holderIs, openHolder, mayCount, counts, holder-is, holder-open, try-holds, body-holds-none, export-holds-none, switch-stands, branch-part, finally-block, block-number, try-is, held-part, part-is, may-count, number-part, number-static, number-case, number-finally, number-some}
 
@@ -105,6 +105,9 @@ and-no true = refl
 and-no false = refl
 
 module _ (ns : List ℕ) (t : Tree ns) (li : Listed ns) (pl : Placed ns) (co : Counted ns) (u : ℕ) (lu : u < count ns) (eu : isUnit (kindOf ns u) ≡ true) where
+  low-kind : kindOf ns u ≤ k.StaticBlock
+  low-kind = range-of (kindOf ns u) k.Program k.StaticBlock eu .1
+
   -- Steps of the way up.
   step : (j : ℕ) → 0 < j → j < count ns → ofUnit ns u j ≡ cond (eqb (parentOf ns j) u) true (cond (isClosed ns (parentOf ns j)) false (ofUnit ns u (parentOf ns j)))
   unfolding ofUnit
@@ -136,7 +139,7 @@ module _ (ns : List ℕ) (t : Tree ns) (li : Listed ns) (pl : Placed ns) (co : C
   -- A node whose kind is no unit's is another.
   back-on : (j : ℕ) → 0 < j → j < count ns → 3 < parentKind ns j → ofUnit ns u j ≡ true → (isClosed ns (parentOf ns j) ≡ false) × (ofUnit ns u (parentOf ns j) ≡ true)
   back-on j h l q e =
-      ⊎-elim (λ x. let y = range-of (kindOf ns u) k.Program k.StaticBlock eu .1 in let z : parentKind ns j ≡ kindOf ns u = ap (kindOf ns) x in absurd (omega arith)) (λ x. x) (back j h l e)
+      ⊎-elim (λ x. let y = low-kind in let z : parentKind ns j ≡ kindOf ns u = ap (kindOf ns) x in absurd (omega arith)) (λ x. x) (back j h l e)
 
   later : (j : ℕ) → (kindOf ns j ≡ 0 → ⊥) → 0 < j
   later j n = ⊎-elim (λ (z : 0 ≡ j). absurd (n (ap (kindOf ns) (sym z) ∙ t .root))) (λ z. z) (eq-or-lt-of-le (omega arith))
@@ -202,8 +205,7 @@ module _ (ns : List ℕ) (t : Tree ns) (li : Listed ns) (pl : Placed ns) (co : C
     static-from = ap (λ x. cond x (enteredBy ns (parentOf ns (parentOf ns j))) (parentOf ns j)) (eq-eqb (kindOf ns j) k.StaticBlock q)
 
   plain-from : (j : ℕ) → (kindOf ns j ≡ k.StaticBlock → ⊥) → upOf ns j ≡ parentOf ns j
-  unfolding upOf
-  plain-from j n = ap (λ x. cond x (enteredBy ns (parentOf ns (parentOf ns j))) (parentOf ns j)) (ne-eqb (kindOf ns j) k.StaticBlock n)
+  plain-from j n = plain-up ns t li pl j (ne-eqb (kindOf ns j) k.StaticBlock n)
 
   is-static : (j : ℕ) → (kindOf ns j ≡ k.StaticBlock) ⊎ (kindOf ns j ≡ k.StaticBlock → ⊥)
   is-static j = go (eqb (kindOf ns j) k.StaticBlock) refl
@@ -276,8 +278,8 @@ module _ (ns : List ℕ) (t : Tree ns) (li : Listed ns) (pl : Placed ns) (co : C
         (λ w. never (sym (ap (λ x. x || (eqb (parentKind ns h) k.Class && not (isEntered ns (parentOf ns h)))) (in-range (parentKind ns h) k.Function k.Arrow (f .0) (f .1))) ∙ w .0))
         (back h z l e)
 
-    holder-in : ofUnit ns u h ≡ true → Place h
-    holder-in e = go (either _ _ (holder-is (kindOf ns h) (li .kind h l) a))
+    holder-inner : ofUnit ns u h ≡ true → Place h
+    holder-inner e = go (either _ _ (holder-is (kindOf ns h) (li .kind h l) a))
       where
         held : isStatement (kindOf ns h) ≡ true → Place h
         held q = placed h (again (inl (pl .stands h l q)) e)
@@ -340,7 +342,7 @@ module _ (ns : List ℕ) (t : Tree ns) (li : Listed ns) (pl : Placed ns) (co : C
           let s : kindOf ns j ≡ k.StaticBlock → ⊥ = λ x. never (sym (w .2) ∙ body-holds-none (parentKind ns j) (pl .staticBlock j l x)) in
           place-down (parentOf ns j) j
           (record { behind = below; inside = l; parent = plain-from j s; part = ap (λ p. partBy (shapeAt ns p) (kindOf ns j) (roleOf ns j)) (plain-from j s) ∙ part-of-holder j z l w })
-          (⊎-elim (λ x. holder-unit (parentOf ns j) (parent-in j z l) (w .2) (ih (parentOf ns j) below) x) (λ x. holder-in (parentOf ns j) (parent-in j z l) (w .2) (ih (parentOf ns j) below) (x .1)) (back j z l e))
+          (⊎-elim (λ x. holder-unit (parentOf ns j) (parent-in j z l) (w .2) (ih (parentOf ns j) below) x) (λ x. holder-inner (parentOf ns j) (parent-in j z l) (w .2) (ih (parentOf ns j) below) (x .1)) (back j z l e))
       go (inr (inl q)) ih = switched (pl .switchCase j l q .0) (pl .switchCase j l q .1)
         where
           switched : parentKind ns j ≡ k.Switch → roleOf ns j ≡ role.Held → Reached j
@@ -399,40 +401,11 @@ module _ (ns : List ℕ) (t : Tree ns) (li : Listed ns) (pl : Placed ns) (co : C
 
   -- FROM THE CODE TO THE TABLE.
   module _ (b : ℕ) (held : holderOf ns u ≡ At (record { 0 = b })) where
-    -- b is the unit, or its FunctionBody.
-    abbrev Top : Type 0
-    Top = ((b ≡ u) × (within (kindOf ns u) k.Function k.Arrow ≡ false)) ⊎ ((kindOf ns b ≡ k.FunctionBody) × (u < b) × (b < count ns) × (parentOf ns b ≡ u))
-
-    root : Top
-    unfolding holderOf
-    root = go (within (kindOf ns u) k.Function k.Arrow) refl held
-      where
-        go : (x : Bool) → within (kindOf ns u) k.Function k.Arrow ≡ x → cond x (functionBodyOf ns u) (At (record { 0 = u })) ≡ At (record { 0 = b }) → Top
-        go true x q =
-            let v = found-child ns u k.FunctionBody k.FunctionBody 0 7 (u + 1) b q in
-            let x = v .from in
-            let y = v .kindLow in
-            let z = v .kindHigh in
-            inr (omega arith, omega arith, v .below, v .parent)
-        go false x q = inl (sym (ap number q), x)
-
-    pub root-in : b < count ns
-    root-in = ⊎-elim (λ w. let x = w .0 in omega arith) (λ w. w .2) root
-
-    pub root-holds : Holds (kindOf ns b)
-    root-holds = ⊎-elim (λ w. own (w .0) (w .1)) (λ w. inr (inr (w .0))) root
-      where
-        own : b ≡ u → within (kindOf ns u) k.Function k.Arrow ≡ false → Holds (kindOf ns b)
-        own e n =
-            let q : kindOf ns b ≡ kindOf ns u = ap (kindOf ns) e in
-            let y = range-of (kindOf ns u) k.Program k.StaticBlock eu .1 in
-            ⊎-elim (λ (z : 0 ≡ kindOf ns u). inl (q ∙ sym z))
-            (λ (z : 0 < kindOf ns u).
-            ⊎-elim (λ (r : kindOf ns u ≡ 3). inr (inl (q ∙ r))) (λ (r : kindOf ns u < 3). never (sym (in-range (kindOf ns u) k.Function k.Arrow (omega arith) (omega arith)) ∙ n)) (eq-or-lt-of-le y))
-            (eq-or-lt-of-le (omega arith))
+    root : Root ns u lu low-kind b held
+    root = holder-root ns u lu low-kind b held
 
     root-low : kindOf ns b ≤ 4
-    root-low = ⊎-elim (λ w. let y = range-of (kindOf ns u) k.Program k.StaticBlock eu .1 in let q : kindOf ns b ≡ kindOf ns u = ap (kindOf ns) (w .0) in omega arith) (λ w. let y = w .0 in omega arith) root
+    root-low = ⊎-elim (λ w. let y = low-kind in let q : kindOf ns b ≡ kindOf ns u = ap (kindOf ns) (w .0) in omega arith) (λ w. let y = w .0 in omega arith) root
 
     -- What is right below b.
     first : (j : ℕ) → b < j → j < count ns → parentOf ns j ≡ b → isClosed ns (parentOf ns j) ≡ false → ofUnit ns u j ≡ true
@@ -624,7 +597,7 @@ module _ (ns : List ℕ) (t : Tree ns) (li : Listed ns) (pl : Placed ns) (co : C
 
     summed : foldr (λ n r. addedBy ns u n + r) 0 (upto 0 (count ns)) ≡ sum (λ j. cond (inUnit ns b j) (numberAt ns j) 0) (upto (b + 1) (count ns))
     summed =
-        let i = root-in b held in
+        let i = holder-in ns u lu low-kind b held in
         foldSum (addedBy ns u) (upto 0 (count ns))
         ∙ sumFrom (addedBy ns u) (count ns) (b + 1) 0 (b + 1) (omega arith) (omega arith) (omega arith) (λ j a c. low j c (omega arith))
         ∙ sum-same (addedBy ns u) (λ j. cond (inUnit ns b j) (numberAt ns j) 0) (upto (b + 1) (count ns)) (upto-all _ (count ns) (count ns) (b + 1) (omega arith) (λ j a c. adds j (omega arith) c))
@@ -647,6 +620,5 @@ module _ (ns : List ℕ) (t : Tree ns) (li : Listed ns) (pl : Placed ns) (co : C
     where
       go : (x : Found) → holderOf ns u ≡ x → length (unit (unitBy ns names x)) ≡ unitNumber + foldr (λ n r. addedBy ns u n + r) 0 (upto 0 (count ns))
       go (At m) e =
-          let r = ready ns t li pl co names n (m .0) (root-in (m .0) e) (root-holds (m .0) e) in
-          sym (exact-length ns names (m .0) (r .held)) ∙ ap (λ x. unitNumber + x) (sym (summed (m .0) e))
+          sym (exact-length ns names (m .0) (holder-ready ns u lu low-kind (m .0) e t li pl co names n .held)) ∙ ap (λ x. unitNumber + x) (sym (summed (m .0) e))
       go Nothing e = unitLength (unitBy ns names Nothing) ∙ sym (ap (λ x. unitNumber + x) (nothing e))
