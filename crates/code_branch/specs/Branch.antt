@@ -9,16 +9,44 @@ use Rattle.table_records.specs.Table.{roleOf, count}
 use Rattle.route_completion.specs.Tree.{near, named}
 use Rattle.route_completion.specs.Sem.{Comp, normal, breaks, continues, returns, throws, spent, elem}
 use Rattle.code_flat.specs.Code.{Stat, at}
-use Rattle.code_tree.specs.Labels.{idAt}
+use Rattle.code_tree.specs.Labels.{nameId, idAt}
 use Rattle.code_tree.specs.Parts.{upOf, shapeAt}
 use Rattle.code_layout.specs.Widths.{widthAt}
 use Rattle.code_layout.specs.Context.{offsetAt}
 use Rattle.code_targets.specs.Targets.{isLoop, isBreakable, isLabeled, catchesAt, target, depthAt, labelsAt}
 use Rattle.code_contexts.specs.Contexts.{Ready, Wide, Places}
 use Rattle.code_branch.specs.declared.Target.{Target}
+use Rattle.code_branch.specs.declared.Jump.{Jump}
+use Rattle.code_branch.specs.declared.Jump.the-variants.{BreakNear, BreakNamed, ContinueNear, ContinueNamed, Return, Throw}
 
 abbrev pub statOf : Target → Stat
 statOf t = at (t .place) (t .depth)
+
+-- The completion of a jump: a label is known by its node.
+abbrev pub compBy : List ℕ → List ℕ → Jump → Comp
+compBy ns names BreakNear = breaks near
+compBy ns names (BreakNamed l) = breaks (named (nameId ns names (l .0)))
+compBy ns names ContinueNear = continues near
+compBy ns names (ContinueNamed l) = continues (named (nameId ns names (l .0)))
+compBy ns names Return = returns
+compBy ns names Throw = throws
+
+abbrev pub LabelIn : List ℕ → Jump → Type 0
+LabelIn ns BreakNear = Unit {0}
+LabelIn ns (BreakNamed l) = l .0 < count ns
+LabelIn ns ContinueNear = Unit {0}
+LabelIn ns (ContinueNamed l) = l .0 < count ns
+LabelIn ns Return = Unit {0}
+LabelIn ns Throw = Unit {0}
+
+-- How far behind the unit's words the end stands that a jump goes to where nothing in the unit stops it.
+abbrev pub endBy : Jump → ℕ
+endBy BreakNear = 6
+endBy (BreakNamed l) = 6
+endBy ContinueNear = 6
+endBy (ContinueNamed l) = 6
+endBy Return = 2
+endBy Throw = 4
 
 module _ (ns names : List ℕ) (b : ℕ) where
   -- The completion c of the part j ends at its holder: a break at the nearest loop or Switch, or the Labeled of its name; a continue at the nearest loop, or the one that the Labeled of its name holds;

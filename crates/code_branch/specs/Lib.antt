@@ -1,3 +1,4 @@
 pub mod Branch
 pub mod BranchLaws
 pub mod NextLaws
+pub mod JumpLaws

@@ -62,10 +62,11 @@ module _ (ns names : List ℕ) (b : ℕ) where
     pub member : inUnit ns b f ≡ true
     pub goes : target ns names b j normal ≡ nextOf f
 
-  -- Before i: the unit's nodes with their depths (one more, so that 0 is left for the others), offsets and follows. From i on: which nodes are the unit's, and the words behind each.
+  -- Before i: the unit's nodes with their depths (one more, so that 0 is left for the others), offsets and follows. From i on: which nodes are the unit's, and the words behind each. The level of a node that isn't the unit's is 0.
   pub record Places (i : ℕ) (levels offsets follows : List ℕ) : Type 0 where
     pub level : (j : ℕ) → b ≤ j → j < i → inUnit ns b j ≡ true → getD levels j 0 ≡ suc (depthAt ns names b j)
     pub offset : (j : ℕ) → b ≤ j → j < i → inUnit ns b j ≡ true → getD offsets j 0 ≡ offsetAt ns names b j
     pub follow : (j : ℕ) → b ≤ j → j < i → inUnit ns b j ≡ true → Follow j (getD follows j 0)
     pub unit : (j : ℕ) → i ≤ j → j < count ns → getD levels j 0 ≡ cond (inUnit ns b j) 1 0
     pub after : (j : ℕ) → i ≤ j → j < count ns → inUnit ns b j ≡ true → getD offsets j 0 ≡ sum (counted ns b) (parts ns (upOf ns j) (j + 1))
+    pub other : (j : ℕ) → j < count ns → inUnit ns b j ≡ false → getD levels j 0 ≡ 0

@@ -58,7 +58,7 @@ module _ (ns names : List ℕ) (b : ℕ) (g : Good ns) (p : ℕ) (hp : b ≤ p) 
   abbrev Y : ℕ → ℕ
   Y j = counted ns b j
 
-  order-plain : order ns p ≡ parts ns p (p + 1)
+  pub order-plain : order ns p ≡ parts ns p (p + 1)
   unfolding order
   order-plain = plainOrder ns (shapeAt ns p) (parts ns p (p + 1)) plain
 
@@ -151,6 +151,28 @@ module _ (ns names : List ℕ) (b : ℕ) (g : Good ns) (p : ℕ) (hp : b ≤ p) 
   behind-some j w =
       let l = w .behind in
       ap (λ ps. some (behind ps j)) order-plain ∙ ap some (behindFrom (count ns) (p + 1) j (omega arith) (omega arith) (omega arith) w) ∙ someFrom (count ns) (j + 1) (omega arith) (omega arith)
+
+  -- There is a part from i on exactly if the words of these are some.
+  pub parts-some : (i : ℕ) → p < i → some (head0 (parts ns p i)) ≡ not (eqb (sum (counted ns b) (parts ns p i)) 0)
+  parts-some i h = someFrom (count ns) i (omega arith) h
+
+  noneFrom : (f i : ℕ) → count ns ≤ i + f → p < i → sum Y (parts ns p i) ≡ 0 → parts ns p i ≡ []
+  unfolding sum
+  noneFrom zero i h hi e = parts-end ns p i (omega arith)
+  noneFrom (suc f) i h hi e = by (decLt i (count ns)) (noneFrom f (i + 1) (omega arith) (omega arith))
+    where
+      go : (x : Bool) → i < count ns → sum Y (cond x (i ∷ parts ns p (i + 1)) (parts ns p (i + 1))) ≡ 0 → (sum Y (parts ns p (i + 1)) ≡ 0 → parts ns p (i + 1) ≡ [])
+          → cond x (i ∷ parts ns p (i + 1)) (parts ns p (i + 1)) ≡ []
+      go true l z ih = let w = part-some ns b g i l (omega arith) in absurd (omega arith)
+      go false l z ih = ih z
+
+      by : Dec (i < count ns) → (sum Y (parts ns p (i + 1)) ≡ 0 → parts ns p (i + 1) ≡ []) → parts ns p i ≡ []
+      by (yes l) ih = parts-turn ns p i l ∙ go (eqb (upOf ns i) p && isPart ns i) l (ap (sum Y) (sym (parts-turn ns p i l)) ∙ e) ih
+      by (no l) ih = parts-end ns p i (omega arith)
+
+  -- No words, no parts.
+  pub parts-none : (i : ℕ) → p < i → sum (counted ns b) (parts ns p i) ≡ 0 → parts ns p i ≡ []
+  parts-none i h e = noneFrom (count ns) i (omega arith) h e
 
 abbrev pub isAt : Found → Bool
 isAt (At m) = true

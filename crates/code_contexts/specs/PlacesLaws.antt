@@ -219,6 +219,7 @@ module _ (ns names : List ℕ) (b : ℕ) (r : Ready ns names b) where
           follow = λ j l m u. c .follow j l (less j u m) u;
           unit = λ j l m. c .unit j (omega arith) m;
           after = λ j l m u. c .after j (omega arith) m u;
+          other = c .other;
         }
       where
         less : (j : ℕ) → inUnit ns b j ≡ true → j < i + 1 → j < i
@@ -228,15 +229,16 @@ module _ (ns names : List ℕ) (b : ℕ) (r : Ready ns names b) where
             go (inl q) = never (sym u ∙ ap (inUnit ns b) (let z : j ≡ i = omega arith in z) ∙ e)
             go (inr q) = omega arith
 
-    pub places-turn : (l o f : ℕ) → i < length levels → i < length offsets → i < length follows → l ≡ suc (depthAt ns names b i) → o ≡ offsetAt ns names b i → Follow ns names b i f
+    pub places-turn : inUnit ns b i ≡ true → (l o f : ℕ) → i < length levels → i < length offsets → i < length follows → l ≡ suc (depthAt ns names b i) → o ≡ offsetAt ns names b i → Follow ns names b i f
         → Places ns names b (i + 1) (set levels i l) (set offsets i o) (set follows i f)
-    places-turn l o f hl ho hf el eo ef =
+    places-turn e l o f hl ho hf el eo ef =
         record {
           level = λ j q m u. levelsIs j q u (eq-or-lt-of-le {n = suc j} {m = i + 1} m);
           offset = λ j q m u. offsetsIs j q u (eq-or-lt-of-le {n = suc j} {m = i + 1} m);
           follow = λ j q m u. followsIs j q u (eq-or-lt-of-le {n = suc j} {m = i + 1} m);
           unit = λ j q m. getD-set-other levels i j l 0 (λ z. omega arith) ∙ c .unit j (omega arith) m;
           after = λ j q m u. getD-set-other offsets i j o 0 (λ z. omega arith) ∙ c .after j (omega arith) m u;
+          other = λ j m u. getD-set-other levels i j l 0 (λ z. never (sym e ∙ ap (inUnit ns b) (sym z) ∙ u)) ∙ c .other j m u;
         }
       where
         levelsIs : (j : ℕ) → b ≤ j → inUnit ns b j ≡ true → (suc j ≡ i + 1) ⊎ (suc j < i + 1) → getD (set levels i l) j 0 ≡ suc (depthAt ns names b j)
@@ -261,6 +263,7 @@ module _ (ns names : List ℕ) (b : ℕ) (r : Ready ns names b) where
         follow = λ j l m u. subst (λ k. Follow ns names b k (getD (set follows b b) k 0)) (root j l m) (subst (Follow ns names b b) (sym (getD-set-same follows b b 0 lf)) follow-root);
         unit = λ j l m. us .is j m;
         after = λ j l m u. getD-set-other behinds b j 0 0 (λ z. omega arith) ∙ af j (omega arith) m u;
+        other = λ j m u. us .is j m ∙ ap (λ x. cond x 1 0) u;
       }
     where
       root : (j : ℕ) → b ≤ j → j < b + 1 → b ≡ j

@@ -20,6 +20,7 @@ use Rattle.refusal_tree.specs.Tree.{misplacedAt, depthFrom, depthIf}
 use Rattle.refusal_scopes.specs.Scopes.{brokenAt, chainOn, misscopedAt}
 use Rattle.refusal_standing.specs.Standing.{isStatement, mayBeStatement, isHolder, strayStatement, strayHeld, strayAlternate, strayInSwitch, strayCase, tryPart, strayInTry, strayClause, strayInClause, strayFunctionBody, strayClassBody, strayElement, strayValue, misplacedStatement, misplacedPart, misplacedElement, misplaced, misplacedChildAt}
 use Rattle.refusal_counts.specs.Counts.{isDefault, defaults, wrongBody, wrongAlternate, wrongDefault, wrongTry, wrongClause, wrongLabel, wrongFunction, wrongClass, wrongValue, wrongElement, wrongStatement, wrongPart, wrongHome, wrongCountAt}
+use Rattle.refusal_return.specs.Return.{returnInStatic}
 use Rattle.refusal_input.specs.Input.{tablesOr, shapeRefusal, inputRefusal}
 use Rattle.refusal_input.specs.WellFormed.{WellFormed}
 use Rattle.refusal_verdict.specs.First.{first}
@@ -147,7 +148,7 @@ abbrev pub source : List ℕ
 source = 99 ∷ 108 ∷ 97 ∷ 115 ∷ 115 ∷ 32 ∷ 67 ∷ 32 ∷ 123 ∷ 32 ∷ 99 ∷ 111 ∷ 110 ∷ 115 ∷ 116 ∷ 114 ∷ 117 ∷ 99 ∷ 116 ∷ 111 ∷ 114 ∷ 40 ∷ 41 ∷ 32 ∷ 123 ∷ 32 ∷ 115 ∷ 117 ∷ 112 ∷ 101 ∷ 114 ∷ 40 ∷ 41 ∷ 59 ∷ 32 ∷ 125 ∷ 32 ∷ 99 ∷ 111 ∷ 110 ∷ 115 ∷ 116 ∷ 114 ∷ 117 ∷ 99 ∷ 116 ∷ 111 ∷ 114 ∷ 40 ∷ 41 ∷ 32 ∷ 123 ∷ 125 ∷ 32 ∷ 35 ∷ 112 ∷ 59 ∷ 32 ∷ 35 ∷ 112 ∷ 59 ∷ 32 ∷ 109 ∷ 40 ∷ 41 ∷ 32 ∷ 123 ∷ 32 ∷ 115 ∷ 117 ∷ 112 ∷ 101 ∷ 114 ∷ 40 ∷ 41 ∷ 59 ∷ 32 ∷ 116 ∷ 104 ∷ 105 ∷ 115 ∷ 46 ∷ 35 ∷ 113 ∷ 59 ∷ 32 ∷ 125 ∷ 32 ∷ 125 ∷ 32 ∷ 99 ∷ 108 ∷ 97 ∷ 115 ∷ 115 ∷ 32 ∷ 123 ∷ 32 ∷ 125 ∷ 32 ∷ 97 ∷ 46 ∷ 35 ∷ 98 ∷ 59 ∷ 32 ∷ 102 ∷ 117 ∷ 110 ∷ 99 ∷ 116 ∷ 105 ∷ 111 ∷ 110 ∷ 32 ∷ 102 ∷ 40 ∷ 41 ∷ 32 ∷ 123 ∷ 32 ∷ 115 ∷ 117 ∷ 112 ∷ 101 ∷ 114 ∷ 46 ∷ 120 ∷ 59 ∷ 32 ∷ 125 ∷ 32 ∷ 40 ∷ 123 ∷ 32 ∷ 95 ∷ 95 ∷ 112 ∷ 114 ∷ 111 ∷ 116 ∷ 111 ∷ 95 ∷ 95 ∷ 58 ∷ 32 ∷ 49 ∷ 44 ∷ 32 ∷ 95 ∷ 95 ∷ 112 ∷ 114 ∷ 111 ∷ 116 ∷ 111 ∷ 95 ∷ 95 ∷ 58 ∷ 32 ∷ 50 ∷ 32 ∷ 125 ∷ 41 ∷ 59 ∷ 32 ∷ 99 ∷ 108 ∷ 97 ∷ 115 ∷ 115 ∷ 32 ∷ 69 ∷ 32 ∷ 101 ∷ 120 ∷ 116 ∷ 101 ∷ 110 ∷ 100 ∷ 115 ∷ 32 ∷ 67 ∷ 32 ∷ 123 ∷ 32 ∷ 42 ∷ 99 ∷ 111 ∷ 110 ∷ 115 ∷ 116 ∷ 114 ∷ 117 ∷ 99 ∷ 116 ∷ 111 ∷ 114 ∷ 40 ∷ 41 ∷ 32 ∷ 123 ∷ 32 ∷ 115 ∷ 117 ∷ 112 ∷ 101 ∷ 114 ∷ 40 ∷ 41 ∷ 59 ∷ 32 ∷ 125 ∷ 32 ∷ 115 ∷ 116 ∷ 97 ∷ 116 ∷ 105 ∷ 99 ∷ 32 ∷ 99 ∷ 111 ∷ 110 ∷ 115 ∷ 116 ∷ 114 ∷ 117 ∷ 99 ∷ 116 ∷ 111 ∷ 114 ∷ 40 ∷ 41 ∷ 32 ∷ 123 ∷ 32 ∷ 115 ∷ 117 ∷ 112 ∷ 101 ∷ 114 ∷ 40 ∷ 41 ∷ 59 ∷ 32 ∷ 125 ∷ 32 ∷ 125 ∷ 32 ∷ 40 ∷ 123 ∷ 32 ∷ 99 ∷ 111 ∷ 110 ∷ 115 ∷ 116 ∷ 114 ∷ 117 ∷ 99 ∷ 116 ∷ 111 ∷ 114 ∷ 40 ∷ 41 ∷ 32 ∷ 123 ∷ 32 ∷ 115 ∷ 117 ∷ 112 ∷ 101 ∷ 114 ∷ 40 ∷ 41 ∷ 59 ∷ 32 ∷ 125 ∷ 32 ∷ 125 ∷ 41 ∷ []
 
 passes : inputRefusal 0 table scopes source bytes ≡ Passed
-unfolding wrongTable wrongSizes ownFlag listedFlags mostExtra listedExtra unlistedAt strayAt misplacedAt depthFrom depthIf brokenAt chainOn misscopedAt isStatement mayBeStatement isHolder strayStatement strayHeld strayAlternate strayInSwitch strayCase tryPart strayInTry strayClause strayInClause strayFunctionBody strayClassBody strayElement strayValue misplacedStatement misplacedPart misplacedElement misplaced misplacedChildAt isDefault defaults wrongBody wrongAlternate wrongDefault wrongTry wrongClause wrongLabel wrongFunction wrongClass wrongValue wrongElement wrongStatement wrongPart wrongHome wrongCountAt tablesOr shapeRefusal inputRefusal first keep children howMany isChild firstNode a.climb a.above on nearestOf isValueOf partOf placeOf objectUse methodUse functionUse stepAt reachFrom reachOf failsAt upto range
+unfolding wrongTable wrongSizes ownFlag listedFlags mostExtra listedExtra unlistedAt strayAt misplacedAt depthFrom depthIf brokenAt chainOn misscopedAt isStatement mayBeStatement isHolder strayStatement strayHeld strayAlternate strayInSwitch strayCase tryPart strayInTry strayClause strayInClause strayFunctionBody strayClassBody strayElement strayValue misplacedStatement misplacedPart misplacedElement misplaced misplacedChildAt isDefault defaults wrongBody wrongAlternate wrongDefault wrongTry wrongClause wrongLabel wrongFunction wrongClass wrongValue wrongElement wrongStatement wrongPart wrongHome wrongCountAt returnInStatic tablesOr shapeRefusal inputRefusal first keep children howMany isChild firstNode a.climb a.above on nearestOf isValueOf partOf placeOf objectUse methodUse functionUse stepAt reachFrom reachOf failsAt upto range
 passes = refl
 
 pub well : WellFormed 0 table scopes source bytes

@@ -20,6 +20,7 @@ use Rattle.refusal_standing.specs.Standing.{misplacedChildAt}
 use Rattle.refusal_standing.specs.StandingLaws.{placed-of}
 use Rattle.refusal_counts.specs.Counts.{wrongCountAt}
 use Rattle.refusal_counts.specs.CountsLaws.{counted-of}
+use Rattle.refusal_return.specs.Return.{returnInStatic}
 use Rattle.refusal_input.specs.Input.{tablesOr, shapeRefusal, inputRefusal}
 use Rattle.refusal_input.specs.WellFormed.{WellFormed}
 
@@ -36,6 +37,7 @@ module _ (sourceType : ℕ) (ns ss source names : List ℕ) where
       let e7 = passed refusal.Misplaced (first (misplacedChildAt ns) 0 (count ns)) _ (e6 .1) in
       let e8 = passed refusal.WrongCount (first (wrongCountAt ns) 0 (count ns)) _ (e7 .1) in
       let e9 = passed refusal.Walk (first (failsAt ns ss) 0 (count ns)) _ (e8 .1) in
+      let e10 = passed refusal.ReturnInStatic (first (returnInStatic ns) 0 (count ns)) _ (e9 .1) in
       let s = sizes-of sourceType ns ss source names (e1 .0) in
       let t = tree-of ns (s .nodes) (e3 .0) in
       let o = sourced-of ns source names (e4 .0) in
@@ -53,4 +55,5 @@ module _ (sourceType : ℕ) (ns ss source names : List ℕ) where
         sourced = o;
         shaped = record { placed = placed-of ns t (e7 .0); counted = counted-of ns (e8 .0) };
         walks = λ i l. first-none (failsAt ns ss) (count ns) 0 (e9 .0) i (omega arith) l;
+        returns = λ i l. first-none (returnInStatic ns) (count ns) 0 (e10 .0) i (omega arith) l;
       }

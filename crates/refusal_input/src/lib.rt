@@ -1,4 +1,4 @@
-// The refusals of the input: 1, 2, 3, 4, 5 (scope records, then nodes), 13, 14, 6. The first of them that applies is given, at its lowest place. Well-formed
+// The refusals of the input: 1, 2, 3, 4, 5 (scope records, then nodes), 13, 14, 6, 15. The first of them that applies is given, at its lowest place. Well-formed
 // tables are those that pass.
 ghost use mathlib.Core.Path.{_≡_};
 ghost use Rattle.table_records.specs.Table.{count};
@@ -29,7 +29,7 @@ fn failing(nodes: &[u32], scopes: &[u32]) -> Place
     Place::Nowhere
 }
 
-// 13, 14 and 6, each over the whole tree.
+// 13, 14, 6 and 15, each over the whole tree.
 fn shape_refusal(nodes: &[u32], scopes: &[u32]) -> Verdict
     requires { ⌜ Tree (now nodes) ⌝ }
     requires { ⌜ Chained (now scopes) ⌝ }
@@ -44,6 +44,9 @@ fn shape_refusal(nodes: &[u32], scopes: &[u32]) -> Verdict
     }
     if let Place::Here(d) = failing(nodes, scopes) {
         return Verdict::Refused(refusals::WALK, d);
+    }
+    if let Place::Here(e) = refusal_return::return_in_static(nodes) {
+        return Verdict::Refused(refusals::RETURN_IN_STATIC, e);
     }
     Verdict::Passed
 }

@@ -229,6 +229,14 @@ fn order_of_shape() {
     shape(b"14 at 2 before 14 at 3", &[55_00_0, 10_00_3, 10_00_3]);
     judge(b"13 before 6", &[22_00_3, 37_01_0, 5_00_0], 170, 0, 1, 4);
     judge(b"14 before 6", &[22_00_3, 37_01_0, 10_00_3], 170, 0, 1, 4);
+    judge(
+        b"6 before 15",
+        &[26_00_3, 27_01_0, 3_02_0, 20_03_3, 22_00_3, 37_05_0],
+        170,
+        0,
+        1,
+        4,
+    );
 }
 
 // 6. A walk that the Rust ends in a failure, at its Super: above the Program, whose scope is here a function's; at a class's scope without an element.
@@ -246,6 +254,45 @@ fn walks() {
     shape(
         b"class scope without an element",
         &[26_00_3, 27_01_0, 3_02_0, 22_03_3, 37_04_0],
+    );
+}
+
+// 15. A return whose nearest unit is a static block, at the return; whether the class is entered isn't asked.
+fn returns() {
+    shape(b"return in the Program", &[20_00_3]);
+    shape(b"in a static block", &[26_00_3, 27_01_0, 3_02_0, 20_03_3]);
+    shape(
+        b"in a Block of it",
+        &[26_00_3, 27_01_0, 3_02_0, 5_03_3, 20_04_3],
+    );
+    shape(
+        b"in a function of it",
+        &[26_00_3, 27_01_0, 3_02_0, 1_03_3, 4_04_0, 20_05_3],
+    );
+    shape(
+        b"in an arrow of it",
+        &[26_00_3, 27_01_0, 3_02_0, 22_03_3, 2_04_0, 4_05_0, 20_06_3],
+    );
+    shape(
+        b"in a method beside it",
+        &[
+            26_00_3,
+            27_01_0,
+            3_02_0,
+            28_02_0,
+            32_04_2,
+            1_04_1,
+            4_06_0,
+            20_07_3,
+        ],
+    );
+    shape(
+        b"in a class that isn't entered",
+        &[22_00_3, 26_01_0, 27_02_0, 3_03_0, 20_04_3],
+    );
+    shape(
+        b"the lower return",
+        &[26_00_3, 27_01_0, 3_02_0, 21_03_3, 20_03_3, 20_03_3],
     );
 }
 
@@ -509,6 +556,7 @@ fn main() {
     order();
     order_of_shape();
     walks();
+    returns();
     statements();
     other_kinds();
     bodies();

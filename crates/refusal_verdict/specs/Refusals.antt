@@ -56,3 +56,7 @@ Misplaced = 13
 -- 14. A child missing or too many, at the parent.
 abbrev pub WrongCount : ℕ
 WrongCount = 14
+
+-- 15. A Return whose nearest unit is a static block.
+abbrev pub ReturnInStatic : ℕ
+ReturnInStatic = 15

@@ -1,5 +1,5 @@
-// The refusals, numbered as documents 01 and 02 do. They are looked for in another order: 1, 2, 3, 4, 5 (scope records, then nodes), 13, 14, 6, and
-// then as each call says.
+// The refusals, numbered as documents 01 and 02 do. They are looked for in another order: 1, 2, 3, 4, 5 (scope records, then nodes), 13, 14, 6, 15,
+// and then as each call says.
 
 // 1. A table or a text is too short, too long or not whole; no such source type.
 pub const SIZES: u32 = 1;
@@ -42,3 +42,6 @@ pub const MISPLACED: u32 = 13;
 
 // 14. A child missing or too many, at the parent.
 pub const WRONG_COUNT: u32 = 14;
+
+// 15. A Return whose nearest unit is a static block.
+pub const RETURN_IN_STATIC: u32 = 15;

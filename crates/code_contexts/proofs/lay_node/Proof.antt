@@ -176,7 +176,7 @@ returns c =
     let x : getD (a .levels .now) (c .before .before .before .before .before .before .before .before .before .before .before .wide2 .result) 0 ≡ suc (depthAt ns (a .names .now) (a .b .0) (upOf ns (a .n .0))) = ap (λ i. getD (a .levels .now) i 0) (c .before .before .before .before .before .before .before .before .before .before .before .wide2 .ensures ∙ u) ∙ c .before .before .before .before .before .before .before .before .before .before .before .before .before .before .before .before .before .before .before .before .before .pre .1 .1 .1 .1 .1 .1 .1 .1 .level (upOf ns (a .n .0)) w l i in
     let d = level-is ns (a .names .now) (a .b .0) (c .before .before .before .before .before .before .before .before .before .before .before .before .before .before .before .before .before .before .before .before .before .pre .0) (a .n .0) (c .before .before .before .before .before .before .before .before .before .before .before .before .before .before .before .before .before .before .before .before .before .pre .1 .1 .0) (c .before .before .before .before .before .before .before .before .before .before .before .before .before .before .before .before .before .before .before .before .before .pre .1 .1 .1 .0) (c .before .before .before .before .before .before .before .before .before .level-of .result) (getD (a .levels .now) (c .before .before .before .before .before .before .before .before .before .before .before .wide2 .result) 0) (c .before .before .before .before .before .before .before .before .before .before .before .before .before .before .up-of .result .0) u x (c .before .before .before .before .before .before .before .before .before .level-of .ensures) in
     rw (c .before .before .wide5 .ensures, c .before .wide6 .ensures, c .wide7 .ensures)
-    (places-turn ns (a .names .now) (a .b .0) (c .before .before .before .before .before .before .before .before .before .before .before .before .before .before .before .before .before .before .before .before .before .pre .0) (a .n .0) (c .before .before .before .before .before .before .before .before .before .before .before .before .before .before .before .before .before .before .before .before .before .pre .1 .1 .0) (c .before .before .before .before .before .before .before .before .before .before .before .before .before .before .before .before .before .before .before .before .before .pre .1 .1 .1 .0) (a .levels .now) (a .offsets .now) (a .follows .now) (c .before .before .before .before .before .before .before .before .before .before .before .before .before .before .before .before .before .before .before .before .before .pre .1 .1 .1 .1 .1 .1 .1 .1) (c .before .before .before .before .before .before .before .before .before .level-of .result) (c .before .before .before .before .before .before .offset-of .result) (c .before .before .before .follow-of .result)
+    (places-turn ns (a .names .now) (a .b .0) (c .before .before .before .before .before .before .before .before .before .before .before .before .before .before .before .before .before .before .before .before .before .pre .0) (a .n .0) (c .before .before .before .before .before .before .before .before .before .before .before .before .before .before .before .before .before .before .before .before .before .pre .1 .1 .0) (c .before .before .before .before .before .before .before .before .before .before .before .before .before .before .before .before .before .before .before .before .before .pre .1 .1 .1 .0) (a .levels .now) (a .offsets .now) (a .follows .now) (c .before .before .before .before .before .before .before .before .before .before .before .before .before .before .before .before .before .before .before .before .before .pre .1 .1 .1 .1 .1 .1 .1 .1) (c .before .before .before .before .before .before .before .before .before .before .before .before .before .before .before .before .before .before .before .before .before .pre .1 .1 .1 .1 .0) (c .before .before .before .before .before .before .before .before .before .level-of .result) (c .before .before .before .before .before .before .offset-of .result) (c .before .before .before .follow-of .result)
     (omega (arith, c .before .before .before .before .before .before .before .before .before .before .before .before .before .before .before .before .before .before .before .before .before .pre .1 .1 .1 .0, c .before .before .before .before .before .before .before .before .before .before .before .before .before .before .before .before .before .before .before .before .before .pre .1 .1 .1 .1 .1 .0)) (omega (arith, c .before .before .before .before .before .before .before .before .before .before .before .before .before .before .before .before .before .before .before .before .before .pre .1 .1 .1 .0, c .before .before .before .before .before .before .before .before .before .before .before .before .before .before .before .before .before .before .before .before .before .pre .1 .1 .1 .1 .1 .1 .0)) (omega (arith, c .before .before .before .before .before .before .before .before .before .before .before .before .before .before .before .before .before .before .before .before .before .pre .1 .1 .1 .0, c .before .before .before .before .before .before .before .before .before .before .before .before .before .before .before .before .before .before .before .before .before .pre .1 .1 .1 .1 .1 .1 .1 .0)) d (c .before .before .before .before .before .before .offset-of .ensures) (c .before .before .before .follow-of .ensures))
 
 pub lay-node-spec : {M : Type 1} → statement M

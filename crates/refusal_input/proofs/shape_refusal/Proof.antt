@@ -43,9 +43,22 @@ returns-3 c = rw (sym (c .before .before .before .before .before .before .before
 enum-told-3 : tie.Need-enum-told-3
 enum-told-3 c = search needs
 
+return-in-static-requires : tie.Need-return-in-static-requires
+return-in-static-requires c κs = search needs
+
+enum-known-e : tie.Need-enum-known-e
+enum-known-e c = search needs
+
 returns-4 : tie.Need-returns-4
 unfolding shapeRefusal
-returns-4 c = rw (sym (c .before .before .before .before .before .before .before .before .misplaced-child .ensures) ∙ c .before .before .before .before .before .before .enum-told .given .1, sym (c .before .before .before .before .before .wrong-count .ensures) ∙ c .before .before .before .enum-told2 .given .1, sym (c .before .before .failing .ensures) ∙ c .enum-told3 .given .1)
+returns-4 c = rw (sym (c .before .before .before .before .before .before .before .before .before .before .before .before .misplaced-child .ensures) ∙ c .before .before .before .before .before .before .before .before .before .before .enum-told .given .1, sym (c .before .before .before .before .before .before .before .before .before .wrong-count .ensures) ∙ c .before .before .before .before .before .before .before .enum-told2 .given .1, sym (c .before .before .before .before .before .before .failing .ensures) ∙ c .before .before .before .before .enum-told3 .given .1, sym (c .before .before .before .return-in-static .ensures) ∙ c .before .e .given .1)
+
+enum-told-4 : tie.Need-enum-told-4
+enum-told-4 c = search needs
+
+returns-5 : tie.Need-returns-5
+unfolding shapeRefusal
+returns-5 c = rw (sym (c .before .before .before .before .before .before .before .before .before .before .before .misplaced-child .ensures) ∙ c .before .before .before .before .before .before .before .before .before .enum-told .given .1, sym (c .before .before .before .before .before .before .before .before .wrong-count .ensures) ∙ c .before .before .before .before .before .before .enum-told2 .given .1, sym (c .before .before .before .before .before .failing .ensures) ∙ c .before .before .before .enum-told3 .given .1, sym (c .before .before .return-in-static .ensures) ∙ c .enum-told4 .given .1)
 
 pub shape-refusal-spec : {M : Type 1} → statement M
 shape-refusal-spec =
@@ -63,4 +76,8 @@ shape-refusal-spec =
     enum-known-d
     returns-3
     enum-told-3
-    returns-4)
+    return-in-static-requires
+    enum-known-e
+    returns-4
+    enum-told-4
+    returns-5)

@@ -1,0 +1,5 @@
+pub mod Ready
+pub mod ReadyLaws
+pub mod Assembled
+pub mod Written
+pub mod WrittenLaws

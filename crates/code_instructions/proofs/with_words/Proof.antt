@@ -1,0 +1,35 @@
+use Rattle.code_instructions.specs.PartLaws.{ifz-none, ifz-some, some-zero, part-stop, part-on, part-none, number-fits, head-none, head-has, holder-lt, holder-small, last-is, behind-none, behind-has, case-holder, if-part, if-in, if-alone, if-both, finally-part, finally-in, finally-has, finally-at, finally-none, defaultOf, default-yes, default-no, default-end, default-is, default-none, case-first, case-in, case-next, case-last}
+use Rattle.code_instructions.specs.WordsLaws.{leaf-has, class-has, if-has, with-has, block-has, loop-has, switch-has, case-has, open-has, catch-has, label-has, clause-has}
+use Prim.Native.Nat.{_+_, _-_, _<_, _≤_}
+use native.Mathlib.Omega.{arith}
+use mathlib.Core.Path.{_≡_, refl, sym, ap, _∙_, subst}
+use mathlib.Core.List.{[], _∷_}
+use mathlib.Core.Bool.{true, false, cond, _&&_}
+use borrow.Author.Tests.{not-true, not-false, eq-eqb, ne-eqb, ltb-true, ltb-false}
+use lib.Dec.{eqb}
+use lib.ListN.{getD}
+use Rattle.route_completion.specs.Sem.{normal, pick}
+use Rattle.table_records.specs.Table.{count, roleOf}
+use Rattle.code_tree.specs.PartsLaws.{Part}
+use Rattle.code_tree.specs.Parts.{upOf, shapeAt, isPart, parts, order}
+use Rattle.code_widths.specs.Widths.{counted}
+use Rattle.code_targets.specs.Targets.{target, depthAt}
+use Rattle.code_layout.specs.Context.{ifz, head0, behind, offsetAt}
+use Rattle.code_layout.specs.Widths.{sum, hasRole, isTry, numberBy, inUnit, widthAt}
+use Rattle.code_layout.specs.Words.{wordsAt}
+use Rattle.code_flat.specs.Correct.{Has}
+use Rattle.code_flat.specs.Code.{at}
+use Rattle.code_branch.specs.Branch.{statOf}
+use Rattle.code_branch.specs.JumpLaws as array
+use borrow.Author.Needs.{needs}
+use Rattle.code_instructions.proofs.with_words.Statement.{statement}
+use Rattle.code_instructions.proofs.with_words.Tie as tie
+
+returns : tie.Need-returns
+returns c = let a = c .args in with-has (a .nodes .now) (a .names .now) (a .b .0) (a .n .0) (c .pre .0) (c .pre .1)
+
+pub with-words-spec : {M : Type 1} → statement M
+with-words-spec =
+    tie.close
+    (tie.spec
+    returns)

@@ -1,0 +1,4 @@
+pub mod Length
+pub mod Kinds
+pub mod LengthLaws
+pub mod Examples

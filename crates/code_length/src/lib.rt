@@ -1,0 +1,1 @@
+// The exact length of a unit's code, as a sum over the unit's nodes.
