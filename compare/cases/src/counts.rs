@@ -2,15 +2,16 @@
 
 use std::fmt;
 
-use plain::{Refusal, Route};
+use plain::tables::*;
+use plain::{Refusal, Route, Tables};
 
 use crate::Sort;
 
 /// One more than the highest number of a refusal.
-const NUMBERS: usize = 15;
+const NUMBERS: usize = 16;
 
 /// The refusals of the input, in the order in which they are looked for.
-const OF_INPUT: [usize; 8] = [1, 2, 3, 4, 5, 13, 14, 6];
+const OF_INPUT: [usize; 9] = [1, 2, 3, 4, 5, 13, 14, 6, 15];
 
 pub struct Counts {
     pub differences: usize,
@@ -21,6 +22,11 @@ pub struct Counts {
     pub lower: u64,
     /// Entries of all routes.
     pub entries: u64,
+    /// Routed units that hold a Try of their own, those whose finally or catch comes before their Block, and those that
+    /// enter a static block.
+    tries: u64,
+    turned: u64,
+    entering: u64,
     cases: [u64; 5],
     refusals: [[u64; 5]; NUMBERS],
     clean: u64,
@@ -40,6 +46,9 @@ impl Counts {
             both: 0,
             lower: 0,
             entries: 0,
+            tries: 0,
+            turned: 0,
+            entering: 0,
             cases: [0; 5],
             refusals: [[0; 5]; NUMBERS],
             clean: 0,
@@ -81,6 +90,17 @@ impl Counts {
         }
     }
 
+    /// A unit that has a route.
+    pub fn unit(&mut self, t: &Tables, unit: usize) {
+        let below = (unit + 1..t.node_count()).take_while(|&n| t.parent(n) >= unit);
+        let own: Vec<usize> = below.filter(|&n| is_own(t, unit, n)).collect();
+        let any = |fits: &dyn Fn(usize) -> bool| u64::from(own.iter().any(|&n| fits(n)));
+        self.tries += any(&|n| t.kind(n) == TRY);
+        let other_first = |n: usize| t.part(n, BODY) > t.part(n, ALTERNATE).or(t.part(n, FINALLY));
+        self.turned += any(&|n| t.kind(n) == TRY && other_first(n));
+        self.entering += any(&|n| t.kind(n) == STATIC_BLOCK);
+    }
+
     #[cfg(feature = "proved")]
     pub fn proved_check(&mut self, answer: &Result<usize, Refusal>) {
         self.proved[0][number(answer)] += 1;
@@ -101,6 +121,15 @@ impl Counts {
 #[cfg(feature = "proved")]
 fn number<T>(answer: &Result<T, Refusal>) -> usize {
     answer.as_ref().err().map_or(0, |refusal| refusal.number as usize)
+}
+
+/// No function and no arrow stands between, and no class but one that is entered.
+fn is_own(t: &Tables, unit: usize, n: usize) -> bool {
+    t.ancestors(n).take_while(|&a| a != unit).all(|a| match t.kind(a) {
+        FUNCTION | ARROW => false,
+        CLASS => plain::code_length::is_entered(t, a),
+        _ => true,
+    })
 }
 
 impl fmt::Display for Counts {
@@ -131,10 +160,15 @@ impl fmt::Display for Counts {
         writeln!(f, "of refusal 13 with a wrong count beside it {}, at a lower node {}", self.both, self.lower)?;
         writeln!(f, "contexts 0 to 4: {:?}", self.contexts)?;
         writeln!(f, "routes by end 0 to 3: {:?}, entries {}", self.ends, self.entries)?;
-        writeln!(f, "routes refused by 7, 8, 9: {:?}", &self.route_refusals[7..10])?;
+        writeln!(f, "routes refused by 7: {}, by 9: {}", self.route_refusals[7], self.route_refusals[9])?;
+        writeln!(
+            f,
+            "routed units with a try {}, one with its block behind {}, with an entered static block {}",
+            self.tries, self.turned, self.entering
+        )?;
         if cfg!(feature = "proved") {
             for (call, calls) in ["check", "code", "route"].iter().zip(&self.proved) {
-                writeln!(f, "{call} calls of the proved library by refusal 0 to 14: {calls:?}")?;
+                writeln!(f, "{call} calls of the proved library by refusal 0 to 15: {calls:?}")?;
             }
         }
         let (codes, refusals) = self.unseen();

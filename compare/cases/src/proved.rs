@@ -15,6 +15,8 @@ use crate::{answers, same};
 const UNTOUCHED: u32 = 0xa5a5_5a5a;
 /// Entries before and behind a lent slice, which must stay as they are.
 const MARGIN: usize = 9;
+/// "The code takes at most 16 numbers per node of the unit".
+const MOST_CODE: usize = 16;
 
 /// With the option on async bodies off and on.
 pub fn compare(t: &Tables, rng: &mut Rng, counts: &mut Counts) -> Result<(), String> {
@@ -66,32 +68,32 @@ fn check(t: &Tables, length: usize, counts: &mut Counts) -> Result<(), String> {
     same(&format!("findings slice of {length}, plain and proved"), &expected, &found)
 }
 
-/// Both calls on a unit, or on a number that is none. What 1 to 9, 13 and 14 turn down is so whatever the slices are, and is tried
-/// with two lengths only.
+/// Both calls on a unit, or on a number that is none. What 1 to 9 and 13 to 15 turn down is so whatever the slices are,
+/// and is tried with two lengths only.
 fn unit(t: &Tables, unit: u32, answers: &[u32], counts: &mut Counts) -> Result<(), String> {
-    let room = 16 * t.node_count();
-    if plain::code_refusal(t, unit, room).is_err() {
-        code(t, unit, room, counts)?;
+    let Ok(needed) = plain::needed_code(t, unit) else {
+        code(t, unit, MOST_CODE * t.node_count(), counts)?;
         code(t, unit, 0, counts)?;
-        return route(t, unit, answers, room, 3, counts);
-    }
-    around(room).into_iter().try_for_each(|length| code(t, unit, length, counts))?;
+        return route(t, unit, answers, MOST_CODE * t.node_count(), 3, counts);
+    };
+    around(needed).into_iter().try_for_each(|length| code(t, unit, length, counts))?;
     let listed = plain::routes::run(t, unit as usize, answers).list.len();
-    route(t, unit, answers, room - 1, listed, counts)?;
-    around(listed).into_iter().try_for_each(|length| route(t, unit, answers, room, length, counts))
+    around(needed).into_iter().try_for_each(|length| route(t, unit, answers, length, listed, counts))?;
+    around(listed).into_iter().try_for_each(|length| route(t, unit, answers, needed, length, counts))
 }
 
-/// The code itself is free: at most 16 numbers per node of the unit, and nothing past them is written.
+/// The code itself is free: it has the length that request 9 states, at most 16 numbers per node of the unit, and
+/// nothing past it is written.
 fn code(t: &Tables, unit: u32, length: usize, counts: &mut Counts) -> Result<(), String> {
     let (mut made, part) = lent(length);
     let plain = plain::code_refusal(t, unit, length);
     let proved = velkunshe::code(&rule(t), unit, &mut made[part]).map_err(refusal);
     counts.proved_code(&proved);
-    same(&format!("code of {unit} into {length}, plain and proved"), &plain, &proved.map(|_| ()))?;
+    same(&format!("code of {unit} into {length}, plain and proved"), &plain, &proved)?;
     let written = proved.unwrap_or(0);
     let nodes = if plain.is_ok() { nodes_of(t, unit as usize) } else { 0 };
     let others = made[..MARGIN].iter().chain(&made[MARGIN + written..]);
-    if written > 16 * nodes || others.into_iter().any(|&entry| entry != UNTOUCHED) {
+    if written > MOST_CODE * nodes || others.into_iter().any(|&entry| entry != UNTOUCHED) {
         return Err(format!("code of {unit}: {written} numbers, or more, for {nodes} nodes"));
     }
     Ok(())
@@ -141,7 +143,7 @@ fn end_number(end: End) -> u32 {
 
 /// The code of a unit.
 pub fn code_of(t: &Tables, unit: u32) -> Result<Vec<u32>, Refusal> {
-    let mut made = vec![UNTOUCHED; 16 * t.node_count()];
+    let mut made = vec![UNTOUCHED; MOST_CODE * t.node_count()];
     let length = velkunshe::code(&rule(t), unit, &mut made).map_err(refusal)?;
     made.truncate(length);
     Ok(made)

@@ -181,6 +181,8 @@ pub fn check(path: &str) {
 /// In each difference the stored answer comes first.
 fn differs(t: &Tables, unit: &Unit) -> Vec<String> {
     let mut found = Vec::new();
+    let length = plain::code_length(t, unit.number as usize);
+    found.extend(same("the code's length, stored and as a sum over the unit's nodes", &unit.code.len(), &length).err());
     #[cfg(feature = "proved")]
     found
         .extend(same("code, stored and proved", &Ok(unit.code.clone()), &crate::proved::code_of(t, unit.number)).err());
@@ -197,7 +199,7 @@ fn differs(t: &Tables, unit: &Unit) -> Vec<String> {
 }
 
 fn plain_route(t: &Tables, unit: u32, answers: &[u32]) -> RouteAnswer {
-    plain::code_refusal(t, unit, usize::MAX)?;
+    plain::needed_code(t, unit)?;
     let run = plain::routes::run(t, unit as usize, answers);
     Ok((run.list, run.end, run.answers_taken))
 }

@@ -1,6 +1,7 @@
-//! The three calls with their refusals: those of the input (1-6, 13, 14), then 10; 7-9 and 11; 7-9, 11 and 12. A
+//! The three calls with their refusals: those of the input (1-6, 13-15), then 10; 7, 9 and 11; 7, 9, 11 and 12. A
 //! refusal leaves every slice unchanged; success changes no entry past the last one written.
 
+use crate::code_length::code_length;
 use crate::findings::findings;
 use crate::refusals::input_refusal;
 use crate::routes;
@@ -10,7 +11,7 @@ use crate::tables::*;
 pub struct Refusal {
     pub number: u32,
     pub place: usize,
-    /// The length needed, for 10 and 12.
+    /// The length needed, for 10, 11 and 12.
     pub needed: Option<u64>,
 }
 
@@ -43,15 +44,21 @@ pub fn check(t: &Tables, out: &mut [u32]) -> Result<usize, Refusal> {
     Ok(found.len())
 }
 
-/// The refusals of the code call. What the code is, document 01 leaves free.
-pub fn code_refusal(t: &Tables, unit: u32, code_length: usize) -> Result<(), Refusal> {
+/// The refusals of the code call, else the code's length. What the code is, document 01 leaves free.
+pub fn code_refusal(t: &Tables, unit: u32, room: usize) -> Result<usize, Refusal> {
+    let needed = needed_code(t, unit)?;
+    if room < needed {
+        return Err(Refusal { number: 11, place: 0, needed: Some(needed as u64) });
+    }
+    Ok(needed)
+}
+
+/// The refusals of the code call that no slice has to do with, else the code's length.
+pub fn needed_code(t: &Tables, unit: u32) -> Result<usize, Refusal> {
     well_formed(t)?;
     let place = unit as usize;
     if place >= t.node_count() || !is_unit_kind(t.kind(place)) {
         return refuse(7, place);
-    }
-    if routes::holds_try(t, place) {
-        return refuse(8, place);
     }
     if let Some(first) = findings(t).first() {
         return refuse(9, first.node as usize);
@@ -59,15 +66,12 @@ pub fn code_refusal(t: &Tables, unit: u32, code_length: usize) -> Result<(), Ref
     if let Some(jump) = routes::lowest_without_target(t) {
         return refuse(9, jump);
     }
-    if code_length < 16 * t.node_count() {
-        return refuse(11, 0);
-    }
-    Ok(())
+    Ok(code_length(t, place))
 }
 
 /// Writes the route.
-pub fn route(t: &Tables, unit: u32, answers: &[u32], code_length: usize, out: &mut [u32]) -> Result<Route, Refusal> {
-    code_refusal(t, unit, code_length)?;
+pub fn route(t: &Tables, unit: u32, answers: &[u32], code_room: usize, out: &mut [u32]) -> Result<Route, Refusal> {
+    code_refusal(t, unit, code_room)?;
     let run = routes::run(t, unit as usize, answers);
     if out.len() < run.list.len() {
         return Err(Refusal { number: 12, place: 0, needed: Some(run.list.len() as u64) });
