@@ -1,6 +1,6 @@
 //! The calls on slices of every length: nothing but what is promised is written.
 
-use velkunshe::{check, code, code_of, findings, route, route_of, End, Refusal, Rule, Shown, FINDING};
+use velkunshe::{check, code, code_of, findings, route, route_of, End, Refusal, Rule, Shown, CODE, FINDING};
 
 /// A script with nothing in it.
 const EMPTY: Rule =
@@ -181,6 +181,7 @@ fn flat_code() {
 #[test]
 fn code_slices_of_every_length() {
     let made = code_of(&ROUTED, 0).unwrap();
+    assert!(made.len() <= CODE * ROUTED.node_count());
     assert_eq!(code(&ROUTED, 0, &mut []), Err(Refusal { number: 11, place: 0, needed: Some(made.len() as u64) }));
     for room in [made.len() - 1, made.len(), made.len() + 3] {
         let mut out = vec![77; room];
