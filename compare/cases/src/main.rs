@@ -7,6 +7,8 @@
 //!     compare store FILE TREES SEED    write such a file, by the proved library alone
 
 mod counts;
+mod flat;
+mod over_code;
 #[cfg(feature = "proved")]
 mod proved;
 mod second;
@@ -224,6 +226,7 @@ fn routes(t: &Tables, rng: &mut Rng, counts: &mut Counts) -> Result<(), String> 
         let needed = Err(Refusal { number: 11, place: 0, needed: Some(length as u64) });
         same("a code slice one too short", &plain::route(t, unit as u32, &answers, length - 1, &mut out), &needed)?;
         same("a code slice of the code's length", &plain::code_refusal(t, unit as u32, length), &Ok(length))?;
+        over_code::compare(t, unit, &answers, rng)?;
         let second = second::route(t, unit, &answers);
         let plain = (out[..route.entries].to_vec(), route.end, route.answers_taken);
         same(&format!("route of {unit} with {answers:?}, plain and second reading"), &plain, &second)?;

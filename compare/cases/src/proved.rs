@@ -9,7 +9,7 @@ use velkunshe::{End, Rule};
 
 use crate::counts::Counts;
 use crate::stored::RouteAnswer;
-use crate::{answers, same};
+use crate::{answers, over_code, same};
 
 /// What an entry holds that nothing was written to.
 const UNTOUCHED: u32 = 0xa5a5_5a5a;
@@ -28,7 +28,15 @@ fn compare_calls(t: &Tables, rng: &mut Rng, counts: &mut Counts) -> Result<(), S
     around(7 * found).into_iter().try_for_each(|length| check(t, length, counts))?;
     let no_unit = rng.below(t.node_count() + 2);
     let units = (0..t.node_count()).filter(|&n| t.kind(n) <= 3).take(4).chain([no_unit]);
-    units.into_iter().try_for_each(|n| unit(t, n as u32, &answers(rng), counts))
+    units.into_iter().try_for_each(|n| {
+        let given = answers(rng);
+        unit(t, n as u32, &given, counts)?;
+        // What is said of a unit's code holds of the proved library's.
+        match code_of(t, n as u32) {
+            Ok(made) if t.node_count() < 2000 => over_code::over(t, n, &made, &given, rng),
+            _ => Ok(()),
+        }
+    })
 }
 
 /// No room, one entry too few, exactly enough, and more.

@@ -13,11 +13,12 @@ mod write;
 
 use std::fmt::{self, Write};
 
+use cases::rng::Rng;
 use plain::Tables;
 use plain::reader::OwnedTables;
 use plain::tables::*;
 
-use crate::same;
+use crate::{over_code, same};
 use seen::Seen;
 #[cfg(feature = "proved")]
 pub use write::write;
@@ -194,6 +195,8 @@ fn differs(t: &Tables, unit: &Unit) -> Vec<String> {
         compare("plain", plain_route(t, unit.number, &run.answers));
         #[cfg(feature = "proved")]
         compare("proved", crate::proved::route_of(t, unit.number, &run.answers));
+        let mut rng = Rng::new(unit.line as u64);
+        found.extend(over_code::over(t, unit.number as usize, &unit.code, &run.answers, &mut rng).err());
     }
     found
 }
