@@ -82,10 +82,10 @@ fn case(seed: u64, index: u64) -> (Sort, OwnedTables, Rng) {
         _ => (Sort::Damaged, rng.once_in(3)),
     };
     let mut tables = grammar::tables(&mut rng, size, calm);
-    if sort == Sort::Wild && calm {
-        edits::reorder(&mut rng, &mut tables);
-    }
     if sort == Sort::Wild || sort == Sort::Damaged {
+        if sort == Sort::Wild && calm {
+            edits::reorder(&mut rng, &mut tables);
+        }
         if rng.once_in(3) {
             edits::rescope(&mut rng, &mut tables);
         }
