@@ -173,15 +173,16 @@ fn shorter_code() {
     assert_eq!(shorter(&[2, 3, 0, 2, 6, 0, 1, 7, 6, 0]), [2, 3, 0, 1, 7, 6, 0]);
     // With the least depth on the way.
     assert_eq!(shorter(&[2, 3, 2, 2, 6, 1, 6, 0]), [2, 3, 1, 6, 0]);
+    assert_eq!(shorter(&[2, 3, 1, 2, 6, 2, 6, 0]), [2, 3, 1, 6, 0]);
     // What waits is no target; a branch and the link of a case are not sent on.
     assert_eq!(shorter(&[2, 3, 1, 2, 0, 1]), [2, 0, 1]);
     assert_eq!(shorter(&[3, 9, 4, 4, 2, 7, 0, 6, 0]), [3, 9, 4, 4, 2, 7, 0, 6, 0]);
     assert_eq!(shorter(&[4, 9, 4, 8, 7, 8, 12, 0, 7, 0, 12, 0, 6, 0]), [4, 9, 4, 8, 7, 8, 12, 0, 7, 0, 12, 0, 6, 0]);
     // "Reached jumps that form or lead into a ring stay."
     assert_eq!(shorter(&[2, 3, 0, 2, 6, 0, 2, 3, 0]), [2, 3, 0, 2, 6, 0, 2, 3, 0]);
-    // The first jump of the loop's code goes where it went, and nothing else is left out.
+    // Of the loop's code the three ends go that no path reaches.
     let made = shorter(&LOOP_CODE);
-    assert!(made.len() < LOOP_CODE.len());
+    assert_eq!(made.len(), LOOP_CODE.len() - 6);
     assert_eq!(shorter(&made), made);
     for answers in [&[][..], &[1], &[1, 0, 0], &[1, 5, 0], &[1, 0, 1, 7, 0]] {
         let (mut old, mut new) = ([0; 20], [0; 20]);
