@@ -1,5 +1,6 @@
 //! What was seen.
 
+use std::collections::BTreeMap;
 use std::fmt;
 
 use plain::tables::*;
@@ -8,7 +9,7 @@ use plain::{Refusal, Route, Tables};
 use crate::Sort;
 
 /// One more than the highest number of a refusal.
-const NUMBERS: usize = 16;
+const NUMBERS: usize = 21;
 
 /// The refusals of the input, in the order in which they are looked for.
 const OF_INPUT: [usize; 9] = [1, 2, 3, 4, 5, 13, 14, 6, 15];
@@ -34,8 +35,8 @@ pub struct Counts {
     contexts: [u64; 5],
     ends: [u64; 4],
     route_refusals: [u64; NUMBERS],
-    /// Calls of the proved library, check, code and route, by refusal; 0 is success.
-    proved: [[u64; NUMBERS]; 3],
+    /// Calls of the proved library by their name and refusal; 0 is success.
+    proved: BTreeMap<&'static str, [u64; NUMBERS]>,
 }
 
 impl Counts {
@@ -56,7 +57,7 @@ impl Counts {
             contexts: [0; 5],
             ends: [0; 4],
             route_refusals: [0; NUMBERS],
-            proved: [[0; NUMBERS]; 3],
+            proved: BTreeMap::new(),
         }
     }
 
@@ -102,25 +103,10 @@ impl Counts {
     }
 
     #[cfg(feature = "proved")]
-    pub fn proved_check(&mut self, answer: &Result<usize, Refusal>) {
-        self.proved[0][number(answer)] += 1;
+    pub fn proved_call<T>(&mut self, name: &'static str, answer: &Result<T, Refusal>) {
+        let number = answer.as_ref().err().map_or(0, |refusal| refusal.number as usize);
+        self.proved.entry(name).or_default()[number] += 1;
     }
-
-    #[cfg(feature = "proved")]
-    pub fn proved_code(&mut self, answer: &Result<usize, Refusal>) {
-        self.proved[1][number(answer)] += 1;
-    }
-
-    #[cfg(feature = "proved")]
-    pub fn proved_route(&mut self, answer: &Result<Route, Refusal>) {
-        self.proved[2][number(answer)] += 1;
-    }
-}
-
-/// The refusal's number, or 0.
-#[cfg(feature = "proved")]
-fn number<T>(answer: &Result<T, Refusal>) -> usize {
-    answer.as_ref().err().map_or(0, |refusal| refusal.number as usize)
 }
 
 /// No function and no arrow stands between, and no class but one that is entered.
@@ -166,10 +152,8 @@ impl fmt::Display for Counts {
             "routed units with a try {}, one with its block behind {}, with an entered static block {}",
             self.tries, self.turned, self.entering
         )?;
-        if cfg!(feature = "proved") {
-            for (call, calls) in ["check", "code", "route"].iter().zip(&self.proved) {
-                writeln!(f, "{call} calls of the proved library by refusal 0 to 15: {calls:?}")?;
-            }
+        for (name, calls) in &self.proved {
+            writeln!(f, "{name} calls of the proved library by refusal 0 to 20: {calls:?}")?;
         }
         let (codes, refusals) = self.unseen();
         writeln!(f, "not seen: codes {codes:?}, refusals {refusals:?}")?;

@@ -71,7 +71,7 @@ fn check(t: &Tables, length: usize, counts: &mut Counts) -> Result<(), String> {
     let mut found = expected.clone();
     let plain = plain::check(t, &mut expected[part.clone()]);
     let proved = velkunshe::check(&rule(t), &mut found[part]).map_err(refusal);
-    counts.proved_check(&proved);
+    counts.proved_call("check", &proved);
     same(&format!("check into {length}, plain and proved"), &plain, &proved)?;
     same(&format!("findings slice of {length}, plain and proved"), &expected, &found)
 }
@@ -96,7 +96,7 @@ fn code(t: &Tables, unit: u32, length: usize, counts: &mut Counts) -> Result<(),
     let (mut made, part) = lent(length);
     let plain = plain::code_refusal(t, unit, length);
     let proved = velkunshe::code(&rule(t), unit, &mut made[part]).map_err(refusal);
-    counts.proved_code(&proved);
+    counts.proved_call("code", &proved);
     same(&format!("code of {unit} into {length}, plain and proved"), &plain, &proved)?;
     let written = proved.unwrap_or(0);
     let nodes = if plain.is_ok() { nodes_of(t, unit as usize) } else { 0 };
@@ -125,7 +125,7 @@ fn route(
     let plain = plain::route(t, unit, answers, code_length, &mut expected[part.clone()]);
     let proved = velkunshe::route(&rule(t), unit, answers, &mut made[code_part.clone()], &mut listed[part]);
     let proved = proved.map(shown).map_err(refusal);
-    counts.proved_route(&proved);
+    counts.proved_call("route", &proved);
     same(&what, &plain, &proved)?;
     same(&format!("{what}: slice"), &expected, &listed)?;
     // After 12, as after success, the code slice holds the code; else it is unchanged.
