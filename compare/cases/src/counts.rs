@@ -104,18 +104,14 @@ impl Counts {
 
     #[cfg(feature = "proved")]
     pub fn proved_call<T>(&mut self, name: &'static str, answer: &Result<T, Refusal>) {
-        let number = answer.as_ref().err().map_or(0, |refusal| refusal.number as usize);
-        self.proved.entry(name).or_default()[number] += 1;
+        self.proved.entry(name).or_default()[number(answer)] += 1;
     }
 }
 
-/// No function and no arrow stands between, and no class but one that is entered.
-fn is_own(t: &Tables, unit: usize, n: usize) -> bool {
-    t.ancestors(n).take_while(|&a| a != unit).all(|a| match t.kind(a) {
-        FUNCTION | ARROW => false,
-        CLASS => plain::code_length::is_entered(t, a),
-        _ => true,
-    })
+/// The refusal's number, or 0.
+#[cfg(feature = "proved")]
+fn number<T>(answer: &Result<T, Refusal>) -> usize {
+    answer.as_ref().err().map_or(0, |refusal| refusal.number as usize)
 }
 
 impl fmt::Display for Counts {
@@ -159,4 +155,13 @@ impl fmt::Display for Counts {
         writeln!(f, "not seen: codes {codes:?}, refusals {refusals:?}")?;
         writeln!(f, "{} cases, {} differences", self.cases.iter().sum::<u64>(), self.differences)
     }
+}
+
+/// No function and no arrow stands between, and no class but one that is entered.
+fn is_own(t: &Tables, unit: usize, n: usize) -> bool {
+    t.ancestors(n).take_while(|&a| a != unit).all(|a| match t.kind(a) {
+        FUNCTION | ARROW => false,
+        CLASS => plain::code_length::is_entered(t, a),
+        _ => true,
+    })
 }
