@@ -50,9 +50,10 @@ fn stopped(t: &Tables, unit: usize, made: &[u32], given: &[u32], rng: &mut Rng) 
     let mut so_far = Run { list: Vec::new(), end: STOPPED, answers_taken: 0 };
     let mut marks = [0; MARKS];
     let mut out = room(given);
-    let stop = rng.below(given.len() + 2) as u64;
-    let first = route_stop(at, given, (mark, stop), &mut marks, code, &mut out);
+    let stop = rng.below(given.len() + 2);
+    let first = route_stop(at, given, (mark, stop as u64), &mut marks, code, &mut out);
     join(&mut so_far, first, &out)?;
+    right_stop(t, &so_far, stop)?;
     if so_far.end != STOPPED {
         same("no mark is set", &marks, &[0; MARKS])?;
         return same("a route that was not stopped", &so_far, &plain::routes::run(t, unit, given));
@@ -61,8 +62,11 @@ fn stopped(t: &Tables, unit: usize, made: &[u32], given: &[u32], rng: &mut Rng) 
     let more = if rng.once_in(2) { given[so_far.answers_taken..].to_vec() } else { answers(rng) };
     let joined = [&given[..so_far.answers_taken], &more[..]].concat();
     let (before, mut out) = (marks, room(&more));
-    let next = route_resume_stop(at, mark, &more, (other, rng.below(3) as u64), &mut marks, code, &mut out);
+    let stop = rng.below(3);
+    let next = route_resume_stop(at, mark, &more, (other, stop as u64), &mut marks, code, &mut out);
+    let before_next = so_far.answers_taken;
     join(&mut so_far, next, &out)?;
+    right_stop(t, &so_far, before_next + stop)?;
     if so_far.end == STOPPED {
         let mut out = room(&joined);
         let last = route_resume(at, other, &joined[so_far.answers_taken..], &mut marks, code, &mut out);
@@ -71,6 +75,21 @@ fn stopped(t: &Tables, unit: usize, made: &[u32], given: &[u32], rng: &mut Rng) 
         same("marks of a route that was not stopped again", &marks, &before)?;
     }
     same("a route stopped and taken up", &so_far, &plain::routes::run(t, unit, &joined))
+}
+
+/// "Right after the entry that takes the last of a named number of answers (for 0, at its start)"; a route that isn't
+/// stopped took fewer.
+fn right_stop(t: &Tables, so_far: &Run, stop: usize) -> Result<(), String> {
+    if so_far.end != STOPPED {
+        return same("fewer answers than named", &(so_far.answers_taken < stop), &true);
+    }
+    let last_asks = so_far.list.last().is_none_or(|&n| asks(t, n));
+    same("answers up to a stop, and the last entry takes one", &(so_far.answers_taken, last_asks), &(stop, true))
+}
+
+/// The entry of this node takes an answer.
+fn asks(t: &Tables, n: u32) -> bool {
+    matches!(t.kind(n as usize), 7..=12 | 14)
 }
 
 /// A route with what was listed and taken before it.
@@ -99,9 +118,8 @@ fn changed(t: &Tables, unit: usize, given: &[u32], rng: &mut Rng) -> Result<(), 
         same("routes that don't take the answer", &plain::routes::run(t, unit, &other), &run)?;
         return same("all is shared", &shared, &run.list.len());
     }
-    // Up to and with the entry that takes answer k: the route of the answers up to k ends right behind it, or further on.
-    let asks = |&&n: &&u32| matches!(t.kind(n as usize), 7..=12 | 14);
-    let entry = run.list.iter().enumerate().filter(|(_, n)| asks(n)).nth(k).map_or(0, |(i, _)| i);
+    // Up to and with the entry that takes answer k.
+    let entry = run.list.iter().enumerate().filter(|&(_, &n)| asks(t, n)).nth(k).map_or(0, |(i, _)| i);
     if shared <= entry {
         Err(format!("routes share {shared} entries, and answer {k} is taken at {entry}"))
     } else {
