@@ -1,6 +1,6 @@
-//! Calls with their refusals: those of the input (1-6, 13-15), then 10; 7, 9 and 11; 7, 9, 11 and 12. Those over code are
-//! in `shorten` and `marks`, the renaming of labels in `rename`. A
-//! refusal leaves every slice unchanged; success changes no entry past the last one written.
+//! Calls with their refusals: those of the input (1-6, 13-15), then 10; 7, 9 and 11; 7, 9, 11 and 12. Those over code
+//! are in `shorten` and `marks`, the renaming of labels in `rename`. A refusal leaves every slice unchanged; success
+//! changes no entry past the last one written.
 
 use crate::code_length::code_length;
 use crate::findings::findings;

@@ -1,6 +1,6 @@
 //! Document 02, request 9: how long the code of a unit is, without a code maker. "A sum over the unit's nodes outside
-//! nested functions, arrows and classes that aren't entered .. of a number stated for each kind with its role, flags and
-//! parent's kind".
+//! nested functions, arrows and classes that aren't entered .. of a number stated for each kind with its role, flags
+//! and parent's kind".
 
 use crate::refusals::{is_holder, may_be_statement};
 use crate::tables::*;

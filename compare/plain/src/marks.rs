@@ -1,5 +1,5 @@
-//! Document 02, request 7: routes that are stopped under a mark and taken up again. A mark holds a place in the code, so
-//! these take the unit's code, which document 01 leaves free, as it was made.
+//! Document 02, request 7: routes that are stopped under a mark and taken up again. A mark holds a place in the code,
+//! so these take the unit's code, which document 01 leaves free, as it was made.
 
 use crate::calls::{needed_code, Refusal, Route};
 use crate::machine::{run_from, Jump, Pending, Position, MOST_PENDING, STOPPED};

@@ -1,6 +1,6 @@
-//! Document 01, "Turned down: the input", and document 02, requests 4 and 5. One function for each number, looked for in
-//! the order 1, 2, 3, 4, 5 (scope records, then nodes), 13, 14, 6, 15; the first that applies is given, at its lowest
-//! place.
+//! Document 01, "Turned down: the input", and document 02, requests 4 and 5. One function for each number, looked for
+//! in the order 1, 2, 3, 4, 5 (scope records, then nodes), 13, 14, 6, 15; the first that applies is given, at its
+//! lowest place.
 //! Each sentence of document 01's refusal 6 is quoted above the lines of 13 and 14 that read it.
 
 use crate::supers;

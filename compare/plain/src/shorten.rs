@@ -87,7 +87,8 @@ fn sent_on(all: &BTreeMap<usize, Instruction>, instruction: Instruction) -> Inst
     }
 }
 
-/// The last target, with the least depth on the way; "jumps that form or lead into a ring stay". What waits is no target.
+/// The last target, with the least depth on the way; "jumps that form or lead into a ring stay". What waits is no
+/// target.
 fn last_target(all: &BTreeMap<usize, Instruction>, first: Jump) -> Jump {
     let (mut jump, mut seen) = (first, BTreeSet::new());
     while jump.to != 0 {
