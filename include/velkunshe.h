@@ -34,6 +34,7 @@
  *   13  a node stands under a parent that may not hold it, or has a kind or role that this parent doesn't take
  *   14  a node has too few or too many children of some sort
  *   6   the Rust fails in its search from a super (place: the super)
+ *   15  a return stands in a static block (place: the return)
  */
 #ifndef VELKUNSHE_H
 #define VELKUNSHE_H
@@ -45,14 +46,15 @@
 extern "C" {
 #endif
 
-/* How many numbers a node, a scope and a finding take, and the code slice for each node of the tree. */
+/* How many numbers a node, a scope and a finding take, and the most that a node of the unit gives to its code: a code slice with so many
+ * for each node of the tree is long enough, and velkunshe_code with an empty one says how long it must be. */
 #define VELKUNSHE_NODE 10
 #define VELKUNSHE_SCOPE 3
 #define VELKUNSHE_FINDING 7
 #define VELKUNSHE_CODE 16
 
-/* refusal: 0, or why the tables were turned down (1 to 6, 13, 14), or 10 where the findings slice is too short.
- * place: the node or scope of refusals 2 to 6, 13 and 14, else 0.
+/* refusal: 0, or why the tables were turned down (1 to 6, 13 to 15), or 10 where the findings slice is too short.
+ * place: the node or scope of refusals 2 to 6 and 13 to 15, else 0.
  * findings: how many were written, seven numbers each (code, node, first span's start and end, second span's start and end, context),
  *   from the slice's start; 0 after a refusal. The second span is 0,0 where there is none; for codes 9 and 11 at a string (kind 36) it is the backslash and
  *   the byte after it of the first escape that strict code may not have.
@@ -74,14 +76,16 @@ struct velkunshe_check_answer velkunshe_check(
     const uint8_t *names, size_t names_length,
     uint32_t *findings, size_t findings_length);
 
-/* refusal: 0, or 1 to 6, 13, 14; 7: the unit is no node of kind 0 to 3; 8: it holds a try; 9: the rule has findings, or a jump without a target;
- *   11: the code slice is shorter than 16 numbers for each node of the tree.
- * place: the node or scope of refusals 2 to 6, 13 and 14, the unit of 7 and 8, the first finding's node or the jump of 9, else 0.
- * length: how many numbers of code were written, from the slice's start; 0 after a refusal. */
+/* refusal: 0, or 1 to 6, 13 to 15; 7: the unit is no node of kind 0 to 3; 9: the rule has findings, or a jump without a target; 11: the code
+ *   slice is shorter than the code. 8, which was given for a unit with try, is no longer given.
+ * place: the node or scope of refusals 2 to 6 and 13 to 15, the unit of 7, the first finding's node or the jump of 9, else 0.
+ * length: how many numbers of code were written, from the slice's start; 0 after a refusal.
+ * needed: after 11 the length of the code, which the code slice must have, else 0. It depends on the tables and the unit alone. */
 struct velkunshe_code_answer {
     uint32_t refusal;
     uint32_t place;
     uint64_t length;
+    uint64_t needed;
 };
 
 /* Makes the flat code of a unit (a Program, Function, Arrow or StaticBlock node). After a refusal the code slice is as it was; no entry
@@ -99,7 +103,7 @@ struct velkunshe_code_answer velkunshe_code(
 /* refusal: as of velkunshe_code, or 12 where the route slice is too short.
  * place: as of velkunshe_code; 0 with 12.
  * entries: how many nodes were listed, from the route slice's start; 0 after a refusal.
- * needed: after 12 the length that the route slice must have, else 0.
+ * needed: after 11 the length of the code, after 12 the length that the route slice must have, else 0.
  * taken: how many answers were taken; 0 after a refusal.
  * end: 0 fell through, 1 returned, 2 thrown, 3 answers spent; 0 after a refusal. */
 struct velkunshe_route_answer {

@@ -101,6 +101,7 @@ check "status 1: findings" status 1 ./check-rule rules/block-label.js
 check "status 1: findings in one of several" status 1 ./check-rule rules
 check "status 1: a name declared twice, which document 01 leaves out" text_status 1 .js 'let a; let a;'
 check "status 1: no assignment target" text_status 1 .mjs '1 = 2;'
+check "status 2: a return in a static block" text_status 2 .js 'class C { static { return; } }'
 check "status 2: no such file" status 2 ./check-rule rules/none.js
 check "status 2: an ending that doesn't tell what it is" text_status 2 .JS 'a;'
 check "status 2: no UTF-8" text_status 2 .js '\xff'
@@ -163,6 +164,24 @@ check "the route of a function" says 'route of the function at line 3 with answe
 2  line  5  for (const day of now.days)  0: no more turns
 3  line 16  return false;
 it returned after 3 entries and 2 answers; left over: 4' ./show-route rules/office-hours.js 0,0,4 --line 3
+check "a finally that an end waits for, and that replaces it" says 'route of the function at line 2 with answers 1, 0, 1, 1, 0
+1  line  3  for (const key of keys)  1: another turn
+2  line  5  if (key.lost)            0: no
+3  line  6  if (lock.turn(key))      1: yes
+4  line  6  return true;             this end waits until the finally block at line 9 is through
+5  line 10  if (lock.log(key))       1: yes
+6  line 10  continue;                in place of the end of step 4
+7  line  3  for (const key of keys)  0: no more turns
+8  line 14  return false;
+it returned after 8 entries and 5 answers' ./show-route rules/keys.js 1,0,1,1,0 --unit opens
+check "a class whose static block throws" says 'route of the program with answers 1, 1
+1  line  3  class Doors                                its static blocks run
+2  line  6  for (const door of config.doors)           1: another turn
+3  line  7  if (!door.name)                            1: yes
+4  line  7  throw new Error("a door without a name");  the catch at line 16 takes it
+5  line 17  alarm(error);
+it fell through its last statement after 5 entries and 2 answers' ./show-route rules/doors.js 1,1
+check "no route of a rule with a return in a static block" text_status_of 2 .js 'class C { static { return; } }' ./show-route ''
 check "no route of a rule with an error" says 'show-route: no route: the rule has an early error, or a jump without a target: check it first (line 1)' ./show-route rules/block-label.js ''
 check "the question that waits" says 'route of the program with answers 1, 5
 1  line 1  while(t)   1: another turn
@@ -190,9 +209,9 @@ check "a text for each disagreement" tools/v8-verdicts --texts
 check "each of them told" told < <(disagreements)
 check "each difference's text told" told < <(differences)
 # the figures too: every end and every kind of unit is among the runs
-check "V8's routes" says '1000 units (618 programs, 195 functions, 93 arrows, 94 static blocks), 4000 runs: 2699 fell through, 30 returned, 148 threw, 1123 spent their answers; 17482 entries, 9202 answers taken, longest list 46; 0 disagree' \
+check "V8's routes" says '1000 units (447 programs, 231 functions, 64 arrows, 258 static blocks; 0 with a try, 133 with a static block of a class), 4000 runs: 2728 fell through, 27 returned, 155 threw, 1090 spent their answers; 17639 entries, 8561 answers taken, longest list 60; 0 disagree' \
     tools/v8-routes 1000 3 --quiet
-check "V8's routes, with try" says '200 units (115 programs, 48 functions, 21 arrows, 16 static blocks), 800 runs: 459 fell through, 4 returned, 15 threw, 138 spent their answers, 184 turned down for a try; 2325 entries, 1105 answers taken, longest list 52; 0 disagree' \
+check "V8's routes, with try" says '200 units (94 programs, 47 functions, 15 arrows, 44 static blocks; 61 with a try, 24 with a static block of a class), 800 runs: 528 fell through, 7 returned, 57 threw, 208 spent their answers; 3988 entries, 1731 answers taken, longest list 59; 0 disagree' \
     tools/v8-routes 200 4 --try --quiet
 if tools/setup chromium; then check "pages in Chromium" tools/pages 60 5; else unrun "pages in Chromium" "it can't be installed"; fi
 finish

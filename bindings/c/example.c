@@ -70,5 +70,9 @@ int main(void) {
         0, 0, routed_nodes, sizeof routed_nodes / sizeof *routed_nodes, routed_scopes, 9, source, 0, (const uint8_t *)"atsc", 4, 1, code,
         13 * VELKUNSHE_CODE);
     printf("R,%" PRIu32 ",%" PRIu32 "\n", made.refusal, made.place);
+    /* An empty slice: nothing is written, and the answer says how long the code is. */
+    made = velkunshe_code(
+        0, 0, routed_nodes, sizeof routed_nodes / sizeof *routed_nodes, routed_scopes, 9, source, 0, (const uint8_t *)"atsc", 4, 0, code, 0);
+    printf("refusal %" PRIu32 ", needed %" PRIu64 "\n", made.refusal, made.needed);
     return 0;
 }

@@ -429,8 +429,29 @@ class RouteText extends Text {
 
   expression() { return 'a'; }
   primary() { return 'a'; }
-  tries() { return this.withTry ? super.tries() : this.switches(); }
   pattern() { return this.fresh(); }
+
+  // in each part often a way out at its end
+  tries() {
+    if (!this.withTry) return this.switches();
+    const part = () => `{ ${this.within({ tried: true }, () => `${this.list()} ${this.chance(0.4) ? this.leave() : ''}`)} }`;
+    const caught = this.chance(0.6);
+    const last = !caught || this.chance(0.5);
+    return `try ${part()}${caught ? ` catch ${this.chance(0.5) ? `(${this.fresh()}) ` : ''}${part()}` : ''}${last ? ` finally ${part()}` : ''}`;
+  }
+
+  leave() { return this.one([() => this.jump(), () => 'throw a;', () => (this.here.func ? 'return a;' : 'throw a;')])(); }
+
+  // static blocks, among methods, which are units of their own
+  staticClass() {
+    const n = 1 + this.random.below(3);
+    return `{ ${this.within({ strict: true }, () => Array.from({ length: n }, () => (this.chance(0.2) ? this.method('m') : this.staticBlock())).join(' '))} }`;
+  }
+
+  item() {
+    if (!this.module || !this.chance(0.25)) return super.item();
+    return this.one([() => `export class ${this.fresh()} ${this.staticClass()}`, () => `export default class ${this.staticClass()}`])();
+  }
 
   last() { return this.chance(0.4) ? this.jump() : this.simple(); }
 
@@ -457,13 +478,15 @@ class RouteText extends Text {
       () => this.simple(), () => this.declaration(), () => this.block(), () => this.ifs(), () => this.ifs(), () => this.loop(), () => this.loop(),
       () => this.switches(), () => this.tries(), () => this.labeled(), () => this.labeled(), () => this.jump(), () => this.jump(), () => this.jump(),
       () => (this.chance(0.4) ? this.functionDeclaration() : this.ifs()), () => (this.chance(0.3) ? `f(${this.arrow()});` : this.loop()),
-      () => (this.chance(0.3) ? `class ${this.fresh()} { ${this.within({ strict: true }, () => this.staticBlock())} }` : this.switches()),
+      () => (this.chance(0.6) ? `class ${this.fresh()} ${this.staticClass()}` : this.switches()),
       () => (this.here.strict ? this.simple() : `with (a) ${this.held()}`),
+      () => this.tries(), () => (this.here.tried ? this.tries() : this.ifs()),
     ])();
   }
 
   simple() {
-    return this.one([() => 'a;', () => 'a;', () => ';', () => 'debugger;', () => (this.here.func && this.chance(0.3) ? 'return a;' : 'a;'), () => (this.chance(0.2) ? 'throw a;' : 'a;')])();
+    const throws = this.here.tried ? 0.5 : 0.2;
+    return this.one([() => 'a;', () => 'a;', () => ';', () => 'debugger;', () => (this.here.func && this.chance(0.3) ? 'return a;' : 'a;'), () => (this.chance(throws) ? 'throw a;' : 'a;')])();
   }
 }
 

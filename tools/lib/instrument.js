@@ -1,6 +1,7 @@
 'use strict';
 // A unit's statements written anew so that an engine that really runs them lists each one and takes an answer at each
-// if, switch and turn of a loop. Expressions and declarations are left out: they do nothing in a route.
+// if, switch and turn of a loop. Expressions and declarations are left out: they do nothing in a route. Of a class that
+// is declared its static blocks stay, in a class, so that the engine runs them as it comes to the declaration.
 
 // The names given to the written text: L lists, A lists and takes an answer, I and O give as many turns as answers
 // say, B begins a turn of a for-in, R and T mark a return and a throw, X stands for answers spent.
@@ -30,12 +31,21 @@ class Writer {
       case 'SwitchStatement':
         return `switch (A(${i})) { ${n.cases.map((c, k) => `${c.test ? `case ${k}` : 'default'}: ${this.all(c.consequent)}`).join(' ')} }`;
       case 'TryStatement': return this.tried(n);
+      case 'ClassDeclaration': return `{ L(${i}); ${this.class(n)} }`;
+      case 'ExportNamedDeclaration':
+      case 'ExportDefaultDeclaration':
+        return n.declaration && n.declaration.type === 'ClassDeclaration' ? `{ L(${i}); ${this.class(n.declaration)} }` : `L(${i});`;
       case 'BreakStatement': return `{ L(${i}); break${n.label ? ` ${this.label(n)}` : ''}; }`;
       case 'ContinueStatement': return `{ L(${i}); continue${n.label ? ` ${this.label(n)}` : ''}; }`;
       case 'ReturnStatement': return `{ L(${i}); return R; }`;
       case 'ThrowStatement': return `{ L(${i}); throw T; }`;
       default: return `L(${i});`;
     }
+  }
+
+  class(n) {
+    const blocks = n.body.body.filter((e) => e.type === 'StaticBlock');
+    return `class $c { ${blocks.map((b) => `static { ${this.all(b.body)} }`).join(' ')} }`;
   }
 
   // when answers are spent the run stops where it is: nothing is caught and no finally runs

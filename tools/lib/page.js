@@ -2,12 +2,14 @@
 // A route as one page, or as lines of text: the rule's text with the statements that ran, in order, the answers where
 // they were taken, and the end in words. No script, nothing from elsewhere.
 
-const { K, R } = require('./kinds.js');
+const { K, R, F } = require('./kinds.js');
 const { Lines, shown, shownLines } = require('./place.js');
 
 const LOOPS = [K.For, K.ForIn, K.ForOf, K.While, K.DoWhile];
 const ENDS = ['fell through its last statement', 'returned', 'threw', 'stopped for want of an answer'];
 const UNITS = ['the program', 'the function', 'the arrow function', 'the static block'];
+
+const EXPORTS = [K.ExportDefault, K.ExportNamed];
 
 const takesAnswer = (kind) => kind === K.If || kind === K.Switch || LOOPS.includes(kind);
 
@@ -34,8 +36,25 @@ class Page {
       return [[n.start, subject.end + (brace < 0 ? 0 : Buffer.byteLength(this.text(subject.end, n.end).slice(0, brace)))]];
     }
     if (n.kind === K.DoWhile) return [[this.pastBlank(nodes[body].end, n.end), n.end]];
+    // of a class that is exported as much as of another
+    const exported = EXPORTS.includes(n.kind) ? this.classesOf(i)[0] : undefined;
+    if (exported !== undefined) return [[n.start, this.headOf(exported)[0][1]]];
     if (body === undefined) return [[n.start, n.end]];
     return [[n.start, nodes[body].start]];
+  }
+
+  // the classes whose static blocks run once this statement is listed: itself, or what an export declares
+  classesOf(i) {
+    const { nodes } = this.tree;
+    if (nodes[i].kind === K.Class) return [i];
+    return EXPORTS.includes(nodes[i].kind) ? this.children[i].filter((c) => nodes[c].kind === K.Class && nodes[c].flags & F.declaration) : [];
+  }
+
+  // nested functions, arrows and classes that aren't entered are no part of the unit
+  leftOut(i) {
+    const { kind, parent, role } = this.tree.nodes[i];
+    if (kind === K.Class) return role !== R.body && role !== R.alternate && !this.classesOf(parent).includes(i);
+    return kind === K.Function || kind === K.Arrow;
   }
 
   pastBlank(from, to) { return from + Buffer.byteLength(/^\s*/.exec(this.text(from, to))[0]); }
@@ -50,22 +69,43 @@ class Page {
         const listed = n.role === R.body || n.role === R.alternate;
         const simple = (n.kind >= K.Break && n.kind <= K.Statement) || [K.Function, K.VariableDeclaration, K.Class, K.ExportDefault, K.ExportNamed].includes(n.kind);
         if (listed && (simple || takesAnswer(n.kind) || n.kind === K.With)) out.push(c);
-        if (![K.Function, K.Arrow, K.Class].includes(n.kind)) visit(c);
+        if (!this.leftOut(c)) visit(c);
       }
     };
     visit(this.unit);
     return out;
   }
 
-  // the steps, each with the answer that it took
+  // the steps, each with the answer that it took, or as a jump with its way and the steps whose ends it replaces
   steps() {
     let taken = 0;
+    // for each finally block that runs before a jump is through: the jump's step, and the blocks that come after it
+    const waiting = new Map();
     return this.route.list.map((node, k) => {
       const { kind } = this.tree.nodes[node];
-      if (!takesAnswer(kind)) return { number: k + 1, node, kind };
-      return { number: k + 1, node, kind, answer: this.answers[taken++] };
+      const step = { number: k + 1, node, kind };
+      this.passed(waiting, node);
+      if (takesAnswer(kind)) return { ...step, answer: this.answers[taken++] };
+      if (kind < K.Break || kind > K.Throw) return step;
+      const way = this.wayOf(node);
+      const replaced = way.left.filter((b) => waiting.has(b)).map((b) => waiting.get(b).number);
+      way.left.forEach((b) => waiting.delete(b));
+      if (way.last.length > 0) waiting.set(way.last[0], { number: k + 1, more: way.last.slice(1) });
+      return { ...step, way, replaced };
     });
   }
+
+  // a finally block is through once a statement outside of it is listed; the next one on the jump's way may hold that
+  passed(waiting, node) {
+    for (const [block, { number, more }] of [...waiting]) {
+      if (this.within(node, block)) continue;
+      waiting.delete(block);
+      const next = more.findIndex((b) => this.within(node, b));
+      if (next >= 0) waiting.set(more[next], { number, more: more.slice(next + 1) });
+    }
+  }
+
+  within(i, above) { return i === above || (i > above && this.within(this.tree.nodes[i].parent, above)); }
 
   words({ node, kind, answer }) {
     if (answer === undefined) return '';
@@ -84,6 +124,50 @@ class Page {
     const n = this.tree.nodes[cases[picked]];
     const test = this.children[cases[picked]][0];
     return `${answer}: ${n.flags & 4096 ? 'default' : `case ${this.text(this.tree.nodes[test].start, this.tree.nodes[test].end)}`}`;
+  }
+
+  // where a jump goes: the finally blocks that run on its way, those that it leaves, and the catch that takes a throw
+  wayOf(i) {
+    const { nodes } = this.tree;
+    const { kind } = nodes[i];
+    const target = kind === K.Break || kind === K.Continue ? this.targetOf(i) : this.unit;
+    const way = { last: [], left: [], caught: undefined };
+    for (let c = i; c !== target; c = nodes[c].parent) {
+      const p = nodes[c].parent;
+      if (nodes[p].kind !== K.Try) continue;
+      const caught = this.child(p, (n) => n.role === R.alternate);
+      if (kind === K.Throw && nodes[c].role === R.body && caught !== undefined) return { ...way, caught };
+      const block = this.child(p, (n) => n.role === R.finally);
+      if (block === c) way.left.push(block);
+      else if (block !== undefined) way.last.push(block);
+    }
+    return way;
+  }
+
+  // the nearest loop, for a break also switch, or the nearest statement with the jump's label
+  targetOf(i) {
+    const { nodes } = this.tree;
+    const label = (n) => { const l = this.child(n, (c) => c.kind === K.LabelIdentifier); return l === undefined ? null : nodes[l].name.toString('latin1'); };
+    const fits = (n) => (label(i) !== null ? nodes[n].kind === K.Labeled && label(n) === label(i)
+      : LOOPS.includes(nodes[n].kind) || (nodes[n].kind === K.Switch && nodes[i].kind === K.Break));
+    let at = nodes[i].parent;
+    while (at !== this.unit && !fits(at)) at = nodes[at].parent;
+    return at;
+  }
+
+  // what a step does beside its answer
+  note({ node, way, replaced }) {
+    const { nodes } = this.tree;
+    const runs = this.classesOf(node).some((c) => this.children[this.child(c, (n) => n.kind === K.ClassBody)].some((b) => nodes[b].kind === K.StaticBlock));
+    if (runs) return 'its static blocks run';
+    if (!way) return '';
+    const out = [];
+    if (replaced.length > 0) out.push(`in place of the end of step ${replaced.join(', ')}`);
+    const lines = way.last.map((b) => this.lineOf(nodes[b].start));
+    if (lines.length === 1) out.push(`this end waits until the finally block at line ${lines[0]} is through`);
+    if (lines.length > 1) out.push(`this end waits until the finally blocks at lines ${lines.join(', ')} are through`);
+    if (way.caught !== undefined) out.push(`the catch at line ${this.lineOf(nodes[way.caught].start)} takes it`);
+    return out.join('; ');
   }
 
   lineOf(byte) { return this.lines.at(byte).line; }
@@ -122,7 +206,7 @@ class Page {
     return steps.map((s) => {
       const { line, text } = this.shown(s);
       return `<tr id="s${s.number}"><td>${s.number}</td><td>${line}</td>`
-        + `<td><a href="#n${s.node}"><code>${escape(text)}</code></a></td><td>${escape(this.words(s))}</td></tr>`;
+        + `<td><a href="#n${s.node}"><code>${escape(text)}</code></a>${this.note(s) ? `<br><small>${escape(this.note(s))}</small>` : ''}</td><td>${escape(this.words(s))}</td></tr>`;
     }).join('\n');
   }
 
@@ -142,7 +226,7 @@ class Page {
   counted() { return `${count(this.route.list.length, 'entry', 'entries')} and ${count(this.route.taken, 'answer')}`; }
 
   plain() {
-    const rows = this.steps().map((s) => ({ number: String(s.number), ...this.shown(s), words: this.words(s) }));
+    const rows = this.steps().map((s) => ({ number: String(s.number), ...this.shown(s), words: this.words(s) || this.note(s) }));
     const wide = (f) => Math.max(0, ...rows.map((r) => String(f(r)).length));
     const [a, b, c] = [wide((r) => r.number), wide((r) => r.line), wide((r) => r.text)];
     const lines = rows.map((r) => `${r.number.padStart(a)}  line ${String(r.line).padStart(b)}  ${r.text.padEnd(c)}  ${r.words}`.trimEnd());

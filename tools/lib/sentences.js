@@ -50,13 +50,13 @@ const REFUSALS = {
   5: 'a scope is missing, broken, or does not belong to the node that uses it',
   6: 'the Rust fails in its search from this `super`',
   7: 'this number names no program, function, arrow or static block',
-  8: 'the unit holds a try',
   9: 'the rule has an early error, or a jump without a target: check it first',
   10: 'the slice for the findings is too short',
   11: 'the slice for the code is too short',
   12: 'the route is longer than its slice',
   13: 'this node stands under a parent that does not take it, or not in this role',
   14: 'this node has too few or too many children of some sort',
+  15: 'a return stands in a static block, where it has no meaning',
 };
 
 const CONTEXTS = ['', 'in strict code', 'in a class, whose code is strict', 'in a module, whose code is strict', '`await` in a module'];

@@ -154,6 +154,13 @@ function wordsFor(tree, number, place) {
 
 function firstNode(tree, test) { return tree.nodes.findIndex(test); }
 
+// 15: the lowest return whose nearest unit is a static block, or -1. It is a fault of the rule, not of the tree maker.
+function returnInStaticBlock(tree) {
+  const { nodes } = tree;
+  const unitOf = (i) => (nodes[i].kind <= K.StaticBlock ? nodes[i].kind : unitOf(nodes[i].parent));
+  return firstNode(tree, (n) => n.kind === K.Return && unitOf(n.parent) === K.StaticBlock);
+}
+
 function refusalOf(tree) {
   const strays = (t) => firstNode(t, (n) => n.start > n.end || n.end > t.source.length);
   const tests = [[2, wrongFields], [3, wrongTree], [4, strays], [5, wrongScope], [13, wrongPlace], [14, wrongCount]];
@@ -164,4 +171,4 @@ function refusalOf(tree) {
   return null;
 }
 
-module.exports = { refusalOf, wordsFor };
+module.exports = { refusalOf, returnInStaticBlock, wordsFor };

@@ -69,6 +69,7 @@ function verdictClass(run) {
   if (!parsed.ok) return verdict ? 'agree: no tree, turned down' : `fault: no tree (${parsed.reason}), taken`;
   if (run.refusal) return `fault: refused with ${run.refusal.number}`;
   if (run.large) return 'agree: too large, not checked';
+  if (run.refused && run.refused.startsWith('R,15,') && verdict) return 'agree: a return in a static block, turned down';
   if (run.refused) return `fault: ${run.refused}`;
   const found = findings.length > 0;
   if (found && verdict) return 'agree: found, turned down';

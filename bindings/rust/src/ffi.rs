@@ -14,6 +14,7 @@ pub struct CodeAnswer {
     pub refusal: u32,
     pub place: u32,
     pub length: u64,
+    pub needed: u64,
 }
 
 #[repr(C)]

@@ -2,7 +2,7 @@
 //!
 //! A rule comes as tables of numbers (see [`Rule`]). [`check`] gives its early errors; [`code`] makes the flat code of one of its units (the
 //! program, a function, an arrow or a static block), and [`route`] lists the statements that the unit comes to on a list of answers.
-//! [`findings`] and [`route_of`] give the same in vectors. Whatever the tables hold, a call ends and does nothing undefined, and its answer
+//! [`findings`], [`code_of`] and [`route_of`] give the same in vectors. Whatever the tables hold, a call ends and does nothing undefined, and its answer
 //! is the one that is proved; nothing here asks for `unsafe`.
 //!
 //! The library is linked as `build.rs` says: from `VELKUNSHE_LIB`, the path of an archive, or from this repository's
@@ -97,7 +97,8 @@ pub const NODE: usize = 10;
 pub const SCOPE: usize = 3;
 /// How many numbers a finding takes in the slice that [`check`] writes.
 pub const FINDING: usize = 7;
-/// How many numbers the code slice must have for each node of the tree.
+/// The most numbers that a node of a unit gives to its code: a code slice with so many for each node of the tree is long enough. [`code`] with
+/// an empty slice says how long it must be.
 pub const CODE: usize = 16;
 
 /// The tables of a rule. Nothing is asked of the numbers: what is no rule is turned down by a [`Refusal`].
@@ -136,18 +137,18 @@ impl<'a> Rule<'a> {
 /// Why a call turned its input down. The slices are then as they were, but that after 12 the code slice holds the code.
 #[derive(Clone, Copy, Debug, PartialEq, Eq)]
 pub struct Refusal {
-    /// 1 to 6, 13, 14: the tables, looked at in the order 1, 2, 3, 4, 5, 13, 14, 6; 7, 8: the unit; 9: the rule has findings; 10, 11, 12:
-    /// the findings, code or route slice is too short.
+    /// 1 to 6, 13 to 15: the tables, looked at in the order 1, 2, 3, 4, 5, 13, 14, 6, 15; 7: the unit; 9: the rule has findings; 10, 11,
+    /// 12: the findings, code or route slice is too short. 8 is no longer given.
     pub number: u32,
-    /// The lowest node or scope that 2 to 6, 13 and 14 speak of, the unit of 7 and 8, the node of 9, else 0.
+    /// The lowest node or scope that 2 to 6 and 13 to 15 speak of, the unit of 7, the node of 9, else 0.
     pub place: u32,
-    /// After 10 and 12: the length that the slice must have.
+    /// After 10, 11 and 12: the length that the slice must have.
     pub needed: Option<u64>,
 }
 
 impl Refusal {
     fn new(number: u32, place: u32, needed: u64) -> Refusal {
-        Refusal { number, place, needed: matches!(number, 10 | 12).then_some(needed) }
+        Refusal { number, place, needed: matches!(number, 10..=12).then_some(needed) }
     }
 }
 
@@ -161,13 +162,13 @@ impl fmt::Display for Refusal {
             5 => "a scope is missing, broken, or does not belong to the node that uses it",
             6 => "the Rust fails in its search from this super",
             7 => "the unit is no Program, Function, Arrow or StaticBlock",
-            8 => "the unit holds a try",
             9 => "the rule has findings, or a jump without a target",
             10 => "the findings slice is too short",
-            11 => "the code slice is shorter than 16 numbers a node",
+            11 => "the code slice is too short",
             12 => "the route slice is too short",
             13 => "the node stands under a parent that may not hold it, or has a kind or role that this parent doesn't take",
             14 => "the node has too few or too many children of some sort",
+            15 => "a return stands in a static block",
             _ => "turned down",
         };
         write!(f, "refusal {} at {}: {why}", self.number, self.place)?;
@@ -204,7 +205,7 @@ impl Finding {
 ///
 /// # Errors
 ///
-/// Refusals 1 to 6, 13 and 14, and 10 with the length needed where `out` is shorter than 7 × findings.
+/// Refusals 1 to 6 and 13 to 15, and 10 with the length needed where `out` is shorter than 7 × findings.
 pub fn check(rule: &Rule, out: &mut [u32]) -> Result<usize, Refusal> {
     // SAFETY: pointers and lengths of live slices; `out` is borrowed alone.
     let answer = unsafe {
@@ -233,7 +234,7 @@ pub fn check(rule: &Rule, out: &mut [u32]) -> Result<usize, Refusal> {
 ///
 /// # Errors
 ///
-/// Refusals 1 to 6, 13 and 14.
+/// Refusals 1 to 6 and 13 to 15.
 pub fn findings(rule: &Rule) -> Result<Vec<Finding>, Refusal> {
     let mut numbers = Vec::new();
     if let Err(refusal) = check(rule, &mut numbers) {
@@ -282,11 +283,12 @@ pub struct Route {
     pub taken: u64,
 }
 
-/// Makes the flat code of a unit from the start of `out` and gives its length. No entry past the last one written is changed.
+/// Makes the flat code of a unit from the start of `out` and gives its length. No entry past the last one written is changed. How long it is
+/// depends on the tree and the unit alone: a call with an empty slice is refused by 11 and tells it.
 ///
 /// # Errors
 ///
-/// Refusals 1 to 9, 13 and 14, and 11 where `out` is shorter than 16 × the tree's nodes.
+/// Refusals 1 to 7, 9 and 13 to 15, and 11 with the length needed where `out` is shorter than the code.
 pub fn code(rule: &Rule, unit: u32, out: &mut [u32]) -> Result<usize, Refusal> {
     // SAFETY: pointers and lengths of live slices; `out` is borrowed alone.
     let answer = unsafe {
@@ -308,7 +310,7 @@ pub fn code(rule: &Rule, unit: u32, out: &mut [u32]) -> Result<usize, Refusal> {
     };
     match answer.refusal {
         0 => Ok(answer.length as usize),
-        number => Err(Refusal::new(number, answer.place, 0)),
+        number => Err(Refusal::new(number, answer.place, answer.needed)),
     }
 }
 
@@ -317,8 +319,8 @@ pub fn code(rule: &Rule, unit: u32, out: &mut [u32]) -> Result<usize, Refusal> {
 ///
 /// # Errors
 ///
-/// Refusals 1 to 9, 13 and 14, 11 where `code` is shorter than 16 × the tree's nodes, and 12 with the length needed where `out` is shorter than the
-/// route.
+/// Refusals 1 to 7, 9 and 13 to 15, 11 with the length needed where `code` is shorter than the code, and 12 with the length needed where `out`
+/// is shorter than the route.
 pub fn route(rule: &Rule, unit: u32, answers: &[u32], code: &mut [u32], out: &mut [u32]) -> Result<Shown, Refusal> {
     // SAFETY: pointers and lengths of live slices; `code` and `out` are each borrowed alone.
     let answer = unsafe {
@@ -354,13 +356,28 @@ pub fn route(rule: &Rule, unit: u32, answers: &[u32], code: &mut [u32], out: &mu
     Ok(Shown { entries: answer.entries as usize, end, taken: answer.taken })
 }
 
+/// The flat code of a unit, in a vector as long as it needs.
+///
+/// # Errors
+///
+/// Refusals 1 to 7, 9 and 13 to 15.
+pub fn code_of(rule: &Rule, unit: u32) -> Result<Vec<u32>, Refusal> {
+    let mut made = Vec::new();
+    if let Err(refusal) = code(rule, unit, &mut made) {
+        let Some(needed) = refusal.needed else { return Err(refusal) };
+        made.resize(needed as usize, 0);
+        code(rule, unit, &mut made)?;
+    }
+    Ok(made)
+}
+
 /// The route of a unit, in a vector as long as it needs.
 ///
 /// # Errors
 ///
-/// Refusals 1 to 9, 13 and 14.
+/// Refusals 1 to 7, 9 and 13 to 15.
 pub fn route_of(rule: &Rule, unit: u32, answers: &[u32]) -> Result<Route, Refusal> {
-    let mut code = vec![0; CODE * rule.node_count()];
+    let mut code = code_of(rule, unit)?;
     let mut nodes = Vec::new();
     let shown = match route(rule, unit, answers, &mut code, &mut nodes) {
         Err(Refusal { needed: Some(needed), .. }) => {

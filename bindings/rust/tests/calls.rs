@@ -1,6 +1,6 @@
 //! The calls on slices of every length: nothing but what is promised is written.
 
-use velkunshe::{check, code, findings, route, route_of, End, Refusal, Rule, Shown, CODE, FINDING};
+use velkunshe::{check, code, code_of, findings, route, route_of, End, Refusal, Rule, Shown, CODE, FINDING};
 
 /// A script with nothing in it.
 const EMPTY: Rule =
@@ -100,7 +100,7 @@ fn async_bodies() {
     );
     assert_eq!(route_of(&off, 0, &[1]).map(|r| r.nodes), Ok(vec![1, 3]));
     assert_eq!(route_of(&on, 0, &[1]).map_err(|r| (r.number, r.place)).unwrap_err(), (9, 1));
-    let mut made = vec![77; CODE * on.node_count()];
+    let mut made = vec![77; 64];
     assert_eq!(code(&on, 0, &mut made).map_err(|r| (r.number, r.place)), Err((9, 1)));
     assert!(made.iter().all(|&n| n == 77));
     // The flag is a Function's alone.
@@ -164,8 +164,7 @@ fn routes() {
 /// The numbers that docs/CODE.md explains.
 #[test]
 fn flat_code() {
-    let mut made = vec![0; CODE * ROUTED.node_count()];
-    let length = code(&ROUTED, 0, &mut made).unwrap();
+    let made = code_of(&ROUTED, 0).unwrap();
     let expected = [
         2, 3, 0, 3, 3, 10, 7, 2, 34, 0, // while
         2, 13, 0, // its block
@@ -175,15 +174,33 @@ fn flat_code() {
         1, 12, 2, 3, 0, // x
         6, 0, 6, 1, 6, 2, 6, 5, // the ends
     ];
-    assert_eq!(made[..length], expected);
+    assert_eq!(made, expected);
+}
+
+/// A call with an empty slice tells how long the code is; one entry less is refused, more stays as it was.
+#[test]
+fn code_slices_of_every_length() {
+    let made = code_of(&ROUTED, 0).unwrap();
+    assert!(made.len() <= CODE * ROUTED.node_count());
+    assert_eq!(code(&ROUTED, 0, &mut []), Err(Refusal { number: 11, place: 0, needed: Some(made.len() as u64) }));
+    for room in [made.len() - 1, made.len(), made.len() + 3] {
+        let mut out = vec![77; room];
+        let answer = code(&ROUTED, 0, &mut out);
+        if room < made.len() {
+            assert_eq!(answer, Err(Refusal { number: 11, place: 0, needed: Some(made.len() as u64) }));
+            assert!(out.iter().all(|&n| n == 77));
+        } else {
+            assert_eq!(answer, Ok(made.len()));
+            assert_eq!(out[..made.len()], made);
+            assert!(out[made.len()..].iter().all(|&n| n == 77));
+        }
+    }
 }
 
 #[test]
 fn route_slices_of_every_length() {
-    let mut expected = vec![77; CODE * ROUTED.node_count() + 2];
-    let length = code(&ROUTED, 0, &mut expected).unwrap();
-    assert!(length <= CODE * ROUTED.node_count());
-    assert!(expected[length..].iter().all(|&n| n == 77));
+    let mut expected = code_of(&ROUTED, 0).unwrap();
+    expected.extend([77, 77]);
     for room in 0..7 {
         let (mut made, mut out) = (vec![77; expected.len()], vec![77; room]);
         let answer = route(&ROUTED, 0, &[1, 0, 0], &mut made, &mut out);
@@ -199,6 +216,42 @@ fn route_slices_of_every_length() {
     }
 }
 
+/// `try { throw a; } catch { x; } finally { y; }`: neither the try nor the catch is listed.
+#[test]
+fn a_try() {
+    let node = |kind, parent, role| [kind, parent, role, 0, 0, 0, 0, 0, 0, 0];
+    let nodes = [
+        node(0, 0, 0),
+        node(16, 0, 3),
+        node(5, 1, 3),
+        node(21, 2, 3),
+        node(17, 1, 4),
+        node(5, 4, 3),
+        node(22, 5, 3),
+        node(5, 1, 5),
+        node(22, 7, 3),
+    ]
+    .concat();
+    let rule = Rule { nodes: &nodes, ..EMPTY };
+    let route = route_of(&rule, 0, &[]).unwrap();
+    assert_eq!((route.nodes, route.end, route.taken), (vec![3, 6, 8], End::FellThrough, 0));
+}
+
+/// `class { static { throw a; } }`: the block runs behind its class; with a return in it the rule is refused by every call.
+#[test]
+fn a_static_block() {
+    let node = |kind, parent, role| [kind, parent, role, 0, 0, 0, 0, 0, 0, 0];
+    let with =
+        |statement| [node(0, 0, 0), node(26, 0, 3), node(27, 1, 0), node(3, 2, 0), node(statement, 3, 3)].concat();
+    let route = route_of(&Rule { nodes: &with(21), ..EMPTY }, 0, &[]).unwrap();
+    assert_eq!((route.nodes, route.end, route.taken), (vec![1, 4], End::Thrown, 0));
+    let (nodes, refusal) = (with(20), Refusal { number: 15, place: 4, needed: None });
+    let rule = Rule { nodes: &nodes, ..EMPTY };
+    assert_eq!(findings(&rule), Err(refusal));
+    assert_eq!(code_of(&rule, 0), Err(refusal));
+    assert_eq!(route_of(&rule, 3, &[]), Err(refusal));
+}
+
 #[test]
 fn refusals_of_units() {
     let refused = |rule: &Rule, unit: u32, room: usize| {
@@ -208,7 +261,7 @@ fn refusals_of_units() {
         assert!(made.iter().chain(&out).all(|&n| n == 77));
         (refusal.number, refusal.place)
     };
-    let room = CODE * ROUTED.node_count();
+    let room = code_of(&ROUTED, 0).unwrap().len();
     assert_eq!(refused(&ROUTED, 1, room), (7, 1));
     assert_eq!(refused(&ROUTED, 4_294_967_295, room), (7, 4_294_967_295));
     assert_eq!(refused(&TWO, 0, room), (9, 1));

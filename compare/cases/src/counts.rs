@@ -1,17 +1,19 @@
 //! What was seen.
 
+use std::collections::BTreeMap;
 use std::fmt;
 
-use plain::{Refusal, Route};
+use plain::tables::*;
+use plain::{Refusal, Route, Tables};
 
 use crate::Sort;
 use crate::clashes::Clash;
 
 /// One more than the highest number of a refusal.
-const NUMBERS: usize = 15;
+const NUMBERS: usize = 21;
 
 /// The refusals of the input, in the order in which they are looked for.
-const OF_INPUT: [usize; 8] = [1, 2, 3, 4, 5, 13, 14, 6];
+const OF_INPUT: [usize; 9] = [1, 2, 3, 4, 5, 13, 14, 6, 15];
 
 /// One more than the highest code. 34 is no code of the crate's text.
 const CODES: usize = 36;
@@ -38,6 +40,11 @@ pub struct Counts {
     pub lower: u64,
     /// Entries of all routes.
     pub entries: u64,
+    /// Routed units that hold a Try of their own, those whose finally or catch comes before their Block, and those that
+    /// enter a static block.
+    tries: u64,
+    turned: u64,
+    entering: u64,
     cases: [u64; 5],
     refusals: [[u64; 5]; NUMBERS],
     clean: u64,
@@ -48,8 +55,8 @@ pub struct Counts {
     typescript: TypeScript,
     ends: [u64; 4],
     route_refusals: [u64; NUMBERS],
-    /// Calls of the proved library, check, code and route, by refusal; 0 is success.
-    proved: [[u64; NUMBERS]; 3],
+    /// Calls of the proved library by their name and refusal; 0 is success.
+    proved: BTreeMap<&'static str, [u64; NUMBERS]>,
 }
 
 impl Counts {
@@ -60,6 +67,9 @@ impl Counts {
             both: 0,
             lower: 0,
             entries: 0,
+            tries: 0,
+            turned: 0,
+            entering: 0,
             cases: [0; 5],
             refusals: [[0; 5]; NUMBERS],
             clean: 0,
@@ -69,7 +79,7 @@ impl Counts {
             typescript: TypeScript::default(),
             ends: [0; 4],
             route_refusals: [0; NUMBERS],
-            proved: [[0; NUMBERS]; 3],
+            proved: BTreeMap::new(),
         }
     }
 
@@ -126,19 +136,20 @@ impl Counts {
         }
     }
 
-    #[cfg(feature = "proved")]
-    pub fn proved_check(&mut self, answer: &Result<usize, Refusal>) {
-        self.proved[0][number(answer)] += 1;
+    /// A unit that has a route.
+    pub fn unit(&mut self, t: &Tables, unit: usize) {
+        let below = (unit + 1..t.node_count()).take_while(|&n| t.parent(n) >= unit);
+        let own: Vec<usize> = below.filter(|&n| is_own(t, unit, n)).collect();
+        let any = |fits: &dyn Fn(usize) -> bool| u64::from(own.iter().any(|&n| fits(n)));
+        self.tries += any(&|n| t.kind(n) == TRY);
+        let other_first = |n: usize| t.part(n, BODY) > t.part(n, ALTERNATE).or(t.part(n, FINALLY));
+        self.turned += any(&|n| t.kind(n) == TRY && other_first(n));
+        self.entering += any(&|n| t.kind(n) == STATIC_BLOCK);
     }
 
     #[cfg(feature = "proved")]
-    pub fn proved_code(&mut self, answer: &Result<usize, Refusal>) {
-        self.proved[1][number(answer)] += 1;
-    }
-
-    #[cfg(feature = "proved")]
-    pub fn proved_route(&mut self, answer: &Result<Route, Refusal>) {
-        self.proved[2][number(answer)] += 1;
+    pub fn proved_call<T>(&mut self, name: &'static str, answer: &Result<T, Refusal>) {
+        self.proved.entry(name).or_default()[number(answer)] += 1;
     }
 }
 
@@ -193,14 +204,26 @@ impl fmt::Display for Counts {
             ts.no_fixed_name, ts.empty_names, ts.references_as_keys
         )?;
         writeln!(f, "routes by end 0 to 3: {:?}, entries {}", self.ends, self.entries)?;
-        writeln!(f, "routes refused by 7, 8, 9: {:?}", &self.route_refusals[7..10])?;
-        if cfg!(feature = "proved") {
-            for (call, calls) in ["check", "code", "route"].iter().zip(&self.proved) {
-                writeln!(f, "{call} calls of the proved library by refusal 0 to 14: {calls:?}")?;
-            }
+        writeln!(f, "routes refused by 7: {}, by 9: {}", self.route_refusals[7], self.route_refusals[9])?;
+        writeln!(
+            f,
+            "routed units with a try {}, one with its block behind {}, with an entered static block {}",
+            self.tries, self.turned, self.entering
+        )?;
+        for (name, calls) in &self.proved {
+            writeln!(f, "{name} calls of the proved library by refusal 0 to 20: {calls:?}")?;
         }
         let (codes, refusals) = self.unseen();
         writeln!(f, "not seen: codes {codes:?}, refusals {refusals:?}")?;
         writeln!(f, "{} cases, {} differences", self.cases.iter().sum::<u64>(), self.differences)
     }
+}
+
+/// No function and no arrow stands between, and no class but one that is entered.
+fn is_own(t: &Tables, unit: usize, n: usize) -> bool {
+    t.ancestors(n).take_while(|&a| a != unit).all(|a| match t.kind(a) {
+        FUNCTION | ARROW => false,
+        CLASS => plain::code_length::is_entered(t, a),
+        _ => true,
+    })
 }

@@ -378,12 +378,54 @@ fn insert(rng: &mut Rng, t: &mut OwnedTables, n: usize, kind: u32, role: u32) {
     }
 }
 
-/// Sizes at the limits of refusals 1 and 3.
+/// A new node without a span or name.
+fn node(t: &mut OwnedTables, kind: u32, parent: usize, role: u32) -> usize {
+    t.nodes.extend([kind, parent as u32, role, 0, 0, 0, 0, 0, 0, 0]);
+    count(t) - 1
+}
+
+/// A Try in the Block of a Try, as deep as may be, each with a finally before or behind it, and some with a catch; in the
+/// last a way out.
+fn tower(rng: &mut Rng, t: &mut OwnedTables) {
+    const LEVELS: usize = 255;
+    let (mut open, mut at) = (Vec::new(), node(t, 0, 0, 0));
+    for _ in 0..LEVELS {
+        let tried = node(t, 16, at, 3);
+        if rng.once_in(2) {
+            finally(rng, t, tried);
+        } else {
+            open.push(tried);
+        }
+        at = node(t, 5, tried, 3);
+    }
+    node(t, rng.pick(&[20, 21, 22]), at, 3);
+    for tried in open.into_iter().rev() {
+        if rng.once_in(40) {
+            let clause = node(t, 17, tried, 4);
+            let block = node(t, 5, clause, 3);
+            node(t, rng.pick(&[21, 22]), block, 3);
+        }
+        finally(rng, t, tried);
+    }
+}
+
+/// In it mostly a statement, now and then a question, or an end of its own.
+fn finally(rng: &mut Rng, t: &mut OwnedTables, tried: usize) {
+    let block = node(t, 5, tried, 5);
+    let kind = rng.pick(&[12, 20, 21, 22, 22, 22, 22, 22, 22, 22, 22, 22]);
+    let statement = node(t, kind, block, 3);
+    if kind == 12 {
+        node(t, 22, statement, 3);
+    }
+}
+
+/// Sizes at the limits of refusals 1 and 3, and of the ways that wait for a finally.
 pub fn huge(rng: &mut Rng) -> OwnedTables {
     let mut t =
         OwnedTables { source_type: 0, nodes: Vec::new(), scopes: vec![0, 2, 0], source: Vec::new(), names: Vec::new() };
     let nodes = 65_535 + rng.below(2);
-    match rng.below(8) {
+    match rng.below(10) {
+        8 | 9 => tower(rng, &mut t),
         0 => t.source = vec![0; 1_048_576 + rng.below(2)],
         1 => t.names = vec![0; 1_048_576 + rng.below(2)],
         2 => (1..65_535 + rng.number(2)).for_each(|s| t.scopes.extend([s - 1, 0, 0])),

@@ -226,24 +226,20 @@ impl Grammar<'_> {
                 self.close();
             }
             12 => self.switch(role),
-            13 if self.rng.once_in(if self.calm { 9 } else { 3 }) => self.try_statement(role),
+            13 if self.rng.once_in(3) => self.try_statement(role),
+            23 | 24 if self.calm => self.try_statement(role),
             13..=16 if self.calm => self.calm_jump(role),
             13..=16 => self.jump(role),
-            17 => {
-                let kind = self.rng.pick(&[20, 21]);
-                self.open(kind, role, 0, 0, "");
-                if self.rng.once_in(2) {
-                    self.expression(1);
-                }
-                self.close();
-            }
+            17 => self.return_or_throw(role),
+            18 if self.calm && self.path.iter().any(|&n| self.kind_of(n) == 16) => self.return_or_throw(role),
             18 => self.variables(role, None),
             // As a body it may not stand.
             19 if !(self.calm && (6..=13).contains(&self.kind_of(self.path[self.path.len() - 1]))) => {
                 self.function(role, 32, 0);
             }
             20 | 21 => self.class(role, true),
-            22 if self.path.len() == 1 => self.export(role),
+            // Below the top no text has one.
+            22 if self.path.len() == 1 || self.rng.once_in(6) => self.export(role),
             _ => {
                 self.open(22, role, 0, 0, "");
                 self.expression(1);
@@ -341,24 +337,60 @@ impl Grammar<'_> {
         self.close();
     }
 
+    /// A return in a static block is refused, so calm trees have few of them.
+    fn return_or_throw(&mut self, role: u32) {
+        let in_static_block =
+            self.path.iter().rev().map(|&n| self.kind_of(n)).find(|&kind| kind <= 3).is_some_and(|kind| kind == 3);
+        let throws = self.calm && in_static_block && !self.rng.once_in(60);
+        let kind = if throws { 21 } else { self.rng.pick(&[20, 21]) };
+        self.open(kind, role, 0, 0, "");
+        if self.rng.once_in(2) {
+            self.expression(1);
+        }
+        self.close();
+    }
+
+    /// With a catch, a finally or both; now and then in an order that no text has.
     fn try_statement(&mut self, role: u32) {
         self.open(16, role, 0, 0, "");
-        self.block(3);
-        let parts = self.rng.below(3);
-        if parts != 1 {
-            self.open(17, 4, 0, 0, "");
-            let outer = self.enter_scope(0);
-            if self.rng.once_in(2) {
-                let name = self.name();
-                self.leaf(31, 0, 0, 0, name);
+        let mut parts = self.rng.pick(&[&[3, 4][..], &[3, 5], &[3, 4, 5], &[3, 4, 5]]).to_vec();
+        if self.rng.once_in(4) {
+            (1..parts.len()).rev().for_each(|i| parts.swap(i, self.rng.below(i + 1)));
+        }
+        for part in parts {
+            if part == 4 { self.catch_clause() } else { self.tried_block(part) }
+        }
+        self.close();
+    }
+
+    fn catch_clause(&mut self) {
+        self.open(17, 4, 0, 0, "");
+        let outer = self.enter_scope(0);
+        if self.rng.once_in(2) {
+            let name = self.name();
+            self.leaf(31, 0, 0, 0, name);
+        }
+        self.tried_block(3);
+        self.scope = outer;
+        self.close();
+    }
+
+    /// A Block of a Try: often with another Try in it, and often left by a jump, a return or a throw.
+    fn tried_block(&mut self, role: u32) {
+        self.open(5, role, 0, 0, "");
+        let outer = self.enter_scope(0);
+        if self.budget > 0 && self.rng.once_in(5) {
+            self.try_statement(3);
+        }
+        self.statements();
+        if self.rng.once_in(3) {
+            match self.rng.below(3) {
+                0 if self.calm => self.calm_jump(3),
+                0 => self.jump(3),
+                _ => self.return_or_throw(3),
             }
-            self.block(3);
-            self.scope = outer;
-            self.close();
         }
-        if parts != 0 {
-            self.block(5);
-        }
+        self.scope = outer;
         self.close();
     }
 
@@ -571,14 +603,8 @@ impl Grammar<'_> {
         let seldom = if key == 3 { !self.once_in_typescript(4) } else { self.once_in_typescript(8) };
         let unfixed = if self.is_typescript() && seldom { NO_FIXED_NAME } else { 0 };
         match self.rng.below(10) {
-            2 | 3 if self.calm => self.element(),
-            0 | 1 => {
-                self.open(3, 0, 0, 0, "");
-                let outer = self.enter_scope(16);
-                self.statements();
-                self.scope = outer;
-                self.close();
-            }
+            0..=3 if self.calm => self.static_block(),
+            0 | 1 => self.static_block(),
             2 | 3 => {
                 self.open(28, 0, unfixed, 0, "");
                 let kind = self.name_or_reference();
@@ -607,6 +633,14 @@ impl Grammar<'_> {
                 self.close();
             }
         }
+    }
+
+    fn static_block(&mut self) {
+        self.open(3, 0, 0, 0, "");
+        let outer = self.enter_scope(16);
+        self.statements();
+        self.scope = outer;
+        self.close();
     }
 
     /// The kind of a key with a name: a name as written, or the IdentifierReference of a computed key (`[a]`).
@@ -676,6 +710,8 @@ impl Grammar<'_> {
         self.open(kind, role, 0, 0, "");
         match self.rng.below(4) {
             0 => self.class(0, true),
+            // No text has two.
+            1 if self.rng.once_in(4) => (0..2).for_each(|_| self.class(0, true)),
             1 => self.function(0, 32, 0),
             2 if kind == 54 => self.variables(0, None),
             _ => self.expression(0),

@@ -8,6 +8,8 @@
 
 mod clashes;
 mod counts;
+mod flat;
+mod over_code;
 #[cfg(feature = "proved")]
 mod proved;
 mod second;
@@ -74,15 +76,18 @@ fn case(seed: u64, index: u64) -> (Sort, OwnedTables, Rng) {
     if index % 5_000 == 4_999 {
         return (Sort::Huge, edits::huge(&mut rng), rng);
     }
-    let (sort, calm) = match rng.below(10) {
+    let (sort, calm) = match rng.below(11) {
         0..=2 => (Sort::Source, false),
-        3 => (Sort::Calm, true),
-        4..=7 => (Sort::Wild, rng.once_in(6)),
+        3 | 4 => (Sort::Calm, true),
+        5..=8 => (Sort::Wild, rng.once_in(6)),
         _ => (Sort::Damaged, rng.once_in(3)),
     };
     let make = if index % 4 == 2 { grammar::typescript } else { grammar::tables };
     let mut tables = make(&mut rng, size, calm);
     if sort == Sort::Wild || sort == Sort::Damaged {
+        if sort == Sort::Wild && calm {
+            edits::reorder(&mut rng, &mut tables);
+        }
         if rng.once_in(3) {
             edits::rescope(&mut rng, &mut tables);
         }
@@ -152,19 +157,21 @@ fn compare(t: &Tables, sort: Sort, rng: &mut Rng, counts: &mut Counts) -> Result
     if before_walks.is_none() {
         let verdict = judge(t.source_type, t.nodes, t.scopes, t.source, t.names);
         let plain = match refusal {
-            Some((_, place)) => Verdict::Stuck(place as u32),
-            None => Verdict::Findings(plain::findings(t).iter().map(|f| as_the_crate(t, f)).collect()),
+            Some((6, place)) => Verdict::Stuck(place as u32),
+            // 15 is no matter of the crate's text.
+            _ => Verdict::Findings(plain::findings(t).iter().map(|f| as_the_crate(t, f)).collect()),
         };
         same("findings, plain and the crate's text", &plain, &verdict)?;
         if let Verdict::Findings(found) = &verdict {
             class_elements(t, found, counts)?;
             counts.findings(sort, found);
+            same("refusal 15, plain and second reading", &refusal, &second::static_return(t))?;
         } else {
             counts.stuck += 1;
         }
     }
     calls(t, refusal)?;
-    if refusal.is_none() && sort != Sort::Huge {
+    if refusal.is_none() && t.node_count() < 2000 {
         routes(t, rng, counts)?;
     }
     #[cfg(feature = "proved")]
@@ -228,6 +235,13 @@ fn routes(t: &Tables, rng: &mut Rng, counts: &mut Counts) -> Result<(), String> 
         let answer = plain::route(t, unit as u32, &answers, 16 * t.node_count(), &mut out);
         counts.route(&answer);
         let Ok(route) = answer else { continue };
+        counts.unit(t, unit);
+        let length = plain::code_length(t, unit);
+        same(&format!("code's length of {unit}, plain and second reading"), &length, &second::code_length(t, unit))?;
+        let needed = Err(Refusal { number: 11, place: 0, needed: Some(length as u64) });
+        same("a code slice one too short", &plain::route(t, unit as u32, &answers, length - 1, &mut out), &needed)?;
+        same("a code slice of the code's length", &plain::code_refusal(t, unit as u32, length), &Ok(length))?;
+        over_code::compare(t, unit, &answers, rng)?;
         let second = second::route(t, unit, &answers);
         let plain = (out[..route.entries].to_vec(), route.end, route.answers_taken);
         same(&format!("route of {unit} with {answers:?}, plain and second reading"), &plain, &second)?;

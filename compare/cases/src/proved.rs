@@ -9,12 +9,14 @@ use velkunshe::{End, Rule};
 
 use crate::counts::Counts;
 use crate::stored::RouteAnswer;
-use crate::{answers, same};
+use crate::{answers, over_code, same};
 
 /// What an entry holds that nothing was written to.
 const UNTOUCHED: u32 = 0xa5a5_5a5a;
 /// Entries before and behind a lent slice, which must stay as they are.
 const MARGIN: usize = 9;
+/// "The code takes at most 16 numbers per node of the unit".
+const MOST_CODE: usize = 16;
 
 /// With the option on async bodies off and on.
 pub fn compare(t: &Tables, rng: &mut Rng, counts: &mut Counts) -> Result<(), String> {
@@ -26,7 +28,15 @@ fn compare_calls(t: &Tables, rng: &mut Rng, counts: &mut Counts) -> Result<(), S
     around(7 * found).into_iter().try_for_each(|length| check(t, length, counts))?;
     let no_unit = rng.below(t.node_count() + 2);
     let units = (0..t.node_count()).filter(|&n| t.kind(n) <= 3).take(4).chain([no_unit]);
-    units.into_iter().try_for_each(|n| unit(t, n as u32, &answers(rng), counts))
+    units.into_iter().try_for_each(|n| {
+        let given = answers(rng);
+        unit(t, n as u32, &given, counts)?;
+        // What is said of a unit's code holds of the proved library's.
+        match code_of(t, n as u32) {
+            Ok(made) if t.node_count() < 2000 => over_code::over(t, n, &made, &given, rng),
+            _ => Ok(()),
+        }
+    })
 }
 
 /// No room, one entry too few, exactly enough, and more.
@@ -61,37 +71,37 @@ fn check(t: &Tables, length: usize, counts: &mut Counts) -> Result<(), String> {
     let mut found = expected.clone();
     let plain = plain::check(t, &mut expected[part.clone()]);
     let proved = velkunshe::check(&rule(t), &mut found[part]).map_err(refusal);
-    counts.proved_check(&proved);
+    counts.proved_call("check", &proved);
     same(&format!("check into {length}, plain and proved"), &plain, &proved)?;
     same(&format!("findings slice of {length}, plain and proved"), &expected, &found)
 }
 
-/// Both calls on a unit, or on a number that is none. What 1 to 9, 13 and 14 turn down is so whatever the slices are, and is tried
-/// with two lengths only.
+/// Both calls on a unit, or on a number that is none. What 1 to 9 and 13 to 15 turn down is so whatever the slices are,
+/// and is tried with two lengths only.
 fn unit(t: &Tables, unit: u32, answers: &[u32], counts: &mut Counts) -> Result<(), String> {
-    let room = 16 * t.node_count();
-    if plain::code_refusal(t, unit, room).is_err() {
-        code(t, unit, room, counts)?;
+    let Ok(needed) = plain::needed_code(t, unit) else {
+        code(t, unit, MOST_CODE * t.node_count(), counts)?;
         code(t, unit, 0, counts)?;
-        return route(t, unit, answers, room, 3, counts);
-    }
-    around(room).into_iter().try_for_each(|length| code(t, unit, length, counts))?;
+        return route(t, unit, answers, MOST_CODE * t.node_count(), 3, counts);
+    };
+    around(needed).into_iter().try_for_each(|length| code(t, unit, length, counts))?;
     let listed = plain::routes::run(t, unit as usize, answers).list.len();
-    route(t, unit, answers, room - 1, listed, counts)?;
-    around(listed).into_iter().try_for_each(|length| route(t, unit, answers, room, length, counts))
+    around(needed).into_iter().try_for_each(|length| route(t, unit, answers, length, listed, counts))?;
+    around(listed).into_iter().try_for_each(|length| route(t, unit, answers, needed, length, counts))
 }
 
-/// The code itself is free: at most 16 numbers per node of the unit, and nothing past them is written.
+/// The code itself is free: it has the length that request 9 states, at most 16 numbers per node of the unit, and
+/// nothing past it is written.
 fn code(t: &Tables, unit: u32, length: usize, counts: &mut Counts) -> Result<(), String> {
     let (mut made, part) = lent(length);
     let plain = plain::code_refusal(t, unit, length);
     let proved = velkunshe::code(&rule(t), unit, &mut made[part]).map_err(refusal);
-    counts.proved_code(&proved);
-    same(&format!("code of {unit} into {length}, plain and proved"), &plain, &proved.map(|_| ()))?;
+    counts.proved_call("code", &proved);
+    same(&format!("code of {unit} into {length}, plain and proved"), &plain, &proved)?;
     let written = proved.unwrap_or(0);
     let nodes = if plain.is_ok() { nodes_of(t, unit as usize) } else { 0 };
     let others = made[..MARGIN].iter().chain(&made[MARGIN + written..]);
-    if written > 16 * nodes || others.into_iter().any(|&entry| entry != UNTOUCHED) {
+    if written > MOST_CODE * nodes || others.into_iter().any(|&entry| entry != UNTOUCHED) {
         return Err(format!("code of {unit}: {written} numbers, or more, for {nodes} nodes"));
     }
     Ok(())
@@ -115,7 +125,7 @@ fn route(
     let plain = plain::route(t, unit, answers, code_length, &mut expected[part.clone()]);
     let proved = velkunshe::route(&rule(t), unit, answers, &mut made[code_part.clone()], &mut listed[part]);
     let proved = proved.map(shown).map_err(refusal);
-    counts.proved_route(&proved);
+    counts.proved_call("route", &proved);
     same(&what, &plain, &proved)?;
     same(&format!("{what}: slice"), &expected, &listed)?;
     // After 12, as after success, the code slice holds the code; else it is unchanged.
@@ -141,7 +151,7 @@ fn end_number(end: End) -> u32 {
 
 /// The code of a unit.
 pub fn code_of(t: &Tables, unit: u32) -> Result<Vec<u32>, Refusal> {
-    let mut made = vec![UNTOUCHED; 16 * t.node_count()];
+    let mut made = vec![UNTOUCHED; MOST_CODE * t.node_count()];
     let length = velkunshe::code(&rule(t), unit, &mut made).map_err(refusal)?;
     made.truncate(length);
     Ok(made)

@@ -1,7 +1,11 @@
 //! A second reading of documents 01 and 02 where the crate's text says nothing: the refusals of the input but for
-//! Super's walks, and routes. Written another way round than `plain`, to find slips: each rule is a test of one node by lists that are
-//! made anew each time, shape is two tables (Blocks, a CatchClause and a Function are counted by kind and role, where
-//! `plain` counts by role), and a route goes from statement to statement without a stack.
+//! Super's walks, routes, and the code's length. Written another way round than `plain`, to find slips: each rule is a
+//! test of one node by lists that are made anew each time, shape is two tables (Blocks, a CatchClause and a Function are
+//! counted by kind and role, where `plain` counts by role), a route goes from statement to statement without a stack,
+//! where each Try has one place for the way that waits for its finally, and the code's length asks each node of the table
+//! whether it is the unit's.
+
+use std::collections::HashMap;
 
 use plain::Tables;
 
@@ -154,12 +158,31 @@ fn counted(t: &Tables, n: usize) -> bool {
     counted && one_default && some_way_out
 }
 
-/// Where a run is: before a statement, at the answer of one, behind one.
+/// 15: the lowest return of a static block.
+pub fn static_return(t: &Tables) -> Option<(u32, usize)> {
+    let unit = |n: usize| up(t, n).into_iter().skip(1).find(|&a| t.kind(a) < 4);
+    (0..t.node_count()).find(|&n| t.kind(n) == 20 && unit(n).is_some_and(|u| t.kind(u) == 3)).map(|n| (15, n))
+}
+
+/// Where a run is: before a statement, at the answer of one, behind one, or at a node on its way out to a goal.
 enum At {
     Before(usize),
     Ask(usize),
     Behind(usize),
+    Leaving(usize, Goal),
 }
+
+/// Where a way out goes: behind a statement, to the answer of a loop, or out of the unit with an end.
+#[derive(Clone, Copy, PartialEq, Eq)]
+enum Goal {
+    Behind(usize),
+    Ask(usize),
+    End(u32),
+}
+
+const FELL_THROUGH: Goal = Goal::End(0);
+const RETURNED: Goal = Goal::End(1);
+const THROWN: Goal = Goal::End(2);
 
 /// List, end and answers taken, of tables, unit and answers that no refusal turns down.
 pub fn route(t: &Tables, unit: usize, answers: &[u32]) -> (Vec<u32>, u32, usize) {
@@ -170,22 +193,24 @@ pub fn route(t: &Tables, unit: usize, answers: &[u32]) -> (Vec<u32>, u32, usize)
     };
     let Some(start) = start else { return (list, 0, 0) };
     let Some(first) = next_held(t, start, start) else { return (list, 0, 0) };
+    // For each Try whose finally runs, the way that waits for its end.
+    let mut waiting: HashMap<usize, Goal> = HashMap::new();
     let mut at = At::Before(first);
     loop {
         at = match at {
             At::Before(n) => match t.kind(n) {
-                5 => next_held(t, n, n).map_or(At::Behind(n), At::Before),
-                6 | 11 => At::Before(held(t, n, 3).unwrap()),
+                3 | 5 => next_held(t, n, n).map_or(At::Behind(n), At::Before),
+                6 | 11 | 16 => At::Before(held(t, n, 3).unwrap()),
                 7..=10 | 12 | 14 => At::Ask(n),
                 kind => {
                     list.push(n as u32);
                     match kind {
                         13 => At::Before(held(t, n, 3).unwrap()),
-                        18 => At::Behind(target(t, n)),
-                        19 => At::Ask(target(t, n)),
-                        20 => return (list, 1, taken),
-                        21 => return (list, 2, taken),
-                        _ => At::Behind(n),
+                        18 => At::Leaving(n, Goal::Behind(target(t, n))),
+                        19 => At::Leaving(n, Goal::Ask(target(t, n))),
+                        20 => At::Leaving(n, RETURNED),
+                        21 => At::Leaving(n, THROWN),
+                        _ => next_static_block(t, n, n).map_or(At::Behind(n), At::Before),
                     }
                 }
             },
@@ -202,7 +227,7 @@ pub fn route(t: &Tables, unit: usize, answers: &[u32]) -> (Vec<u32>, u32, usize)
                 to.map_or(At::Behind(n), At::Before)
             }
             At::Behind(n) => {
-                let p = t.parent(n);
+                let p = above(t, n);
                 match t.kind(p) {
                     7..=11 => At::Ask(p),
                     15 => match next_held(t, p, n) {
@@ -212,15 +237,94 @@ pub fn route(t: &Tables, unit: usize, answers: &[u32]) -> (Vec<u32>, u32, usize)
                             later.map_or(At::Behind(t.parent(p)), At::Before)
                         }
                     },
+                    // The finally is through, and what waited goes on; else the Block of a try or a catch is.
+                    16 if t.role(n) == 5 => At::Leaving(p, waiting[&p]),
+                    16 => At::Leaving(n, Goal::Behind(p)),
+                    17 => At::Leaving(p, Goal::Behind(t.parent(p))),
+                    26 | 53 | 54 => next_static_block(t, p, n).map_or(At::Behind(p), At::Before),
                     _ => match next_held(t, p, n).filter(|_| matches!(t.kind(p), 0 | 3..=5)) {
                         Some(next) => At::Before(next),
-                        None if p == start => return (list, 0, taken),
+                        None if p == start => At::Leaving(p, FELL_THROUGH),
                         None => At::Behind(p),
                     },
                 }
             }
+            At::Leaving(n, Goal::Behind(to)) if to == n => At::Behind(n),
+            At::Leaving(n, Goal::Ask(to)) if to == n => At::Ask(n),
+            At::Leaving(n, Goal::End(end)) if n == start => return (list, end, taken),
+            At::Leaving(n, goal) => {
+                let p = above(t, n);
+                let catch = held(t, p, 4).filter(|_| t.kind(p) == 16 && t.role(n) == 3 && goal == THROWN);
+                let last = held(t, p, 5).filter(|_| t.kind(p) == 16 && t.role(n) != 5);
+                match (catch, last) {
+                    (Some(clause), _) => At::Before(held(t, clause, 3).unwrap()),
+                    (None, Some(block)) => {
+                        waiting.insert(p, goal);
+                        At::Before(block)
+                    }
+                    (None, None) => At::Leaving(p, goal),
+                }
+            }
         }
     }
+}
+
+/// The node above; of a static block the statement that it runs after: its class, or the export that declares that.
+fn above(t: &Tables, n: usize) -> usize {
+    let p = t.parent(n);
+    if t.kind(n) != 3 {
+        return p;
+    }
+    let class = t.parent(p);
+    if matches!(t.kind(t.parent(class)), 53 | 54) { t.parent(class) } else { class }
+}
+
+/// The next static block, behind this node, that runs after a listed statement.
+fn next_static_block(t: &Tables, statement: usize, behind: usize) -> Option<usize> {
+    let mut below = (statement + 1..t.node_count()).take_while(|&n| t.parent(n) >= statement);
+    let exports = matches!(t.kind(statement), 53 | 54);
+    below.find(|&n| {
+        let runs = t.kind(n) == 3 && n > behind && above(t, n) == statement;
+        runs && (!exports || t.flags(t.parent(t.parent(n))) & 32 != 0)
+    })
+}
+
+/// What a node gives to its unit's code: kinds, roles if they matter, how much. The first row that fits counts.
+const LENGTHS: [(&[u32], &[u32], usize); 8] = [
+    (&[5], &[5], 5),
+    (&[3, 5], &[], 3),
+    (&[7, 8, 9, 10, 11], &[], 10),
+    (&[12, 14], &[], 7),
+    (&[13], &[], 2),
+    (&[15], &[], 4),
+    (&[18, 19, 20, 21, 22], &[], 5),
+    (&[1, 24, 26, 53, 54], &[3, 4], 5),
+];
+
+/// Document 02, request 9: the sum over the unit's nodes.
+pub fn code_length(t: &Tables, unit: usize) -> usize {
+    let fits = |list: &[u32], number: u32| list.is_empty() || list.contains(&number);
+    let number = |n: usize| {
+        let row = LENGTHS.iter().find(|row| row.0.contains(&t.kind(n)) && fits(row.1, t.role(n)));
+        row.filter(|_| !STATEMENTS.contains(&t.kind(n)) || is_statement(t, n)).map_or(0, |row| row.2)
+    };
+    8 + (unit + 1..t.node_count()).filter(|&n| is_of(t, unit, n)).map(number).sum::<usize>()
+}
+
+fn is_statement(t: &Tables, n: usize) -> bool {
+    STATEMENTS.contains(&t.kind(n)) && matches!(t.role(n), 3..=5) && matches!(t.kind(t.parent(n)), 0 | 3..=13 | 15..=17)
+}
+
+/// On the way up from the node to the unit stands no function, no arrow, and no class but one that is entered.
+fn is_of(t: &Tables, unit: usize, n: usize) -> bool {
+    let up = up(t, n);
+    let Some(at) = up.iter().position(|&a| a == unit) else { return false };
+    up[1..at.max(1)].iter().all(|&a| match t.kind(a) {
+        1 | 2 => false,
+        26 if matches!(t.kind(t.parent(a)), 53 | 54) => t.flags(a) & 32 != 0 && is_statement(t, t.parent(a)),
+        26 => is_statement(t, a),
+        _ => true,
+    })
 }
 
 fn held(t: &Tables, n: usize, role: u32) -> Option<usize> {

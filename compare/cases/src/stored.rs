@@ -13,11 +13,12 @@ mod write;
 
 use std::fmt::{self, Write};
 
+use cases::rng::Rng;
 use plain::Tables;
 use plain::reader::OwnedTables;
 use plain::tables::*;
 
-use crate::same;
+use crate::{over_code, same};
 use seen::Seen;
 #[cfg(feature = "proved")]
 pub use write::write;
@@ -181,6 +182,8 @@ pub fn check(path: &str) {
 /// In each difference the stored answer comes first.
 fn differs(t: &Tables, unit: &Unit) -> Vec<String> {
     let mut found = Vec::new();
+    let length = plain::code_length(t, unit.number as usize);
+    found.extend(same("the code's length, stored and as a sum over the unit's nodes", &unit.code.len(), &length).err());
     #[cfg(feature = "proved")]
     found
         .extend(same("code, stored and proved", &Ok(unit.code.clone()), &crate::proved::code_of(t, unit.number)).err());
@@ -192,12 +195,14 @@ fn differs(t: &Tables, unit: &Unit) -> Vec<String> {
         compare("plain", plain_route(t, unit.number, &run.answers));
         #[cfg(feature = "proved")]
         compare("proved", crate::proved::route_of(t, unit.number, &run.answers));
+        let mut rng = Rng::new(unit.line as u64);
+        found.extend(over_code::over(t, unit.number as usize, &unit.code, &run.answers, &mut rng).err());
     }
     found
 }
 
 fn plain_route(t: &Tables, unit: u32, answers: &[u32]) -> RouteAnswer {
-    plain::code_refusal(t, unit, usize::MAX)?;
+    plain::needed_code(t, unit)?;
     let run = plain::routes::run(t, unit as usize, answers);
     Ok((run.list, run.end, run.answers_taken))
 }

@@ -210,9 +210,9 @@ pub fn ruleroute(input: &[u8]) -> String {
         Err(BadLine(line)) => return format!("R,0,{line}\n"),
     };
     let t = tables.lend();
-    match crate::code_refusal(&t, unit, usize::MAX) {
+    match crate::needed_code(&t, unit) {
         Err(r) => format!("R,{},{}\n", r.number, r.place),
-        Ok(()) => {
+        Ok(_) => {
             let run = crate::routes::run(&t, unit as usize, &answers);
             let list: String = run.list.iter().map(|n| format!("L,{n}\n")).collect();
             list + &format!("Z,{},{},{}\n", run.end, run.list.len(), run.answers_taken)

@@ -1,5 +1,6 @@
-//! Document 01, "Turned down: the input", and document 02, request 4. One function for each number, looked for in the
-//! order 1, 2, 3, 4, 5 (scope records, then nodes), 13, 14, 6; the first that applies is given, at its lowest place.
+//! Document 01, "Turned down: the input", and document 02, requests 4 and 5. One function for each number, looked for
+//! in the order 1, 2, 3, 4, 5 (scope records, then nodes), 13, 14, 6, 15; the first that applies is given, at its
+//! lowest place.
 //! Each sentence of document 01's refusal 6 is quoted above the lines of 13 and 14 that read it.
 
 use crate::supers;
@@ -21,10 +22,20 @@ pub const MOST_DEPTH: usize = 512;
 /// 6: "the walks that the Rust ends in a failure", at the Super. They are looked at only where no child is misplaced
 /// and no count is wrong.
 pub fn input_refusal(t: &Tables) -> Option<InputRefusal> {
-    refusal_before_walks(t).or_else(|| supers::lowest_stuck(t).map(|place| InputRefusal { number: 6, place }))
+    let at = |number: u32| move |place: usize| InputRefusal { number, place };
+    refusal_before_walks(t)
+        .or_else(|| supers::lowest_stuck(t).map(at(6)))
+        .or_else(|| return_in_static_block(t).map(at(15)))
 }
 
-/// All but Super's walks.
+/// 15. "A return whose nearest unit is a static block has no meaning in the standard and is refused .. place the return
+///     node, checked after 6."
+pub fn return_in_static_block(t: &Tables) -> Option<usize> {
+    let nearest_unit = |n: usize| t.ancestors(n).map(|a| t.kind(a)).find(|&kind| is_unit_kind(kind));
+    (0..t.node_count()).find(|&n| t.kind(n) == RETURN && nearest_unit(n) == Some(STATIC_BLOCK))
+}
+
+/// All but Super's walks and what comes after them.
 pub fn refusal_before_walks(t: &Tables) -> Option<InputRefusal> {
     if wrong_sizes(t) {
         return Some(InputRefusal { number: 1, place: 0 });
@@ -154,12 +165,12 @@ fn is_statement(kind: u32) -> bool {
 }
 
 /// "Kinds 1, 24, 26, 53 and 54 may, and are statements then."
-fn may_be_statement(kind: u32) -> bool {
+pub fn may_be_statement(kind: u32) -> bool {
     matches!(kind, FUNCTION | VARIABLE_DECLARATION | CLASS | EXPORT_DEFAULT | EXPORT_NAMED)
 }
 
 /// "a holder: 0, 3-13, 15-17".
-fn is_holder(kind: u32) -> bool {
+pub fn is_holder(kind: u32) -> bool {
     matches!(kind, PROGRAM | STATIC_BLOCK..=WITH | SWITCH_CASE..=CATCH_CLAUSE)
 }
 

@@ -1,4 +1,5 @@
-//! Document 01, "Routes": a unit run by ECMA-262's completion rules, from tables, unit and answers alone. No code.
+//! Document 01, "Routes", with document 02's requests 1 (`try`) and 5 (static blocks): a unit run by ECMA-262's
+//! completion rules, from tables, unit and answers alone. No code.
 
 use crate::tables::*;
 
@@ -25,7 +26,7 @@ enum Completion<'a> {
 
 use Completion::*;
 
-/// Runs a unit of a well-formed tree that refusals 7 to 9 don't turn down.
+/// Runs a unit of a well-formed tree that refusals 7 and 9 don't turn down.
 pub fn run(t: &Tables, unit: usize, answers: &[u32]) -> Run {
     let mut runner = Runner { t, answers, taken: 0, list: Vec::new() };
     let holder = match t.kind(unit) {
@@ -105,6 +106,7 @@ impl<'a> Runner<'_, 'a> {
                 Break(None) => Normal,
                 completion => completion,
             },
+            TRY => self.try_statement(n),
             kind => {
                 self.list.push(n as u32);
                 let label = t.label(n).map(|l| t.name(l));
@@ -113,11 +115,42 @@ impl<'a> Runner<'_, 'a> {
                     CONTINUE => Continue(label),
                     RETURN => Return,
                     THROW => Throw,
+                    CLASS | EXPORT_DEFAULT | EXPORT_NAMED => self.static_blocks(n),
                     // Other statements and declarations do nothing more.
                     _ => Normal,
                 }
             }
         }
+    }
+
+    /// A Try isn't listed. A throw out of its role 3 Block goes to the catch, if there is one. "A finally block runs on
+    /// each way out, and if it ends by a jump, a return or a throw, that end replaces the earlier one. When answers run
+    /// out the route stops where it is, and no finally runs."
+    fn try_statement(&mut self, n: usize) -> Completion<'a> {
+        let t = self.t;
+        let mut completion = self.held(n, BODY, &[]);
+        if let (Throw, Some(clause)) = (completion, t.part(n, ALTERNATE)) {
+            completion = self.held(clause, BODY, &[]);
+        }
+        if completion == Spent {
+            return Spent;
+        }
+        match self.held(n, FINALLY, &[]) {
+            Normal => completion,
+            own => own,
+        }
+    }
+
+    /// "After the class is listed, its static blocks run in node order .. A throw out of one leaves the class as a
+    /// throw."
+    fn static_blocks(&mut self, n: usize) -> Completion<'a> {
+        for block in entered_blocks(self.t, n) {
+            let completion = self.statements(block);
+            if completion != Normal {
+                return completion;
+            }
+        }
+        Normal
     }
 
     /// The turns of a loop. A `for` without a test goes on whatever the answer says.
@@ -159,13 +192,17 @@ impl<'a> Runner<'_, 'a> {
     }
 }
 
-/// The unit holds a Try outside nested functions, arrows and classes.
-pub fn holds_try(t: &Tables, n: usize) -> bool {
-    t.children(n).any(|c| match t.kind(c) {
-        TRY => true,
-        FUNCTION | ARROW | CLASS => false,
-        _ => holds_try(t, c),
-    })
+/// The static blocks that run once this statement is listed: of a class, or of the classes that an export declares
+/// ("its child, flag 32"), all in node order.
+pub fn entered_blocks(t: &Tables, n: usize) -> Vec<usize> {
+    let declared = |c: usize| t.kind(c) == CLASS && t.has(c, DECLARATION);
+    let classes: Vec<usize> = match t.kind(n) {
+        CLASS => vec![n],
+        EXPORT_DEFAULT | EXPORT_NAMED => t.children(n).filter(|&c| declared(c)).collect(),
+        _ => Vec::new(),
+    };
+    let bodies = classes.into_iter().filter_map(|class| t.part_of_kind(class, CLASS_BODY));
+    bodies.flat_map(|body| t.children(body).filter(|&c| t.kind(c) == STATIC_BLOCK)).collect()
 }
 
 /// The lowest Break or Continue that has no target inside its nearest unit.
