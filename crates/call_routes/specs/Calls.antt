@@ -15,7 +15,7 @@ use Rattle.check_dispatch.specs.Rule.{Rule}
 use Rattle.refusal_state.specs.Targets.{refusedOr, stateAnswer}
 use Rattle.call_routes.specs.declared.Coded.{Coded}
 use Rattle.call_routes.specs.declared.Coded.the-variants as coded
-use Rattle.code_stores.specs.Over.{over}
+use Rattle.route_list.specs.Over.{over}
 use Rattle.route_viewer.specs.Shown.{shownAnswer, shownSlice}
 use Rattle.route_viewer.specs.declared.Routed.{Routed}
 use Rattle.route_viewer.specs.declared.Routed.the-variants as routed

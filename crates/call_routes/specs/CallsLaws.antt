@@ -24,7 +24,7 @@ use Rattle.route_completion.specs.Route.{route, Once, nodesOfAll}
 use Rattle.code_flat.specs.Code.{unit}
 use Rattle.code_flat.specs.Machine.{codeRoute}
 use Rattle.code_flat.specs.Claims.{claims}
-use Rattle.code_stores.specs.Over.{over}
+use Rattle.route_list.specs.Over.{over}
 use Rattle.code_tree.specs.Statements.{holderOf, unitBy, unitOf}
 use Rattle.code_tree.specs.RoomLaws.{unit-room}
 use Rattle.code_layout.specs.Shaped.{Good}

@@ -4,7 +4,7 @@ use mathlib.Core.List.{List}
 use mathlib.Core.Bool.{cond}
 use lib.Dec.{leb}
 use lib.ListN.{length}
-use Rattle.code_stores.specs.Over.{over}
+use Rattle.route_list.specs.Over.{over}
 use Rattle.code_assemble.specs.declared.Assembled.{Assembled}
 use Rattle.code_assemble.specs.declared.Assembled.the-variants.{Code, Short}
 

@@ -15,7 +15,7 @@ use Rattle.base_common.specs.Bools.{never}
 use Rattle.table_records.specs.Table.{count}
 use Rattle.code_flat.specs.Code.{unit, ends, sizes}
 use Rattle.code_flat.specs.Correct.{Has, hasRight, hasSelf}
-use Rattle.code_stores.specs.Over.{over}
+use Rattle.route_list.specs.Over.{over}
 use Rattle.code_tree.specs.Statements.{bodyOf}
 use Rattle.code_layout.specs.Widths.{inUnit, ownWidth, widthAt}
 use Rattle.code_layout.specs.Context.{offsetAt}

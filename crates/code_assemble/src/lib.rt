@@ -4,7 +4,7 @@ ghost use Prim.Native.Nat.{_+_, _<_, _≤_};
 ghost use lib.ListN.{length};
 ghost use Rattle.table_records.specs.Table.{count};
 ghost use Rattle.code_flat.specs.Code.{unit, ends};
-ghost use Rattle.code_stores.specs.Over.{over};
+ghost use Rattle.route_list.specs.Over.{over};
 ghost use Rattle.code_tree.specs.Statements.{bodyOf, unitOf};
 ghost use Rattle.code_contexts.specs.Contexts as contexts;
 ghost use Rattle.code_branch.specs.Branch.{Arrays};

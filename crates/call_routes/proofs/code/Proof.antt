@@ -6,7 +6,7 @@ use Rattle.check_dispatch.specs.Rule.{rule}
 use Rattle.code_tree.specs.Statements.{unitOf}
 use Rattle.code_length.specs.Length.{codeLength}
 use Rattle.code_assemble.specs.Assembled.{assembledSlice}
-use Rattle.code_stores.specs.Over.{over}
+use Rattle.route_list.specs.Over.{over}
 use Rattle.code_flat.specs.Code.{unit}
 use Rattle.refusal_verdict.specs.declared.Verdict.{Verdict}
 use lib.ListN.{length}
