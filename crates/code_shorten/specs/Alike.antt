@@ -14,7 +14,8 @@ use Rattle.code_flat.specs.Runs.{isNone, inside}
 use Rattle.code_flat.specs.Forward.{askNow, behind, forward, measure, step, run}
 use Rattle.code_flat.specs.Steps.{runStep}
 use Rattle.code_valid.specs.ReadingLaws.{decodeNone}
-use Rattle.code_shorten.specs.Short.{to, aimOf}
+use Rattle.code_shorten.specs.declared.Aim.the-variants.{To as to}
+use Rattle.code_shorten.specs.Short.{aimOf}
 use Rattle.code_shorten.specs.Unwinds.{Ahead, Like, likeLength, Same, Both, unwinds}
 
 -- The forward machine has not given up.

@@ -15,7 +15,8 @@ use Rattle.code_flat.specs.Correct.{unitCorrect}
 use Rattle.code_flat.specs.Claims.{unitRuns}
 use Rattle.code_valid.specs.Instrs.{parse, find}
 use Rattle.code_valid.specs.Valid.{Valid}
-use Rattle.code_shorten.specs.Short.{to, aimOf, threaded, reached, moved, relocate, closedUp, shorter}
+use Rattle.code_shorten.specs.declared.Aim.the-variants.{To as to}
+use Rattle.code_shorten.specs.Short.{aimOf, threaded, reached, moved, relocate, closedUp, shorter}
 use Rattle.code_shorten.specs.Longer.{neverLonger}
 use Rattle.code_shorten.specs.Sound.{Sound, validSound}
 use Rattle.code_shorten.specs.Threads.{threadNone, threadedFind, threadedSound, aimSome}

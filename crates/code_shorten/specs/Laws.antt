@@ -9,7 +9,9 @@ use native.Mathlib.Omega.{arith}
 use Rattle.route_completion.specs.Sem.{pick, elem}
 use Rattle.code_flat.specs.Machine.{Instr, NONE, LIST, LEAVE, ASK, SELECT, OPEN, END, CASE}
 use Rattle.code_valid.specs.Instrs.{len, find, leads}
-use Rattle.code_shorten.specs.Short.{Aim, none, to, hop, further, last, reached, moved, relocate, kept, closeUp}
+use Rattle.code_shorten.specs.declared.Aim.{Aim}
+use Rattle.code_shorten.specs.declared.Aim.the-variants.{Nowhere as none, To as to}
+use Rattle.code_shorten.specs.Short.{hop, further, last, reached, moved, relocate, kept, closeUp}
 use Rattle.code_shorten.specs.Sound.{Begin, All, Sound}
 use Rattle.code_shorten.specs.Closes.{In, Closed}
 use Rattle.code_shorten.specs.Reaches.{reachedZero, reachedClosed}

@@ -1,5 +1,7 @@
 pub mod Short
 pub mod Claims
+pub mod Threading
+pub mod ThreadingLaws
 pub mod Laws
 pub mod Examples
 pub mod Longer

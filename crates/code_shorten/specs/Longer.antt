@@ -8,7 +8,9 @@ use native.Mathlib.Omega.{arith}
 use Rattle.route_completion.specs.Sem.{pick, elem}
 use Rattle.code_flat.specs.Machine.{Instr, NONE, LIST, LEAVE, ASK, SELECT, OPEN, END, CASE}
 use Rattle.code_valid.specs.Instrs.{len, words, flat, parse}
-use Rattle.code_shorten.specs.Short.{Aim, none, to, aimed, last, thread, threaded, reached, relocate, moved, kept, closeUp, closedUp, shorter}
+use Rattle.code_shorten.specs.declared.Aim.{Aim}
+use Rattle.code_shorten.specs.declared.Aim.the-variants.{Nowhere as none, To as to}
+use Rattle.code_shorten.specs.Short.{aimed, last, thread, threaded, reached, relocate, moved, kept, closeUp, closedUp, shorter}
 
 pub wordsLength : (i : Instr) → length (words i) ≡ len i
 wordsLength NONE = refl

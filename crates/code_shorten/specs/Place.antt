@@ -9,7 +9,9 @@ use native.Mathlib.Omega.{arith}
 use Rattle.route_completion.specs.Sem.{pick}
 use Rattle.code_flat.specs.Machine.{Instr, NONE, LIST, LEAVE, ASK, SELECT, OPEN, END, CASE, isZero}
 use Rattle.code_valid.specs.Instrs.{find}
-use Rattle.code_shorten.specs.Short.{Aim, none, to, aimOf, hop, further, last, aimed, thread}
+use Rattle.code_shorten.specs.declared.Aim.{Aim}
+use Rattle.code_shorten.specs.declared.Aim.the-variants.{Nowhere as none, To as to}
+use Rattle.code_shorten.specs.Short.{aimOf, hop, further, last, aimed, thread}
 use Rattle.code_shorten.specs.Threads.{hopSome}
 use Rattle.code_shorten.specs.Rings.{Ring, ring, ringNext}
 use Rattle.code_shorten.specs.Twice.{ringStays}

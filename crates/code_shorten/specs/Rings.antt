@@ -10,7 +10,9 @@ use Rattle.route_completion.specs.Sem.{pick}
 use Rattle.code_flat.specs.Machine.{Instr}
 use Rattle.code_flat.specs.Runs.{isNone}
 use Rattle.code_valid.specs.Instrs.{len, find}
-use Rattle.code_shorten.specs.Short.{Aim, none, to, hop, further, last}
+use Rattle.code_shorten.specs.declared.Aim.{Aim}
+use Rattle.code_shorten.specs.declared.Aim.the-variants.{Nowhere as none, To as to}
+use Rattle.code_shorten.specs.Short.{hop, further, last}
 use Rattle.code_shorten.specs.Sound.{Begin, decEq, findThere, noneIn}
 use Rattle.code_shorten.specs.Threads.{aimSome, hopSome}
 
@@ -166,7 +168,7 @@ module _ (is : List Instr) where
       go none m k = m
       go (to v w) m k = k v (min d w) m
 
-  lastUp : (g f t d u e : ℕ) → f ≤ g → last is f t d ≡ to u e → last is g t d ≡ to u e
+  pub lastUp : (g f t d u e : ℕ) → f ≤ g → last is f t d ≡ to u e → last is g t d ≡ to u e
   lastUp zero f t d u e l h = let q : f ≡ 0 = omega arith in subst (λ x. last is x t d ≡ to u e) q h
   lastUp (suc g) f t d u e l h = go (decLe f g) (λ k. lastUp g f t d u e k h)
     where

@@ -6,13 +6,11 @@ use lib.ListN.{length}
 use lib.Dec.{eqb}
 use Rattle.route_completion.specs.Sem.{pick, elem}
 use Rattle.code_flat.specs.Machine.{Instr, NONE, LIST, LEAVE, ASK, SELECT, OPEN, END, CASE, isZero}
+use Rattle.code_shorten.specs.declared.Aim.{Aim}
+use Rattle.code_shorten.specs.declared.Aim.the-variants.{Nowhere as none, To as to}
 use Rattle.code_valid.specs.Instrs.{len, flat, parse, find, leads}
 
--- A place at a depth; or none.
-pub data Aim : Type 0 where
-  none : Aim
-  to : ℕ → ℕ → Aim
-
+-- Where a jump goes, to a place at a depth; none where there is no jump.
 abbrev pub aimOf : Instr → Aim
 aimOf NONE = none
 aimOf (LIST n) = none

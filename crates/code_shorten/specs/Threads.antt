@@ -11,7 +11,9 @@ use Rattle.code_flat.specs.Machine.{Instr, NONE, LIST, LEAVE, ASK, SELECT, OPEN
 use Rattle.code_flat.specs.Runs.{isNone}
 use Rattle.code_flat.specs.Forward.{run}
 use Rattle.code_valid.specs.Instrs.{len, flat, find, names, runsOn}
-use Rattle.code_shorten.specs.Short.{Aim, none, to, aimOf, hop, further, last, aimed, thread, threaded}
+use Rattle.code_shorten.specs.declared.Aim.{Aim}
+use Rattle.code_shorten.specs.declared.Aim.the-variants.{Nowhere as none, To as to}
+use Rattle.code_shorten.specs.Short.{aimOf, hop, further, last, aimed, thread, threaded}
 use Rattle.code_shorten.specs.Longer.{threadLength}
 use Rattle.code_shorten.specs.Reads.{fetched}
 use Rattle.code_shorten.specs.Unwinds.{Way, Ahead}

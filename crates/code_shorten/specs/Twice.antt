@@ -10,7 +10,9 @@ use Rattle.code_flat.specs.Machine.{Instr, NONE, LIST, LEAVE, ASK, SELECT, OPEN
 use Rattle.code_flat.specs.Runs.{isNone}
 use Rattle.code_valid.specs.Instrs.{len, flat, parse, find, begins, names, runsOn}
 use Rattle.code_valid.specs.Valid.{isLast, Valid}
-use Rattle.code_shorten.specs.Short.{Aim, none, to, aimOf, hop, further, last, aimed, thread, threaded, reached, moved, relocate, kept, closeUp, closedUp, shorter}
+use Rattle.code_shorten.specs.declared.Aim.{Aim}
+use Rattle.code_shorten.specs.declared.Aim.the-variants.{Nowhere as none, To as to}
+use Rattle.code_shorten.specs.Short.{aimOf, hop, further, last, aimed, thread, threaded, reached, moved, relocate, kept, closeUp, closedUp, shorter}
 use Rattle.code_shorten.specs.Sound.{Some, Begin, All, Sound, decEq, lenPos, findHere, findThere, findLow, findBegin, noneIn, validSound}
 use Rattle.code_shorten.specs.Threads.{threadedFind, threadedSound, aimAll, hopSome}
 use Rattle.code_shorten.specs.Closes.{In, afterIn, movedHere, movedThere, zeros}

@@ -12,7 +12,8 @@ use native.Mathlib.Omega.{arith}
 use native.Mathlib.Decide.{decLe}
 use Rattle.route_completion.specs.Sem.{pick}
 use Rattle.code_flat.specs.Machine.{fetch, Frame, open′, pend, Pos, pos, isZero, unwind}
-use Rattle.code_shorten.specs.Short.{to, aimOf}
+use Rattle.code_shorten.specs.declared.Aim.the-variants.{To as to}
+use Rattle.code_shorten.specs.Short.{aimOf}
 
 -- From t at the depth d, n jumps lead to u, with the depth e as the least.
 abbrev pub Way : List ℕ → ℕ → ℕ → ℕ → ℕ → ℕ → Type 0
