@@ -17,7 +17,7 @@ pub enum Verdict {
 }
 
 // How many numbers the instruction takes that begins with this one; 0 where none does.
-fn width(first: u32) -> usize
+pub fn width(first: u32) -> usize
     ensures { λ r. ⌜ ((a b c : ℕ) → r ≡ len (decode first a b c)) ⌝ }
 {
     match first {
