@@ -6,70 +6,52 @@ use Prim.Native.Nat.{_+_}
 use borrow.Author.Needs.{needs}
 use Rattle.code_shorten.proofs.hop.Statement.{statement}
 use Rattle.code_shorten.proofs.hop.Tie as tie
-use Rattle.code_shorten.proofs.hop.Reads as reads
-use Rattle.code_shorten.proofs.hop.Lts as lts
-use Rattle.code_shorten.proofs.wide.Reads as wide-reads
-use Rattle.code_shorten.proofs.word.Reads as word-reads
 
--- src/lib.rt:39:9
 returns : tie.Need-returns
 returns c = sym (hopZero (c .before .before .args .code .now) (c .before .before .args .t) (c .if1 .taken))
 
--- src/lib.rt:41:9
 wide-requires : tie.Need-wide-requires
 wide-requires c κs = search needs
 
--- src/lib.rt:42:11
 word-requires : tie.Need-word-requires
 word-requires c κs = search needs
 
--- src/lib.rt:43:60
 add-word : tie.Need-add-word
 add-word c = search needs
 
--- src/lib.rt:43:49
 word-requires-2 : tie.Need-word-requires-2
 word-requires-2 c κs = search needs
 
--- src/lib.rt:43:79
 add-word-2 : tie.Need-add-word-2
 add-word-2 c = search needs
 
--- src/lib.rt:43:68
 word-requires-3 : tie.Need-word-requires-3
 word-requires-3 c κs = search needs
 
--- src/lib.rt:44:59
 add-word-3 : tie.Need-add-word-3
 add-word-3 c = search needs
 
--- src/lib.rt:44:48
 word-requires-4 : tie.Need-word-requires-4
 word-requires-4 c κs = search needs
 
--- src/lib.rt:44:78
 add-word-4 : tie.Need-add-word-4
 add-word-4 c = search needs
 
--- src/lib.rt:44:67
 word-requires-5 : tie.Need-word-requires-5
 word-requires-5 c κs = search needs
 
--- src/lib.rt:35:1
 returns-2 : tie.Need-returns-2
 returns-2 c =
     let C = c .before .before .before .before .before .before .before .args .code .now in
     (λ j. To ((c .before .word2 .ensures ∙ ap (λ k. getD C (k + 1) 0) (c .before .before .before .before .wide .ensures)) j) ((c .word3 .ensures ∙ ap (λ k. getD C (k + 2) 0) (c .before .before .before .before .wide .ensures)) j))
     ∙ sym (hopLeave C (c .before .before .before .before .before .before .before .args .t) (c .before .before .before .before .before .if1 .left) (ap (λ k. getD C k 0) (sym (c .before .before .before .before .wide .ensures)) ∙ sym (c .before .before .before .word .ensures) ∙ c .before .before .match .keys1))
 
--- src/lib.rt:35:1
 returns-3 : tie.Need-returns-3
 returns-3 c =
     let C = c .before .before .before .before .before .before .before .args .code .now in
     (λ j. To ((c .before .word4 .ensures ∙ ap (λ k. getD C (k + 2) 0) (c .before .before .before .before .wide .ensures)) j) ((c .word5 .ensures ∙ ap (λ k. getD C (k + 3) 0) (c .before .before .before .before .wide .ensures)) j))
     ∙ sym (hopCase C (c .before .before .before .before .before .before .before .args .t) (c .before .before .before .before .before .if1 .left) (ap (λ k. getD C k 0) (sym (c .before .before .before .before .wide .ensures)) ∙ sym (c .before .before .before .word .ensures) ∙ c .before .before .match .keys2))
 
--- src/lib.rt:35:1
 returns-4 : tie.Need-returns-4
 returns-4 c =
     let C = c .before .before .before .before .before .args .code .now in

@@ -7,10 +7,6 @@ use Prim.Native.Nat.{_+_, _-_, min}
 use borrow.Author.Needs.{needs}
 use Rattle.code_shorten.proofs.last_target.Statement.{statement}
 use Rattle.code_shorten.proofs.last_target.Tie as tie
-use Rattle.code_shorten.proofs.last_target.Reads as reads
-use Rattle.code_shorten.proofs.last_target.Lts as lts
-use Rattle.code_shorten.proofs.hop.Reads as hop-reads
-use Rattle.code_shorten.proofs.least.Reads as least-reads
 
 abbrev Inv-loop : tie.InvT-loop
 Inv-loop code t d place₀ depth₀ left₀ place depth left = lastAt code (left + 1) place depth ≡ lastAt code (length code + 1) t d
@@ -18,27 +14,21 @@ Inv-loop code t d place₀ depth₀ left₀ place depth left = lastAt code (left
 abbrev μ-loop : tie.MeasureT-loop
 μ-loop code t d place₀ depth₀ left₀ place depth left = left
 
--- src/lib.rt:65:5
 loop-holds : tie.Need-loop-holds Inv-loop μ-loop
 loop-holds c = refl
 
--- src/lib.rt:66:13
 hop-requires : tie.Need-hop-requires Inv-loop μ-loop
 hop-requires c κs = search needs
 
--- src/lib.rt:67:21
 enum-known-next : tie.Need-enum-known-next Inv-loop μ-loop
 enum-known-next c = search needs
 
--- src/lib.rt:68:13
 enum-told : tie.Need-enum-told Inv-loop μ-loop
 enum-told c = search needs
 
--- src/lib.rt:68:13
 returns : tie.Need-returns Inv-loop μ-loop
 returns c = sym (lastEnd (c .before .before .before .before .before .args .code .now) (c .before .before .before .loop .left) (c .before .before .before .loop .place) (c .before .before .before .loop .depth) (sym (c .before .before .hop .ensures) ∙ c .enum-told .given .1)) ∙ c .before .before .before .loop .inv
 
--- src/lib.rt:71:13
 returns-2 : tie.Need-returns-2 Inv-loop μ-loop
 returns-2 c =
     let C = c .before .before .before .before .before .before .before .args .code .now in
@@ -46,19 +36,15 @@ returns-2 c =
     let e = c .before .before .next .given .0 .1 .0 in
     sym (lastOn C (c .before .before .before .before .before .loop .left) (c .before .before .before .before .before .loop .place) (c .before .before .before .before .before .loop .depth) u e (sym (c .before .before .before .before .hop .ensures) ∙ c .before .before .next .given .1) ∙ lastOut C (c .before .before .before .before .before .loop .left) u (min (c .before .before .before .before .before .loop .depth) e) (c .if1 .taken)) ∙ c .before .before .before .before .before .loop .inv
 
--- src/lib.rt:74:9
 least-requires : tie.Need-least-requires Inv-loop μ-loop
 least-requires c κs = search needs
 
--- src/lib.rt:75:9
 sub-left : tie.Need-sub-left Inv-loop μ-loop
 sub-left c = search needs
 
--- src/lib.rt:65:5
 loop-less : tie.Need-loop-less Inv-loop μ-loop
 loop-less c = search needs
 
--- src/lib.rt:65:5
 loop-again : tie.Need-loop-again Inv-loop μ-loop
 loop-again c =
     let C = c .before .before .before .before .before .before .before .before .args .code .now in

@@ -8,28 +8,19 @@ use Prim.Native.Nat.{_-_}
 use borrow.Author.Needs.{needs}
 use Rattle.code_shorten.proofs.length_at.Statement.{statement}
 use Rattle.code_shorten.proofs.length_at.Tie as tie
-use Rattle.code_shorten.proofs.length_at.Reads as reads
-use Rattle.code_shorten.proofs.length_at.Lts as lts
-use Rattle.code_shorten.proofs.word.Reads as word-reads
-use Rattle.code_valid.proofs.width.Reads as width-reads
 
--- src/lib.rt:201:9
 word-requires : tie.Need-word-requires
 word-requires c κs = search needs
 
--- src/lib.rt:203:9
 width-requires : tie.Need-width-requires
 width-requires c κs = search needs
 
--- src/lib.rt:203:9
 returns : tie.Need-returns
 returns c = λ x y z. c .width .ensures x y z ∙ ap (λ k. len (decode k x y z)) (c .before .before .word .ensures ∙ sym (plainLow (getD (c .before .before .before .before .args .code .now) (c .before .before .before .before .args .p) 0) (omega (arith, c .before .before .word .ensures))))
 
--- src/lib.rt:205:5
 width-requires-2 : tie.Need-width-requires-2
 width-requires-2 c κs = search needs
 
--- src/lib.rt:198:1
 returns-2 : tie.Need-returns-2
 returns-2 c = λ x y z. c .width2 .ensures x y z ∙ ap (λ k. len (decode k x y z)) (ap (λ v. v - 8) (c .before .before .word .ensures) ∙ sym (plainHigh (getD (c .before .before .before .before .args .code .now) (c .before .before .before .before .args .p) 0) (omega (arith, c .before .before .word .ensures))))
 

@@ -5,28 +5,19 @@ use mathlib.Core.Bool.{_||_}
 use borrow.Author.Needs.{needs}
 use Rattle.code_shorten.proofs.mark_both.Statement.{statement}
 use Rattle.code_shorten.proofs.mark_both.Tie as tie
-use Rattle.code_shorten.proofs.mark_both.Reads as reads
-use Rattle.code_shorten.proofs.mark_both.Lts as lts
-use Rattle.code_shorten.proofs.either.Reads as either-reads
-use Rattle.code_shorten.proofs.mark.Reads as mark-reads
 
--- src/lib.rt:168:9
 mark-requires : tie.Need-mark-requires
 mark-requires c κs = search needs
 
--- src/lib.rt:169:9
 mark-requires-2 : tie.Need-mark-requires-2
 mark-requires-2 c κs = search needs
 
--- src/lib.rt:170:5
 either-requires : tie.Need-either-requires
 either-requires c κs = search needs
 
--- src/lib.rt:164:1
 same-length : tie.Need-same-length
 same-length c = search needs
 
--- src/lib.rt:164:1
 returns : tie.Need-returns
 returns c =
     let C = c .before .before .before .before .before .before .before .before .before .before .args .code .now in (

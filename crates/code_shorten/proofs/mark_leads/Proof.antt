@@ -9,167 +9,127 @@ use Prim.Native.Nat.{_+_, _-_, _≤_, _<_}
 use borrow.Author.Needs.{needs}
 use Rattle.code_shorten.proofs.mark_leads.Statement.{statement}
 use Rattle.code_shorten.proofs.mark_leads.Tie as tie
-use Rattle.code_shorten.proofs.mark_leads.Reads as reads
-use Rattle.code_shorten.proofs.mark_leads.Lts as lts
-use Rattle.code_shorten.proofs.mark.Reads as mark-reads
-use Rattle.code_shorten.proofs.mark_both.Reads as mark-both-reads
-use Rattle.code_shorten.proofs.wide.Reads as wide-reads
-use Rattle.code_shorten.proofs.word.Reads as word-reads
 
--- src/lib.rt:179:9
 word-requires : tie.Need-word-requires
 word-requires c κs = search needs
 
--- src/lib.rt:181:9
 same-length : tie.Need-same-length
 same-length c = search needs
 
--- src/lib.rt:181:9
 returns : tie.Need-returns
 returns c =
     let C = c .before .before .before .before .args .code .now in
     let e : leadsAt C (c .before .before .before .before .args .p) ≡ [] = leadsLow C (c .before .before .before .before .args .p) (omega (arith, c .before .word .ensures)) in
     (noMarks C .0 ∙ ap (newsAt C) (sym e), noMarks C .1 ∙ ap (marksAt C) (sym e))
 
--- src/lib.rt:183:29
 add-word : tie.Need-add-word
 add-word c = search needs
 
--- src/lib.rt:183:18
 word-requires-2 : tie.Need-word-requires-2
 word-requires-2 c κs = search needs
 
--- src/lib.rt:183:9
 wide-requires : tie.Need-wide-requires
 wide-requires c κs = search needs
 
--- src/lib.rt:184:29
 add-word-2 : tie.Need-add-word-2
 add-word-2 c = search needs
 
--- src/lib.rt:184:18
 word-requires-3 : tie.Need-word-requires-3
 word-requires-3 c κs = search needs
 
--- src/lib.rt:184:9
 wide-requires-2 : tie.Need-wide-requires-2
 wide-requires-2 c κs = search needs
 
--- src/lib.rt:185:29
 add-word-3 : tie.Need-add-word-3
 add-word-3 c = search needs
 
--- src/lib.rt:185:18
 word-requires-4 : tie.Need-word-requires-4
 word-requires-4 c κs = search needs
 
--- src/lib.rt:185:9
 wide-requires-3 : tie.Need-wide-requires-3
 wide-requires-3 c κs = search needs
 
--- src/lib.rt:187:51
 add-mark : tie.Need-add-mark
 add-mark c = search needs
 
--- src/lib.rt:187:40
 mark-requires : tie.Need-mark-requires
 mark-requires c κs = search needs
 
--- src/lib.rt:188:41
 mark-requires-2 : tie.Need-mark-requires-2
 mark-requires-2 c κs = search needs
 
--- src/lib.rt:189:39
 mark-both-requires : tie.Need-mark-both-requires
 mark-both-requires c κs = search needs
 
--- src/lib.rt:190:42
 mark-both-requires-2 : tie.Need-mark-both-requires-2
 mark-both-requires-2 c κs = search needs
 
--- src/lib.rt:191:56
 add-mark-both : tie.Need-add-mark-both
 add-mark-both c = search needs
 
--- src/lib.rt:191:40
 mark-both-requires-3 : tie.Need-mark-both-requires-3
 mark-both-requires-3 c κs = search needs
 
--- src/lib.rt:192:40
 mark-both-requires-4 : tie.Need-mark-both-requires-4
 mark-both-requires-4 c κs = search needs
 
--- src/lib.rt:174:1
 same-length-2 : tie.Need-same-length-2
 same-length-2 c = search needs
 
--- src/lib.rt:174:1
 returns-2 : tie.Need-returns-2
 returns-2 c =
     let C = c .before .before .before .before .before .before .before .before .before .before .before .before .before .before .before .before .before .before .args .code .now in
     let e : leadsAt C (c .before .before .before .before .before .before .before .before .before .before .before .before .before .before .before .before .before .before .args .p) ≡ (c .before .before .before .before .before .before .before .before .before .before .before .before .before .before .before .before .before .before .args .p + 2) ∷ [] = leadsBy C (c .before .before .before .before .before .before .before .before .before .before .before .before .before .before .before .before .before .before .args .p) (omega (arith, c .before .before .before .before .before .before .before .before .before .before .before .before .before .before .before .word .ensures)) op.List (ap (λ y. y - 8) (sym (c .before .before .before .before .before .before .before .before .before .before .before .before .before .before .before .word .ensures)) ∙ c .before .before .before .before .match .keys1) in
     (c .before .before .mark .ensures .0 ∙ sym (newsOne C (c .before .before .before .before .before .before .before .before .before .before .before .before .before .before .before .before .before .before .args .p + 2)) ∙ ap (newsAt C) (sym e), c .before .before .mark .ensures .1 ∙ sym (marksOne C (c .before .before .before .before .before .before .before .before .before .before .before .before .before .before .before .before .before .before .args .p + 2)) ∙ ap (marksAt C) (sym e))
 
--- src/lib.rt:174:1
 same-length-3 : tie.Need-same-length-3
 same-length-3 c = search needs
 
--- src/lib.rt:174:1
 returns-3 : tie.Need-returns-3
 returns-3 c =
     let C = c .before .before .before .before .before .before .before .before .before .before .before .before .before .before .before .before .before .before .args .code .now in
     let e : leadsAt C (c .before .before .before .before .before .before .before .before .before .before .before .before .before .before .before .before .before .before .args .p) ≡ c .before .before .before .before .before .before .before .before .before .before .before .wide .result ∷ [] = leadsBy C (c .before .before .before .before .before .before .before .before .before .before .before .before .before .before .before .before .before .before .args .p) (omega (arith, c .before .before .before .before .before .before .before .before .before .before .before .before .before .before .before .word .ensures)) op.Leave (ap (λ y. y - 8) (sym (c .before .before .before .before .before .before .before .before .before .before .before .before .before .before .before .word .ensures)) ∙ c .before .before .before .before .match .keys2) ∙ ap (λ y. y ∷ []) (sym (c .before .before .before .before .before .before .before .before .before .before .before .wide .ensures ∙ c .before .before .before .before .before .before .before .before .before .before .before .before .word2 .ensures)) in
     (c .before .before .mark2 .ensures .0 ∙ sym (newsOne C (c .before .before .before .before .before .before .before .before .before .before .before .wide .result)) ∙ ap (newsAt C) (sym e), c .before .before .mark2 .ensures .1 ∙ sym (marksOne C (c .before .before .before .before .before .before .before .before .before .before .before .wide .result)) ∙ ap (marksAt C) (sym e))
 
--- src/lib.rt:174:1
 same-length-4 : tie.Need-same-length-4
 same-length-4 c = search needs
 
--- src/lib.rt:174:1
 returns-4 : tie.Need-returns-4
 returns-4 c =
     let C = c .before .before .before .before .before .before .before .before .before .before .before .before .before .before .before .before .before .before .args .code .now in
     let e : leadsAt C (c .before .before .before .before .before .before .before .before .before .before .before .before .before .before .before .before .before .before .args .p) ≡ c .before .before .before .before .before .before .before .before .wide2 .result ∷ c .before .before .before .before .before .wide3 .result ∷ [] = leadsBy C (c .before .before .before .before .before .before .before .before .before .before .before .before .before .before .before .before .before .before .args .p) (omega (arith, c .before .before .before .before .before .before .before .before .before .before .before .before .before .before .before .word .ensures)) op.Ask (ap (λ y. y - 8) (sym (c .before .before .before .before .before .before .before .before .before .before .before .before .before .before .before .word .ensures)) ∙ c .before .before .before .before .match .keys3) ∙ (λ j. (sym (c .before .before .before .before .before .before .before .before .wide2 .ensures ∙ c .before .before .before .before .before .before .before .before .before .word3 .ensures)) j ∷ (sym (c .before .before .before .before .before .wide3 .ensures ∙ c .before .before .before .before .before .before .word4 .ensures)) j ∷ []) in
     (c .before .before .mark-both .ensures .0 ∙ ap (newsAt C) (sym e), c .before .before .mark-both .ensures .1 ∙ ap (marksAt C) (sym e))
 
--- src/lib.rt:174:1
 same-length-5 : tie.Need-same-length-5
 same-length-5 c = search needs
 
--- src/lib.rt:174:1
 returns-5 : tie.Need-returns-5
 returns-5 c =
     let C = c .before .before .before .before .before .before .before .before .before .before .before .before .before .before .before .before .before .before .args .code .now in
     let e : leadsAt C (c .before .before .before .before .before .before .before .before .before .before .before .before .before .before .before .before .before .before .args .p) ≡ c .before .before .before .before .before .before .before .before .wide2 .result ∷ c .before .before .before .before .before .wide3 .result ∷ [] = leadsBy C (c .before .before .before .before .before .before .before .before .before .before .before .before .before .before .before .before .before .before .args .p) (omega (arith, c .before .before .before .before .before .before .before .before .before .before .before .before .before .before .before .word .ensures)) op.Select (ap (λ y. y - 8) (sym (c .before .before .before .before .before .before .before .before .before .before .before .before .before .before .before .word .ensures)) ∙ c .before .before .before .before .match .keys4) ∙ (λ j. (sym (c .before .before .before .before .before .before .before .before .wide2 .ensures ∙ c .before .before .before .before .before .before .before .before .before .word3 .ensures)) j ∷ (sym (c .before .before .before .before .before .wide3 .ensures ∙ c .before .before .before .before .before .before .word4 .ensures)) j ∷ []) in
     (c .before .before .mark-both2 .ensures .0 ∙ ap (newsAt C) (sym e), c .before .before .mark-both2 .ensures .1 ∙ ap (marksAt C) (sym e))
 
--- src/lib.rt:174:1
 same-length-6 : tie.Need-same-length-6
 same-length-6 c = search needs
 
--- src/lib.rt:174:1
 returns-6 : tie.Need-returns-6
 returns-6 c =
     let C = c .before .before .before .before .before .before .before .before .before .before .before .before .before .before .before .before .before .before .args .code .now in
     let e : leadsAt C (c .before .before .before .before .before .before .before .before .before .before .before .before .before .before .before .before .before .before .args .p) ≡ (c .before .before .before .before .before .before .before .before .before .before .before .before .before .before .before .before .before .before .args .p + 2) ∷ c .before .before .before .before .before .before .before .before .before .before .before .wide .result ∷ [] = leadsBy C (c .before .before .before .before .before .before .before .before .before .before .before .before .before .before .before .before .before .before .args .p) (omega (arith, c .before .before .before .before .before .before .before .before .before .before .before .before .before .before .before .word .ensures)) op.Open (ap (λ y. y - 8) (sym (c .before .before .before .before .before .before .before .before .before .before .before .before .before .before .before .word .ensures)) ∙ c .before .before .before .before .match .keys5) ∙ ap (λ y. (c .before .before .before .before .before .before .before .before .before .before .before .before .before .before .before .before .before .before .args .p + 2) ∷ y ∷ []) (sym (c .before .before .before .before .before .before .before .before .before .before .before .wide .ensures ∙ c .before .before .before .before .before .before .before .before .before .before .before .before .word2 .ensures)) in
     (c .before .before .mark-both3 .ensures .0 ∙ ap (newsAt C) (sym e), c .before .before .mark-both3 .ensures .1 ∙ ap (marksAt C) (sym e))
 
--- src/lib.rt:174:1
 same-length-7 : tie.Need-same-length-7
 same-length-7 c = search needs
 
--- src/lib.rt:174:1
 returns-7 : tie.Need-returns-7
 returns-7 c =
     let C = c .before .before .before .before .before .before .before .before .before .before .before .before .before .before .before .before .before .before .args .code .now in
     let e : leadsAt C (c .before .before .before .before .before .before .before .before .before .before .before .before .before .before .before .before .before .before .args .p) ≡ c .before .before .before .before .before .before .before .before .before .before .before .wide .result ∷ c .before .before .before .before .before .before .before .before .wide2 .result ∷ [] = leadsBy C (c .before .before .before .before .before .before .before .before .before .before .before .before .before .before .before .before .before .before .args .p) (omega (arith, c .before .before .before .before .before .before .before .before .before .before .before .before .before .before .before .word .ensures)) op.Case (ap (λ y. y - 8) (sym (c .before .before .before .before .before .before .before .before .before .before .before .before .before .before .before .word .ensures)) ∙ c .before .before .before .before .match .keys6) ∙ (λ j. (sym (c .before .before .before .before .before .before .before .before .before .before .before .wide .ensures ∙ c .before .before .before .before .before .before .before .before .before .before .before .before .word2 .ensures)) j ∷ (sym (c .before .before .before .before .before .before .before .before .wide2 .ensures ∙ c .before .before .before .before .before .before .before .before .before .word3 .ensures)) j ∷ []) in
     (c .before .before .mark-both4 .ensures .0 ∙ ap (newsAt C) (sym e), c .before .before .mark-both4 .ensures .1 ∙ ap (marksAt C) (sym e))
 
--- src/lib.rt:174:1
 same-length-8 : tie.Need-same-length-8
 same-length-8 c = search needs
 
--- src/lib.rt:174:1
 returns-8 : tie.Need-returns-8
 returns-8 c =
     let C = c .before .before .before .before .before .before .before .before .before .before .before .before .before .before .args .code .now in

@@ -4,24 +4,16 @@ use mathlib.Core.Path.{sym, _∙_, ap, subst}
 use borrow.Author.Needs.{needs}
 use Rattle.code_shorten.proofs.mark_reached.Statement.{statement}
 use Rattle.code_shorten.proofs.mark_reached.Tie as tie
-use Rattle.code_shorten.proofs.mark_reached.Reads as reads
-use Rattle.code_shorten.proofs.mark_reached.Lts as lts
-use Rattle.code_shorten.proofs.mark.Reads as mark-reads
-use Rattle.code_shorten.proofs.mark_rest.Reads as mark-rest-reads
 
--- src/lib.rt:241:5
 mark-requires : tie.Need-mark-requires
 mark-requires c κs = search needs
 
--- src/lib.rt:242:5
 mark-rest-requires : tie.Need-mark-rest-requires
 mark-rest-requires c κs = search needs
 
--- src/lib.rt:238:1
 same-length : tie.Need-same-length
 same-length c = search needs
 
--- src/lib.rt:238:1
 returns : tie.Need-returns
 returns c = λ is s e. c .before .before .mark-rest .ensures is s (subst (Started is) (sym (c .before .before .before .before .before .before .mark .ensures .1 ∙ ap (λ l. markedAt l 0) (sym e))) (startedFirst is s))
 

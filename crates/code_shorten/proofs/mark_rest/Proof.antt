@@ -10,9 +10,6 @@ use Prim.Native.Nat.{_+_}
 use borrow.Author.Needs.{needs}
 use Rattle.code_shorten.proofs.mark_rest.Statement.{statement}
 use Rattle.code_shorten.proofs.mark_rest.Tie as tie
-use Rattle.code_shorten.proofs.mark_rest.Reads as reads
-use Rattle.code_shorten.proofs.mark_rest.Lts as lts
-use Rattle.code_shorten.proofs.round.Reads as round-reads
 
 abbrev Inv-loop : tie.InvT-loop
 Inv-loop code₀ again₀ code again = (length code ≡ length code₀) × ((is : List Instr) → Sound is → Started is code₀ → Marks is code again)
@@ -20,27 +17,21 @@ Inv-loop code₀ again₀ code again = (length code ≡ length code₀) × ((is 
 abbrev μ-loop : tie.MeasureT-loop
 μ-loop code₀ again₀ code again = low code + bit again
 
--- src/lib.rt:232:5
 loop-holds : tie.Need-loop-holds Inv-loop μ-loop
 loop-holds c = (refl, λ is s h. marksFirst is (c .before .args .code .now) h)
 
--- src/lib.rt:233:9
 round-requires : tie.Need-round-requires Inv-loop μ-loop
 round-requires c κs = search needs
 
--- src/lib.rt:232:5
 loop-less : tie.Need-loop-less Inv-loop μ-loop
 loop-less c = omega (arith, c .before .before .round .ensures .1, ap bit (c .before .before .before .before .loop-test .taken))
 
--- src/lib.rt:232:5
 loop-again : tie.Need-loop-again Inv-loop μ-loop
 loop-again c = (search needs, λ is s h. marksNext is s (c .before .before .before .before .before .loop .code) _ (c .before .before .round .result) (c .before .before .before .before .before .loop .inv .1 is s h .started) (c .before .before .round .ensures .0 is s))
 
--- src/lib.rt:228:1
 same-length : tie.Need-same-length Inv-loop μ-loop
 same-length c = c .before .loop .inv .0
 
--- src/lib.rt:228:1
 returns : tie.Need-returns Inv-loop μ-loop
 returns c = λ is s h. c .before .loop .inv .1 is s h .shut (c .loop-test .left)
 

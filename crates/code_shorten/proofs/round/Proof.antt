@@ -11,11 +11,6 @@ use Prim.Native.Nat.{ℕ, _+_, _-_, _≤_}
 use borrow.Author.Needs.{needs}
 use Rattle.code_shorten.proofs.round.Statement.{statement}
 use Rattle.code_shorten.proofs.round.Tie as tie
-use Rattle.code_shorten.proofs.round.Reads as reads
-use Rattle.code_shorten.proofs.round.Lts as lts
-use Rattle.code_shorten.proofs.either.Reads as either-reads
-use Rattle.code_shorten.proofs.length_at.Reads as length-at-reads
-use Rattle.code_shorten.proofs.mark_leads.Reads as mark-leads-reads
 
 abbrev Inv-loop : tie.InvT-loop
 Inv-loop code₀ p₀ news₀ code p news = (length code ≡ length code₀) × ((low code + bit news ≤ low code₀) × ((is : List Instr) (s : Sound is) (S : List ℕ) → Inked is S code₀ → Going is s S code p news))
@@ -23,19 +18,15 @@ Inv-loop code₀ p₀ news₀ code p news = (length code ≡ length code₀) × 
 abbrev μ-loop : tie.MeasureT-loop
 μ-loop code₀ p₀ news₀ code p news = length code₀ - p
 
--- src/lib.rt:215:5
 loop-holds : tie.Need-loop-holds Inv-loop μ-loop
 loop-holds c = (refl, (omega arith, λ is s S k. goingFirst is s S (c .before .args .code .now) k))
 
--- src/lib.rt:216:13
 length-at-requires : tie.Need-length-at-requires Inv-loop μ-loop
 length-at-requires c κs = search needs
 
--- src/lib.rt:218:13
 same-length : tie.Need-same-length Inv-loop μ-loop
 same-length c = c .before .before .before .before .loop .inv .0
 
--- src/lib.rt:218:13
 returns : tie.Need-returns Inv-loop μ-loop
 returns c = (
   (λ is s S k.
@@ -44,23 +35,18 @@ returns c = (
   c .before .before .before .before .loop .inv .1 .0,
 )
 
--- src/lib.rt:220:13
 mark-leads-requires : tie.Need-mark-leads-requires Inv-loop μ-loop
 mark-leads-requires c κs = search needs
 
--- src/lib.rt:221:9
 either-requires : tie.Need-either-requires Inv-loop μ-loop
 either-requires c κs = search needs
 
--- src/lib.rt:222:9
 add-p : tie.Need-add-p Inv-loop μ-loop
 add-p c = omega (arith, c .before .before .before .before .before .before .length-at .ensures 0 0 0, lenMost (decode (plain (getD (c .before .before .before .before .before .before .before .before .before .loop .code) (c .before .before .before .before .before .before .before .before .before .loop .p) 0)) 0 0 0))
 
--- src/lib.rt:215:5
 loop-less : tie.Need-loop-less Inv-loop μ-loop
 loop-less c = omega arith
 
--- src/lib.rt:215:5
 loop-again : tie.Need-loop-again Inv-loop μ-loop
 loop-again c = (
   search needs,
@@ -75,11 +61,9 @@ loop-again c = (
   ),
 )
 
--- src/lib.rt:209:1
 same-length-2 : tie.Need-same-length-2 Inv-loop μ-loop
 same-length-2 c = c .before .loop .inv .0
 
--- src/lib.rt:209:1
 returns-2 : tie.Need-returns-2 Inv-loop μ-loop
 returns-2 c = ((λ is s S k. goingEnd is s S (c .before .loop .code) (c .before .loop .p) (c .before .loop .news) (c .before .loop .inv .1 .1 is s S k) (omega arith)), c .before .loop .inv .1 .0)
 

@@ -10,10 +10,6 @@ use Prim.Native.Nat.{_+_, _-_}
 use borrow.Author.Needs.{needs}
 use Rattle.code_shorten.proofs.thread.Statement.{statement}
 use Rattle.code_shorten.proofs.thread.Tie as tie
-use Rattle.code_shorten.proofs.thread.Reads as reads
-use Rattle.code_shorten.proofs.thread.Lts as lts
-use Rattle.code_shorten.proofs.thread_at.Reads as thread-at-reads
-use Rattle.code_valid.proofs.size_at.Reads as size-at-reads
 
 abbrev Inv-loop : tie.InvT-loop
 Inv-loop code₀ p₀ code p = (length code ≡ length code₀) × Threading (parse code₀) code p
@@ -21,29 +17,23 @@ Inv-loop code₀ p₀ code p = (length code ≡ length code₀) × Threading (pa
 abbrev μ-loop : tie.MeasureT-loop
 μ-loop code₀ p₀ code p = length code₀ - p
 
--- src/lib.rt:124:5
 loop-holds : tie.Need-loop-holds Inv-loop μ-loop
 loop-holds c = (refl, threadingFirst (c .before .args .code .now) (c .before .pre))
 
--- src/lib.rt:125:13
 size-at-requires : tie.Need-size-at-requires Inv-loop μ-loop
 size-at-requires c κs = search needs
 
--- src/lib.rt:126:9
 thread-at-requires : tie.Need-thread-at-requires Inv-loop μ-loop
 thread-at-requires c κs = threadingSome (parse (c .before .before .before .before .before .before .args .code .now)) (validSound (c .before .before .before .before .before .before .args .code .now) (c .before .before .before .before .before .before .pre)) (c .before .before .before .before .loop .code) (c .before .before .before .before .loop .p) (c .before .before .before .before .loop .inv .1) (omega arith)
 
--- src/lib.rt:127:9
 add-p : tie.Need-add-p Inv-loop μ-loop
 add-p c = omega arith
 
--- src/lib.rt:124:5
 loop-less : tie.Need-loop-less Inv-loop μ-loop
 loop-less c =
     let n : c .before .before .before .before .size-at .result ≢ 0 = λ z. threadingSome (parse (c .before .before .before .before .before .before .before .before .before .args .code .now)) (validSound (c .before .before .before .before .before .before .before .before .before .args .code .now) (c .before .before .before .before .before .before .before .before .before .pre)) (c .before .before .before .before .before .before .before .loop .code) (c .before .before .before .before .before .before .before .loop .p) (c .before .before .before .before .before .before .before .loop .inv .1) (omega arith) (sym (c .before .before .before .before .size-at .ensures .0) ∙ z) in
     omega arith
 
--- src/lib.rt:124:5
 loop-again : tie.Need-loop-again Inv-loop μ-loop
 loop-again c = (
   search needs,
@@ -51,11 +41,9 @@ loop-again c = (
       (threadingNext (parse (c .before .before .before .before .before .before .before .before .before .args .code .now)) (validSound (c .before .before .before .before .before .before .before .before .before .args .code .now) (c .before .before .before .before .before .before .before .before .before .pre)) (c .before .before .before .before .before .before .before .loop .code) (c .before .before .before .before .before .before .before .loop .p) (c .before .before .before .before .before .before .before .loop .inv .1) (omega arith))),
 )
 
--- src/lib.rt:119:1
 same-length : tie.Need-same-length Inv-loop μ-loop
 same-length c = c .before .loop .inv .0
 
--- src/lib.rt:119:1
 returns : tie.Need-returns Inv-loop μ-loop
 returns c = threadingEnd (parse (c .before .before .before .args .code .now)) (validSound (c .before .before .before .args .code .now) (c .before .before .before .pre)) (c .before .loop .code) (c .before .loop .p) (c .before .loop .inv .1) (omega arith)
 

@@ -3,46 +3,34 @@ use mathlib.Core.Path.{sym, ap}
 use borrow.Author.Needs.{needs}
 use Rattle.code_shorten.proofs.write_aim.Statement.{statement}
 use Rattle.code_shorten.proofs.write_aim.Tie as tie
-use Rattle.code_shorten.proofs.write_aim.Reads as reads
-use Rattle.code_shorten.proofs.write_aim.Lts as lts
 
--- src/lib.rt:84:17
 enum-known-aim : tie.Need-enum-known-aim
 enum-known-aim c = search needs
 
--- src/lib.rt:85:9
 enum-told : tie.Need-enum-told
 enum-told c = search needs
 
--- src/lib.rt:85:9
 returns : tie.Need-returns
 returns c = ap (written (c .before .before .args .code .now) (c .before .before .args .q)) (sym (c .enum-told .given .1))
 
--- src/lib.rt:87:5
 mul-code : tie.Need-mul-code
 mul-code c = search needs
 
--- src/lib.rt:87:5
 slice-write-code : tie.Need-slice-write-code
 slice-write-code c = search needs
 
--- src/lib.rt:88:10
 add-code : tie.Need-add-code
 add-code c = search needs
 
--- src/lib.rt:88:5
 mul-code-2 : tie.Need-mul-code-2
 mul-code-2 c = search needs
 
--- src/lib.rt:88:5
 slice-write-code-2 : tie.Need-slice-write-code-2
 slice-write-code-2 c = search needs
 
--- src/lib.rt:80:1
 same-length : tie.Need-same-length
 same-length c = search needs
 
--- src/lib.rt:80:1
 returns-2 : tie.Need-returns-2
 returns-2 c = ap (written (c .before .before .before .args .code .now) (c .before .before .before .args .q)) (sym (c .before .aim .given .1))
 

@@ -4,35 +4,25 @@ use mathlib.Core.Path.{_∙_}
 use borrow.Author.Needs.{needs}
 use Rattle.code_valid.proofs.begins_at.Statement.{statement}
 use Rattle.code_valid.proofs.begins_at.Tie as tie
-use Rattle.code_valid.proofs.begins_at.Reads as reads
-use Rattle.code_valid.proofs.begins_at.Lts as lts
-use Rattle.code_valid.proofs.begins_from.Reads as begins-from-reads
 
--- src/lib.rt:108:13
 div-k : tie.Need-div-k
 div-k c = omega (arith, c .before .before .pre .positive)
 
--- src/lib.rt:110:34
 mul-begins-from : tie.Need-mul-begins-from
 mul-begins-from c = search needs
 
--- src/lib.rt:110:34
 shared-slice-read-begins-from : tie.Need-shared-slice-read-begins-from
 shared-slice-read-begins-from c = search needs
 
--- src/lib.rt:110:9
 begins-from-requires : tie.Need-begins-from-requires
 begins-from-requires c κs = search needs
 
--- src/lib.rt:110:9
 returns : tie.Need-returns
 returns c = c .begins-from .ensures ∙ tableAt (c .before .before .before .before .before .args .code .now) (c .before .before .before .before .before .args .table .now) (c .before .before .before .before .before .args .stride) (c .before .before .before .before .before .args .o) (c .before .before .before .before .before .pre)
 
--- src/lib.rt:112:5
 begins-from-requires-2 : tie.Need-begins-from-requires-2
 begins-from-requires-2 c κs = search needs
 
--- src/lib.rt:104:1
 returns-2 : tie.Need-returns-2
 returns-2 c = c .begins-from2 .ensures
 

@@ -7,9 +7,6 @@ use Prim.Native.Nat.{_-_, _+_}
 use borrow.Author.Needs.{needs}
 use Rattle.code_valid.proofs.begins_from.Statement.{statement}
 use Rattle.code_valid.proofs.begins_from.Tie as tie
-use Rattle.code_valid.proofs.begins_from.Reads as reads
-use Rattle.code_valid.proofs.begins_from.Lts as lts
-use Rattle.code_valid.proofs.size_at.Reads as size-at-reads
 
 abbrev Inv-loop : tie.InvT-loop
 Inv-loop code start to p₀ p = begins (from code p) p to ≡ begins (from code start) start to
@@ -17,42 +14,33 @@ Inv-loop code start to p₀ p = begins (from code p) p to ≡ begins (from code 
 abbrev μ-loop : tie.MeasureT-loop
 μ-loop code start to p₀ p = to - p
 
--- src/lib.rt:55:5
 loop-holds : tie.Need-loop-holds Inv-loop μ-loop
 loop-holds c = refl
 
--- src/lib.rt:56:13
 size-at-requires : tie.Need-size-at-requires Inv-loop μ-loop
 size-at-requires c κs = search needs
 
--- src/lib.rt:58:13
 returns : tie.Need-returns Inv-loop μ-loop
 returns c = sym (searchNone (c .before .before .before .before .before .args .code .now) (c .before .before .before .loop .p) (c .before .before .before .before .before .args .to) (sym (c .before .size-at .ensures .0) ∙ c .if1 .taken)) ∙ c .before .before .before .loop .inv
 
--- src/lib.rt:60:9
 add-p : tie.Need-add-p Inv-loop μ-loop
 add-p c = search needs
 
--- src/lib.rt:55:5
 loop-less : tie.Need-loop-less Inv-loop μ-loop
 loop-less c = search needs
 
--- src/lib.rt:55:5
 loop-again : tie.Need-loop-again Inv-loop μ-loop
 loop-again c =
     let a = c .before .before .before .before .before .args in
     subst (λ w. begins (from (a .code .now) (c .before .before .before .loop .p + w)) (c .before .before .before .loop .p + w) (a .to) ≡ begins (from (a .code .now) (a .start)) (a .start) (a .to)) (sym (c .before .size-at .ensures .0))
     (sym (searchOn (a .code .now) (c .before .before .before .loop .p) (a .to) (λ z. c .if1 .left (c .before .size-at .ensures .0 ∙ z)) (omega arith)) ∙ c .before .before .before .loop .inv)
 
--- src/lib.rt:63:16
 size-at-requires-2 : tie.Need-size-at-requires-2 Inv-loop μ-loop
 size-at-requires-2 c κs = search needs
 
--- src/lib.rt:63:9
 returns-2 : tie.Need-returns-2 Inv-loop μ-loop
 returns-2 c = searchAt (c .before .before .before .before .before .args .code .now) (c .before .before .before .loop .p) (c .before .before .before .before .before .args .to) (c .size-at2 .result) (c .size-at2 .ensures .0) (omega arith) ∙ c .before .before .before .loop .inv
 
--- src/lib.rt:51:1
 returns-3 : tie.Need-returns-3 Inv-loop μ-loop
 returns-3 c = sym (searchPast (c .before .before .before .before .args .code .now) (c .before .before .loop .p) (c .before .before .before .before .args .to) (omega arith)) ∙ c .before .before .loop .inv
 

@@ -3,28 +3,19 @@ use mathlib.Core.Path.{_∙_, ap}
 use borrow.Author.Needs.{needs}
 use Rattle.code_valid.proofs.begins_named.Statement.{statement}
 use Rattle.code_valid.proofs.begins_named.Tie as tie
-use Rattle.code_valid.proofs.begins_named.Reads as reads
-use Rattle.code_valid.proofs.begins_named.Lts as lts
-use Rattle.code_valid.proofs.begins_at.Reads as begins-at-reads
-use Rattle.code_valid.proofs.wide.Reads as wide-reads
 
--- src/lib.rt:127:41
 mul-wide : tie.Need-mul-wide
 mul-wide c = search needs
 
--- src/lib.rt:127:41
 shared-slice-read-wide : tie.Need-shared-slice-read-wide
 shared-slice-read-wide c = search needs
 
--- src/lib.rt:127:36
 wide-requires : tie.Need-wide-requires
 wide-requires c κs = search needs
 
--- src/lib.rt:127:5
 begins-at-requires : tie.Need-begins-at-requires
 begins-at-requires c κs = search needs
 
--- src/lib.rt:122:1
 returns : tie.Need-returns
 returns c = c .begins-at .ensures ∙ ap (λ o. begins (parse (c .before .before .before .before .before .args .code .now)) 0 o) (c .before .wide .ensures)
 

@@ -6,27 +6,19 @@ use Prim.Native.Nat.{_+_}
 use borrow.Author.Needs.{needs}
 use Rattle.code_valid.proofs.both_begin.Statement.{statement}
 use Rattle.code_valid.proofs.both_begin.Tie as tie
-use Rattle.code_valid.proofs.both_begin.Reads as reads
-use Rattle.code_valid.proofs.both_begin.Lts as lts
-use Rattle.code_valid.proofs.begins_named.Reads as begins-named-reads
 
--- src/lib.rt:136:8
 begins-named-requires : tie.Need-begins-named-requires
 begins-named-requires c κs = search needs
 
--- src/lib.rt:137:50
 add-begins-named : tie.Need-add-begins-named
 add-begins-named c = search needs
 
--- src/lib.rt:137:9
 begins-named-requires-2 : tie.Need-begins-named-requires-2
 begins-named-requires-2 c κs = search needs
 
--- src/lib.rt:137:9
 returns : tie.Need-returns
 returns c = c .begins-named2 .ensures ∙ ap (λ b. b && begins (parse (c .before .before .before .before .before .args .code .now)) 0 (getD (c .before .before .before .before .before .args .code .now) (c .before .before .before .before .before .args .i + 1) 0)) (sym (c .before .if1 .taken) ∙ c .before .before .begins-named .ensures)
 
--- src/lib.rt:131:1
 returns-2 : tie.Need-returns-2
 returns-2 c = ap (λ b. b && begins (parse (c .before .before .before .before .args .code .now)) 0 (getD (c .before .before .before .before .args .code .now) (c .before .before .before .before .args .i + 1) 0)) (sym (c .if1 .left) ∙ c .before .begins-named .ensures)
 

@@ -8,10 +8,6 @@ use Prim.Native.Nat.{_+_, _-_}
 use borrow.Author.Needs.{needs}
 use Rattle.code_valid.proofs.fill.Statement.{statement}
 use Rattle.code_valid.proofs.fill.Tie as tie
-use Rattle.code_valid.proofs.fill.Reads as reads
-use Rattle.code_valid.proofs.fill.Lts as lts
-use Rattle.code_valid.proofs.put.Reads as put-reads
-use Rattle.code_valid.proofs.size_at.Reads as size-at-reads
 
 abbrev Inv-loop : tie.InvT-loop
 Inv-loop code table₀ stride p₀ table p = (length table ≡ length table₀) × (Table code table stride × Entry code p)
@@ -19,43 +15,33 @@ Inv-loop code table₀ stride p₀ table p = (length table ≡ length table₀) 
 abbrev μ-loop : tie.MeasureT-loop
 μ-loop code table₀ stride p₀ table p = length code - p
 
--- src/lib.rt:93:5
 loop-holds : tie.Need-loop-holds Inv-loop μ-loop
 loop-holds c = (refl, (c .before .before .pre, entryFirst (c .before .before .args .code .now)))
 
--- src/lib.rt:94:13
 size-at-requires : tie.Need-size-at-requires Inv-loop μ-loop
 size-at-requires c κs = search needs
 
--- src/lib.rt:96:13
 same-length : tie.Need-same-length Inv-loop μ-loop
 same-length c = c .before .before .before .loop .inv .0
 
--- src/lib.rt:96:13
 returns : tie.Need-returns Inv-loop μ-loop
 returns c = c .before .before .before .loop .inv .1 .0
 
--- src/lib.rt:98:20
 div-put : tie.Need-div-put Inv-loop μ-loop
 div-put c = omega (arith, c .before .before .before .before .loop .inv .1 .0 .positive)
 
--- src/lib.rt:98:20
 add-put : tie.Need-add-put Inv-loop μ-loop
 add-put c = omega (arith, div-le-self (c .before .before .before .before .loop .p) (c .before .before .before .before .before .before .before .args .stride))
 
--- src/lib.rt:98:9
 put-requires : tie.Need-put-requires Inv-loop μ-loop
 put-requires c κs = search needs
 
--- src/lib.rt:99:9
 add-p : tie.Need-add-p Inv-loop μ-loop
 add-p c = omega arith
 
--- src/lib.rt:93:5
 loop-less : tie.Need-loop-less Inv-loop μ-loop
 loop-less c = omega arith
 
--- src/lib.rt:93:5
 loop-again : tie.Need-loop-again Inv-loop μ-loop
 loop-again c = (
   search needs,
@@ -65,11 +51,9 @@ loop-again c = (
   ),
 )
 
--- src/lib.rt:88:1
 same-length-2 : tie.Need-same-length-2 Inv-loop μ-loop
 same-length-2 c = c .before .loop .inv .0
 
--- src/lib.rt:88:1
 returns-2 : tie.Need-returns-2 Inv-loop μ-loop
 returns-2 c = c .before .loop .inv .1 .0
 

@@ -11,10 +11,6 @@ use Prim.Native.Nat.{_+_, _-_}
 use borrow.Author.Needs.{needs}
 use Rattle.code_valid.proofs.first_bad.Statement.{statement}
 use Rattle.code_valid.proofs.first_bad.Tie as tie
-use Rattle.code_valid.proofs.first_bad.Reads as reads
-use Rattle.code_valid.proofs.first_bad.Lts as lts
-use Rattle.code_valid.proofs.size_at.Reads as size-at-reads
-use Rattle.code_valid.proofs.sound_at.Reads as sound-at-reads
 
 abbrev Inv-loop : tie.InvT-loop
 Inv-loop code table stride p₀ p = firstBad (parse code) (from code p) p ≡ firstBad (parse code) (parse code) 0
@@ -22,38 +18,30 @@ Inv-loop code table stride p₀ p = firstBad (parse code) (from code p) p ≡ fi
 abbrev μ-loop : tie.MeasureT-loop
 μ-loop code table stride p₀ p = length code - p
 
--- src/lib.rt:191:5
 loop-holds : tie.Need-loop-holds Inv-loop μ-loop
 loop-holds c = refl
 
--- src/lib.rt:192:13
 size-at-requires : tie.Need-size-at-requires Inv-loop μ-loop
 size-at-requires c κs = search needs
 
--- src/lib.rt:194:13
 returns : tie.Need-returns Inv-loop μ-loop
 returns c = sym (badNone (c .before .before .before .before .before .before .args .code .now) (parse (c .before .before .before .before .before .before .args .code .now)) (c .before .before .before .loop .p) (omega arith) (sym (c .before .size-at .ensures .0) ∙ c .if1 .taken)) ∙ c .before .before .before .loop .inv
 
--- src/lib.rt:196:13
 sound-at-requires : tie.Need-sound-at-requires Inv-loop μ-loop
 sound-at-requires c κs = (c .before .before .before .before .before .before .pre, (c .before .size-at .ensures .0, c .if1 .left))
 
--- src/lib.rt:197:13
 returns-2 : tie.Need-returns-2 Inv-loop μ-loop
 returns-2 c =
     let C = c .before .before .before .before .before .before .before .before .args .code .now in
     sym (badHere C (parse C) (c .before .before .before .before .before .loop .p) (λ z. c .before .before .if1 .left (c .before .before .before .size-at .ensures .0 ∙ z))
     (subst (λ w. sound (parse C) (standing C (c .before .before .before .before .before .loop .p)) (from C (c .before .before .before .before .before .loop .p + w)) ≡ false) (c .before .before .before .size-at .ensures .0) (sym (c .before .sound-at .ensures) ∙ not-true (c .before .sound-at .result) (c .if2 .taken)))) ∙ c .before .before .before .before .before .loop .inv
 
--- src/lib.rt:199:9
 add-p : tie.Need-add-p Inv-loop μ-loop
 add-p c = omega arith
 
--- src/lib.rt:191:5
 loop-less : tie.Need-loop-less Inv-loop μ-loop
 loop-less c = omega arith
 
--- src/lib.rt:191:5
 loop-again : tie.Need-loop-again Inv-loop μ-loop
 loop-again c =
     let C = c .before .before .before .before .before .before .before .before .args .code .now in
@@ -61,7 +49,6 @@ loop-again c =
     (sym (badOn C (parse C) (c .before .before .before .before .before .loop .p) (λ z. c .before .before .if1 .left (c .before .before .before .size-at .ensures .0 ∙ z))
     (subst (λ w. sound (parse C) (standing C (c .before .before .before .before .before .loop .p)) (from C (c .before .before .before .before .before .loop .p + w)) ≡ true) (c .before .before .before .size-at .ensures .0) (sym (c .before .sound-at .ensures) ∙ not-false (c .before .sound-at .result) (c .if2 .left)))) ∙ c .before .before .before .before .before .loop .inv)
 
--- src/lib.rt:186:1
 returns-3 : tie.Need-returns-3 Inv-loop μ-loop
 returns-3 c = sym (badEnd (c .before .before .before .before .args .code .now) (parse (c .before .before .before .before .args .code .now)) (c .before .loop .p) (omega arith)) ∙ c .before .loop .inv
 

@@ -4,26 +4,19 @@ use mathlib.Core.Path.{sym}
 use borrow.Author.Needs.{needs}
 use Rattle.code_valid.proofs.put.Statement.{statement}
 use Rattle.code_valid.proofs.put.Tie as tie
-use Rattle.code_valid.proofs.put.Reads as reads
-use Rattle.code_valid.proofs.put.Lts as lts
 
--- src/lib.rt:83:9
 mul-table : tie.Need-mul-table
 mul-table c = search needs
 
--- src/lib.rt:83:9
 slice-write-table : tie.Need-slice-write-table
 slice-write-table c = search needs
 
--- src/lib.rt:79:1
 same-length : tie.Need-same-length
 same-length c = search needs
 
--- src/lib.rt:79:1
 returns : tie.Need-returns
 returns c = search needs
 
--- src/lib.rt:79:1
 returns-2 : tie.Need-returns-2
 returns-2 c = sym (set-out (c .before .args .table .now) (c .before .args .k) (c .before .args .p) (omega arith))
 

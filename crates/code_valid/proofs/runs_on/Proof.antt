@@ -5,18 +5,13 @@ use Rattle.code_flat.specs.Machine.{decode}
 use borrow.Author.Needs.{needs}
 use Rattle.code_valid.proofs.runs_on.Statement.{statement}
 use Rattle.code_valid.proofs.runs_on.Tie as tie
-use Rattle.code_valid.proofs.runs_on.Reads as reads
-use Rattle.code_valid.proofs.runs_on.Lts as lts
 
--- src/lib.rt:153:1
 returns : tie.Need-returns
 returns c = λ x y z. ap (λ k. runsOn (decode k x y z)) (sym (c .match .keys1))
 
--- src/lib.rt:153:1
 returns-2 : tie.Need-returns-2
 returns-2 c = λ x y z. ap (λ k. runsOn (decode k x y z)) (sym (c .match .keys2))
 
--- src/lib.rt:153:1
 returns-3 : tie.Need-returns-3
 returns-3 c = λ x y z. sym (runsOnNot (c .before .args .first) x y z (c .match .rest .0 .1) (c .match .rest .1))
 

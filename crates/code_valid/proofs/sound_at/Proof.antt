@@ -10,46 +10,34 @@ use Prim.Native.Nat.{_+_}
 use borrow.Author.Needs.{needs}
 use Rattle.code_valid.proofs.sound_at.Statement.{statement}
 use Rattle.code_valid.proofs.sound_at.Tie as tie
-use Rattle.code_valid.proofs.sound_at.Reads as reads
-use Rattle.code_valid.proofs.sound_at.Lts as lts
-use Rattle.code_valid.proofs.runs_on.Reads as runs-on-reads
-use Rattle.code_valid.proofs.targets_begin.Reads as targets-begin-reads
 
--- src/lib.rt:176:9
 targets-begin-requires : tie.Need-targets-begin-requires
 targets-begin-requires c κs = (c .before .before .pre .0, λ z. c .before .before .pre .1 .1 (c .before .before .pre .1 .0 ∙ z))
 
--- src/lib.rt:177:9
 returns : tie.Need-returns
 returns c =
     let C = c .before .before .before .before .args .code .now in
     subst (λ w. false ≡ sound (parse C) (standing C (c .before .before .before .before .args .p)) (from C (c .before .before .before .before .args .p + w))) (sym (c .before .before .before .before .pre .1 .0))
     (sym (soundNot C (c .before .before .before .before .args .p) (λ z. c .before .before .before .before .pre .1 .1 (c .before .before .before .before .pre .1 .0 ∙ z)) (sym (c .before .targets-begin .ensures) ∙ not-true (c .before .targets-begin .result) (c .if1 .taken))))
 
--- src/lib.rt:179:15
 sub-if2 : tie.Need-sub-if2
 sub-if2 c = omega (arith, standingIn (c .before .before .before .before .args .code .now) (c .before .before .before .before .args .p) (λ z. c .before .before .before .before .pre .1 .1 (c .before .before .before .before .pre .1 .0 ∙ z)))
 
--- src/lib.rt:180:9
 returns-2 : tie.Need-returns-2
 returns-2 c =
     let C = c .before .before .before .before .before .args .code .now in
     subst (λ w. true ≡ sound (parse C) (standing C (c .before .before .before .before .before .args .p)) (from C (c .before .before .before .before .before .args .p + w))) (sym (c .before .before .before .before .before .pre .1 .0))
     (sym (soundInside C (c .before .before .before .before .before .args .p) (λ z. c .before .before .before .before .before .pre .1 .1 (c .before .before .before .before .before .pre .1 .0 ∙ z)) (sym (c .before .before .targets-begin .ensures) ∙ not-false (c .before .before .targets-begin .result) (c .before .if1 .left)) (omega (arith, c .before .before .before .before .before .pre .1 .0))))
 
--- src/lib.rt:182:14
 mul-runs-on : tie.Need-mul-runs-on
 mul-runs-on c = omega (arith, standingIn (c .before .before .before .before .before .args .code .now) (c .before .before .before .before .before .args .p) (λ z. c .before .before .before .before .before .pre .1 .1 (c .before .before .before .before .before .pre .1 .0 ∙ z)))
 
--- src/lib.rt:182:14
 shared-slice-read-runs-on : tie.Need-shared-slice-read-runs-on
 shared-slice-read-runs-on c = omega (arith, standingIn (c .before .before .before .before .before .before .args .code .now) (c .before .before .before .before .before .before .args .p) (λ z. c .before .before .before .before .before .before .pre .1 .1 (c .before .before .before .before .before .before .pre .1 .0 ∙ z)))
 
--- src/lib.rt:182:6
 runs-on-requires : tie.Need-runs-on-requires
 runs-on-requires c κs = search needs
 
--- src/lib.rt:170:1
 returns-3 : tie.Need-returns-3
 returns-3 c =
     let C = c .before .before .before .before .before .before .before .args .code .now in

@@ -8,89 +8,67 @@ use Prim.Native.Nat.{_+_}
 use borrow.Author.Needs.{needs}
 use Rattle.code_valid.proofs.targets_begin.Statement.{statement}
 use Rattle.code_valid.proofs.targets_begin.Tie as tie
-use Rattle.code_valid.proofs.targets_begin.Reads as reads
-use Rattle.code_valid.proofs.targets_begin.Lts as lts
-use Rattle.code_valid.proofs.begins_named.Reads as begins-named-reads
-use Rattle.code_valid.proofs.both_begin.Reads as both-begin-reads
 
--- src/lib.rt:148:11
 mul-match : tie.Need-mul-match
 mul-match c = omega (arith, standingIn (c .before .before .args .code .now) (c .before .before .args .p) (c .before .before .pre .1))
 
--- src/lib.rt:148:11
 shared-slice-read-match : tie.Need-shared-slice-read-match
 shared-slice-read-match c = omega (arith, standingIn (c .before .before .before .args .code .now) (c .before .before .before .args .p) (c .before .before .before .pre .1))
 
--- src/lib.rt:149:75
 add-begins-named : tie.Need-add-begins-named
 add-begins-named c = omega (arith, standingIn (c .before .before .before .before .args .code .now) (c .before .before .before .before .args .p) (c .before .before .before .before .pre .1))
 
--- src/lib.rt:149:41
 begins-named-requires : tie.Need-begins-named-requires
 begins-named-requires c κs = (c .before .before .before .before .pre .0, omega (arith, standsIn (c .before .before .before .before .args .code .now) (c .before .before .before .before .args .p) (c .before .before .before .before .pre .1) op.Leave (c .match .keys1)))
 
--- src/lib.rt:150:71
 add-both-begin : tie.Need-add-both-begin
 add-both-begin c = omega (arith, standsIn (c .before .before .before .before .args .code .now) (c .before .before .before .before .args .p) (c .before .before .before .before .pre .1) op.Ask (c .match .keys2))
 
--- src/lib.rt:150:39
 both-begin-requires : tie.Need-both-begin-requires
 both-begin-requires c κs = (c .before .before .before .before .pre .0, omega (arith, standsIn (c .before .before .before .before .args .code .now) (c .before .before .before .before .args .p) (c .before .before .before .before .pre .1) op.Ask (c .match .keys2)))
 
--- src/lib.rt:151:74
 add-both-begin-2 : tie.Need-add-both-begin-2
 add-both-begin-2 c = omega (arith, standsIn (c .before .before .before .before .args .code .now) (c .before .before .before .before .args .p) (c .before .before .before .before .pre .1) op.Select (c .match .keys3))
 
--- src/lib.rt:151:42
 both-begin-requires-2 : tie.Need-both-begin-requires-2
 both-begin-requires-2 c κs = (c .before .before .before .before .pre .0, omega (arith, standsIn (c .before .before .before .before .args .code .now) (c .before .before .before .before .args .p) (c .before .before .before .before .pre .1) op.Select (c .match .keys3)))
 
--- src/lib.rt:152:74
 add-begins-named-2 : tie.Need-add-begins-named-2
 add-begins-named-2 c = omega (arith, standingIn (c .before .before .before .before .args .code .now) (c .before .before .before .before .args .p) (c .before .before .before .before .pre .1))
 
--- src/lib.rt:152:40
 begins-named-requires-2 : tie.Need-begins-named-requires-2
 begins-named-requires-2 c κs = (c .before .before .before .before .pre .0, omega (arith, standsIn (c .before .before .before .before .args .code .now) (c .before .before .before .before .args .p) (c .before .before .before .before .pre .1) op.Open (c .match .keys4)))
 
--- src/lib.rt:153:72
 add-both-begin-3 : tie.Need-add-both-begin-3
 add-both-begin-3 c = omega (arith, standsIn (c .before .before .before .before .args .code .now) (c .before .before .before .before .args .p) (c .before .before .before .before .pre .1) op.Case (c .match .keys5))
 
--- src/lib.rt:153:40
 both-begin-requires-3 : tie.Need-both-begin-requires-3
 both-begin-requires-3 c κs = (c .before .before .before .before .pre .0, omega (arith, standsIn (c .before .before .before .before .args .code .now) (c .before .before .before .before .args .p) (c .before .before .before .before .pre .1) op.Case (c .match .keys5)))
 
--- src/lib.rt:143:1
 returns : tie.Need-returns
 returns c = c .begins-named .ensures ∙ sym (namesOne (c .before .before .before .before .before .args .code .now) (c .before .before .before .before .before .args .p) (c .before .before .before .before .before .pre .1) op.Leave (getD (c .before .before .before .before .before .args .code .now) (c .before .before .before .before .before .args .p + 1) 0) (c .before .match .keys1) refl)
 
--- src/lib.rt:143:1
 returns-2 : tie.Need-returns-2
 returns-2 c =
     let C = c .before .before .before .before .before .args .code .now in
     let e : c .before .before .before .before .before .args .p + 3 ≡ c .before .before .before .before .before .args .p + 2 + 1 = omega arith in
     c .both-begin .ensures ∙ sym (namesTwo C (c .before .before .before .before .before .args .p) (c .before .before .before .before .before .pre .1) op.Ask (getD C (c .before .before .before .before .before .args .p + 2) 0) (getD C (c .before .before .before .before .before .args .p + 2 + 1) 0) (c .before .match .keys2) (ap (λ k. getD C (c .before .before .before .before .before .args .p + 2) 0 ∷ getD C k 0 ∷ []) e))
 
--- src/lib.rt:143:1
 returns-3 : tie.Need-returns-3
 returns-3 c =
     let C = c .before .before .before .before .before .args .code .now in
     let e : c .before .before .before .before .before .args .p + 3 ≡ c .before .before .before .before .before .args .p + 2 + 1 = omega arith in
     c .both-begin2 .ensures ∙ sym (namesTwo C (c .before .before .before .before .before .args .p) (c .before .before .before .before .before .pre .1) op.Select (getD C (c .before .before .before .before .before .args .p + 2) 0) (getD C (c .before .before .before .before .before .args .p + 2 + 1) 0) (c .before .match .keys3) (ap (λ k. getD C (c .before .before .before .before .before .args .p + 2) 0 ∷ getD C k 0 ∷ []) e))
 
--- src/lib.rt:143:1
 returns-4 : tie.Need-returns-4
 returns-4 c = c .begins-named2 .ensures ∙ sym (namesOne (c .before .before .before .before .before .args .code .now) (c .before .before .before .before .before .args .p) (c .before .before .before .before .before .pre .1) op.Open (getD (c .before .before .before .before .before .args .code .now) (c .before .before .before .before .before .args .p + 1) 0) (c .before .match .keys4) refl)
 
--- src/lib.rt:143:1
 returns-5 : tie.Need-returns-5
 returns-5 c =
     let C = c .before .before .before .before .before .args .code .now in
     let e : c .before .before .before .before .before .args .p + 2 ≡ c .before .before .before .before .before .args .p + 1 + 1 = omega arith in
     c .both-begin3 .ensures ∙ sym (namesTwo C (c .before .before .before .before .before .args .p) (c .before .before .before .before .before .pre .1) op.Case (getD C (c .before .before .before .before .before .args .p + 1) 0) (getD C (c .before .before .before .before .before .args .p + 1 + 1) 0) (c .before .match .keys5) (ap (λ k. getD C (c .before .before .before .before .before .args .p + 1) 0 ∷ getD C k 0 ∷ []) e))
 
--- src/lib.rt:143:1
 returns-6 : tie.Need-returns-6
 returns-6 c = sym (namesNone (c .before .before .before .before .args .code .now) (c .before .before .before .before .args .p) (c .before .before .before .before .pre .1) (c .match .rest .0 .0 .0 .0 .1) (c .match .rest .0 .0 .0 .1) (c .match .rest .0 .0 .1) (c .match .rest .0 .1) (c .match .rest .1))
 

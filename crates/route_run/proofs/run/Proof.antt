@@ -9,32 +9,22 @@ use mathlib.Core.Path.{_≡_, sym, _∙_, ap}
 use borrow.Author.Needs.{needs}
 use Rattle.route_run.proofs.run.Statement.{statement}
 use Rattle.route_run.proofs.run.Tie as tie
-use Rattle.route_run.proofs.run.Reads as reads
-use Rattle.route_run.proofs.run.Lts as lts
-use Rattle.code_valid.proofs.check.Reads as check-reads
-use Rattle.route_viewer.proofs.show.Reads as show-reads
 
--- src/lib.rt:17:9
 check-requires : tie.Need-check-requires
 check-requires c κs = search needs
 
--- src/lib.rt:18:36
 enum-known-verdict : tie.Need-enum-known-verdict
 enum-known-verdict c = search needs
 
--- src/lib.rt:19:55
 enum-told : tie.Need-enum-told
 enum-told c = search needs
 
--- src/lib.rt:19:13
 show-requires : tie.Need-show-requires
 show-requires c κs = search needs
 
--- src/lib.rt:20:9
 same-length : tie.Need-same-length
 same-length c = search needs
 
--- src/lib.rt:20:9
 returns : tie.Need-returns
 unfolding runAnswer runSlice
 returns c =
@@ -45,7 +35,6 @@ returns c =
       c .before .before .show .ensures .1 ∙ ap (λ v. sliceBy v (shownSlice r (c .before .before .before .before .before .before .before .before .before .before .args .out .now)) (c .before .before .before .before .before .before .before .before .before .before .args .out .now)) (sym e),
     )
 
--- src/lib.rt:13:1
 returns-2 : tie.Need-returns-2
 unfolding runAnswer runSlice
 returns-2 c =
