@@ -1,0 +1,4 @@
+pub mod Instrs
+pub mod Valid
+pub mod Reading
+pub mod ReadingLaws
