@@ -3,3 +3,4 @@ pub mod PendingLaws
 pub mod Turn
 pub mod TurnLaws
 pub mod Kept
+pub mod NextLaws

@@ -11,6 +11,12 @@ use Rattle.code_machine.specs.Pending.{stack}
 use Rattle.code_machine.specs.declared.Place.{Place}
 use Rattle.code_machine.specs.declared.Step.{Step}
 use Rattle.code_machine.specs.declared.Step.the-variants.{Over, On, Listed}
+use Rattle.code_machine.specs.declared.Next.{Next}
+use Rattle.code_machine.specs.declared.Next.the-variants as next
+
+-- Where the whole run of a code begins.
+abbrev pub startOf : List ℕ → Place
+startOf C = record { pc = 0; at = 0; budget = length C; pending = 0 }
 
 -- The run from p on, with the pending ends that the array holds.
 abbrev pub from : List ℕ → List ℕ → List ℕ → Place → Res
@@ -45,3 +51,8 @@ abbrev pub Turned : List ℕ → List ℕ → List ℕ → List ℕ → Place �
 Turned C qs ends after p (Over e) = from C qs ends p ≡ res [] e (drop (p .at) qs)
 Turned C qs ends after p (On q) = Going C qs ends after p [] q
 Turned C qs ends after p (Listed n q) = Going C qs ends after p (n ∷ []) q
+
+-- What the next entry, or the end, says of the run from p.
+abbrev pub Coming : List ℕ → List ℕ → List ℕ → List ℕ → Place → Next → Type 0
+Coming C qs ends after p (next.Over e) = from C qs ends p ≡ res [] e (drop (p .at) qs)
+Coming C qs ends after p (next.Listed n q) = Going C qs ends after p (n ∷ []) q

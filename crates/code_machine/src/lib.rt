@@ -8,7 +8,7 @@ ghost use Rattle.code_flat.specs.Opcodes as op;
 ghost use Rattle.code_flat.specs.Machine.{room, Frame, open′, pend, pos, unwind, isCase, chase, endAs, jump, codeRoute, run as runs};
 ghost use Rattle.route_list.specs.Listing.{saturated, laid};
 ghost use Rattle.code_machine.specs.Pending.{half, frameOf, stack, comes, shallow};
-ghost use Rattle.code_machine.specs.Turn.{from, passes, opens, lists, Turned};
+ghost use Rattle.code_machine.specs.Turn.{startOf, from, passes, opens, lists, Turned, Coming};
 
 pub mod opcodes;
 mod run_end;
@@ -21,17 +21,23 @@ pub struct Ran {
 }
 
 // Where a run stands: at pc, with the answers from at, a budget of instructions before the next answer, and so many ends pending.
-struct Place {
-    pc: usize,
-    at: usize,
-    budget: usize,
-    pending: usize,
+pub struct Place {
+    pub pc: usize,
+    pub at: usize,
+    pub budget: usize,
+    pub pending: usize,
 }
 
 // What an instruction comes to: the run is over, or goes on, with a node listed or not.
 enum Step {
     Over(u32),
     On(Place),
+    Listed(u32, Place),
+}
+
+// What a run comes to next: it is over, or a node is listed.
+pub enum Next {
+    Over(u32),
     Listed(u32, Place),
 }
 
@@ -368,6 +374,41 @@ fn turn(code: &[u32], answers: &[u32], ends: &mut [u64], p: Place) -> Step
             },
         ),
         _ => Step::Over(run_end::ASTRAY),
+    }
+}
+
+// The start of every run.
+pub fn start(code: &[u32]) -> Place
+    ensures { λ r. ⌜ r ≡ startOf (now (code .entry)) ⌝ }
+{
+    Place {
+        pc: 0,
+        at: 0,
+        budget: code.len(),
+        pending: 0,
+    }
+}
+
+// Runs on to the next entry, or to the end.
+pub fn next_entry(code: &[u32], answers: &[u32], ends: &mut [u64], here: Place) -> Next
+    requires { ⌜ length (now ends) ≡ room ⌝ }
+    requires { ⌜ here .pending ≤ room ⌝ }
+    ensures { λ r. ⌜ Coming (now (code .entry)) (now (answers .entry)) (now (ends .entry)) (now (ends .exit)) here r ⌝ }
+{
+    let mut p = here;
+    loop {
+        let s = turn(code, answers, ends, p);
+        match s {
+            Step::Over(end) => {
+                return Next::Over(end);
+            }
+            Step::On(q) => {
+                p = q;
+            }
+            Step::Listed(n, q) => {
+                return Next::Listed(n, q);
+            }
+        }
     }
 }
 
