@@ -3,7 +3,6 @@ use Prim.Native.Nat.{ℕ, suc, _+_}
 use mathlib.Core.Path.{_≡_, refl, sym, _∙_, ap}
 use mathlib.Core.Logic.{_≢_}
 use mathlib.Core.List.{List, [], _∷_, _++_, map, map-append}
-use lib.ListN.{length, drop}
 use lib.Dec.{eqb}
 use borrow.Author.Tests.{eq-eqb, ne-eqb}
 use native.Mathlib.Omega.{arith}
@@ -11,9 +10,10 @@ use Rattle.route_completion.specs.Sem.{pick}
 use Rattle.route_completion.specs.Route.{nodeOf}
 use Rattle.route_list.specs.Listing.{most, saturated, next}
 use Rattle.route_laws.specs.Shared.{shared}
-use Rattle.code_flat.specs.Machine.{res, run, codeRoute}
+use Rattle.code_flat.specs.Machine.{codeRoute}
 use Rattle.code_machine.specs.Pending.{stack}
-use Rattle.code_machine.specs.Turn.{startOf, from, Going}
+use Rattle.code_machine.specs.Turn.{startOf, from, Ends, Going}
+use Rattle.code_machine.specs.TurnLaws.{endsRun, goingRun}
 use Rattle.code_machine.specs.declared.Place.{Place}
 use Rattle.route_shared.specs.Shared.{sharedEntries}
 
@@ -41,7 +41,7 @@ inStepFirst C qs ps ends others p q u v =
 -- The entry that comes next.
 listed : (C qs ends after : List ℕ) (p : Place) (x : ℕ) (q : Place) → Going C qs ends after p (x ∷ []) q → nodesFrom C qs ends p ≡ x ∷ nodesFrom C qs after q
 listed C qs ends after p x q g =
-    ap (λ r. map nodeOf (r .nodes)) (g .runs) ∙ map-append nodeOf (g .shown) (from C qs after q .nodes) ∙ ap (λ l. l ++ nodesFrom C qs after q) (g .nodes)
+    ap (λ r. map nodeOf (r .nodes)) (goingRun C qs ends after p (x ∷ []) q g) ∙ map-append nodeOf (g .shown) (from C qs after q .nodes) ∙ ap (λ l. l ++ nodesFrom C qs after q) (g .nodes)
 
 noneFirst : (ys : List ℕ) → shared [] ys ≡ 0
 unfolding shared
@@ -67,11 +67,11 @@ module _ (C qs ps ends others : List ℕ) (p q : Place) (n : ℕ) (k : InStep C 
       let e : shared (codeRoute C qs .list) (codeRoute C ps .list) ≡ k .many = k .rest ∙ omega (arith, h) in
       k .counts ∙ ap saturated (sym e)
 
-  pub firstOver : (e i : ℕ) → from C qs ends p ≡ res [] e (drop i qs) → n ≡ sharedEntries C qs ps
-  firstOver e i h = done (ap (λ r. shared (map nodeOf (r .nodes)) (nodesFrom C ps others q)) h ∙ noneFirst (nodesFrom C ps others q))
+  pub firstOver : (e : ℕ) → Ends C qs ends p e → n ≡ sharedEntries C qs ps
+  firstOver e h = done (ap (λ r. shared (map nodeOf (r .nodes)) (nodesFrom C ps others q)) (endsRun C qs ends p e h) ∙ noneFirst (nodesFrom C ps others q))
 
-  pub secondOver : (e i : ℕ) → from C ps others q ≡ res [] e (drop i ps) → n ≡ sharedEntries C qs ps
-  secondOver e i h = done (ap (λ r. shared (nodesFrom C qs ends p) (map nodeOf (r .nodes))) h ∙ noneSecond (nodesFrom C qs ends p))
+  pub secondOver : (e : ℕ) → Ends C ps others q e → n ≡ sharedEntries C qs ps
+  secondOver e h = done (ap (λ r. shared (nodesFrom C qs ends p) (map nodeOf (r .nodes))) (endsRun C ps others q e h) ∙ noneSecond (nodesFrom C qs ends p))
 
   -- The next entry of each.
   module _ (after beyond : List ℕ) (x : ℕ) (p′ : Place) (g : Going C qs ends after p (x ∷ []) p′) (y : ℕ) (q′ : Place) (h : Going C ps others beyond q (y ∷ []) q′) where

@@ -41,7 +41,7 @@ same-length-2 : tie.Need-same-length-2 Inv-loop μ-loop
 same-length-2 c = search needs
 
 returns : tie.Need-returns Inv-loop μ-loop
-returns c = firstOver (c .before .before .before .before .before .before .before .before .before .before .before .before .before .before .args .code .now) (c .before .before .before .before .before .before .before .before .before .before .before .before .before .before .args .first .now) (c .before .before .before .before .before .before .before .before .before .before .before .before .before .before .args .second .now) (c .before .before .before .before .before .before .loop .ends) (c .before .before .before .before .before .before .loop .others) (c .before .before .before .before .before .before .loop .p) (c .before .before .before .before .before .before .loop .q) (c .before .before .before .before .before .before .loop .entries) (c .before .before .before .before .before .before .loop .inv .1 .1 .1 .1) (c .enum-told .given .0 .0) (c .before .before .before .before .before .before .loop .p .at) (subst (λ r. Coming (c .before .before .before .before .before .before .before .before .before .before .before .before .before .before .args .code .now) (c .before .before .before .before .before .before .before .before .before .before .before .before .before .before .args .first .now) (c .before .before .before .before .before .before .loop .ends) (c .before .before .before .before .next-entry .last .1 .1 .0) (c .before .before .before .before .before .before .loop .p) r) (c .enum-told .given .1) (c .before .before .before .before .next-entry .ensures))
+returns c = firstOver (c .before .before .before .before .before .before .before .before .before .before .before .before .before .before .args .code .now) (c .before .before .before .before .before .before .before .before .before .before .before .before .before .before .args .first .now) (c .before .before .before .before .before .before .before .before .before .before .before .before .before .before .args .second .now) (c .before .before .before .before .before .before .loop .ends) (c .before .before .before .before .before .before .loop .others) (c .before .before .before .before .before .before .loop .p) (c .before .before .before .before .before .before .loop .q) (c .before .before .before .before .before .before .loop .entries) (c .before .before .before .before .before .before .loop .inv .1 .1 .1 .1) (c .enum-told .given .0 .0) (subst (λ r. Coming (c .before .before .before .before .before .before .before .before .before .before .before .before .before .before .args .code .now) (c .before .before .before .before .before .before .before .before .before .before .before .before .before .before .args .first .now) (c .before .before .before .before .before .before .loop .ends) (c .before .before .before .before .next-entry .last .1 .1 .0) (c .before .before .before .before .before .before .loop .p) r) (c .enum-told .given .1) (c .before .before .before .before .next-entry .ensures))
 
 next-entry-requires-2 : tie.Need-next-entry-requires-2 Inv-loop μ-loop
 next-entry-requires-2 c κs = (c .before .before .before .before .before .before .before .before .loop .inv .1 .0 ∙ c .before .before .before .before .before .before .before .before .before .before .before .before .before .before .before .before .pre .1, c .before .before .before .before .before .before .before .before .loop .inv .1 .1 .1 .0)
@@ -59,7 +59,7 @@ same-length-4 : tie.Need-same-length-4 Inv-loop μ-loop
 same-length-4 c = search needs
 
 returns-2 : tie.Need-returns-2 Inv-loop μ-loop
-returns-2 c = secondOver (c .before .before .before .before .before .before .before .before .before .before .before .before .before .before .before .before .before .before .before .before .before .args .code .now) (c .before .before .before .before .before .before .before .before .before .before .before .before .before .before .before .before .before .before .before .before .before .args .first .now) (c .before .before .before .before .before .before .before .before .before .before .before .before .before .before .before .before .before .before .before .before .before .args .second .now) (c .before .before .before .before .before .before .before .before .before .before .before .before .before .loop .ends) (c .before .before .before .before .before .before .before .before .before .before .before .before .before .loop .others) (c .before .before .before .before .before .before .before .before .before .before .before .before .before .loop .p) (c .before .before .before .before .before .before .before .before .before .before .before .before .before .loop .q) (c .before .before .before .before .before .before .before .before .before .before .before .before .before .loop .entries) (c .before .before .before .before .before .before .before .before .before .before .before .before .before .loop .inv .1 .1 .1 .1) (c .enum-told2 .given .0 .0) (c .before .before .before .before .before .before .before .before .before .before .before .before .before .loop .q .at) (subst (λ r. Coming (c .before .before .before .before .before .before .before .before .before .before .before .before .before .before .before .before .before .before .before .before .before .args .code .now) (c .before .before .before .before .before .before .before .before .before .before .before .before .before .before .before .before .before .before .before .before .before .args .second .now) (c .before .before .before .before .before .before .before .before .before .before .before .before .before .loop .others) (c .before .before .before .before .next-entry2 .last .1 .1 .0) (c .before .before .before .before .before .before .before .before .before .before .before .before .before .loop .q) r) (c .enum-told2 .given .1) (c .before .before .before .before .next-entry2 .ensures))
+returns-2 c = secondOver (c .before .before .before .before .before .before .before .before .before .before .before .before .before .before .before .before .before .before .before .before .before .args .code .now) (c .before .before .before .before .before .before .before .before .before .before .before .before .before .before .before .before .before .before .before .before .before .args .first .now) (c .before .before .before .before .before .before .before .before .before .before .before .before .before .before .before .before .before .before .before .before .before .args .second .now) (c .before .before .before .before .before .before .before .before .before .before .before .before .before .loop .ends) (c .before .before .before .before .before .before .before .before .before .before .before .before .before .loop .others) (c .before .before .before .before .before .before .before .before .before .before .before .before .before .loop .p) (c .before .before .before .before .before .before .before .before .before .before .before .before .before .loop .q) (c .before .before .before .before .before .before .before .before .before .before .before .before .before .loop .entries) (c .before .before .before .before .before .before .before .before .before .before .before .before .before .loop .inv .1 .1 .1 .1) (c .enum-told2 .given .0 .0) (subst (λ r. Coming (c .before .before .before .before .before .before .before .before .before .before .before .before .before .before .before .before .before .before .before .before .before .args .code .now) (c .before .before .before .before .before .before .before .before .before .before .before .before .before .before .before .before .before .before .before .before .before .args .second .now) (c .before .before .before .before .before .before .before .before .before .before .before .before .before .loop .others) (c .before .before .before .before .next-entry2 .last .1 .1 .0) (c .before .before .before .before .before .before .before .before .before .before .before .before .before .loop .q) r) (c .enum-told2 .given .1) (c .before .before .before .before .next-entry2 .ensures))
 
 same-length-5 : tie.Need-same-length-5 Inv-loop μ-loop
 same-length-5 c = search needs
