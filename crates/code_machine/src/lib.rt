@@ -3,12 +3,13 @@
 ghost use mathlib.Core.Path.{_≡_};
 ghost use mathlib.Core.List.{List, _∷_};
 ghost use Prim.Native.Nat.{ℕ, _%_, _≤_, _<_};
-ghost use lib.ListN.{getD, drop, length};
+ghost use lib.ListN.{getD, length};
 ghost use Rattle.code_flat.specs.Opcodes as op;
-ghost use Rattle.code_flat.specs.Machine.{room, Frame, open′, pend, pos, unwind, isCase, chase, endAs, jump, codeRoute, run as runs};
+ghost use Rattle.code_flat.specs.Machine.{room, Frame, open′, pend, pos, unwind, isCase, chase, endAs, codeRoute};
 ghost use Rattle.route_list.specs.Listing.{saturated, laid};
 ghost use Rattle.code_machine.specs.Pending.{half, frameOf, stack, comes, shallow};
-ghost use Rattle.code_machine.specs.Turn.{from, passes, opens, lists, Turned};
+ghost use Rattle.code_machine.specs.Halted.{stopFrom, StandsAt, Told};
+ghost use Rattle.code_machine.specs.Turn.{startOf, Passes, Lands, Leaves, Opens, Lists, Turned, Coming};
 
 pub mod opcodes;
 mod run_end;
@@ -21,17 +22,23 @@ pub struct Ran {
 }
 
 // Where a run stands: at pc, with the answers from at, a budget of instructions before the next answer, and so many ends pending.
-struct Place {
-    pc: usize,
-    at: usize,
-    budget: usize,
-    pending: usize,
+pub struct Place {
+    pub pc: usize,
+    pub at: usize,
+    pub budget: usize,
+    pub pending: usize,
 }
 
 // What an instruction comes to: the run is over, or goes on, with a node listed or not.
 enum Step {
     Over(u32),
     On(Place),
+    Listed(u32, Place),
+}
+
+// What a run comes to next: it is over, or a node is listed.
+pub enum Next {
+    Over(u32),
     Listed(u32, Place),
 }
 
@@ -48,10 +55,18 @@ enum Passing {
     Below(Way),
 }
 
-// Where a jump comes to: a place, and how many ends are pending there.
-struct Landing {
-    place: u32,
-    pending: usize,
+// Where a jump comes to, or a run begins: a place, and how many ends are pending there.
+pub struct Landing {
+    pub place: u32,
+    pub pending: usize,
+}
+
+// What a run comes to that may be stopped: its end, 4 if it is stopped; how many nodes it lists, and how many answers it takes; and where it stands then.
+pub struct Halt {
+    pub end: u32,
+    pub entries: u64,
+    pub taken: u64,
+    pub at: Landing,
 }
 
 fn wide(x: u32) -> usize
@@ -211,7 +226,7 @@ fn unwound(ends: &mut [u64], pending: usize, way: Way) -> Landing
 // One instruction passes without an answer, if the budget has one left; control goes to pc, with so many ends pending.
 fn passed(p: Place, pc: usize, pending: usize) -> Step
     requires { ⌜ pending ≤ room ⌝ }
-    ensures { λ r. ⌜ ((C qs ends after : List ℕ) → from C qs ends p ≡ passes C qs after p pc pending → Turned C qs ends after p r) ⌝ }
+    ensures { λ r. ⌜ ((C qs ends after : List ℕ) → Passes C qs ends after p pc pending → Turned C qs ends after p r) ⌝ }
 {
     if p.budget == 0 {
         return Step::Over(run_end::ASTRAY);
@@ -227,7 +242,7 @@ fn passed(p: Place, pc: usize, pending: usize) -> Step
 // Control goes to where a jump has come to. The place 0 is what is pending where nothing is.
 fn landed(p: Place, to: Landing) -> Step
     requires { ⌜ to .pending ≤ room ⌝ }
-    ensures { λ r. ⌜ ((C qs ends after : List ℕ) → from C qs ends p ≡ jump (runs room C) (p .budget) (pos (to .place) (stack after (to .pending))) (drop (p .at) qs) → Turned C qs ends after p r) ⌝ }
+    ensures { λ r. ⌜ ((C qs ends after : List ℕ) → Lands C qs ends after p to → Turned C qs ends after p r) ⌝ }
 {
     if to.place == 0 {
         return Step::Over(run_end::ASTRAY);
@@ -239,7 +254,7 @@ fn landed(p: Place, to: Landing) -> Step
 fn left(ends: &mut [u64], p: Place, way: Way) -> Step
     requires { ⌜ length (now ends) ≡ room ⌝ }
     requires { ⌜ p .pending ≤ room ⌝ }
-    ensures { λ r. ⌜ ((C qs : List ℕ) → from C qs (now (ends .entry)) p ≡ jump (runs room C) (p .budget) (unwind (stack (now (ends .entry)) (p .pending)) (way .place) (way .depth)) (drop (p .at) qs) → Turned C qs (now (ends .entry)) (now (ends .exit)) p r) ⌝ }
+    ensures { λ r. ⌜ ((C qs : List ℕ) → Leaves C qs (now (ends .entry)) p way → Turned C qs (now (ends .entry)) (now (ends .exit)) p r) ⌝ }
 {
     let to = unwound(ends, p.pending, way);
     landed(p, to)
@@ -249,7 +264,7 @@ fn left(ends: &mut [u64], p: Place, way: Way) -> Step
 fn opened(ends: &mut [u64], p: Place, f: u32, next: usize) -> Step
     requires { ⌜ length (now ends) ≡ room ⌝ }
     requires { ⌜ p .pending ≤ room ⌝ }
-    ensures { λ r. ⌜ ((C qs : List ℕ) → from C qs (now (ends .entry)) p ≡ opens C qs (now (ends .entry)) p f next → Turned C qs (now (ends .entry)) (now (ends .exit)) p r) ⌝ }
+    ensures { λ r. ⌜ ((C qs : List ℕ) → Opens C qs (now (ends .entry)) p f next → Turned C qs (now (ends .entry)) (now (ends .exit)) p r) ⌝ }
 {
     let pending = p.pending;
     if pending == ends.len() {
@@ -324,7 +339,7 @@ fn selected(code: &[u32], answers: &[u32], p: Place) -> Step
 // The node n is listed, and control goes to next.
 fn listed(p: Place, n: u32, next: usize) -> Step
     requires { ⌜ p .pending ≤ room ⌝ }
-    ensures { λ r. ⌜ ((C qs ends : List ℕ) → from C qs ends p ≡ lists C qs ends p n next → Turned C qs ends ends p r) ⌝ }
+    ensures { λ r. ⌜ ((C qs ends : List ℕ) → Lists C qs ends p n next → Turned C qs ends ends p r) ⌝ }
 {
     if p.budget == 0 {
         return Step::Over(run_end::ASTRAY);
@@ -371,29 +386,89 @@ fn turn(code: &[u32], answers: &[u32], ends: &mut [u64], p: Place) -> Step
     }
 }
 
-// Runs the code with that room for pending ends. The node of entry k goes to out[k] where out goes that far; the count of the entries saturates.
-fn run_over(code: &[u32], answers: &[u32], ends: &mut [u64], out: &mut [u32]) -> Ran
-    requires { ⌜ length (now ends) ≡ room ⌝ }
-    ensures end { λ r. ⌜ r .end ≡ codeRoute (now (code .entry)) (now (answers .entry)) .end ⌝ }
-    ensures entries { λ r. ⌜ r .entries ≡ saturated (length (codeRoute (now (code .entry)) (now (answers .entry)) .list)) ⌝ }
-    ensures taken { λ r. ⌜ r .taken ≡ codeRoute (now (code .entry)) (now (answers .entry)) .taken ⌝ }
-    ensures list { λ _. ⌜ now (out .exit) ≡ laid (codeRoute (now (code .entry)) (now (answers .entry)) .list) (now (out .entry)) ⌝ }
+// The start of every run.
+pub fn start(code: &[u32]) -> Place
+    ensures { λ r. ⌜ r ≡ startOf (now (code .entry)) ⌝ }
 {
-    let mut p = Place {
+    Place {
         pc: 0,
         at: 0,
         budget: code.len(),
         pending: 0,
-    };
-    let mut entries = 0;
+    }
+}
+
+// Runs on to the next entry, or to the end.
+pub fn next_entry(code: &[u32], answers: &[u32], ends: &mut [u64], here: Place) -> Next
+    requires { ⌜ length (now ends) ≡ room ⌝ }
+    requires { ⌜ here .pending ≤ room ⌝ }
+    ensures { λ r. ⌜ Coming (now (code .entry)) (now (answers .entry)) (now (ends .entry)) (now (ends .exit)) here r ⌝ }
+{
+    let mut p = here;
     loop {
         let s = turn(code, answers, ends, p);
         match s {
             Step::Over(end) => {
-                return Ran {
+                return Next::Over(end);
+            }
+            Step::On(q) => {
+                p = q;
+            }
+            Step::Listed(n, q) => {
+                return Next::Listed(n, q);
+            }
+        }
+    }
+}
+
+// Runs the code from a place on, with that room for pending ends, until so many answers are taken. The node of entry k goes to out[k] where out goes that
+// far; the count of the entries saturates.
+pub fn run_to(
+    code: &[u32],
+    answers: &[u32],
+    ends: &mut [u64],
+    begin: Landing,
+    stop: u64,
+    out: &mut [u32],
+) -> Halt
+    requires { ⌜ length (now ends) ≡ room ⌝ }
+    requires { ⌜ begin .pending ≤ room ⌝ }
+    ensures told { λ r. ⌜ Told (stopFrom (now (code .entry)) (now (answers .entry)) (now (ends .entry)) begin stop) (now (out .entry)) (now (out .exit)) (r .end) (r .entries) (r .taken) ⌝ }
+    ensures stands { λ r. ⌜ StandsAt (stopFrom (now (code .entry)) (now (answers .entry)) (now (ends .entry)) begin stop) (pos (r .at .place) (stack (now (ends .exit)) (r .at .pending))) ⌝ }
+    ensures most { λ r. ⌜ r .at .pending ≤ room ⌝ }
+{
+    let mut p = Place {
+        pc: begin.place as usize,
+        at: 0,
+        budget: code.len(),
+        pending: begin.pending,
+    };
+    let mut entries = 0;
+    loop {
+        if p.at as u64 == stop {
+            let at = Landing {
+                place: p.pc as u32,
+                pending: p.pending,
+            };
+            return Halt {
+                end: run_end::STOPPED,
+                entries: entries,
+                taken: p.at as u64,
+                at: at,
+            };
+        }
+        let s = turn(code, answers, ends, p);
+        match s {
+            Step::Over(end) => {
+                let at = Landing {
+                    place: 0,
+                    pending: 0,
+                };
+                return Halt {
                     end: end,
                     entries: entries,
                     taken: p.at as u64,
+                    at: at,
                 };
             }
             Step::On(q) => {
@@ -407,7 +482,7 @@ fn run_over(code: &[u32], answers: &[u32], ends: &mut [u64], out: &mut [u32]) ->
     }
 }
 
-// Runs the code, with room for 512 pending ends.
+// Runs the code, with room for 512 pending ends; more answers than there are never stop it.
 pub fn run(code: &[u32], answers: &[u32], out: &mut [u32]) -> Ran
     ensures end { λ r. ⌜ r .end ≡ codeRoute (now (code .entry)) (now (answers .entry)) .end ⌝ }
     ensures entries { λ r. ⌜ r .entries ≡ saturated (length (codeRoute (now (code .entry)) (now (answers .entry)) .list)) ⌝ }
@@ -415,5 +490,21 @@ pub fn run(code: &[u32], answers: &[u32], out: &mut [u32]) -> Ran
     ensures list { λ _. ⌜ now (out .exit) ≡ laid (codeRoute (now (code .entry)) (now (answers .entry)) .list) (now (out .entry)) ⌝ }
 {
     let mut ends: [u64; 512] = [0; 512];
-    run_over(code, answers, &mut ends, out)
+    let begin = Landing {
+        place: 0,
+        pending: 0,
+    };
+    let halt = run_to(
+        code,
+        answers,
+        &mut ends,
+        begin,
+        answers.len() as u64 + 1,
+        out,
+    );
+    Ran {
+        end: halt.end,
+        entries: halt.entries,
+        taken: halt.taken,
+    }
 }

@@ -36,7 +36,7 @@ Took n qs (held es p r) = (asks es ≡ n) × (drop n qs ≡ r) × (n ≤ length 
 Took n qs (over r) = (asks (r .nodes) < n) × (drop (asks (r .nodes)) qs ≡ r .rest)
 
 module _ (lim : ℕ) (C : List ℕ) where
-  finishedAfter : (es : List Entry) (s : Stop) → finished lim C (after es s) ≡ pre es (finished lim C s)
+  pub finishedAfter : (es : List Entry) (s : Stop) → finished lim C (after es s) ≡ pre es (finished lim C s)
   finishedAfter es (held fs p r) = ap (λ l. res l (takenUp lim C p r .end) (takenUp lim C p r .rest)) (append-assoc es fs (takenUp lim C p r .nodes))
   finishedAfter es (over r) = refl
 
@@ -119,6 +119,14 @@ module _ (lim : ℕ) (C : List ℕ) where
       go (waits es m f J) z (a ∷ u) ih =
           tookAfter (suc n) (a ∷ u) es (after (asked m ∷ []) (stops lim C n (length C) (f a) J u)) z
           (tookAsked n m a u (stops lim C n (length C) (f a) J u) (ih (f a) J u))
+
+  -- A run that is to be stopped behind more answers than there are is never stopped.
+  pub neverStopped : (n : ℕ) (p : Pos) (qs : List ℕ) → length qs < n → stopped lim C n p qs ≡ over (takenUp lim C p qs)
+  neverStopped n p qs h = go (stopped lim C n p qs) (took n (length C) (p .pc) (p .stack) qs) (stoppedLaw n p qs)
+    where
+      go : (s : Stop) → Took n qs s → takenUp lim C p qs ≡ finished lim C s → s ≡ over (takenUp lim C p qs)
+      go (held es q r) t e = absurd (omega (arith, t .2, h))
+      go (over r) t e = ap over (sym e)
 
   -- One stop, and other answers behind it.
   pub splitLaw : (n : ℕ) (p : Pos) (qs more : List ℕ) → Held (stopped lim C n p qs)

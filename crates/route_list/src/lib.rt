@@ -7,7 +7,7 @@ ghost use Rattle.route_list.specs.Listing.{next};
 const MOST: u64 = 18446744073709551615;
 
 // One entry more.
-fn next(entries: u64) -> u64
+pub fn next(entries: u64) -> u64
     ensures { λ r. ⌜ r ≡ next entries ⌝ }
 {
     if entries == MOST {

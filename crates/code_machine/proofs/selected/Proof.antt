@@ -1,3 +1,4 @@
+use native.Mathlib.Omega.{arith}
 use mathlib.Core.Path.{_∙_}
 use Rattle.code_machine.specs.TurnLaws.{selectCase, selectNone}
 use borrow.Author.Needs.{needs}
@@ -38,7 +39,7 @@ add-t14 : tie.Need-add-t14
 add-t14 c = search needs
 
 returns : tie.Need-returns
-returns c = λ ends. selectCase (c .before .before .before .before .before .before .before .before .before .before .before .before .args .code .now) (c .before .before .before .before .before .before .before .before .before .before .before .before .args .answers .now) ends (c .before .before .before .before .before .before .before .before .before .before .before .before .args .p) (c .before .before .before .before .before .before .before .before .before .before .before .before .pre .1 .0) (c .before .before .before .before .before .before .before .word .result) (c .before .before .before .before .before .word2 .result) (c .before .before .before .word3 .result) (c .wide .result) (c .before .before .before .before .before .before .before .word .ensures) (c .before .before .before .before .before .word2 .ensures) (c .before .before .before .word3 .ensures) (c .wide .ensures ∙ c .before .chased .ensures) (c .before .before .before .before .before .before .before .before .before .before .before .before .pre .1 .1) (c .before .before .before .before .before .before .before .before .before .if1 .taken)
+returns c = λ ends. selectCase (c .before .before .before .before .before .before .before .before .before .before .before .before .args .code .now) (c .before .before .before .before .before .before .before .before .before .before .before .before .args .answers .now) ends (c .before .before .before .before .before .before .before .before .before .before .before .before .args .p) (c .before .before .before .before .before .before .before .before .before .before .before .before .pre .1 .0) (c .before .before .before .before .before .before .before .word .result) (c .before .before .before .before .before .word2 .result) (c .before .before .before .word3 .result) (c .wide .result) (c .before .before .before .before .before .before .before .word .ensures) (c .before .before .before .before .before .word2 .ensures) (c .before .before .before .word3 .ensures) (c .wide .ensures ∙ c .before .chased .ensures) (omega arith) (c .before .before .before .before .before .before .before .before .before .before .before .before .pre .1 .1) (c .before .before .before .before .before .before .before .before .before .if1 .taken)
 
 returns-2 : tie.Need-returns-2
 returns-2 c = λ ends. selectNone (c .before .before .before .args .code .now) (c .before .before .before .args .answers .now) ends (c .before .before .before .args .p) (c .before .before .before .pre .1 .0) (c .if1 .left)

@@ -3,6 +3,7 @@ use mathlib.Core.Path.{refl, sym, _∙_, ap}
 use mathlib.Core.List.{[]}
 use lib.ListN.{getD, drop}
 use Rattle.code_flat.specs.Machine.{res}
+use Rattle.code_marks.specs.Stop.{over}
 use Rattle.code_flat.specs.Opcodes as op
 use Rattle.code_machine.specs.TurnLaws.{onPast, onInstr, onNone}
 use borrow.Author.Needs.{needs}
@@ -82,7 +83,7 @@ returns-6 : tie.Need-returns-6
 returns-6 c = c .before .before .opened .ensures (c .before .before .before .before .before .before .before .before .before .before .before .before .args .code .now) (c .before .before .before .before .before .before .before .before .before .before .before .before .args .answers .now) (onInstr (c .before .before .before .before .before .before .before .before .before .before .before .before .args .code .now) (c .before .before .before .before .before .before .before .before .before .before .before .before .args .answers .now) (c .before .before .before .before .before .before .before .before .before .before .before .before .args .ends .now) (c .before .before .before .before .before .before .before .before .before .before .before .before .args .p) (c .before .before .before .before .before .word3 .result) (c .before .before .before .before .before .before .before .word .result) (c .before .before .before .before .before .before .word2 .result) (getD (c .before .before .before .before .before .before .before .before .before .before .before .before .args .code .now) (c .before .before .before .before .before .before .before .before .before .before .before .before .args .p .pc + 3) 0) (c .before .before .before .before .before .word3 .ensures) (c .before .before .before .before .before .before .before .word .ensures) (c .before .before .before .before .before .before .word2 .ensures) refl op.Open (c .before .before .before .before .match .keys5))
 
 returns-7 : tie.Need-returns-7
-returns-7 c = onInstr (c .before .before .before .before .before .before .before .before .before .args .code .now) (c .before .before .before .before .before .before .before .before .before .args .answers .now) (c .before .before .before .before .before .before .before .before .before .args .ends .now) (c .before .before .before .before .before .before .before .before .before .args .p) (c .before .before .word3 .result) (c .before .before .before .before .word .result) (c .before .before .before .word2 .result) (getD (c .before .before .before .before .before .before .before .before .before .args .code .now) (c .before .before .before .before .before .before .before .before .before .args .p .pc + 3) 0) (c .before .before .word3 .ensures) (c .before .before .before .before .word .ensures) (c .before .before .before .word2 .ensures) refl op.End (c .before .match .keys6) ∙ ap (λ k. res [] k (drop (c .before .before .before .before .before .before .before .before .before .args .p .at) (c .before .before .before .before .before .before .before .before .before .args .answers .now))) (sym (c .end-as .ensures))
+returns-7 c = λ m. onInstr (c .before .before .before .before .before .before .before .before .before .args .code .now) (c .before .before .before .before .before .before .before .before .before .args .answers .now) (c .before .before .before .before .before .before .before .before .before .args .ends .now) (c .before .before .before .before .before .before .before .before .before .args .p) (c .before .before .word3 .result) (c .before .before .before .before .word .result) (c .before .before .before .word2 .result) (getD (c .before .before .before .before .before .before .before .before .before .args .code .now) (c .before .before .before .before .before .before .before .before .before .args .p .pc + 3) 0) (c .before .before .word3 .ensures) (c .before .before .before .before .word .ensures) (c .before .before .before .word2 .ensures) refl op.End (c .before .match .keys6) m ∙ ap (λ k. over (res [] k (drop (c .before .before .before .before .before .before .before .before .before .args .p .at) (c .before .before .before .before .before .before .before .before .before .args .answers .now)))) (sym (c .end-as .ensures))
 
 same-length-3 : tie.Need-same-length-3
 same-length-3 c = search needs

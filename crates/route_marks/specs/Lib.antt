@@ -1,0 +1,5 @@
+pub mod Marks
+pub mod Taken
+pub mod MarksLaws
+pub mod TakenLaws
+pub mod BeginsLaws
