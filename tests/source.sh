@@ -1,6 +1,6 @@
 #!/usr/bin/env bash
 # What the source says of itself: the layout, no hole or axiom in a proof, no long function, shell scripts without warnings,
-# documents in short lines.
+# documents in short lines, the table of the code's length as it is defined.
 # shellcheck source=tests/lib.bash
 source "$(dirname "$0")/lib.bash" || exit 1
 
@@ -31,10 +31,24 @@ shell_scripts() {
 # tools/rewrap FILE.. mends what this tells
 short_lines() { tools/setup node && tools/rewrap --check README.md docs/*.md compare/*.md compare/*/*.md bindings/*/README.md; }
 
+# docs/CODE.md's numbers are the definition's; a copy with one of them changed must be told
+numbers() { tools/setup node && tools/code-numbers; }
+number_changed() {
+    local copy status
+    copy=$(mktemp)
+    sed 's/^| 5 | 5 | 16 | 5 |$/| 5 | 5 | 16 | 4 |/' docs/CODE.md >"$copy"
+    ! cmp -s docs/CODE.md "$copy" && { tools/code-numbers "$copy" >/dev/null; [ $? -eq 1 ]; }
+    status=$?
+    rm -f "$copy"
+    return $status
+}
+
 check "every file in rt's layout" formatted
 check "every crate listed in crates.txt" listed
 check "no hole and no axiom" no_holes
 check "no long function" small_functions
 check "no warning of shellcheck" shell_scripts
 check "documents in lines of at most 120 columns" short_lines
+check "docs/CODE.md has the numbers of the definition" numbers
+check "a number changed in a copy is told" number_changed
 finish
