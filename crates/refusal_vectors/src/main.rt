@@ -78,8 +78,8 @@ fn fill(rows: &[u32], nodes: &mut [u32; 170]) {
     }
 }
 
-fn tabled(label: &[u8], nodes: &[u32; 170], len: usize, scopes: &[u32; 6]) {
-    cut(label, 0, nodes, len, scopes, 6, b"abcd", 4, 2);
+fn tabled(label: &[u8], source_type: u32, nodes: &[u32; 170], len: usize, scopes: &[u32; 6]) {
+    cut(label, source_type, nodes, len, scopes, 6, b"abcd", 4, 2);
 }
 
 // A Program and some nodes, with one number changed in the node table and one in the scope table: scope 0 is of node 0, scope 1 of node 1.
@@ -95,7 +95,7 @@ fn judge(label: &[u8], rows: &[u32], at: usize, value: u32, scope_at: usize, sco
     }
     if rows.len() < 17 {
         let len = rows.len() * 10 + 10;
-        tabled(label, &nodes, len, &scopes);
+        tabled(label, 0, &nodes, len, &scopes);
     }
 }
 
@@ -131,7 +131,7 @@ fn flagged(label: &[u8], source_type: u32, node: usize, flags: u32) {
         nodes[node * 10 + 6] = flags;
     }
     let scopes = [0u32, 2, 0, 0, 0, 1];
-    cut(label, source_type, &nodes, 60, &scopes, 6, b"abcd", 4, 2);
+    tabled(label, source_type, &nodes, 60, &scopes);
 }
 
 // 2. .. flag 16384, on class elements of TypeScript alone.
