@@ -1,0 +1,2 @@
+pub mod Relabel
+pub mod Same
