@@ -11,7 +11,7 @@ use Rattle.refusal_verdict.specs.declared.Verdict.the-variants as verdict
 use Rattle.refusal_input.specs.Input.{inputRefusal}
 use Rattle.route_completion.specs.Route.{route}
 use Rattle.code_flat.specs.Code.{unit}
-use Rattle.code_unit.specs.Unit.{unitOf}
+use Rattle.code_tree.specs.Statements.{unitOf}
 use Rattle.check_dispatch.specs.Rule.{Rule}
 use Rattle.refusal_state.specs.Targets.{refusedOr, stateAnswer}
 use Rattle.call_routes.specs.declared.Coded.{Coded}
@@ -25,7 +25,7 @@ use Rattle.route_viewer.specs.declared.Routed.the-variants as routed
 unfoldable pub roomRefusal : List ℕ → ℕ → Verdict
 roomRefusal ns len = cond (leb (16 * count ns) len) verdict.Passed (verdict.Refused refusal.CodeSlice 0)
 
--- "the code call 1-9 and 11"; 13 and 14 "in every call that gives 6"; len is the length of the code slice
+-- "the code call 1-9 and 11", without 8, which "is no longer given"; 13 and 14 "in every call that gives 6", 15 "in every call"; len is the length of the code slice
 unfoldable pub codeRefusal : Rule → ℕ → ℕ → Verdict
 codeRefusal r u len =
     refusedOr (inputRefusal (r .sourceType) (r .nodes) (r .scopes) (r .source) (r .names)) (refusedOr (stateAnswer r u) (roomRefusal (r .nodes) len))
@@ -45,7 +45,7 @@ unfoldable pub codeSlice : Rule → ℕ → List ℕ → List ℕ
 codeSlice r u s =
     unless (codeRefusal r u (length s)) (λ number place. s) (over (unit (unitOf (r .nodes) (r .names) u)) s)
 
--- "the route call 1-9, 11 and 12": the route is the unit's by the completion rules. Of the code slice it leaves what the code call does, 12 or not.
+-- "the route call 1-9, 11 and 12", without 8: the route is the unit's by the completion rules. Of the code slice it leaves what the code call does, 12 or not.
 unfoldable pub routeAnswer : Rule → ℕ → List ℕ → ℕ → ℕ → Routed
 routeAnswer r u answers codeLen len =
     unless (codeRefusal r u codeLen) routed.Refused (shownAnswer (route (unitOf (r .nodes) (r .names) u) answers) len)

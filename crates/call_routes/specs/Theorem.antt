@@ -1,15 +1,13 @@
 -- THE CLAIM OF ROUTES, over tables: for every tree and unit that is not refused, and every list of answers, the flat code, made before any answer
 -- is known, gives the list, the answers taken and the end of the standard's completion rules.
-use Prim.Native.Nat.{ℕ, _+_, _*_, _≤_, _<_}
-use mathlib.Core.Path.{_≡_, ap, sym, _∙_, subst}
-use mathlib.Core.Bool.{true}
+use Prim.Native.Nat.{ℕ, _*_, _≤_}
+use mathlib.Core.Path.{_≡_, sym, subst}
 use mathlib.Core.List.{List, _∷_}
 use lib.ListN.{length, drop}
-use Rattle.table_records.specs.Table.{kindOf, count}
-use Rattle.table_records.specs.Kinds as k
-use Rattle.table_records.specs.declared.Found.the-variants.{At}
+use Rattle.table_records.specs.Table.{kindOf}
 use Rattle.refusal_verdict.specs.declared.Verdict.the-variants.{Passed}
 use Rattle.refusal_input.specs.Input.{inputRefusal}
+use Rattle.refusal_input.specs.InputLaws.{input-well-formed}
 use Rattle.route_completion.specs.Sem.{execs}
 use Rattle.route_completion.specs.Route.{route, parts, AllOnce}
 use Rattle.route_completion.specs.Entries.{Each}
@@ -18,20 +16,18 @@ use Rattle.code_flat.specs.Code.{unit}
 use Rattle.code_flat.specs.Machine.{started, codeRoute}
 use Rattle.code_flat.specs.Own.{sUnit, total, shapesAll}
 use Rattle.code_flat.specs.Claims.{claims}
-use Rattle.code_unit.specs.Unit.{holderOf, unitOf}
-use Rattle.code_words.specs.Words.{on, off}
-use Rattle.code_words.specs.Made.{code-is, code-length}
-use Rattle.code_held.specs.Held.{good, unit-held, unit-once}
-use Rattle.code_maker.specs.ReadyLaws as ready
+use Rattle.code_tree.specs.Statements.{unitOf}
+use Rattle.code_tree.specs.RoomLaws.{unit-room}
+use Rattle.code_length.specs.Length.{codeLength}
+use Rattle.code_length.specs.LengthLaws.{code-length}
+use Rattle.code_wellformed.specs.Parts.{good}
+use Rattle.code_jump_scope.specs.UnitScoped.{Targeted, unit-scoped}
+use Rattle.code_entries.specs.Asking.{ByKind}
+use Rattle.code_entries.specs.AskingLaws.{unit-by-kind}
 use Rattle.check_dispatch.specs.Rule.{rule}
-use Rattle.refusal_state.specs.Targets.{hasTarget, stateAnswer}
+use Rattle.refusal_state.specs.Targets.{stateAnswer}
 use Rattle.refusal_state.specs.TargetsLaws.{state-passed, targets-found}
-use Rattle.code_scoped.specs.Passed.{passed-scoped}
-use Rattle.code_scoped.specs.NoTry.{no-try}
-use Rattle.refusal_input.specs.InputLaws.{input-well-formed}
-use Rattle.call_routes.specs.CallsLaws.{unit-kind, unit-room}
-use Rattle.call_routes.specs.Asking.{ByKind}
-use Rattle.call_routes.specs.AskingLaws.{unit-by-kind}
+use Rattle.call_routes.specs.CallsLaws.{unit-kind, unit-once}
 
 -- What holds of the unit u and the answers.
 pub record Routes (ns names : List ℕ) (u : ℕ) (answers : List ℕ) : Type 0 where
@@ -50,21 +46,14 @@ pub record Routes (ns names : List ℕ) (u : ℕ) (answers : List ℕ) : Type 0 
   -- The code's length is the sum of a number for each node of the unit, by its kind, at most 16; it is made without the answers.
   pub long : length (unit (unitOf ns names u)) ≡ total (sUnit ∷ shapesAll (unitOf ns names u))
   pub small : length (unit (unitOf ns names u)) ≤ 16 * length (sUnit ∷ shapesAll (unitOf ns names u))
-  -- "The code takes at most 16 numbers per node of the unit": the same sum over the table's own nodes. b holds the unit's statements; each node j of them
-  -- (`on ns b j`) adds the number of its kind (`ownBy`, at most 10), every other node of the table 0, and the unit itself 8.
-  pub rows : (b : ℕ) → holderOf ns u ≡ At (record { 0 = b }) → length (unit (unitOf ns names u)) ≡ off ns b (count ns) + 8
-  -- "The unit holds a Try outside nested functions, arrows and classes": refusal 8 has turned those down, so that no node that the code has words for is a Try.
-  pub noTry : (b j : ℕ) → holderOf ns u ≡ At (record { 0 = b }) → j < count ns → on ns b j ≡ true → kindOf ns j ≡ k.Try → ⊥
-
--- Every Break and Continue of the tree has its target inside its nearest unit.
-abbrev pub Targeted : List ℕ → List ℕ → Type 0
-Targeted ns names = (n : ℕ) → n < count ns → k.Break ≤ kindOf ns n → kindOf ns n ≤ k.Continue → hasTarget ns names n ≡ true
+  -- "The code takes at most 16 numbers per node of the unit": the same sum over the table's own nodes, each by its kind, role and parent's kind, and 8 for the unit itself.
+  pub rows : length (unit (unitOf ns names u)) ≡ codeLength ns u
 
 module _ (sourceType asyncBodies : ℕ) (ns ss source names : List ℕ) (u : ℕ)
-    -- the tables are well-formed (1 to 6, 13, 14), u is a unit (7) without try (8), and the tree has no findings (9)
+    -- the tables are well-formed (1 to 6, 13 to 15), u is a unit (7), and the tree has no findings (9)
     (formed : inputRefusal sourceType ns ss source names ≡ Passed) (passed : stateAnswer (rule sourceType asyncBodies ns ss source names) u ≡ Passed)
   where
-    -- With no findings every break and continue has its target: the second half of refusal 9 is never met.
+    -- With no findings every break and continue has its target inside its nearest unit: the second half of refusal 9 is never met.
     pub targeted : Targeted ns names
     targeted =
         let w = input-well-formed sourceType ns ss source names formed in
@@ -76,18 +65,15 @@ module _ (sourceType asyncBodies : ℕ) (ns ss source names : List ℕ) (u : ℕ
     routes answers =
         let w = input-well-formed sourceType ns ss source names formed in
         let s = state-passed sourceType asyncBodies ns ss source names u passed in
-        let c = claims (unitOf ns names u) (unit-room ns names u) answers in
+        let c = claims (unitOf ns names u) (unit-room ns names (w .input .tree) u) answers in
         record {
           same = c .same;
           entries = c .entries;
           asking = subst (Each (ByKind ns)) (sym (c .entries)) (execsEach (ByKind ns) (unitOf ns names u) (unit-by-kind ns names u) answers);
           left = c .left;
-          ends = c .ends (passed-scoped sourceType asyncBodies ns ss source names u (good sourceType ns ss source names w) passed);
-          once = c .once (unit-once sourceType ns ss source names w u (s .below) (unit-kind (kindOf ns u) (s .unit)));
+          ends = c .ends (unit-scoped ns names (w .input .tree) (w .listed) (w .shaped .placed) (w .shaped .counted) targeted u (s .below) (s .unit));
+          once = c .once (unit-once ns names (good ns (w .input .tree) (w .listed) (w .shaped .placed) (w .shaped .counted)) u (s .below) (unit-kind (kindOf ns u) (s .unit)));
           long = c .long;
           small = c .small;
-          rows = λ b e.
-              let h = unit-held sourceType ns ss source names w u (s .below) (unit-kind (kindOf ns u) (s .unit)) (record { 0 = b }) e in
-              ap (λ x. length (unit x)) (ready.unit-held ns names u b e) ∙ ap length (sym (code-is ns names b h)) ∙ code-length ns names b h;
-          noTry = no-try ns (w .input .tree) u (s .noTry);
+          rows = code-length ns (w .input .tree) (w .listed) (w .shaped .placed) (w .shaped .counted) u (s .below) (s .unit) names (w .input .named);
         }

@@ -1,4 +1,4 @@
-// The public calls `code` and `route`: refusals 1 to 9 and 11 to 14, or the flat code of a unit, or its route.
+// The public calls `code` and `route`: a refusal (1 to 7, 9, 11 to 15), or the flat code of a unit, or its route.
 ghost use mathlib.Core.Path.{_≡_};
 ghost use Prim.Native.Nat.{_*_, _≤_};
 ghost use lib.ListN.{length, take};
@@ -9,11 +9,12 @@ ghost use Rattle.route_completion.specs.Route.{route as routeOf};
 ghost use Rattle.code_flat.specs.Code.{unit as codeOf};
 ghost use Rattle.code_stores.specs.Over.{over};
 ghost use Rattle.route_viewer.specs.Shown.{shownAnswer, shownSlice};
-ghost use Rattle.code_unit.specs.Unit.{unitOf};
-ghost use Rattle.code_maker.specs.Ready.{Ready};
+ghost use Rattle.code_tree.specs.Statements.{unitOf};
+ghost use Rattle.code_assemble.specs.Ready.{Ready};
 ghost use Rattle.check_dispatch.specs.Rule.{rule};
 ghost use Rattle.refusal_state.specs.Targets.{refusedOr, stateAnswer};
 ghost use Rattle.call_routes.specs.Calls.{roomRefusal, codeRefusal, codeAnswer, codeSlice, routeAnswer, routeSlice};
+use code_assemble::Assembled;
 use refusal_verdict::Verdict;
 use refusal_verdict::refusals;
 use route_viewer::Routed;
@@ -36,7 +37,7 @@ fn room_refusal(nodes: &[u32], len: usize) -> Verdict
     Verdict::Passed
 }
 
-// The refusals of well-formed tables: 7, 8, 9 and 11.
+// The refusals of well-formed tables: 7, 9 and 11.
 fn later_refusal(
     source_type: u32,
     async_bodies: u32,
@@ -94,6 +95,19 @@ fn refusal(
     }
 }
 
+// The code of a unit in a slice with 16 numbers for each node, where it always fits. Answers its length.
+fn assemble(nodes: &[u32], names: &[u8], unit: NodeId, code: &mut [u32]) -> usize
+    requires { ⌜ Ready (now nodes) (now names) (unit .0) ⌝ }
+    requires { ⌜ count (now nodes) * 16 ≤ length (now code) ⌝ }
+    ensures { λ _. ⌜ now (code .exit) ≡ over (codeOf (unitOf (now (nodes .entry)) (now (names .entry)) (unit .0))) (now (code .entry)) ⌝ }
+    ensures { λ r. ⌜ r ≡ length (codeOf (unitOf (now (nodes .entry)) (now (names .entry)) (unit .0))) ⌝ }
+{
+    match code_assemble::code_unit(nodes, names, unit, code) {
+        Assembled::Code(n) => n,
+        Assembled::Short(n) => n,
+    }
+}
+
 // Makes the flat code of a unit.
 pub fn code(
     source_type: u32,
@@ -119,7 +133,7 @@ pub fn code(
         code.len(),
     ) {
         Verdict::Refused(number, place) => Coded::Refused(number, place),
-        Verdict::Passed => Coded::Code(code_maker::code_unit(nodes, names, NodeId(unit), code)),
+        Verdict::Passed => Coded::Code(assemble(nodes, names, NodeId(unit), code)),
     }
 }
 
@@ -146,7 +160,7 @@ fn made(
     ensures { λ _. ⌜ now (code .exit) ≡ over (codeOf (unitOf (now (nodes .entry)) (now (names .entry)) (u .0))) (now (code .entry)) ⌝ }
     ensures { λ _. ⌜ now (out .exit) ≡ shownSlice (routeOf (unitOf (now (nodes .entry)) (now (names .entry)) (u .0)) (now (answers .entry))) (now (out .entry)) ⌝ }
 {
-    let n = code_maker::code_unit(nodes, names, u, code);
+    let n = assemble(nodes, names, u, code);
     route_viewer::show(front(code, n), answers, out)
 }
 

@@ -14,7 +14,7 @@ use Rattle.table_records.specs.Table.{count}
 use Rattle.route_completion.specs.Route.{Route, route as ruledRoute}
 use Rattle.code_flat.specs.Code.{unit}
 use Rattle.code_flat.specs.Machine.{codeRoute}
-use Rattle.code_unit.specs.Unit.{unitOf}
+use Rattle.code_tree.specs.Statements.{unitOf}
 use Rattle.route_viewer.specs.declared.Routed.the-variants as Routed
 use Rattle.call_routes.specs.Calls.{routeAnswer, routeSlice}
 

@@ -20,6 +20,7 @@ use Rattle.refusal_standing.specs.Standing.{isStatement, mayBeStatement, isHold
 use Rattle.refusal_counts.specs.Counts.{isDefault, defaults, wrongBody, wrongAlternate, wrongDefault, wrongTry, wrongClause, wrongLabel, wrongFunction, wrongClass, wrongValue, wrongElement, wrongStatement, wrongPart, wrongHome, wrongCountAt}
 use Rattle.refusal_return.specs.Return.{returnInStatic}
 use Rattle.refusal_input.specs.Input.{tablesOr, shapeRefusal, inputRefusal}
+use Rattle.refusal_input.specs.InputLaws.{input-well-formed}
 use Rattle.check_literals.specs.Escapes.{escapeOf, badEscape}
 use Rattle.check_literals.specs.Literals.{sourceText, checkStringLiteral, checkNumberLiteral}
 use Rattle.check_identifiers.specs.Identifiers.{isStrictWord, checkIdentifier, checkBindingIdentifier, checkIdentifierReference, checkDirective}
@@ -41,12 +42,15 @@ use Rattle.call_check.specs.Check.{reportAnswer, reportSlice, answerBy, sliceBy
 use Rattle.call_check.specs.CheckLaws.{answer-room}
 use Rattle.call_check.specs.declared.Checked.the-variants.{Findings}
 use Rattle.table_records.specs.Table.{count}
+use Rattle.table_records.specs.Facts.{Tree}
 use Rattle.route_completion.specs.Sem.{exec, turns, rounds}
 use Rattle.route_completion.specs.Route.{Route, asks, route as ruledRoute}
-use Rattle.code_unit.specs.Unit.{shapeBy, isPart, parts, nameId, stmtAt, bodyOf, holderOf, unitOf}
+use Rattle.code_tree.specs.Labels.{nameId}
+use Rattle.code_tree.specs.Parts.{upOf, shapeBy, isPart, parts, order}
+use Rattle.code_tree.specs.Statements.{leafAt, stmtAt, bodyOf, holderOf, unitOf}
 use Rattle.route_viewer.specs.Shown.{shownAnswer, shownSlice}
 use Rattle.route_viewer.specs.declared.Routed.the-variants as routed
-use Rattle.refusal_state.specs.Targets.{namesUnit, inUnit, tryIn, holdsTry, seek, plainBreak, namedBreak, plainContinue, namedContinue, hasTarget, lostAt, statePlace, unitRefusal, refusedOr, stateAnswer}
+use Rattle.refusal_state.specs.Targets.{namesUnit, seek, plainBreak, namedBreak, plainContinue, namedContinue, hasTarget, lostAt, statePlace, unitRefusal, refusedOr, stateAnswer}
 use Rattle.call_routes.specs.Calls.{roomRefusal, codeRefusal, unless, routeAnswer, routeSlice}
 use Rattle.call_routes.specs.CallsLaws.{room-enough, code-route}
 use Rattle.call_rows.specs.Rows.{CheckRow, RouteRow, Row, check, route, Checks, Shows, Holds, Each, rows}
@@ -107,8 +111,11 @@ module _ (r : RouteRow) (passed : inputRefusal (r .sourceType) (r .nodes) (r .sc
         ∙ ap (λ (x : Route). shownSlice x s) ruled
         ∙ rw (le-leb (length (r .shows .list)) (length s) g)
 
+    tree : Tree (r .nodes)
+    tree = input-well-formed (r .sourceType) (r .nodes) (r .scopes) (r .source) (r .names) passed .input .tree
+
     shows : Shows r
-    shows = record { ruled = ruled; coded = code-route (r .nodes) (r .names) (r .unit) (r .answers) ∙ ruled; answer = told; slice = kept }
+    shows = record { ruled = ruled; coded = code-route (r .nodes) (r .names) tree (r .unit) (r .answers) ∙ ruled; answer = told; slice = kept }
 
 -- what is computed of a row
 abbrev Computed : Row → Type 0
@@ -129,7 +136,7 @@ each [] c = tt
 each (r ∷ rs) c = (holds r (c .0), each rs (c .1))
 
 computed : Each Computed rows
-unfolding rows upto range above climb first keep children howMany isChild wrongTable wrongSizes ownFlag listedFlags mostExtra listedExtra unlistedAt strayAt misplacedAt brokenAt chainOn misscopedAt isStatement mayBeStatement isHolder strayStatement strayHeld strayAlternate strayInSwitch strayCase strayInTry strayClause strayInClause strayFunctionBody strayClassBody strayElement strayValue misplacedStatement misplacedPart misplacedElement misplaced misplacedChildAt isDefault defaults wrongBody wrongAlternate wrongDefault wrongTry wrongClause wrongLabel wrongFunction wrongClass wrongValue wrongElement wrongStatement wrongPart wrongHome wrongCountAt failsAt returnInStatic tablesOr shapeRefusal inputRefusal same nameOf firstNode nearestOf flat flatMap xor escapeOf badEscape sourceText checkStringLiteral checkNumberLiteral isStrictWord checkIdentifier checkBindingIdentifier checkIdentifierReference checkDirective walkUp sameLabel under plainContinueAt continueTo labelledContinueAt labeledAt checkFunctionDeclaration checkLabeledItem currentClass classesOf elementName elementSpan hasBody enters elements privates lastOf sideOf previousOn previousOf isDuplicate redeclaration duplicateBy duplicatesIn duplicateElements references undeclaredIn requireClassName constructors constructorSpan checkClass findingsAt reportedAt reported exec turns rounds asks shapeBy isPart parts nameId stmtAt bodyOf holderOf unitOf namesUnit inUnit tryIn holdsTry seek plainBreak namedBreak plainContinue namedContinue hasTarget lostAt statePlace unitRefusal stateAnswer
+unfolding rows upto range above climb first keep children howMany isChild wrongTable wrongSizes ownFlag listedFlags mostExtra listedExtra unlistedAt strayAt misplacedAt brokenAt chainOn misscopedAt isStatement mayBeStatement isHolder strayStatement strayHeld strayAlternate strayInSwitch strayCase strayInTry strayClause strayInClause strayFunctionBody strayClassBody strayElement strayValue misplacedStatement misplacedPart misplacedElement misplaced misplacedChildAt isDefault defaults wrongBody wrongAlternate wrongDefault wrongTry wrongClause wrongLabel wrongFunction wrongClass wrongValue wrongElement wrongStatement wrongPart wrongHome wrongCountAt failsAt returnInStatic tablesOr shapeRefusal inputRefusal same nameOf firstNode nearestOf flat flatMap xor escapeOf badEscape sourceText checkStringLiteral checkNumberLiteral isStrictWord checkIdentifier checkBindingIdentifier checkIdentifierReference checkDirective walkUp sameLabel under plainContinueAt continueTo labelledContinueAt labeledAt checkFunctionDeclaration checkLabeledItem currentClass classesOf elementName elementSpan hasBody enters elements privates lastOf sideOf previousOn previousOf isDuplicate redeclaration duplicateBy duplicatesIn duplicateElements references undeclaredIn requireClassName constructors constructorSpan checkClass findingsAt reportedAt reported exec turns rounds asks upOf shapeBy isPart parts order nameId leafAt stmtAt bodyOf holderOf unitOf namesUnit seek plainBreak namedBreak plainContinue namedContinue hasTarget lostAt statePlace unitRefusal stateAnswer
 computed =
     ((refl, refl), ((refl, refl), ((refl, refl), ((refl, refl), ((refl, refl), ((refl, refl), ((refl, refl), ((refl, refl), ((refl, refl), ((refl, refl), ((refl, refl), ((refl, refl), ((refl, refl), ((refl, refl), ((refl, refl), ((refl, refl, refl), ((refl, refl, refl), ((refl, refl, refl), tt))))))))))))))))))
 

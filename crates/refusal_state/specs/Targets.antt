@@ -1,9 +1,8 @@
--- Refusals 7, 8 and 9 of document 01, which the calls `code` and `route` give, and the targets of jumps.
+-- Refusals 7 and 9 of document 01, which the calls `code` and `route` give, and the targets of jumps.
 use Prim.Native.Nat.{ℕ}
 use mathlib.Core.List.{List, [], _∷_, foldr}
-use mathlib.Core.Bool.{Bool, true, false, cond, not, _&&_, _||_}
+use mathlib.Core.Bool.{Bool, true, false, cond, not, _&&_}
 use lib.Dec.{eqb, ltb}
-use Rattle.base_common.specs.Upto.{upto, any}
 use Rattle.base_common.specs.Tests.{within}
 use Rattle.table_records.specs.Table.{kindOf, count, ancestors}
 use Rattle.table_records.specs.Kinds as k
@@ -23,21 +22,6 @@ use Rattle.check_dispatch.specs.Reported.{reported}
 -- 7: "The number named as unit is no node of kind 0-3."
 unfoldable pub namesUnit : List ℕ → ℕ → Bool
 namesUnit ns u = ltb u (count ns) && isUnit (kindOf ns u)
-
--- "functions, arrows and classes"
-abbrev pub isHome : ℕ → Bool
-isHome kind = within kind k.Function k.Arrow || eqb kind k.Class
-
--- the way up from n meets u, and no function, arrow or class before it
-unfoldable pub inUnit : List ℕ → ℕ → ℕ → Bool
-inUnit ns u n = foldr (λ a r. cond (eqb a u) true (cond (isHome (kindOf ns a)) false r)) false (ancestors ns n)
-
--- 8: "The unit holds a Try outside nested functions, arrows and classes."
-unfoldable pub tryIn : List ℕ → ℕ → ℕ → Bool
-tryIn ns u n = eqb (kindOf ns n) k.Try && inUnit ns u n
-
-unfoldable pub holdsTry : List ℕ → ℕ → Bool
-holdsTry ns u = any (tryIn ns u) (upto 0 (count ns))
 
 -- The way up from a jump n: an ancestor answers, or hands on what those above it answer, but nothing is sought outside "its nearest unit (kind 0-3)".
 unfoldable pub seek : List ℕ → (ℕ → Bool → Bool) → ℕ → Bool
@@ -82,9 +66,9 @@ findingOr (f ∷ fs) lost = Here (f .node .0)
 unfoldable pub statePlace : Rule → Place
 statePlace r = findingOr (reported r) (first (lostAt (r .nodes) (r .names)) 0 (count (r .nodes)))
 
--- 7, 8 and 9 in their order: "The lowest number wins"; "7 and 8 give the unit's number".
+-- 7 and 9 in their order: "The lowest number wins"; 7 gives "the unit's number". Request 1: "8 is no longer given".
 unfoldable pub unitRefusal : List ℕ → ℕ → Verdict
-unitRefusal ns u = cond (namesUnit ns u) (cond (holdsTry ns u) (Refused refusal.Try u) Passed) (Refused refusal.Unit u)
+unitRefusal ns u = cond (namesUnit ns u) Passed (Refused refusal.Unit u)
 
 abbrev pub refusedOr : Verdict → Verdict → Verdict
 refusedOr (Refused number place) r = Refused number place

@@ -1,4 +1,4 @@
--- Laws of refusals 7 to 9 as loops meet them. Where the tree has no findings, each break and continue has its target.
+-- Laws of refusals 7 and 9 as loops meet them. Where the tree has no findings, each break and continue has its target.
 use Prim.Native.Nat.{ℕ, zero, suc, _+_, _≤_, _<_}
 use mathlib.Core.Path.{_≡_, refl, ap, sym, subst, _∙_}
 use mathlib.Core.List.{List, [], _∷_, _++_, flatMap}
@@ -6,11 +6,11 @@ use mathlib.Core.Bool.{Bool, true, false, cond, not, _&&_}
 use mathlib.Core.Logic.{⊎-elim}
 use native.Mathlib.Nat.{eq-or-lt-of-le}
 use native.Mathlib.Omega.{arith}
-use borrow.Author.Tests.{eq-eqb, ne-eqb, eqb-true, eqb-false, le-leb, lt-leb, ltb-true}
+use borrow.Author.Tests.{eqb-true, eqb-false, le-leb, lt-leb, ltb-true}
 use lib.Dec.{eqb, ltb}
 use lib.ListN.{length, getD}
-use Rattle.base_common.specs.Upto.{upto, any}
-use Rattle.base_common.specs.UptoLaws.{fold-turn, fold-end, and-left, and-right}
+use Rattle.base_common.specs.Upto.{upto}
+use Rattle.base_common.specs.UptoLaws.{and-left, and-right}
 use Rattle.base_common.specs.Bools.{never, range-of}
 use Rattle.base_common.specs.Tests.{within}
 use Rattle.base_common.specs.Wrote.{put}
@@ -21,7 +21,7 @@ use Rattle.table_records.specs.Facts.{Tree}
 use Rattle.table_records.specs.declared.Found.{Found}
 use Rattle.table_records.specs.declared.Found.the-variants.{At, Nothing}
 use Rattle.table_children.specs.Children.{labelOf}
-use Rattle.table_ancestry.specs.AncestryLaws.{ancestors-up, ancestors-root}
+use Rattle.table_ancestry.specs.AncestryLaws.{ancestors-up}
 use Rattle.refusal_verdict.specs.First.{first}
 use Rattle.refusal_verdict.specs.FirstLaws.{first-on, first-end, le-or-lt}
 use Rattle.refusal_verdict.specs.declared.Place.{Place}
@@ -45,48 +45,7 @@ use Rattle.check_dispatch.specs.Findings.{findingsAt, findingsOf}
 use Rattle.check_dispatch.specs.Rule.{rule}
 use Rattle.check_dispatch.specs.Reported.{reported}
 use Rattle.check_dispatch.specs.ReportedLaws.{none-reported}
-use Rattle.refusal_state.specs.Targets.{namesUnit, isHome, inUnit, tryIn, holdsTry, seek, plainBreak, namedBreak, plainContinue, namedContinue, breakTarget, continueTarget, hasTarget, lostAt, findingOr, statePlace, unitRefusal, refusedOr, stateAnswer}
-
--- a unit's way up: p is the parent of i
-module _ (ns : List ℕ) (u : ℕ) where
-  module _ (t : Tree ns) (i p : ℕ) (h : 0 < i) (l : i < count ns) (e : p ≡ parentOf ns i) where
-    unit-up : inUnit ns u i ≡ cond (eqb p u) true (cond (isHome (kindOf ns p)) false (inUnit ns u p))
-    unfolding inUnit
-    unit-up = ancestors-up _ _ ns t i h l ∙ rw (← e)
-
-    pub unit-here : p ≡ u → inUnit ns u i ≡ true
-    unit-here q = unit-up ∙ rw (eq-eqb p u q)
-
-    pub unit-home : (p ≡ u → ⊥) → isHome (kindOf ns p) ≡ true → inUnit ns u i ≡ false
-    unit-home q w = unit-up ∙ rw (ne-eqb p u q, w)
-
-    pub unit-on : (p ≡ u → ⊥) → isHome (kindOf ns p) ≡ false → inUnit ns u i ≡ inUnit ns u p
-    unit-on q w = unit-up ∙ rw (ne-eqb p u q, w)
-
-  pub unit-root : inUnit ns u 0 ≡ false
-  unfolding inUnit
-  unit-root = ancestors-root _ _ ns
-
-  -- a Try from i on
-  unfoldable pub tryFrom : ℕ → Bool
-  tryFrom i = any (tryIn ns u) (upto i (count ns))
-
-  pub try-all : tryFrom 0 ≡ holdsTry ns u
-  unfolding tryFrom holdsTry
-  try-all = refl
-
-  module _ (i : ℕ) where
-    pub try-on : i < count ns → tryIn ns u i ≡ false → tryFrom i ≡ tryFrom (i + 1)
-    unfolding tryFrom
-    try-on h e = fold-turn _ _ i (count ns) h ∙ rw e
-
-    pub try-stop : i < count ns → tryIn ns u i ≡ true → tryFrom i ≡ true
-    unfolding tryFrom
-    try-stop h e = fold-turn _ _ i (count ns) h ∙ rw e
-
-    pub try-end : count ns ≤ i → tryFrom i ≡ false
-    unfolding tryFrom
-    try-end h = fold-end _ _ i (count ns) h
+use Rattle.refusal_state.specs.Targets.{namesUnit, seek, plainBreak, namedBreak, plainContinue, namedContinue, breakTarget, continueTarget, hasTarget, lostAt, findingOr, statePlace, unitRefusal, refusedOr, stateAnswer}
 
 raised : {A : Type 0} → (f : Finding) → Error f ≡ Clear → A
 raised f e = let z : _≡_ {A = ℕ} 0 1 = cc in absurd (omega arith)
@@ -280,11 +239,10 @@ module _ (sourceType : ℕ) (ns ss source names : List ℕ) where
         go [] h = absurd (h refl)
         go (f ∷ fs) h = ap Here (sym (first-written s f fs q))
 
--- WHAT IS KNOWN WHERE NONE OF 7 TO 9 APPLIES
+-- WHAT IS KNOWN WHERE NEITHER 7 NOR 9 APPLIES
 pub record Sound (sourceType : ℕ) (ns ss source names : List ℕ) (u : ℕ) : Type 0 where
   pub below : u < count ns
   pub unit : isUnit (kindOf ns u) ≡ true
-  pub noTry : holdsTry ns u ≡ false
   pub clear : findingsOf sourceType ns ss source names ≡ []
 
 refused-or : (v r : Verdict) → refusedOr v r ≡ Passed → (v ≡ Passed) × (r ≡ Passed)
@@ -295,14 +253,13 @@ no-finding : (fs : List Finding) (lost : Place) → findingOr fs lost ≡ Nowher
 no-finding [] lost e = refl
 no-finding (f ∷ fs) lost e = let z : _≡_ {A = ℕ} 0 1 = cc in absurd (omega arith)
 
-unit-passed : (ns : List ℕ) (u : ℕ) → unitRefusal ns u ≡ Passed → (namesUnit ns u ≡ true) × (holdsTry ns u ≡ false)
+unit-passed : (ns : List ℕ) (u : ℕ) → unitRefusal ns u ≡ Passed → namesUnit ns u ≡ true
 unfolding unitRefusal
-unit-passed ns u = go (namesUnit ns u) (holdsTry ns u)
+unit-passed ns u = go (namesUnit ns u)
   where
-    go : (x y : Bool) → cond x (cond y (Refused refusal.Try u) Passed) (Refused refusal.Unit u) ≡ Passed → (x ≡ true) × (y ≡ false)
-    go true true e = no-pass refusal.Try u e
-    go true false e = (refl, refl)
-    go false y e = no-pass refusal.Unit u e
+    go : (x : Bool) → cond x Passed (Refused refusal.Unit u) ≡ Passed → x ≡ true
+    go true e = refl
+    go false e = no-pass refusal.Unit u e
 
 pub state-passed : (sourceType asyncBodies : ℕ) (ns ss source names : List ℕ) (u : ℕ) → stateAnswer (rule sourceType asyncBodies ns ss source names) u ≡ Passed → Sound sourceType ns ss source names u
 unfolding stateAnswer statePlace namesUnit
@@ -310,8 +267,7 @@ state-passed sourceType asyncBodies ns ss source names u e =
     let w = refused-or (unitRefusal ns u) (orNext refusal.Findings (statePlace (rule sourceType asyncBodies ns ss source names)) Passed) e in
     let v = unit-passed ns u (w .0) in
     record {
-      below = ltb-true u (count ns) (and-left (ltb u (count ns)) (isUnit (kindOf ns u)) (v .0));
-      unit = and-right (ltb u (count ns)) (isUnit (kindOf ns u)) (v .0);
-      noTry = v .1;
+      below = ltb-true u (count ns) (and-left (ltb u (count ns)) (isUnit (kindOf ns u)) v);
+      unit = and-right (ltb u (count ns)) (isUnit (kindOf ns u)) v;
       clear = none-reported (rule sourceType asyncBodies ns ss source names) (no-finding (reported (rule sourceType asyncBodies ns ss source names)) (first (lostAt ns names) 0 (count ns)) (passed refusal.Findings (statePlace (rule sourceType asyncBodies ns ss source names)) Passed (w .1) .0));
     }

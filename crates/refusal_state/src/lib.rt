@@ -1,11 +1,8 @@
-// Refusals 7, 8 and 9: what is named as unit, a Try in it, and findings of the tree.
+// Refusals 7 and 9: what is named as unit, and findings of the tree.
 ghost use mathlib.Core.Path.{_≡_};
-ghost use Prim.Native.Nat.{_<_};
-ghost use Rattle.table_records.specs.Table.{count};
-ghost use Rattle.table_records.specs.Facts.{Tree, Input, Sourced};
+ghost use Rattle.table_records.specs.Facts.{Input, Sourced};
 ghost use Rattle.check_dispatch.specs.Rule.{rule};
-ghost use Rattle.refusal_state.specs.Targets.{namesUnit, isHome, inUnit, tryIn, holdsTry, statePlace, unitRefusal, stateAnswer};
-use base_common::or;
+ghost use Rattle.refusal_state.specs.Targets.{namesUnit, statePlace, unitRefusal, stateAnswer};
 use base_common::within;
 use refusal_verdict::Place;
 use refusal_verdict::Verdict;
@@ -27,75 +24,12 @@ fn names_unit(nodes: &[u32], u: u32) -> bool
     )
 }
 
-// Functions, arrows and classes.
-fn is_home(kind: u32) -> bool
-    ensures { λ r. ⌜ r ≡ isHome kind ⌝ }
-{
-    or(
-        within(kind, kinds::FUNCTION, kinds::ARROW),
-        kind == kinds::CLASS,
-    )
-}
-
-// Whether n stands in the unit u, outside nested functions, arrows and classes.
-fn in_unit(nodes: &[u32], u: NodeId, n: NodeId) -> bool
-    requires { ⌜ Tree (now nodes) ⌝ }
-    requires { ⌜ n .0 < count (now nodes) ⌝ }
-    ensures { λ r. ⌜ r ≡ inUnit (now (nodes .entry)) (u .0) (n .0) ⌝ }
-{
-    let mut at = n;
-    loop {
-        if at.0 == 0 {
-            break false;
-        }
-        at = table_ancestry::up(nodes, at);
-        if at.0 == u.0 {
-            break true;
-        }
-        if is_home(table_records::kind(nodes, at)) {
-            break false;
-        }
-    }
-}
-
-// Whether n is a Try in the unit u.
-fn is_try_in(nodes: &[u32], u: NodeId, n: NodeId) -> bool
-    requires { ⌜ Tree (now nodes) ⌝ }
-    requires { ⌜ n .0 < count (now nodes) ⌝ }
-    ensures { λ r. ⌜ r ≡ tryIn (now (nodes .entry)) (u .0) (n .0) ⌝ }
-{
-    let kind = table_records::kind(nodes, n);
-    if kind != kinds::TRY {
-        return false;
-    }
-    in_unit(nodes, u, n)
-}
-
-// Whether the unit u holds a Try.
-fn holds_try(nodes: &[u32], u: NodeId) -> bool
-    requires { ⌜ Tree (now nodes) ⌝ }
-    ensures { λ r. ⌜ r ≡ holdsTry (now (nodes .entry)) (u .0) ⌝ }
-{
-    let mut i: u32 = 0;
-    while table_records::is_node(nodes, i) {
-        if is_try_in(nodes, u, NodeId(i)) {
-            return true;
-        }
-        i += 1;
-    }
-    false
-}
-
-// Refusals 7 and 8.
+// Refusal 7.
 pub fn unit_refusal(nodes: &[u32], u: u32) -> Verdict
-    requires { ⌜ Tree (now nodes) ⌝ }
     ensures { λ r. ⌜ r ≡ unitRefusal (now (nodes .entry)) u ⌝ }
 {
     if !names_unit(nodes, u) {
         return Verdict::Refused(refusals::UNIT, u);
-    }
-    if holds_try(nodes, NodeId(u)) {
-        return Verdict::Refused(refusals::TRY, u);
     }
     Verdict::Passed
 }
@@ -129,7 +63,7 @@ pub fn state_place(
     Place::Here(first[1])
 }
 
-// Refusals 7, 8 and 9 of well-formed tables, in their order.
+// Refusals 7 and 9 of well-formed tables, in their order.
 pub fn state_refusal(
     source_type: u32,
     async_bodies: u32,

@@ -16,7 +16,8 @@ use Rattle.ecma_base.specs.Telling.{Telling}
 use Rattle.ecma_standard.specs.Standard.{Standard, standard262}
 use Rattle.ecma_standard.specs.Findings.{Broken, findings262}
 use Rattle.ecma_standard.specs.AsyncBodies.{OptionOn, optionOn}
-use Rattle.call_routes.specs.Theorem.{Routes, Targeted, routes, targeted}
+use Rattle.code_jump_scope.specs.UnitScoped.{Targeted}
+use Rattle.call_routes.specs.Theorem.{Routes, routes, targeted}
 use Rattle.call_rows.specs.Rows.{rows, Each, Holds}
 use Rattle.call_rows.specs.RowsHold.{rows-hold}
 use Rattle.exports.proofs.velkunshe_check.Statement as check-call
@@ -48,7 +49,7 @@ pub record Demands : Type 2 where
   pub on : (told : Telling) (r : Rule) → inputRefusal (r .sourceType) (r .nodes) (r .scopes) (r .source) (r .names) ≡ Passed → eqb (r .asyncBodies) 0 ≡ false → OptionOn told r
   -- 3. "For every well-formed tree without findings, whose breaks and continues all have the target that ECMA-262 asks for inside their own unit": those without findings have it.
   pub targets : (t asyncBodies : ℕ) (ns ss source names : List ℕ) (u : ℕ) → inputRefusal t ns ss source names ≡ Passed → stateAnswer (rule t asyncBodies ns ss source names) u ≡ Passed → Targeted ns names
-  -- "every unit of it without `try` and every list of answers, empty, too short or too long included: the flat jump code .. lists the same statements in the same order, takes the same
+  -- "every unit of it .. and every list of answers, empty, too short or too long included", with `try` (document 02, request 1) and static blocks (request 5): "the flat jump code .. lists the same statements in the same order, takes the same
   -- answers and no more, and ends with the same number as a run of that unit on those answers by the standard's completion rules .. no part, the first and the last included, has a
   -- statement twice."
   pub routes : (t asyncBodies : ℕ) (ns ss source names : List ℕ) (u : ℕ) → inputRefusal t ns ss source names ≡ Passed → stateAnswer (rule t asyncBodies ns ss source names) u ≡ Passed

@@ -2,7 +2,7 @@ use Rattle.call_routes.specs.declared.Coded.the-variants as coded
 use Rattle.call_routes.specs.declared.Coded.{Coded}
 use Rattle.call_routes.specs.CallsLaws.{ready, room}
 use Rattle.call_routes.specs.Calls.{unless}
-use Rattle.code_unit.specs.Unit.{unitOf}
+use Rattle.code_tree.specs.Statements.{unitOf}
 use Rattle.code_stores.specs.Over.{over}
 use Rattle.code_flat.specs.Code.{unit}
 use Rattle.refusal_verdict.specs.declared.Verdict.{Verdict}
@@ -23,8 +23,8 @@ enum-known-number c = search needs
 enum-told : tie.Need-enum-told
 enum-told c = search needs
 
-code-unit-requires : tie.Need-code-unit-requires
-code-unit-requires c κs = let a = c .before .before .before .before .before .before .before .before .before .args in
+assemble-requires : tie.Need-assemble-requires
+assemble-requires c κs = let a = c .before .before .before .before .before .before .before .before .before .args in
     let t = a .source-type in
     let ns = a .nodes .now in
     let ss = a .scopes .now in
@@ -63,7 +63,7 @@ returns-2 c = let a = c .before .before .before .before .before .before .before 
     let u = a .unit in
     let k = a .code .now in
     let e = sym (c .before .before .before .before .before .before .refusal .ensures) ∙ c .before .before .before .before .enum-told .given .1 in
-    (ap coded.Code (c .before .before .code-unit .ensures .1) ∙ sym (ap (λ (v : Verdict). unless {A = Coded} v coded.Refused (coded.Code (length (unit (unitOf ns nm u))))) e), c .before .before .code-unit .ensures .0 ∙ sym (ap (λ (v : Verdict). unless v (λ number place. k) (over (unit (unitOf ns nm u)) k)) e))
+    (ap coded.Code (c .before .before .assemble .ensures .1) ∙ sym (ap (λ (v : Verdict). unless {A = Coded} v coded.Refused (coded.Code (length (unit (unitOf ns nm u))))) e), c .before .before .assemble .ensures .0 ∙ sym (ap (λ (v : Verdict). unless v (λ number place. k) (over (unit (unitOf ns nm u)) k)) e))
 
 pub code-spec : {M : Type 1} → statement M
 code-spec =
@@ -72,7 +72,7 @@ code-spec =
     refusal-requires
     enum-known-number
     enum-told
-    code-unit-requires
+    assemble-requires
     returns
     same-length
     returns-2)

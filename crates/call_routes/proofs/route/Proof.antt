@@ -4,7 +4,7 @@ use Rattle.route_viewer.specs.Shown.{shownAnswer, shownSlice}
 use Rattle.route_completion.specs.Route.{route}
 use Rattle.call_routes.specs.CallsLaws.{ready, room}
 use Rattle.call_routes.specs.Calls.{unless}
-use Rattle.code_unit.specs.Unit.{unitOf}
+use Rattle.code_tree.specs.Statements.{unitOf}
 use Rattle.code_stores.specs.Over.{over}
 use Rattle.code_flat.specs.Code.{unit}
 use Rattle.refusal_verdict.specs.declared.Verdict.{Verdict}

@@ -11,7 +11,7 @@ use Rattle.refusal_state.proofs.state_refusal.Statement.{statement}
 use Rattle.refusal_state.proofs.state_refusal.Tie as tie
 
 unit-refusal-requires : tie.Need-unit-refusal-requires
-unit-refusal-requires c κs = c .before .before .before .before .pre .0 .tree
+unit-refusal-requires c κs = search needs
 
 enum-told : tie.Need-enum-told
 enum-told c = search needs
