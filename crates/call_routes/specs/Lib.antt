@@ -1,3 +1,4 @@
 pub mod Calls
+pub mod Made
 pub mod CallsLaws
 pub mod Theorem

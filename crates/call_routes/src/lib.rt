@@ -1,72 +1,28 @@
 // The public calls `code` and `route`: a refusal (1 to 7, 9, 11 to 15), or the flat code of a unit, or its route.
 ghost use mathlib.Core.Path.{_≡_};
-ghost use Prim.Native.Nat.{_*_, _≤_};
+ghost use Prim.Native.Nat.{_≤_};
 ghost use lib.ListN.{length, take};
-ghost use Rattle.table_records.specs.Table.{count};
-ghost use Rattle.table_records.specs.Facts.{Tree};
-ghost use Rattle.refusal_input.specs.WellFormed.{WellFormed};
-ghost use Rattle.route_completion.specs.Route.{route as routeOf};
 ghost use Rattle.code_flat.specs.Code.{unit as codeOf};
-ghost use Rattle.code_stores.specs.Over.{over};
-ghost use Rattle.route_viewer.specs.Shown.{shownAnswer, shownSlice};
 ghost use Rattle.code_tree.specs.Statements.{unitOf};
+ghost use Rattle.code_assemble.specs.Assembled.{assembledSlice};
 ghost use Rattle.code_assemble.specs.Ready.{Ready};
 ghost use Rattle.check_dispatch.specs.Rule.{rule};
-ghost use Rattle.refusal_state.specs.Targets.{refusedOr, stateAnswer};
-ghost use Rattle.call_routes.specs.Calls.{roomRefusal, codeRefusal, codeAnswer, codeSlice, routeAnswer, routeSlice};
+ghost use Rattle.call_routes.specs.Calls.{codeRefusal, codeAnswer, codeSlice, routeAnswer, routeSlice};
+ghost use Rattle.call_routes.specs.Made.{codedBy, madeAnswer, madeSlice};
 use code_assemble::Assembled;
 use refusal_verdict::Verdict;
-use refusal_verdict::refusals;
 use route_viewer::Routed;
 use table_records::NodeId;
 
-// What `code` comes to: so many numbers of code from the slice's start; or a refusal, with its number and place.
+// What `code` comes to: so many numbers of code from the slice's start; or a refusal, with its number and place; or a code slice that is too short
+// (refusal 11, place 0), with the length needed.
 pub enum Coded {
     Code(usize),
     Refused(u32, u32),
+    Short(usize),
 }
 
-// Refusal 11.
-fn room_refusal(nodes: &[u32], len: usize) -> Verdict
-    requires { ⌜ Tree (now nodes) ⌝ }
-    ensures { λ r. ⌜ r ≡ roomRefusal (now (nodes .entry)) len ⌝ }
-{
-    if len < 16 * table_records::wide(table_records::size(nodes)) {
-        return Verdict::Refused(refusals::CODE_SLICE, 0);
-    }
-    Verdict::Passed
-}
-
-// The refusals of well-formed tables: 7, 9 and 11.
-fn later_refusal(
-    source_type: u32,
-    async_bodies: u32,
-    nodes: &[u32],
-    scopes: &[u32],
-    source: &[u8],
-    names: &[u8],
-    unit: u32,
-    len: usize,
-) -> Verdict
-    requires { ⌜ WellFormed «source_type» (now nodes) (now scopes) (now source) (now names) ⌝ }
-    ensures { λ r. ⌜ r ≡ refusedOr (stateAnswer (rule «source_type» «async_bodies» (now (nodes .entry)) (now (scopes .entry)) (now (source .entry)) (now (names .entry))) unit) (roomRefusal (now (nodes .entry)) len) ⌝ }
-{
-    let verdict = refusal_state::state_refusal(
-        source_type,
-        async_bodies,
-        nodes,
-        scopes,
-        source,
-        names,
-        unit,
-    );
-    match verdict {
-        Verdict::Refused(_, _) => verdict,
-        Verdict::Passed => room_refusal(nodes, len),
-    }
-}
-
-// The refusals of both calls but 12; len is the length of the code slice.
+// The refusals of both calls before 11.
 fn refusal(
     source_type: u32,
     async_bodies: u32,
@@ -75,14 +31,13 @@ fn refusal(
     source: &[u8],
     names: &[u8],
     unit: u32,
-    len: usize,
 ) -> Verdict
-    ensures { λ r. ⌜ r ≡ codeRefusal (rule «source_type» «async_bodies» (now (nodes .entry)) (now (scopes .entry)) (now (source .entry)) (now (names .entry))) unit len ⌝ }
+    ensures { λ r. ⌜ r ≡ codeRefusal (rule «source_type» «async_bodies» (now (nodes .entry)) (now (scopes .entry)) (now (source .entry)) (now (names .entry))) unit ⌝ }
 {
     let verdict = refusal_input::refusal(source_type, nodes, scopes, source, names);
     match verdict {
         Verdict::Refused(_, _) => verdict,
-        Verdict::Passed => later_refusal(
+        Verdict::Passed => refusal_state::state_refusal(
             source_type,
             async_bodies,
             nodes,
@@ -90,21 +45,17 @@ fn refusal(
             source,
             names,
             unit,
-            len,
         ),
     }
 }
 
-// The code of a unit in a slice with 16 numbers for each node, where it always fits. Answers its length.
-fn assemble(nodes: &[u32], names: &[u8], unit: NodeId, code: &mut [u32]) -> usize
-    requires { ⌜ Ready (now nodes) (now names) (unit .0) ⌝ }
-    requires { ⌜ count (now nodes) * 16 ≤ length (now code) ⌝ }
-    ensures { λ _. ⌜ now (code .exit) ≡ over (codeOf (unitOf (now (nodes .entry)) (now (names .entry)) (unit .0))) (now (code .entry)) ⌝ }
-    ensures { λ r. ⌜ r ≡ length (codeOf (unitOf (now (nodes .entry)) (now (names .entry)) (unit .0))) ⌝ }
+// The answer of `code` by what the maker comes to.
+fn answered(assembled: Assembled) -> Coded
+    ensures { λ r. ⌜ r ≡ codedBy assembled ⌝ }
 {
-    match code_assemble::code_unit(nodes, names, unit, code) {
-        Assembled::Code(n) => n,
-        Assembled::Short(n) => n,
+    match assembled {
+        Assembled::Code(n) => Coded::Code(n),
+        Assembled::Short(n) => Coded::Short(n),
     }
 }
 
@@ -130,10 +81,9 @@ pub fn code(
         source,
         names,
         unit,
-        code.len(),
     ) {
         Verdict::Refused(number, place) => Coded::Refused(number, place),
-        Verdict::Passed => Coded::Code(assemble(nodes, names, NodeId(unit), code)),
+        Verdict::Passed => answered(code_assemble::code_unit(nodes, names, NodeId(unit), code)),
     }
 }
 
@@ -145,7 +95,7 @@ fn front(s: &[u32], n: usize) -> &[u32]
     &s[..n]
 }
 
-// Makes the code of a unit that is not refused, runs it, and shows the route.
+// Makes the code of a unit that is not refused, runs it, and shows the route, where the code slice has room.
 fn made(
     nodes: &[u32],
     names: &[u8],
@@ -155,13 +105,14 @@ fn made(
     out: &mut [u32],
 ) -> Routed
     requires { ⌜ Ready (now nodes) (now names) (u .0) ⌝ }
-    requires { ⌜ count (now nodes) * 16 ≤ length (now code) ⌝ }
-    ensures { λ r. ⌜ r ≡ shownAnswer (routeOf (unitOf (now (nodes .entry)) (now (names .entry)) (u .0)) (now (answers .entry))) (length (now (out .entry))) ⌝ }
-    ensures { λ _. ⌜ now (code .exit) ≡ over (codeOf (unitOf (now (nodes .entry)) (now (names .entry)) (u .0))) (now (code .entry)) ⌝ }
-    ensures { λ _. ⌜ now (out .exit) ≡ shownSlice (routeOf (unitOf (now (nodes .entry)) (now (names .entry)) (u .0)) (now (answers .entry))) (now (out .entry)) ⌝ }
+    ensures { λ r. ⌜ r ≡ madeAnswer (unitOf (now (nodes .entry)) (now (names .entry)) (u .0)) (now (answers .entry)) (length (now (code .entry))) (length (now (out .entry))) ⌝ }
+    ensures { λ _. ⌜ now (code .exit) ≡ assembledSlice (codeOf (unitOf (now (nodes .entry)) (now (names .entry)) (u .0))) (now (code .entry)) ⌝ }
+    ensures { λ _. ⌜ now (out .exit) ≡ madeSlice (unitOf (now (nodes .entry)) (now (names .entry)) (u .0)) (now (answers .entry)) (length (now (code .entry))) (now (out .entry)) ⌝ }
 {
-    let n = assemble(nodes, names, u, code);
-    route_viewer::show(front(code, n), answers, out)
+    match code_assemble::code_unit(nodes, names, u, code) {
+        Assembled::Code(n) => route_viewer::show(front(code, n), answers, out),
+        Assembled::Short(n) => Routed::CodeShort(n),
+    }
 }
 
 // Makes the flat code of a unit, runs it over the answers, and shows the route.
@@ -189,7 +140,6 @@ pub fn route(
         source,
         names,
         unit,
-        code.len(),
     ) {
         Verdict::Refused(number, place) => Routed::Refused(number, place),
         Verdict::Passed => made(nodes, names, NodeId(unit), answers, code, out),

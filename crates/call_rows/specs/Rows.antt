@@ -1,5 +1,5 @@
 -- Document 01, "Rows to prove": "a table proved by a lone statement". A row is a whole input as a tree maker gives it; `rows-hold` (RowsHold.antt) is the statement.
-use Prim.Native.Nat.{ℕ, _*_, _/_, _≤_}
+use Prim.Native.Nat.{ℕ, _/_, _≤_}
 use Prim.Native.Char.{code}
 use Prim.Native.String.{String, [] as []ˢ, _∷_ as _∷ˢ_}
 use mathlib.Core.Path.{_≡_}
@@ -10,11 +10,11 @@ use Rattle.check_dispatch.specs.Rule.{rule}
 use Rattle.check_dispatch.specs.Reported.{reported}
 use Rattle.call_check.specs.Check.{checkAnswer, checkSlice}
 use Rattle.call_check.specs.declared.Checked.the-variants.{Findings}
-use Rattle.table_records.specs.Table.{count}
 use Rattle.route_completion.specs.Route.{Route, route as ruledRoute}
 use Rattle.code_flat.specs.Code.{unit}
 use Rattle.code_flat.specs.Machine.{codeRoute}
 use Rattle.code_tree.specs.Statements.{unitOf}
+use Rattle.code_length.specs.Length.{codeLength}
 use Rattle.route_viewer.specs.declared.Routed.the-variants as Routed
 use Rattle.call_routes.specs.Calls.{routeAnswer, routeSlice}
 
@@ -57,10 +57,10 @@ pub record Checks (r : CheckRow) : Type 0 where
 pub record Shows (r : RouteRow) : Type 0 where
   pub ruled : ruledRoute (unitOf (r .nodes) (r .names) (r .unit)) (r .answers) ≡ r .shows
   pub coded : codeRoute (unit (unitOf (r .nodes) (r .names) (r .unit))) (r .answers) ≡ r .shows
-  pub answer : (c s : List ℕ) → 16 * count (r .nodes) ≤ length c → length (r .shows .list) ≤ length s
+  pub answer : (c s : List ℕ) → codeLength (r .nodes) (r .unit) ≤ length c → length (r .shows .list) ≤ length s
       → routeAnswer (rule (r .sourceType) 0 (r .nodes) (r .scopes) (r .source) (r .names)) (r .unit) (r .answers) (length c) (length s)
       ≡ Routed.Route (r .shows .end) (length (r .shows .list)) (r .shows .taken)
-  pub slice : (c s : List ℕ) → 16 * count (r .nodes) ≤ length c → length (r .shows .list) ≤ length s
+  pub slice : (c s : List ℕ) → codeLength (r .nodes) (r .unit) ≤ length c → length (r .shows .list) ≤ length s
       → routeSlice (rule (r .sourceType) 0 (r .nodes) (r .scopes) (r .source) (r .names)) (r .unit) (r .answers) (length c) s ≡ r .shows .list ++ drop (length (r .shows .list)) s
 
 abbrev pub Holds : Row → Type 0

@@ -32,7 +32,7 @@ use Rattle.check_duplicates.specs.Duplicates.{lastOf, sideOf, previousOn, previ
 use Rattle.check_classes.specs.ClassChecks.{references, undeclaredIn, requireClassName, constructors, constructorSpan, checkClass}
 use Rattle.check_supers.specs.Super.{failsAt}
 use Rattle.check_dispatch.specs.Findings.{findingsAt}
-use Rattle.check_dispatch.specs.Rule.{rule}
+use Rattle.check_dispatch.specs.Rule.{Rule, rule}
 use Rattle.check_dispatch.specs.Reported.{reportedAt, reported}
 use Rattle.check_diagnostics.specs.FindingLaws.{length-flat}
 use Rattle.check_diagnostics.specs.declared.Finding.{Finding}
@@ -41,18 +41,18 @@ use Rattle.refusal_verdict.specs.declared.Verdict.the-variants.{Passed}
 use Rattle.call_check.specs.Check.{reportAnswer, reportSlice, answerBy, sliceBy, checkAnswer, checkSlice}
 use Rattle.call_check.specs.CheckLaws.{answer-room}
 use Rattle.call_check.specs.declared.Checked.the-variants.{Findings}
-use Rattle.table_records.specs.Table.{count}
 use Rattle.table_records.specs.Facts.{Tree}
 use Rattle.route_completion.specs.Sem.{exec, turns, rounds}
 use Rattle.route_completion.specs.Route.{Route, asks, route as ruledRoute}
+use Rattle.code_length.specs.Length.{codeLength}
 use Rattle.code_tree.specs.Labels.{nameId}
 use Rattle.code_tree.specs.Parts.{upOf, shapeBy, isPart, parts, order}
 use Rattle.code_tree.specs.Statements.{leafAt, stmtAt, bodyOf, holderOf, unitOf}
 use Rattle.route_viewer.specs.Shown.{shownAnswer, shownSlice}
 use Rattle.route_viewer.specs.declared.Routed.the-variants as routed
 use Rattle.refusal_state.specs.Targets.{namesUnit, seek, plainBreak, namedBreak, plainContinue, namedContinue, hasTarget, lostAt, statePlace, unitRefusal, refusedOr, stateAnswer}
-use Rattle.call_routes.specs.Calls.{roomRefusal, codeRefusal, unless, routeAnswer, routeSlice}
-use Rattle.call_routes.specs.CallsLaws.{room-enough, code-route}
+use Rattle.call_routes.specs.Calls.{codeRefusal, routeAnswer, routeSlice}
+use Rattle.call_routes.specs.CallsLaws.{code-route}
 use Rattle.call_rows.specs.Rows.{CheckRow, RouteRow, Row, check, route, Checks, Shows, Holds, Each, rows}
 
 -- what the call does with a row that no refusal turns down
@@ -87,29 +87,26 @@ module _ (r : RouteRow) (passed : inputRefusal (r .sourceType) (r .nodes) (r .sc
     (sound : stateAnswer (rule (r .sourceType) 0 (r .nodes) (r .scopes) (r .source) (r .names)) (r .unit) ≡ Passed)
     (ruled : ruledRoute (unitOf (r .nodes) (r .names) (r .unit)) (r .answers) ≡ r .shows)
   where
-    unrefused : (c : List ℕ) → 16 * count (r .nodes) ≤ length c → codeRefusal (rule (r .sourceType) 0 (r .nodes) (r .scopes) (r .source) (r .names)) (r .unit) (length c) ≡ Passed
-    unfolding codeRefusal
-    unrefused c h =
-        ap (λ (v : Verdict). refusedOr v (refusedOr (stateAnswer (rule (r .sourceType) 0 (r .nodes) (r .scopes) (r .source) (r .names)) (r .unit)) (roomRefusal (r .nodes) (length c)))) passed
-        ∙ ap (λ (v : Verdict). refusedOr v (roomRefusal (r .nodes) (length c))) sound
-        ∙ sym (room-enough (r .nodes) (length c) h)
+    abbrev given : Rule
+    given = rule (r .sourceType) 0 (r .nodes) (r .scopes) (r .source) (r .names)
 
-    told : (c s : List ℕ) → 16 * count (r .nodes) ≤ length c → length (r .shows .list) ≤ length s
-        → routeAnswer (rule (r .sourceType) 0 (r .nodes) (r .scopes) (r .source) (r .names)) (r .unit) (r .answers) (length c) (length s)
-        ≡ routed.Route (r .shows .end) (length (r .shows .list)) (r .shows .taken)
+    unrefused : codeRefusal given (r .unit) ≡ Passed
+    unfolding codeRefusal
+    unrefused = ap (λ (v : Verdict). refusedOr v (stateAnswer given (r .unit))) passed ∙ sound
+
+    told : (c s : List ℕ) → codeLength (r .nodes) (r .unit) ≤ length c → length (r .shows .list) ≤ length s
+        → routeAnswer given (r .unit) (r .answers) (length c) (length s) ≡ routed.Route (r .shows .end) (length (r .shows .list)) (r .shows .taken)
     unfolding routeAnswer shownAnswer
     told c s h g =
-        ap (λ (v : Verdict). unless v routed.Refused (shownAnswer (ruledRoute (unitOf (r .nodes) (r .names) (r .unit)) (r .answers)) (length s))) (unrefused c h)
-        ∙ ap (λ (x : Route). shownAnswer x (length s)) ruled
-        ∙ rw (le-leb (length (r .shows .list)) (length s) g)
+        rw (unrefused, le-leb (codeLength (r .nodes) (r .unit)) (length c) h)
+        (ap (λ (x : Route). shownAnswer x (length s)) ruled ∙ rw (le-leb (length (r .shows .list)) (length s) g))
 
-    kept : (c s : List ℕ) → 16 * count (r .nodes) ≤ length c → length (r .shows .list) ≤ length s
-        → routeSlice (rule (r .sourceType) 0 (r .nodes) (r .scopes) (r .source) (r .names)) (r .unit) (r .answers) (length c) s ≡ r .shows .list ++ drop (length (r .shows .list)) s
+    kept : (c s : List ℕ) → codeLength (r .nodes) (r .unit) ≤ length c → length (r .shows .list) ≤ length s
+        → routeSlice given (r .unit) (r .answers) (length c) s ≡ r .shows .list ++ drop (length (r .shows .list)) s
     unfolding routeSlice shownSlice
     kept c s h g =
-        ap (λ (v : Verdict). unless v (λ number place. s) (shownSlice (ruledRoute (unitOf (r .nodes) (r .names) (r .unit)) (r .answers)) s)) (unrefused c h)
-        ∙ ap (λ (x : Route). shownSlice x s) ruled
-        ∙ rw (le-leb (length (r .shows .list)) (length s) g)
+        rw (unrefused, le-leb (codeLength (r .nodes) (r .unit)) (length c) h)
+        (ap (λ (x : Route). shownSlice x s) ruled ∙ rw (le-leb (length (r .shows .list)) (length s) g))
 
     tree : Tree (r .nodes)
     tree = input-well-formed (r .sourceType) (r .nodes) (r .scopes) (r .source) (r .names) passed .input .tree

@@ -1,4 +1,4 @@
--- Document 01's numbers for each case of an answer: the refusal's number, 0 where there is none, its place, and the length that 10 and 12 give beside.
+-- Document 01's numbers for each case of an answer: the refusal's number, 0 where there is none, its place, and the length that 10, 11 and 12 give beside.
 use Rattle.call_check.specs.declared.Checked.{Checked}
 use Rattle.call_check.specs.declared.Checked.the-variants as checked
 use Rattle.call_routes.specs.declared.Coded.{Coded}
@@ -16,10 +16,12 @@ checkNumbers (checked.Refused number place) = record { refusal = number; place =
 checkNumbers (checked.Short needed) = record { refusal = refusals.FindingsSlice; place = 0; findings = 0; needed = needed }
 
 abbrev pub codeNumbers : Coded → CodeAnswer
-codeNumbers (coded.Code n) = record { refusal = 0; place = 0; length = n }
-codeNumbers (coded.Refused number place) = record { refusal = number; place = place; length = 0 }
+codeNumbers (coded.Code n) = record { refusal = 0; place = 0; length = n; needed = 0 }
+codeNumbers (coded.Refused number place) = record { refusal = number; place = place; length = 0; needed = 0 }
+codeNumbers (coded.Short needed) = record { refusal = refusals.CodeSlice; place = 0; length = 0; needed = needed }
 
 abbrev pub routeNumbers : Routed → RouteAnswer
 routeNumbers (routed.Route end entries taken) = record { refusal = 0; place = 0; entries = entries; needed = 0; taken = taken; end = end }
 routeNumbers (routed.Refused number place) = record { refusal = number; place = place; entries = 0; needed = 0; taken = 0; end = 0 }
 routeNumbers (routed.Short needed) = record { refusal = refusals.RouteSlice; place = 0; entries = 0; needed = needed; taken = 0; end = 0 }
+routeNumbers (routed.CodeShort needed) = record { refusal = refusals.CodeSlice; place = 0; entries = 0; needed = needed; taken = 0; end = 0 }

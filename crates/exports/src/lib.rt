@@ -19,15 +19,16 @@ pub struct CheckAnswer {
     pub needed: u64,
 }
 
-// The code call's answer: the refusal's number and place, and how many numbers of code were written.
+// The code call's answer: the refusal's number and place, how many numbers of code were written, and after 11 the length needed.
 #[repr(C)]
 pub struct CodeAnswer {
     pub refusal: u32,
     pub place: u32,
     pub length: u64,
+    pub needed: u64,
 }
 
-// The route call's answer: the refusal's number and place, how many entries were written, after 12 the length needed, how many answers were taken, and the end.
+// The route call's answer: the refusal's number and place, how many entries were written, after 11 and 12 the length needed, how many answers were taken, and the end.
 #[repr(C)]
 pub struct RouteAnswer {
     pub refusal: u32,
@@ -96,11 +97,19 @@ fn code_numbers(answer: Coded) -> CodeAnswer
             refusal: 0,
             place: 0,
             length: length as u64,
+            needed: 0,
         },
         Coded::Refused(number, place) => CodeAnswer {
             refusal: number,
             place: place,
             length: 0,
+            needed: 0,
+        },
+        Coded::Short(needed) => CodeAnswer {
+            refusal: refusals::CODE_SLICE,
+            place: 0,
+            length: 0,
+            needed: needed as u64,
         },
     }
 }
@@ -157,6 +166,14 @@ fn route_numbers(answer: Routed) -> RouteAnswer
             place: 0,
             entries: 0,
             needed: needed,
+            taken: 0,
+            end: 0,
+        },
+        Routed::CodeShort(needed) => RouteAnswer {
+            refusal: refusals::CODE_SLICE,
+            place: 0,
+            entries: 0,
+            needed: needed as u64,
             taken: 0,
             end: 0,
         },

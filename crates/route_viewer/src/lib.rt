@@ -5,11 +5,12 @@ ghost use Rattle.code_flat.specs.Machine.{codeRoute};
 ghost use Rattle.route_viewer.specs.Shown.{shownAnswer, shownSlice};
 
 // What a route comes to: its end, the entries listed and the answers taken; or a refusal, with its number and place; or a route slice that is too short
-// (refusal 12, place 0), with the length needed.
+// (refusal 12, place 0), or a code slice that is (11, place 0), with the length needed.
 pub enum Routed {
     Route(u32, usize, u64),
     Refused(u32, u32),
     Short(u64),
+    CodeShort(usize),
 }
 
 // The route of the code over the answers.

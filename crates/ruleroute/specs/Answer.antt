@@ -16,11 +16,12 @@ use Rattle.line_answers.specs.Answer.{refusalText}
 abbrev pub entryLine : ℕ → List ℕ
 entryLine node = lineOf 76 (node ∷ [])
 
--- the last line; a route that finds no room is refusal 12, place 0
+-- the last line; a route that finds no room is refusal 12, place 0, and a code 11
 unfoldable pub lastLine : Routed → List ℕ
 lastLine (routed.Route end entries taken) = lineOf 90 (end ∷ entries ∷ taken ∷ [])
 lastLine (routed.Refused number place) = refusalText number place
 lastLine (routed.Short needed) = refusalText 12 0
+lastLine (routed.CodeShort needed) = refusalText 11 0
 
 -- "up to 1,024 answers"; the code's room is 16 × 1,024 numbers
 abbrev pub answersRoom : ℕ

@@ -46,6 +46,10 @@ module _ (r : Routed) where
   unfolding lastLine
   last-short needed e = rw e
 
+  pub last-code-short : (needed : ℕ) → r ≡ routed.CodeShort needed → lastLine r ≡ refusalText 11 0
+  unfolding lastLine
+  last-code-short needed e = rw e
+
 -- the route call's answer for the fronts of the slices
 pub fronted : (kind u len k : ℕ) (ns ss xs ms gs ns′ ss′ xs′ ms′ gs′ out : List ℕ) (r : Routed) (f : List ℕ) → ns ≡ ns′ → ss ≡ ss′ → xs ≡ xs′ → ms ≡ ms′ → gs ≡ gs′ → len ≡ codeRoom
     → r ≡ routeAnswer (rule kind 0 ns ss xs ms) u gs len k → f ≡ routeSlice (rule kind 0 ns ss xs ms) u gs len out

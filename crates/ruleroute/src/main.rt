@@ -51,6 +51,7 @@ fn last_line(answer: Routed, out: &mut [u8]) -> usize
         Routed::Route(end, entries, taken) => end_line(end as u64, entries as u64, taken, out),
         Routed::Refused(number, place) => line_answers::refusal_text(number, place, out),
         Routed::Short(_) => line_answers::refusal_text(refusals::ROUTE_SLICE, 0, out),
+        Routed::CodeShort(_) => line_answers::refusal_text(refusals::CODE_SLICE, 0, out),
     }
 }
 

@@ -11,11 +11,17 @@ enum-known-answer c = search needs
 enum-known-answer-2 : tie.Need-enum-known-answer-2
 enum-known-answer-2 c = search needs
 
+enum-known-answer-3 : tie.Need-enum-known-answer-3
+enum-known-answer-3 c = search needs
+
 returns : tie.Need-returns
 returns c = sym (ap (λ (v : Coded). codeNumbers v) (c .before .answer .given .1))
 
 returns-2 : tie.Need-returns-2
 returns-2 c = sym (ap (λ (v : Coded). codeNumbers v) (c .before .answer2 .given .1))
+
+returns-3 : tie.Need-returns-3
+returns-3 c = sym (ap (λ (v : Coded). codeNumbers v) (c .before .answer3 .given .1))
 
 pub code-numbers-spec : {M : Type 1} → statement M
 code-numbers-spec =
@@ -23,5 +29,7 @@ code-numbers-spec =
     (tie.spec
     enum-known-answer
     enum-known-answer-2
+    enum-known-answer-3
     returns
-    returns-2)
+    returns-2
+    returns-3)

@@ -14,6 +14,9 @@ enum-known-answer-2 c = search needs
 enum-known-answer-3 : tie.Need-enum-known-answer-3
 enum-known-answer-3 c = search needs
 
+enum-known-answer-4 : tie.Need-enum-known-answer-4
+enum-known-answer-4 c = search needs
+
 returns : tie.Need-returns
 returns c = sym (ap (λ (v : Routed). routeNumbers v) (c .before .answer .given .1))
 
@@ -23,6 +26,9 @@ returns-2 c = sym (ap (λ (v : Routed). routeNumbers v) (c .before .answer2 .giv
 returns-3 : tie.Need-returns-3
 returns-3 c = sym (ap (λ (v : Routed). routeNumbers v) (c .before .answer3 .given .1))
 
+returns-4 : tie.Need-returns-4
+returns-4 c = sym (ap (λ (v : Routed). routeNumbers v) (c .before .answer4 .given .1))
+
 pub route-numbers-spec : {M : Type 1} → statement M
 route-numbers-spec =
     tie.close
@@ -30,6 +36,8 @@ route-numbers-spec =
     enum-known-answer
     enum-known-answer-2
     enum-known-answer-3
+    enum-known-answer-4
     returns
     returns-2
-    returns-3)
+    returns-3
+    returns-4)

@@ -1,5 +1,5 @@
 -- `ruleroute::last_line` meets its contract.
-use Rattle.ruleroute.specs.AnswerLaws.{last-route, last-refused, last-short}
+use Rattle.ruleroute.specs.AnswerLaws.{last-route, last-refused, last-short, last-code-short}
 use borrow.Author.Needs.{needs}
 use Rattle.ruleroute.proofs.last_line.Statement.{statement}
 use Rattle.ruleroute.proofs.last_line.Tie as tie
@@ -25,6 +25,12 @@ enum-told c = search needs
 refusal-text-requires-2 : tie.Need-refusal-text-requires-2
 refusal-text-requires-2 c κs = search needs
 
+enum-told-2 : tie.Need-enum-told-2
+enum-told-2 c = search needs
+
+refusal-text-requires-3 : tie.Need-refusal-text-requires-3
+refusal-text-requires-3 c κs = search needs
+
 same-length : tie.Need-same-length
 same-length c = search needs
 
@@ -43,5 +49,11 @@ same-length-3 c = search needs
 returns-3 : tie.Need-returns-3
 returns-3 c = let g = c .before .before .before .before .enum-told .given .0 in rw (last-short (c .before .before .before .before .before .before .before .args .answer) (g .0) (c .before .before .before .before .enum-told .given .1)) (c .before .before .refusal-text2 .ensures)
 
+same-length-4 : tie.Need-same-length-4
+same-length-4 c = search needs
+
+returns-4 : tie.Need-returns-4
+returns-4 c = let g = c .before .before .before .before .enum-told2 .given .0 in rw (last-code-short (c .before .before .before .before .before .before .before .args .answer) (g .0) (c .before .before .before .before .enum-told2 .given .1)) (c .before .before .refusal-text3 .ensures)
+
 pub last-line-spec : {M : Type 1} → statement M
-last-line-spec = tie.close (tie.spec enum-known-answer cast-end-line end-line-requires enum-known-answer-2 refusal-text-requires enum-told refusal-text-requires-2 same-length returns same-length-2 returns-2 same-length-3 returns-3)
+last-line-spec = tie.close (tie.spec enum-known-answer cast-end-line end-line-requires enum-known-answer-2 refusal-text-requires enum-told refusal-text-requires-2 enum-told-2 refusal-text-requires-3 same-length returns same-length-2 returns-2 same-length-3 returns-3 same-length-4 returns-4)
