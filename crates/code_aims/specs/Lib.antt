@@ -1,2 +1,0 @@
-pub mod Aim
-pub mod AimLaws

@@ -1,1 +1,0 @@
-// Where each completion of a node leads, in numbers.

@@ -1,5 +1,0 @@
-pub mod Kinds
-pub mod Parts
-pub mod Rising
-pub mod NoTry
-pub mod Held

@@ -1,2 +1,0 @@
-pub mod Relabel
-pub mod Same

@@ -1,1 +1,0 @@
-// A unit without Try and entered static blocks has the code that it had.
