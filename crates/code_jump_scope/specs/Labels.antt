@@ -1,7 +1,7 @@
 -- What the kind of a node says of its shape; a Labeled by its name's number; what a Labeled labels is what its part labels, or its part.
 use Prim.Native.Nat.{ℕ, _+_, _<_}
 use mathlib.Core.Path.{_≡_, refl, ap, sym, subst, _∙_}
-use mathlib.Core.Logic.{_⊎_, inl, inr, ⊎-elim}
+use mathlib.Core.Logic.{inl, inr}
 use mathlib.Core.List.{List, [], _∷_}
 use mathlib.Core.Bool.{Bool, true, false, cond}
 use native.Mathlib.Omega.{arith}
@@ -22,7 +22,7 @@ use Rattle.check_jumps.specs.JumpsLaws.{item-here, item-none, item-down}
 use Rattle.refusal_standing.specs.Standing.{Placed}
 use Rattle.code_tree.specs.Labels.{nameId, idAt}
 use Rattle.code_tree.specs.LabelLaws.{namedAs, id-test}
-use Rattle.code_tree.specs.Parts.{enteredBy, upOf, shapeBy, shapeAt, isPart, partBy, order}
+use Rattle.code_tree.specs.Parts.{enteredBy, upOf, shapeBy, shapeAt, isPart, partBy}
 use Rattle.code_tree.specs.PartsLaws.{Part}
 use Rattle.code_tree.specs.declared.Shape.{Shape}
 use Rattle.code_tree.specs.declared.Shape.the-variants.{Leaf as Single, Class, If, With, Block, Label, Loop, Switch, Case, Try, Catch}

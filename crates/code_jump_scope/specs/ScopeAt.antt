@@ -1,6 +1,6 @@
 -- The scope at each node: which completions have a target there. b is the node that holds the unit's statements.
 use Prim.Native.Nat.{ℕ, zero, suc, _≤_, _<_}
-use mathlib.Core.Path.{_≡_, refl, ap, sym, subst, _∙_}
+use mathlib.Core.Path.{_≡_, ap, sym, subst, _∙_}
 use mathlib.Core.Logic.{⊎-elim}
 use mathlib.Core.List.{List, [], _∷_, foldr}
 use mathlib.Core.Bool.{Bool, true, cond}

@@ -1,6 +1,6 @@
 -- THE LAW: where each break and continue has its target, the statements of every unit are scoped, with `try` in any child order and static blocks. The search for a target
 -- stops at the nearest unit, so that no jump leaves a static block that is entered.
-use Prim.Native.Nat.{ℕ, zero, suc, _+_, _≤_, _<_}
+use Prim.Native.Nat.{ℕ, zero, suc, _≤_, _<_}
 use mathlib.Core.Path.{_≡_, refl, ap, sym, subst, _∙_}
 use mathlib.Core.Logic.{_⊎_, inl, inr, ⊎-elim}
 use mathlib.Core.List.{List, [], _∷_}
@@ -9,7 +9,7 @@ use native.Mathlib.Omega.{arith}
 use borrow.Author.Tests.{eqb-true}
 use lib.Dec.{eqb}
 use Rattle.base_common.specs.Bools.{range-of}
-use Rattle.table_records.specs.Table.{kindOf, parentOf, roleOf, count}
+use Rattle.table_records.specs.Table.{kindOf, roleOf, count}
 use Rattle.table_records.specs.Facts.{Tree}
 use Rattle.table_records.specs.Kinds as k
 use Rattle.table_records.specs.Roles as role
@@ -20,16 +20,16 @@ use Rattle.refusal_fields.specs.Fields.{Listed}
 use Rattle.refusal_standing.specs.Standing.{Placed}
 use Rattle.refusal_counts.specs.Counts.{Counted}
 use Rattle.refusal_state.specs.Targets.{hasTarget}
-use Rattle.route_completion.specs.Tree.{Leaf, simple, brk, con, ret, thr, Stmt, Stmts, if2, if3, tryC, tryF, nil, cons}
+use Rattle.route_completion.specs.Tree.{simple, brk, con, ret, thr, Stmt, Stmts, if2, if3, tryC, tryF, nil, cons}
 use Rattle.route_completion.specs.Sem.{Comp, compOf, noBreak}
 use Rattle.route_completion.specs.Route.{Scoped, ScopedAll, ScopedCases, topScope, loopScope, labelScope}
 use Rattle.code_tree.specs.Labels.{idAt, labAt}
-use Rattle.code_tree.specs.Parts.{upOf, shapeAt, order}
+use Rattle.code_tree.specs.Parts.{shapeAt, order}
 use Rattle.code_tree.specs.Statements.{leafAt, listOf, oneOf, ifOf, tryOf, classOf, casesOf, build, stmtAt, bodyOf, holderOf, unitBy, unitOf}
 use Rattle.code_tree.specs.PartsLaws.{All, Part, order-all}
 use Rattle.code_tree.specs.declared.Shape.{Shape}
 use Rattle.code_tree.specs.declared.Shape.the-variants.{Leaf as Single, Class, If, With, Block, Label, Loop, Switch, Case, Try, Catch}
-use Rattle.code_layout.specs.Shaped.{isCase, isSwitch, Two, Three, Good}
+use Rattle.code_layout.specs.Shaped.{isSwitch, Two, Three, Good}
 use Rattle.code_wellformed.specs.Kinds.{case-kind, case-shape}
 use Rattle.code_wellformed.specs.Parts.{good}
 use Rattle.code_wellformed.specs.Ready.{block-shape}

@@ -1,7 +1,7 @@
 -- Small tables, computed.
 use Prim.Native.Nat.{ℕ}
 use mathlib.Core.Path.{_≡_, refl}
-use mathlib.Core.List.{List, [], _∷_}
+use mathlib.Core.List.{List, []}
 use Rattle.base_common.specs.Upto.{upto, range}
 use Rattle.base_walk.specs.Above.{above, climb}
 use Rattle.refusal_standing.specs.Standing.{isHolder, mayBeStatement}

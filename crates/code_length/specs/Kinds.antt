@@ -1,8 +1,8 @@
 -- What holds of kinds by computing it for each of them.
 use Prim.Native.Nat.{ℕ, zero, suc, _≤_, _<_}
-use mathlib.Core.Path.{_≡_, refl, ap, sym, subst, _∙_}
+use mathlib.Core.Path.{_≡_, refl, ap, sym, _∙_}
 use mathlib.Core.Logic.{_⊎_, inl, inr, ⊎-elim}
-use mathlib.Core.Bool.{Bool, true, false, cond, not, _&&_, _||_}
+use mathlib.Core.Bool.{Bool, true, false, not, _&&_, _||_}
 use native.Mathlib.Nat.{eq-or-lt-of-le}
 use native.Mathlib.Omega.{arith}
 use borrow.Author.Tests.{eqb-true, eq-eqb}
@@ -190,9 +190,9 @@ pub number-case : (kind r above : ℕ) → kind ≡ k.SwitchCase → numberBy (s
 unfolding shapeBy numberOf
 number-case kind r above e = ap (λ x. numberBy (shapeBy x)) e ∙ sym (ap (λ x. numberOf x r above) e)
 
-pub number-finally : (kind r above : ℕ) → kind ≡ k.Block → (eqb r role.Finally && eqb above k.Try) ≡ true → numberOf kind r above ≡ 5
+pub number-finally : (kind r above : ℕ) → kind ≡ k.Block → r ≡ role.Finally → above ≡ k.Try → numberOf kind r above ≡ 5
 unfolding numberOf
-number-finally kind r above e f = ap (λ x. numberOf x r above) e ∙ ap (λ x. cond x 5 3) f
+number-finally kind r above e p q = λ i. numberOf (e i) (p i) (q i)
 
 -- What adds a number is a static block, a case, a statement, or held as one.
 abbrev pub counts : Bool → ℕ → Bool

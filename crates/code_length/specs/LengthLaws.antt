@@ -13,7 +13,7 @@ use lib.ListN.{length}
 use Rattle.base_common.specs.Upto.{upto}
 use Rattle.base_common.specs.UptoLaws.{upto-cons, and-left, and-right}
 use Rattle.base_common.specs.Tests.{within}
-use Rattle.base_common.specs.Bools.{never, either, in-range, range-of, or-first, or-second}
+use Rattle.base_common.specs.Bools.{never, either, in-range, range-of}
 use Rattle.table_records.specs.Table.{kindOf, parentOf, roleOf, flagsOf, count, hasFlag}
 use Rattle.table_records.specs.Facts.{Tree, Named}
 use Rattle.table_records.specs.Kinds as k
@@ -26,17 +26,16 @@ use Rattle.table_children.specs.ChildrenLaws.{tally, tally-all, tally-turn, nod
 use Rattle.table_ancestry.specs.AncestryLaws.{ancestors-up, ancestors-root}
 use Rattle.check_jumps.specs.Jumps.{isUnit}
 use Rattle.refusal_fields.specs.Fields.{Listed}
-use Rattle.refusal_standing.specs.Standing.{isStatement, isHolder, isHeld, mayBeStatement, parentKind, tryPart, Placed}
+use Rattle.refusal_standing.specs.Standing.{isStatement, isHolder, isHeld, parentKind, Placed}
 use Rattle.refusal_counts.specs.Counts.{Counted}
 use Rattle.code_flat.specs.Code.{unit, sizes}
 use Rattle.code_flat.specs.Correct.{unitLength}
 use Rattle.code_tree.specs.Parts.{enteredBy, upOf, shapeAt, isPart, partBy}
 use Rattle.code_tree.specs.PartsLaws.{Part}
-use Rattle.code_tree.specs.Statements.{bodyOf, holderOf, unitBy, unitOf}
+use Rattle.code_tree.specs.Statements.{holderOf, unitBy, unitOf}
 use Rattle.code_tree.specs.UpLaws.{up-falls}
-use Rattle.code_tree.specs.declared.Shape.{Shape}
 use Rattle.code_tree.specs.declared.Shape.the-variants.{Class}
-use Rattle.code_layout.specs.Widths.{sum, inUnit, numberBy, isTry}
+use Rattle.code_layout.specs.Widths.{sum, inUnit, isTry}
 use Rattle.code_layout.specs.Exact.{openAt, numberAt, exactLength}
 use Rattle.code_layout.specs.ExactLaws.{sum-none, upto-all, exact-length}
 use Rattle.code_layout.specs.LayoutLaws.{in-root, in-low, in-part, in-above, in-down}
@@ -45,7 +44,7 @@ use Rattle.code_wellformed.specs.Kinds.{switch-shape, try-shape, class-shape}
 use Rattle.code_wellformed.specs.Parts.{static-up, plain-up}
 use Rattle.code_wellformed.specs.Holder.{Root, holder-root, holder-in, holder-ready}
 use Rattle.code_length.specs.Length.{numberOf, unitNumber, isListed, isExported, isEntered, isClosed, ofUnit, addedBy, codeLength}
-use Rattle.code_length.specs.Kinds.{holderIs, openHolder, mayCount, counts, holder-is, holder-open, try-holds, body-holds-none, export-holds-none, switch-stands, branch-part, finally-block, block-number, try-is, held-part, part-is, may-count, number-part, number-static, number-case, number-finally, number-some}
+use Rattle.code_length.specs.Kinds.{openHolder, holder-is, holder-open, try-holds, body-holds-none, export-holds-none, switch-stands, branch-part, finally-block, block-number, try-is, held-part, part-is, may-count, number-part, number-static, number-case, number-finally, number-some}
 
 -- Of at most one child that fits, the first that is found is it.
 module _ (ns : List ℕ) (p lo hi a b j : ℕ) (l : j < count ns) (e : isChild ns p lo hi a b j ≡ true) where
@@ -536,7 +535,7 @@ module _ (ns : List ℕ) (t : Tree ns) (li : Listed ns) (pl : Placed ns) (co : C
                 let p = eqb-true (parentKind ns j) k.Try (and-right (eqb (roleOf ns j) role.Finally) (eqb (parentKind ns j) k.Try) x) in
                 let q = finally-block (kindOf ns j) (roleOf ns j) r (pl .inTry j l p (omega arith) (omega arith)) in
                 let y = o true x in
-                let v = number-finally (kindOf ns j) (roleOf ns j) (parentKind ns j) q x in
+                let v = number-finally (kindOf ns j) (roleOf ns j) (parentKind ns j) q r p in
                 let w = block-number (kindOf ns j) q in
                 omega arith
             by false x =

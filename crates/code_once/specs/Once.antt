@@ -11,10 +11,12 @@ use borrow.Author.Tests.{ne-eqb}
 use Rattle.table_records.specs.Table.{kindOf, parentOf, roleOf, count}
 use Rattle.table_records.specs.Kinds as k
 use Rattle.table_records.specs.Roles as role
+use Rattle.table_records.specs.declared.Found.{Found}
+use Rattle.table_records.specs.declared.Found.the-variants.{At, Nothing}
 use Rattle.route_completion.specs.Tree.{Stmt, Stmts, block, if2, if3, tryC, tryF, nil, cons}
 use Rattle.route_completion.specs.Route.{Mem, Once, nodesOf, nodesOfAll, nodesOfCases}
 use Rattle.code_tree.specs.Parts.{enteredBy, upOf, shapeAt, order}
-use Rattle.code_tree.specs.Statements.{listOf, oneOf, ifOf, tryOf, classOf, casesOf, build, stmtAt, bodyOf}
+use Rattle.code_tree.specs.Statements.{listOf, oneOf, ifOf, tryOf, classOf, casesOf, build, stmtAt, bodyOf, holderOf, unitBy, unitOf}
 use Rattle.code_tree.specs.PartsLaws.{All, Part, order-all}
 use Rattle.code_tree.specs.BoundLaws.{all-map}
 use Rattle.code_tree.specs.declared.Shape.{Shape}
@@ -259,3 +261,12 @@ module _ (ns names : List ℕ) (g : Good ns) where
   body-once b h =
       ofList (stmtAt ns names (count ns)) b h (order ns b) (order-distinct ns b g h) (order-all ns b)
       (all-map (Part ns b) _ (λ c p. statementNodes (count ns) c (p .inside)) (order ns b) (order-all ns b)) .once
+
+  -- .. and of a whole unit, whose holder stands in the table.
+  pub unit-once : (u : ℕ) → ((b : ℕ) → holderOf ns u ≡ At (record { 0 = b }) → b < count ns) → Once (nodesOfAll (unitOf ns names u))
+  unfolding unitOf nodesOfAll
+  unit-once u inside = go (holderOf ns u) refl
+    where
+      go : (x : Found) → holderOf ns u ≡ x → Once (nodesOfAll (unitBy ns names x))
+      go (At m) e = body-once (m .0) (inside (m .0) e)
+      go Nothing e = tt
