@@ -12,24 +12,20 @@ use Rattle.base_common.specs.UptoLaws.{and-right}
 use Rattle.table_records.specs.Table.{kindOf, count}
 use Rattle.table_records.specs.Kinds as k
 use Rattle.table_records.specs.Facts.{Tree}
-use Rattle.table_records.specs.declared.Found.{Found}
-use Rattle.table_records.specs.declared.Found.the-variants.{At, Nothing}
 use Rattle.refusal_verdict.specs.declared.Verdict.{Verdict}
 use Rattle.refusal_verdict.specs.declared.Verdict.the-variants.{Refused, Passed}
 use Rattle.refusal_input.specs.WellFormed.{WellFormed}
 use Rattle.refusal_input.specs.Input.{inputRefusal}
 use Rattle.refusal_input.specs.InputLaws.{input-well-formed}
 use Rattle.route_completion.specs.Tree.{Stmts}
-use Rattle.route_completion.specs.Route.{route, Once, nodesOfAll}
+use Rattle.route_completion.specs.Route.{route}
 use Rattle.code_flat.specs.Code.{unit}
 use Rattle.code_flat.specs.Machine.{codeRoute}
 use Rattle.code_flat.specs.Claims.{claims}
 use Rattle.route_list.specs.Over.{over}
-use Rattle.code_tree.specs.Statements.{holderOf, unitBy, unitOf}
+use Rattle.code_tree.specs.Statements.{unitOf}
 use Rattle.code_tree.specs.RoomLaws.{unit-room}
-use Rattle.code_layout.specs.Shaped.{Good}
-use Rattle.code_once.specs.Once.{body-once}
-use Rattle.code_wellformed.specs.Holder.{holder-in, holder-ready}
+use Rattle.code_wellformed.specs.Holder.{holder-ready}
 use Rattle.code_length.specs.Length.{codeLength}
 use Rattle.code_length.specs.LengthLaws.{code-length}
 use Rattle.code_assemble.specs.declared.Assembled.the-variants.{Code, Short}
@@ -87,15 +83,6 @@ module _ (sourceType asyncBodies : ℕ) (ns ss source names : List ℕ) (u : ℕ
 -- The run of the unit's code is its route by the completion rules: its finally blocks find room.
 pub code-route : (ns names : List ℕ) (t : Tree ns) (u : ℕ) (answers : List ℕ) → codeRoute (unit (unitOf ns names u)) answers ≡ route (unitOf ns names u) answers
 code-route ns names t u answers = claims (unitOf ns names u) (unit-room ns names t u) answers .same
-
--- No node stands twice in a unit's statements.
-pub unit-once : (ns names : List ℕ) → Good ns → (u : ℕ) → u < count ns → kindOf ns u ≤ k.StaticBlock → Once (nodesOfAll (unitOf ns names u))
-unfolding unitOf nodesOfAll
-unit-once ns names g u h l = go (holderOf ns u) refl
-  where
-    go : (f : Found) → holderOf ns u ≡ f → Once (nodesOfAll (unitBy ns names f))
-    go (At b) q = body-once ns names g (b .0) (holder-in ns u h l (b .0) q)
-    go Nothing q = tt
 
 -- What the maker answered says of the code and the slice.
 module _ (c : List ℕ) (len n : ℕ) where

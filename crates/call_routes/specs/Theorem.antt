@@ -20,14 +20,16 @@ use Rattle.code_tree.specs.Statements.{unitOf}
 use Rattle.code_tree.specs.RoomLaws.{unit-room}
 use Rattle.code_length.specs.Length.{codeLength}
 use Rattle.code_length.specs.LengthLaws.{code-length}
+use Rattle.code_once.specs.Once.{unit-once}
 use Rattle.code_wellformed.specs.Parts.{good}
+use Rattle.code_wellformed.specs.Holder.{holder-in}
 use Rattle.code_jump_scope.specs.UnitScoped.{Targeted, unit-scoped}
 use Rattle.code_entries.specs.Asking.{ByKind}
 use Rattle.code_entries.specs.AskingLaws.{unit-by-kind}
 use Rattle.check_dispatch.specs.Rule.{rule}
 use Rattle.refusal_state.specs.Targets.{stateAnswer}
 use Rattle.refusal_state.specs.TargetsLaws.{state-passed, targets-found}
-use Rattle.call_routes.specs.CallsLaws.{unit-kind, unit-once}
+use Rattle.call_routes.specs.CallsLaws.{unit-kind}
 
 -- What holds of the unit u and the answers.
 pub record Routes (ns names : List ℕ) (u : ℕ) (answers : List ℕ) : Type 0 where
@@ -72,7 +74,7 @@ module _ (sourceType asyncBodies : ℕ) (ns ss source names : List ℕ) (u : ℕ
           asking = subst (Each (ByKind ns)) (sym (c .entries)) (execsEach (ByKind ns) (unitOf ns names u) (unit-by-kind ns names u) answers);
           left = c .left;
           ends = c .ends (unit-scoped ns names (w .input .tree) (w .listed) (w .shaped .placed) (w .shaped .counted) targeted u (s .below) (s .unit));
-          once = c .once (unit-once ns names (good ns (w .input .tree) (w .listed) (w .shaped .placed) (w .shaped .counted)) u (s .below) (unit-kind (kindOf ns u) (s .unit)));
+          once = c .once (unit-once ns names (good ns (w .input .tree) (w .listed) (w .shaped .placed) (w .shaped .counted)) u (holder-in ns u (s .below) (unit-kind (kindOf ns u) (s .unit))));
           long = c .long;
           small = c .small;
           rows = code-length ns (w .input .tree) (w .listed) (w .shaped .placed) (w .shaped .counted) u (s .below) (s .unit) names (w .input .named);
