@@ -454,7 +454,7 @@ module _ (ns : List ℕ) (t : Tree ns) (li : Listed ns) (pl : Placed ns) (co : C
         go (yes x) = never (sym (in-above ns b (up-falls ns t) j h l e) ∙ in-low ns b (upOf ns j) x)
         go (no x) = eq-or-lt-of-le (omega arith)
 
-    inside : (f j : ℕ) → j ≤ f → b < j → j < count ns → inUnit ns b j ≡ true → ofUnit ns u j ≡ true
+    pub inside : (f j : ℕ) → j ≤ f → b < j → j < count ns → inUnit ns b j ≡ true → ofUnit ns u j ≡ true
     inside zero j hf h l e = absurd (omega arith)
     inside (suc f) j hf h l e = go (is-static j) (λ p d x y. inside f p (omega arith) x (omega arith) y)
       where

@@ -1,4 +1,6 @@
 pub mod Length
 pub mod Kinds
 pub mod LengthLaws
+pub mod UnitNodes
+pub mod UnitNodesLaws
 pub mod Examples
