@@ -1,0 +1,51 @@
+-- ONE ANSWER CHANGED, over tables: "Let two answer lists of one length differ only at position k, from 0. The two routes are equal up to and including the
+-- entry that takes answer k. If the first route takes k answers or fewer, they are equal to the end. Each route has at most (answers taken + 1) ×
+-- (nodes of the unit) entries."
+use Prim.Native.Nat.{ℕ, _+_, _*_, _≤_}
+use mathlib.Core.Path.{_≡_}
+use mathlib.Core.List.{List}
+use lib.ListN.{length, length-map}
+use Rattle.table_records.specs.Table.{kindOf}
+use Rattle.refusal_verdict.specs.declared.Verdict.the-variants.{Passed}
+use Rattle.refusal_input.specs.Input.{inputRefusal}
+use Rattle.refusal_input.specs.InputLaws.{input-well-formed}
+use Rattle.refusal_state.specs.Targets.{stateAnswer}
+use Rattle.refusal_state.specs.TargetsLaws.{state-passed}
+use Rattle.check_dispatch.specs.Rule.{rule}
+use Rattle.route_completion.specs.Sem.{execs}
+use Rattle.route_completion.specs.Route.{nodeOf, route}
+use Rattle.route_completion.specs.Parts.{partsOnce}
+use Rattle.route_completion.specs.EntriesLaws.{execsEach}
+use Rattle.route_laws.specs.Changed.{OneChanged}
+use Rattle.route_laws.specs.Inside.{In}
+use Rattle.route_laws.specs.Fits.{entriesFit}
+use Rattle.route_laws.specs.Claims.{Compared, Short, changedRoute}
+use Rattle.code_tree.specs.Statements.{unitOf}
+use Rattle.code_length.specs.UnitNodes.{unitNodes}
+use Rattle.code_length.specs.UnitNodesLaws.{unit-nodes}
+use Rattle.code_wellformed.specs.Parts.{good}
+use Rattle.call_routes.specs.CallsLaws.{unit-kind, unit-once}
+
+-- What holds of the unit u.
+pub record OneAnswerChanged (ns names : List ℕ) (u : ℕ) : Type 0 where
+  -- Of two lists of one length that differ only at k: equal up to and including the entry that takes answer k, so that what `shared` gives is at least that;
+  -- and equal to the end if the first takes k answers or fewer,
+  pub compared : (k : ℕ) (first second : List ℕ) → OneChanged k first second → Compared (unitOf ns names u) k first second
+  -- .. and of every list: the nodes of the unit are counted over the table, without the unit's own.
+  pub short : (answers : List ℕ) → Short (length (unitNodes ns u)) (route (unitOf ns names u) answers)
+
+-- THE THEOREM: for tables that are well-formed (1 to 6, 13 to 15), a unit u (7), and a tree without findings (9).
+pub one-answer-changed : (sourceType asyncBodies : ℕ) (ns ss source names : List ℕ) (u : ℕ) → inputRefusal sourceType ns ss source names ≡ Passed
+    → stateAnswer (rule sourceType asyncBodies ns ss source names) u ≡ Passed → OneAnswerChanged ns names u
+one-answer-changed sourceType asyncBodies ns ss source names u formed passed =
+    let w = input-well-formed sourceType ns ss source names formed in
+    let s = state-passed sourceType asyncBodies ns ss source names u passed in
+    let t = unitOf ns names u in
+    let o = unit-once ns names (good ns (w .input .tree) (w .listed) (w .shaped .placed) (w .shaped .counted)) u (s .below) (unit-kind (kindOf ns u) (s .unit)) in
+    let l = unit-nodes ns (w .input .tree) (w .listed) (w .shaped .placed) (w .shaped .counted) u (s .below) (s .unit) names in
+    record {
+      compared = λ k first second h. changedRoute t k first second h;
+      short =
+          λ answers. rw (length-map (execs t answers .nodes) nodeOf)
+          (entriesFit (unitNodes ns u) (execs t answers .nodes) (partsOnce t o answers) (execsEach (In (unitNodes ns u)) t l answers));
+    }
