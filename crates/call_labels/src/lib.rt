@@ -262,7 +262,7 @@ fn put_record(nodes: &[u32], n: NodeId, start: usize, len: usize, out: &mut [u32
     requires { ⌜ n .0 * 10 + 10 ≤ length (now out) ⌝ }
     ensures { λ _. ⌜ now (out .exit) ≡ put (now (out .entry)) (n .0 * 10) (recordWith (now (nodes .entry)) (n .0) start len) ⌝ }
 {
-    code_stores::put10(
+    table_put::put10(
         out,
         table_records::wide(n.0) * 10,
         table_records::kind(nodes, n),

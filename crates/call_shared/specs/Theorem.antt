@@ -23,8 +23,10 @@ use Rattle.route_laws.specs.Claims.{Compared, Short, changedRoute}
 use Rattle.code_tree.specs.Statements.{unitOf}
 use Rattle.code_length.specs.UnitNodes.{unitNodes}
 use Rattle.code_length.specs.UnitNodesLaws.{unit-nodes}
+use Rattle.code_once.specs.Once.{unit-once}
 use Rattle.code_wellformed.specs.Parts.{good}
-use Rattle.call_routes.specs.CallsLaws.{unit-kind, unit-once}
+use Rattle.code_wellformed.specs.Holder.{holder-in}
+use Rattle.call_routes.specs.CallsLaws.{unit-kind}
 
 -- What holds of the unit u.
 pub record OneAnswerChanged (ns names : List ℕ) (u : ℕ) : Type 0 where
@@ -41,7 +43,7 @@ one-answer-changed sourceType asyncBodies ns ss source names u formed passed =
     let w = input-well-formed sourceType ns ss source names formed in
     let s = state-passed sourceType asyncBodies ns ss source names u passed in
     let t = unitOf ns names u in
-    let o = unit-once ns names (good ns (w .input .tree) (w .listed) (w .shaped .placed) (w .shaped .counted)) u (s .below) (unit-kind (kindOf ns u) (s .unit)) in
+    let o = unit-once ns names (good ns (w .input .tree) (w .listed) (w .shaped .placed) (w .shaped .counted)) u (holder-in ns u (s .below) (unit-kind (kindOf ns u) (s .unit))) in
     let l = unit-nodes ns (w .input .tree) (w .listed) (w .shaped .placed) (w .shaped .counted) u (s .below) (s .unit) names in
     record {
       compared = λ k first second h. changedRoute t k first second h;

@@ -1,6 +1,6 @@
 use Rattle.call_labels.specs.Short.{letterA, letters, pairOf}
 use Rattle.call_labels.specs.ShortLaws.{short-one, short-two, pair-below, put-one}
-use Rattle.code_stores.specs.Stores.{put-two}
+use Rattle.table_put.specs.Stores.{put-two}
 use Rattle.base_common.specs.Wrote.{put}
 use lib.ListN.{length, set, length-set}
 use native.Mathlib.Omega.{arith}
