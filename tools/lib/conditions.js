@@ -168,7 +168,7 @@ const headTold = everywhere((n, i, tree) => n.kind !== K.ForIn || !declarators(t
 
 // ---- those that only texts with an early error break
 
-// givers (crates/ecma_strict/specs/Changed.antt)
+// givers (crates/ecma_names/specs/Changed.antt)
 function givers(tree, n) {
   const { nodes } = tree;
   const own = (i, j) => (nodes[i].kind === K.Function && !(nodes[i].flags & F.declaration && nodes[j].kind === K.BindingIdentifier))

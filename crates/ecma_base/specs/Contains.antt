@@ -33,6 +33,10 @@ containsIn ns sought edge u = containsFrom ns sought (λ i j. not (edge i j)) ed
 abbrev pub initializer : List ℕ → ℕ → ℕ → Bool
 initializer ns i j = within (kindOf ns i) k.PropertyDefinition k.AccessorProperty && isNode (valueOf ns i) j
 
+-- ClassStaticBlock : static { ClassStaticBlockBody }
+abbrev pub staticBlock : List ℕ → ℕ → Bool
+staticBlock ns u = eqb (kindOf ns u) k.StaticBlock
+
 -- Where the operation of u comes to: it begins at a part of u on the way to j, and goes into all that follow.
 abbrev pub comes : List ℕ → (ℕ → ℕ → Bool) → (ℕ → ℕ → Bool) → ℕ → ℕ → Bool
 comes ns begin into u j = handedDown ns (λ i k r. cond (eqb i u) (begin i k) (r && into i k)) false j

@@ -6,7 +6,7 @@ use mathlib.Core.Bool.{Bool, true, false, cond, not, _&&_, _||_}
 use mathlib.Core.Logic.{⊎-elim}
 use native.Mathlib.Nat.{eq-or-lt-of-le}
 use native.Mathlib.Omega.{arith}
-use borrow.Author.Tests.{eq-eqb, ne-eqb, eqb-true}
+use borrow.Author.Tests.{eq-eqb, ne-eqb, eqb-true, eqb-false}
 use lib.Dec.{eqb}
 use Rattle.base_common.specs.Upto.{upto}
 use Rattle.base_common.specs.UptoLaws.{and-left, and-right}
@@ -22,6 +22,9 @@ use Rattle.ecma_trees.specs.Unit.{says, saysAll}
 use Rattle.ecma_trees.specs.Trail.{unitOf}
 use Rattle.ecma_trees.specs.TrailLaws.{unitBridge, handedLaw, handedRoot}
 use Rattle.ecma_base.specs.Contains.{contains, containsAny, containsFrom, containsIn, comes}
+
+pub positive : (a : ℕ) → (a ≡ 0 → ⊥) → 1 ≤ a
+positive a n = ⊎-elim (λ (e : 0 ≡ a). absurd (n (sym e))) (λ (z : 0 < a). z) (eq-or-lt-of-le (omega arith))
 
 -- only node 0 is a Program
 pub rootOnly : (ns : List ℕ) → Tree ns → (i : ℕ) → i < count ns → kindOf ns i ≡ 0 → i ≡ 0
@@ -49,6 +52,27 @@ module _ (ns : List ℕ) (t : Tree ns) (edge : ℕ → ℕ → Bool) where
 someIf : (x : Bool) (l m : List ℕ) → ((x && some l) || some m) ≡ some (cond x l [] ++ m)
 someIf true l m = sym (someAppend l m)
 someIf false l m = refl
+
+-- a step up
+module _ (ns : List ℕ) (t : Tree ns) where
+  module _ (edge : ℕ → ℕ → Bool) (i : ℕ) (z : 0 < i) (h : i < count ns) where
+    pub unitHere : edge (parentOf ns i) i ≡ true → unitOf ns edge i ≡ parentOf ns i
+    unitHere e = unitUp ns t edge i z h ∙ rw e
+
+    -- no edge, or only that of the program, which is where the way up ends in any case
+    pub unitPass : ((kindOf ns (parentOf ns i) ≡ 0 → ⊥) → edge (parentOf ns i) i ≡ false) → unitOf ns edge i ≡ unitOf ns edge (parentOf ns i)
+    unitPass f = unitUp ns t edge i z h ∙ go (eqb (kindOf ns (parentOf ns i)) 0) refl
+      where
+        both : (b : Bool) (x : ℕ) → cond b x x ≡ x
+        both true x = refl
+        both false x = refl
+
+        go : (b : Bool) → eqb (kindOf ns (parentOf ns i)) 0 ≡ b → cond (edge (parentOf ns i) i) (parentOf ns i) (unitOf ns edge (parentOf ns i)) ≡ unitOf ns edge (parentOf ns i)
+        go true e =
+            let q : parentOf ns i ≡ 0 = rootOnly ns t (parentOf ns i) (parent-in ns t i h) (eqb-true (kindOf ns (parentOf ns i)) 0 e) in
+            let u : unitOf ns edge (parentOf ns i) ≡ parentOf ns i = ap (λ (x : ℕ). unitOf ns edge x) q ∙ unitRoot ns t edge ∙ sym q in
+            rw u (both (edge (parentOf ns i) i) (parentOf ns i))
+        go false e = rw (f (eqb-false (kindOf ns (parentOf ns i)) 0 e))
 
 -- the Boolean operation, as one that lists what it finds
 module _ (sought : ℕ → Bool) (into : ℕ → ℕ → Bool) where

@@ -4,3 +4,5 @@ pub mod Contains
 pub mod ContainsLaws
 pub mod Scopes
 pub mod ScopesLaws
+pub mod Nodes
+pub mod NodesLaws

@@ -38,11 +38,13 @@ use Rattle.ecma_trees.specs.Rose.{kids, others, forest, partsOf}
 use Rattle.ecma_trees.specs.Walk.{walk}
 use Rattle.ecma_trees.specs.Trail.{trail, climb}
 use Rattle.ecma_dispatch.specs.NodesOf.{raised}
-use Rattle.ecma_classes.specs.ClassElements.{keyName, propName, namesConstructor, isConstructorKind, constructorMethod, isFirstConstructor, classElements, nameMissing}
-use Rattle.ecma_classes.specs.PrivateNames.{isPrivateBound, entries, matched, invalid}
-use Rattle.ecma_classes.specs.Raised.{bodyAround}
-use Rattle.ecma_classes.specs.Supers.{isSuperCall, begins, isMethod, isObjectMethod, isConstructorMethod, hasHeritage, isBare, isSuperProperty, barsCall, barsProperty, superError, standardStray}
-use Rattle.ecma_classes.specs.Changed.{isConstructor, calledConstructor, builtTwice, isKeyedProto, protoAgain, isEntered, privateEntered, clashIn, privateAgain, isTableUse, isOutside, isTableCall, isTableProperty, isTableConstructor, SupersStand, MethodsNamed}
+use Rattle.ecma_elements.specs.ClassElements.{keyName, propName, namesConstructor, isConstructorKind, constructorMethod, isFirstConstructor, classElements, nameMissing}
+use Rattle.ecma_privates.specs.PrivateNames.{isPrivateBound, entries, matched, invalid}
+use Rattle.ecma_privates.specs.Raised.{bodyAround}
+use Rattle.ecma_supers.specs.Supers.{isSuperCall, begins, isMethod, isObjectMethod, isConstructorMethod, hasHeritage, isBare, isSuperProperty, barsCall, barsProperty, superError, standardStray}
+use Rattle.ecma_elements.specs.Changed.{isConstructor, calledConstructor, builtTwice, isKeyedProto, protoAgain, isTableConstructor}
+use Rattle.ecma_privates.specs.Changed.{isEntered, privateEntered, clashIn, privateAgain, isTableUse, isOutside}
+use Rattle.ecma_supers.specs.Changed.{isTableCall, isTableProperty, SupersStand, MethodsNamed}
 use Rattle.ecma_base.specs.Contains.{contains, containsAny}
 use Rattle.ecma_base.specs.Telling.{Telling, asyncOrGenerator, ordinary}
 use Rattle.ecma_base.specs.Scopes.{followsAt, flaggedAt, classAt, scopesFollow}

@@ -23,11 +23,11 @@ use Rattle.refusal_fields.specs.Fields.{Listed}
 use Rattle.refusal_input.specs.WellFormed.{Shaped}
 use Rattle.ecma_trees.specs.Trail.{unitOf}
 use Rattle.table_lists.specs.ListLaws.{in-kept, upto-in}
-use Rattle.ecma_classes.specs.ClassElements.{elementsIn, classElements, namesConstructor, constructorTwice, isConstructorKind, constructorMethod, isFirstConstructor}
-use Rattle.ecma_classes.specs.Supers.{begins, isMethod, isConstructorMethod, isBare, standardBare}
-use Rattle.ecma_classes.specs.Changed.{OneInClass, OneConstructor, eachBare}
-use Rattle.ecma_classes.specs.PrivateNamesLaws.{class-above, body-of-class}
-use Rattle.ecma_classes.specs.SupersLaws.{unit-is, method-kind}
+use Rattle.ecma_elements.specs.ClassElements.{elementsIn, classElements, namesConstructor, constructorTwice, isConstructorKind, constructorMethod, isFirstConstructor}
+use Rattle.ecma_supers.specs.Supers.{begins, isMethod, isConstructorMethod, isBare, standardBare}
+use Rattle.ecma_supers.specs.Changed.{OneInClass, OneConstructor, eachBare}
+use Rattle.ecma_privates.specs.PrivateNamesLaws.{class-above, body-of-class}
+use Rattle.ecma_supers.specs.SupersLaws.{unit-is, method-kind}
 
 holds-one : (l : List ℕ) (p : ℕ) → member p l ≡ true → 1 ≤ length l
 holds-one [] p m = never (sym m)

@@ -28,25 +28,29 @@ use Rattle.ecma_dispatch.specs.WithCode.{withCode}
 use Rattle.ecma_dispatch.specs.Dispatch.{wholeOne, wholeOther}
 use Rattle.ecma_dispatch.specs.NodesOf.{raised}
 use Rattle.ecma_dispatch.specs.NodesOfLaws.{raisedAppend, raisedFlat, raisedAgain}
-use Rattle.ecma_classes.specs.RaisingLaws.{flat-upto, flat-members, keep-upto, any-upto, any-kept, any-three}
+use Rattle.ecma_elements.specs.RaisingLaws.{flat-upto, flat-members, keep-upto, any-upto, any-kept, any-three}
 use Rattle.table_lists.specs.ListLaws.{Rising, kept-in}
-use Rattle.ecma_classes.specs.ClassElements.{nameMissing, constructorTwice, isFirstConstructor, protoTwice}
-use Rattle.ecma_classes.specs.PrivateNames.{privateBound, entries, allowed, privateTwice, isClassBody, isUse, allPrivateIdentifiersValid, invalidIdentifiers}
-use Rattle.ecma_classes.specs.Supers.{isSuperCall, isSuperProperty, isBare, barsCall, barsProperty, bareError, callError, propertyError, superError, standardBare, standardStray, standardProperty, unit}
-use Rattle.ecma_classes.specs.Changed.{builtTwice, OneConstructor, ConstructorsNamed, protoAgain, KeysPlain, ProtosTwiceAtMost, privateEntered, privateAgain, PrivatesEntered, OnceOrTwice, invalidInTable, PrivatesPlain, isOutside, OutsideUsed, UsedOutside, eachBare, OneInClass, tableBare, tableStray, tableProperty, MethodNamed, MethodsNamed, CallStands, PropertyStands, SupersStand, ConstructorOrdinary, ConstructorsOrdinary}
-use Rattle.ecma_classes.specs.SupersByScopes.{bareByScopes, strayByScopes, propertyByScopes}
-use Rattle.ecma_classes.specs.ClassElementsLaws.{class-name, second-constructor, constructors-agree}
-use Rattle.ecma_classes.specs.Raised.{times, sameNode, bodyAround, reported, inUnit}
-use Rattle.ecma_classes.specs.ObjectsLaws.{proto-again, proto-agrees, proto-once, proto-at, proto-once-at}
-use Rattle.ecma_classes.specs.PrivateTwiceLaws.{some-kept, flat-alike, private-again, again-some, again-once, entered-all, entered-rising}
-use Rattle.ecma_classes.specs.PrivateNamesLaws.{invalidAt, invalid-list, valid-none, private-outside, outside-invalid, private-undeclared, invalid-same, class-above, body-of-class}
+use Rattle.ecma_elements.specs.ClassElements.{nameMissing, constructorTwice, isFirstConstructor, protoTwice}
+use Rattle.ecma_privates.specs.PrivateNames.{privateBound, entries, allowed, privateTwice, isClassBody, isUse, allPrivateIdentifiersValid, invalidIdentifiers}
+use Rattle.ecma_supers.specs.Supers.{isSuperCall, isSuperProperty, isBare, barsCall, barsProperty, bareError, callError, propertyError, superError, standardBare, standardStray, standardProperty, unit}
+use Rattle.ecma_elements.specs.Changed.{builtTwice, ConstructorsNamed, protoAgain, KeysPlain, ProtosTwiceAtMost}
+use Rattle.ecma_supers.specs.Changed.{OneConstructor, eachBare, OneInClass, tableBare, tableStray, tableProperty, MethodNamed, MethodsNamed, CallStands, PropertyStands, SupersStand, ConstructorOrdinary, ConstructorsOrdinary}
+use Rattle.ecma_privates.specs.Changed.{privateEntered, privateAgain, PrivatesEntered, OnceOrTwice, invalidInTable, PrivatesPlain, isOutside, OutsideUsed, UsedOutside}
+use Rattle.ecma_supers.specs.SupersByScopes.{bareByScopes, strayByScopes, propertyByScopes}
+use Rattle.ecma_elements.specs.ClassElementsLaws.{class-name, second-constructor, constructors-agree}
+use Rattle.ecma_elements.specs.Raised.{times}
+use Rattle.ecma_privates.specs.Raised.{sameNode, bodyAround, reported}
+use Rattle.ecma_supers.specs.Raised.{inUnit}
+use Rattle.ecma_elements.specs.ObjectsLaws.{proto-again, proto-agrees, proto-once, proto-at, proto-once-at}
+use Rattle.ecma_privates.specs.PrivateTwiceLaws.{some-kept, flat-alike, private-again, again-some, again-once, entered-all, entered-rising}
+use Rattle.ecma_privates.specs.PrivateNamesLaws.{invalidAt, invalid-list, valid-none, private-outside, outside-invalid, private-undeclared, invalid-same, class-above, body-of-class}
 use Rattle.ecma_base.specs.Telling.{Telling, ordinary}
 use Rattle.ecma_base.specs.Scopes.{scopesFollow}
-use Rattle.ecma_classes.specs.ScopesFitLaws.{ScopesFit, fit-of}
-use Rattle.ecma_classes.specs.SupersLaws.{unit-is, super-bare, super-call, super-property, bare-same, stray-same, property-rule-same, super-same}
-use Rattle.ecma_classes.specs.SupersByScopesLaws.{bare-by-scopes, stray-by-scopes, property-by-scopes}
+use Rattle.ecma_supers.specs.ScopesFitLaws.{ScopesFit, fit-of}
+use Rattle.ecma_supers.specs.SupersLaws.{unit-is, super-bare, super-call, super-property, bare-same, stray-same, property-rule-same, super-same}
+use Rattle.ecma_supers.specs.SupersByScopesLaws.{bare-by-scopes, stray-by-scopes, property-by-scopes}
 use Rattle.ecma_classes.specs.FirstConstructorLaws.{one-here, first-same}
-use Rattle.ecma_classes.specs.ContainsLaws.{unit-rule}
+use Rattle.ecma_supers.specs.ContainsLaws.{unit-bare, unit-stray, unit-property}
 use Rattle.ecma_classes.specs.WholeLaws.{some-flat, some-times, below-of, all-raised, any-unit}
 
 -- from each node to the whole tree
@@ -211,13 +215,13 @@ module _ (t : ℕ) (js : t ≤ 1) (ns ss source names : List ℕ) (w : WellForme
 
   -- a unit breaks an early error, by Contains (8.5.1), just where one of its Supers does
   pub units28 : (u : ℕ) → u < count ns → bareError ns names u ≡ some (inUnit ns (standardBare ns names) u)
-  units28 u h = unit-rule ns (isSuperCall ns) (w .input .tree) (isBare ns (isFirstConstructor ns names)) u h
+  units28 u h = unit-bare ns names (w .input .tree) u h
 
   pub units29 : (told : Telling) (u : ℕ) → u < count ns → callError told ns names u ≡ some (inUnit ns (standardStray told ns names) u)
-  units29 told u h = unit-rule ns (isSuperCall ns) (w .input .tree) (barsCall told ns names) u h
+  units29 told u h = unit-stray ns names (w .input .tree) u h told
 
   pub units30 : (u : ℕ) → u < count ns → propertyError ns u ≡ some (inUnit ns (standardProperty ns) u)
-  units30 u h = unit-rule ns (isSuperProperty ns) (w .input .tree) (barsProperty ns) u h
+  units30 u h = unit-property ns names (w .input .tree) u h
 
   -- the program is no Super
   no-call : isSuperCall ns 0 ≡ false

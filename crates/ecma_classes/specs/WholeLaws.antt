@@ -32,13 +32,15 @@ use Rattle.check_diagnostics.specs.Contexts as context
 use Rattle.ecma_dispatch.specs.WithCode.{withCode}
 use Rattle.ecma_dispatch.specs.NodesOf.{nodesOf, raised}
 use Rattle.ecma_dispatch.specs.NodesOfLaws.{raisedFlat}
-use Rattle.ecma_classes.specs.RaisingLaws.{any-upto}
+use Rattle.ecma_elements.specs.RaisingLaws.{any-upto}
 use Rattle.table_lists.specs.ListLaws.{any-hit, any-find, kept-in, in-kept, member-here, in-upto}
-use Rattle.ecma_classes.specs.Supers.{begins, unitContains}
-use Rattle.ecma_classes.specs.Raised.{times, sameNode, bodyAround, inUnit}
-use Rattle.ecma_classes.specs.PrivateTwiceLaws.{some-kept, both-ways}
-use Rattle.ecma_classes.specs.PrivateNamesLaws.{around-is, class-above, body-of-class}
-use Rattle.ecma_classes.specs.ContainsLaws.{unit-rule}
+use Rattle.ecma_supers.specs.Supers.{begins, unitContains}
+use Rattle.ecma_elements.specs.Raised.{times}
+use Rattle.ecma_privates.specs.Raised.{sameNode, bodyAround}
+use Rattle.ecma_supers.specs.Raised.{inUnit}
+use Rattle.ecma_privates.specs.PrivateTwiceLaws.{some-kept, both-ways}
+use Rattle.ecma_privates.specs.PrivateNamesLaws.{around-is, class-above, body-of-class}
+use Rattle.ecma_supers.specs.ContainsLaws.{unit-rule}
 
 pub some-flat : {A : Type 0} (f : ℕ → List A) (l : List ℕ) → some (flatMap f l) ≡ any (λ x. some (f x)) l
 unfolding flatMap

@@ -22,7 +22,7 @@ use Rattle.ecma_dispatch.specs.NodesOfLaws.{raisedAgain}
 use Rattle.ecma_dispatch.specs.OptionLaws.{without34, at34, otherAt, codesOnListed}
 use Rattle.ecma_base.specs.Strict.{strictCode}
 use Rattle.ecma_base.specs.Telling.{Telling}
-use Rattle.ecma_strict.specs.Functions.{annexHolder, functionMisplaced, functionMisplacedElse, labelledFunctionAt}
+use Rattle.ecma_statements.specs.Functions.{annexHolder, functionMisplaced, functionMisplacedElse, labelledFunctionAt}
 use Rattle.ecma_strict.specs.Bodies.{Flagged}
 use Rattle.ecma_strict.specs.BodiesLaws.{code34, standard16on, functionsOn}
 use Rattle.check_bodies.specs.Bodies.{asyncBodiesAt}

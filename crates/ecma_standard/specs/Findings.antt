@@ -19,11 +19,14 @@ use Rattle.ecma_labels.specs.Breaches.{duplicateLabelAt, breakNotNestedAt}
 use Rattle.ecma_labels.specs.Changed.{plainContinueNotNestedAt, noLabelAt, noLoopAt, inProgram}
 use Rattle.ecma_labels.specs.Theorems as labels
 use Rattle.ecma_strict.specs.Theorems.{EarlyErrors, earlyErrors}
-use Rattle.ecma_classes.specs.ClassElements.{nameMissing}
-use Rattle.ecma_classes.specs.PrivateNames.{isClassBody}
-use Rattle.ecma_classes.specs.Changed.{builtTwice, protoAgain, privateEntered, privateAgain, isOutside, invalidInTable, tableBare, tableStray, tableProperty}
-use Rattle.ecma_classes.specs.SupersByScopes.{bareByScopes, strayByScopes, propertyByScopes}
-use Rattle.ecma_classes.specs.Raised.{times, reported}
+use Rattle.ecma_elements.specs.ClassElements.{nameMissing}
+use Rattle.ecma_privates.specs.PrivateNames.{isClassBody}
+use Rattle.ecma_elements.specs.Changed.{builtTwice, protoAgain}
+use Rattle.ecma_privates.specs.Changed.{privateEntered, privateAgain, isOutside, invalidInTable}
+use Rattle.ecma_supers.specs.Changed.{tableBare, tableStray, tableProperty}
+use Rattle.ecma_supers.specs.SupersByScopes.{bareByScopes, strayByScopes, propertyByScopes}
+use Rattle.ecma_elements.specs.Raised.{times}
+use Rattle.ecma_privates.specs.Raised.{reported}
 use Rattle.ecma_base.specs.Scopes.{scopesFollow}
 use Rattle.ecma_classes.specs.Theorems as classes
 

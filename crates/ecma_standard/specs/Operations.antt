@@ -23,22 +23,22 @@ use Rattle.ecma_trees.specs.Trail.{unitOf}
 use Rattle.ecma_dispatch.specs.WithCode.{withCode}
 use Rattle.ecma_dispatch.specs.NodesOf.{raised}
 use Rattle.ecma_base.specs.Telling.{Telling}
-use Rattle.ecma_base.specs.Contains.{containsFrom, comes}
+use Rattle.ecma_base.specs.Contains.{containsFrom, comes, staticBlock}
 use Rattle.ecma_base.specs.Scopes.{scopesFollow}
 use Rattle.ecma_labels.specs.Labels.{isUnit, anyDuplicateLabels, anyUndefinedBreakTarget, anyUndefinedContinueTarget, anyBreakNotNested}
 use Rattle.ecma_labels.specs.Changed.{LabelsOnce}
 use Rattle.ecma_labels.specs.Findings.{ofUnit, breakFindings, continueFindings}
 use Rattle.ecma_labels.specs.Theorems as labels
-use Rattle.ecma_strict.specs.Identifiers.{simpleParameters, containsUseStrict}
-use Rattle.ecma_strict.specs.BoundNames.{bindsLet}
-use Rattle.ecma_strict.specs.Contains.{containsInto, staticBlock, blockBegin, awaitExpression, forAwait, awaitUsing, argumentsReference, argumentsBegin, argumentsInto, parameter, parameterBegin, awaitOrYield, lexicalDeclaration, boundBegin, boundInto, letName}
-use Rattle.ecma_strict.specs.Functions.{endsInStatement, endsInLabelled, labelsFunction, labelEdge}
-use Rattle.ecma_strict.specs.Changed.{fieldHome}
+use Rattle.ecma_names.specs.Identifiers.{simpleParameters, containsUseStrict}
+use Rattle.ecma_contains.specs.BoundNames.{bindsLet}
+use Rattle.ecma_contains.specs.Contains.{containsInto, blockBegin, awaitExpression, forAwait, awaitUsing, argumentsReference, argumentsBegin, argumentsInto, parameter, parameterBegin, awaitOrYield, lexicalDeclaration, boundBegin, boundInto, letName}
+use Rattle.ecma_statements.specs.Functions.{endsInStatement, endsInLabelled, labelsFunction, labelEdge}
+use Rattle.ecma_contains.specs.Changed.{fieldHome}
 use Rattle.ecma_strict.specs.Units as units
-use Rattle.ecma_classes.specs.PrivateNames.{allPrivateIdentifiersValid, invalidIdentifiers}
-use Rattle.ecma_classes.specs.Supers.{bareError, callError, propertyError, standardBare, standardStray, standardProperty}
-use Rattle.ecma_classes.specs.Changed.{PrivatesPlain, UsedOutside}
-use Rattle.ecma_classes.specs.Raised.{inUnit}
+use Rattle.ecma_privates.specs.PrivateNames.{allPrivateIdentifiersValid, invalidIdentifiers}
+use Rattle.ecma_supers.specs.Supers.{bareError, callError, propertyError, standardBare, standardStray, standardProperty}
+use Rattle.ecma_privates.specs.Changed.{PrivatesPlain, UsedOutside}
+use Rattle.ecma_supers.specs.Raised.{inUnit}
 use Rattle.ecma_classes.specs.Theorems as classes
 
 module _ (told : Telling) (t : ℕ) (ns ss source names : List ℕ) where

@@ -32,22 +32,28 @@ use Rattle.ecma_labels.specs.Labels.{isUnit, labelErrors}
 use Rattle.ecma_labels.specs.Breaches.{duplicateLabelAt, undefinedBreakAt, undefinedContinueAt, continueNotNestedAt, breakNotNestedAt}
 use Rattle.ecma_labels.specs.Findings.{labelFindings, withCodes}
 use Rattle.ecma_labels.specs.Theorems as labels
-use Rattle.ecma_strict.specs.Literals.{strictOctal, strictNonOctal, strictOctalEscape, strictNonOctalEscape, numericLiteral, stringLiteral}
-use Rattle.ecma_strict.specs.EscapeSpans.{StringTold, NumberTold}
-use Rattle.ecma_strict.specs.EscapeSpansLaws.{stringTold, numberTold}
-use Rattle.ecma_strict.specs.Delete.{deletesName, deletesPrivate}
-use Rattle.ecma_strict.specs.Statements.{strictWith, initializedHead, usingDeclaration, badUsing}
-use Rattle.ecma_strict.specs.Identifiers.{identifier, identifierError, bindsEval, assignsEval, useStrictThere}
-use Rattle.ecma_strict.specs.Contains.{awaitExpression, forAwait, awaitUsing, awaitInBlock, argumentsInClass, awaitInParameter, letBound}
-use Rattle.ecma_strict.specs.Functions.{functionMisplaced, functionMisplacedElse, labelledFunctionAt}
-use Rattle.ecma_strict.specs.Changed.{NameTold, BlockTold, LetTold, ArgumentsTold, BaseTold, EscapesTold, DirectiveTold, UsingTold, OrdinaryHeld, HeadTold, DeleteTold, ParameterTold, reservedName, strictFunction, strictFunctionElse, sloppyFunction, sloppyFunctionElse}
+use Rattle.ecma_literals.specs.Literals.{strictOctal, strictNonOctal, strictOctalEscape, strictNonOctalEscape, numericLiteral, stringLiteral}
+use Rattle.ecma_literals.specs.EscapeSpans.{StringTold, NumberTold}
+use Rattle.ecma_literals.specs.EscapeSpansLaws.{stringTold, numberTold}
+use Rattle.ecma_literals.specs.Delete.{deletesName, deletesPrivate}
+use Rattle.ecma_statements.specs.Statements.{strictWith, initializedHead, usingDeclaration, badUsing}
+use Rattle.ecma_names.specs.Identifiers.{identifier, identifierError, bindsEval, assignsEval, useStrictThere}
+use Rattle.ecma_contains.specs.Contains.{awaitExpression, forAwait, awaitUsing, awaitInBlock, argumentsInClass, awaitInParameter, letBound}
+use Rattle.ecma_statements.specs.Functions.{functionMisplaced, functionMisplacedElse, labelledFunctionAt}
+use Rattle.ecma_names.specs.Changed.{NameTold, DirectiveTold, reservedName}
+use Rattle.ecma_contains.specs.Changed.{BlockTold, LetTold, ArgumentsTold, ParameterTold}
+use Rattle.ecma_literals.specs.Changed.{BaseTold, EscapesTold, DeleteTold}
+use Rattle.ecma_statements.specs.Changed.{UsingTold, OrdinaryHeld, HeadTold, strictFunction, strictFunctionElse, sloppyFunction, sloppyFunctionElse}
 use Rattle.ecma_strict.specs.Theorems as strict
 use Rattle.ecma_strict.specs.Standard as rules
-use Rattle.ecma_classes.specs.ClassElements.{nameMissing, constructorTwice, protoTwice}
-use Rattle.ecma_classes.specs.PrivateNames.{privateBound, entries, allowed, privateTwice, invalidIdentifiers, isClassBody}
-use Rattle.ecma_classes.specs.Supers.{standardBare, standardStray, standardProperty, superError, unit}
-use Rattle.ecma_classes.specs.Changed.{KeysPlain, PrivatesEntered, OnceOrTwice, PrivatesPlain, ConstructorsNamed, OneConstructor, SupersStand, MethodsNamed, ProtosTwiceAtMost, OutsideUsed, OneInClass, CallStands, PropertyStands, MethodNamed, ConstructorOrdinary}
-use Rattle.ecma_classes.specs.Raised.{times, bodyAround, reported}
+use Rattle.ecma_elements.specs.ClassElements.{nameMissing, constructorTwice, protoTwice}
+use Rattle.ecma_privates.specs.PrivateNames.{privateBound, entries, allowed, privateTwice, invalidIdentifiers, isClassBody}
+use Rattle.ecma_supers.specs.Supers.{standardBare, standardStray, standardProperty, superError, unit}
+use Rattle.ecma_elements.specs.Changed.{KeysPlain, ConstructorsNamed, ProtosTwiceAtMost}
+use Rattle.ecma_privates.specs.Changed.{PrivatesEntered, OnceOrTwice, PrivatesPlain, OutsideUsed}
+use Rattle.ecma_supers.specs.Changed.{OneConstructor, SupersStand, MethodsNamed, OneInClass, CallStands, PropertyStands, MethodNamed, ConstructorOrdinary}
+use Rattle.ecma_elements.specs.Raised.{times}
+use Rattle.ecma_privates.specs.Raised.{bodyAround, reported}
 use Rattle.ecma_classes.specs.Theorems as classes
 
 module _ (told : Telling) (t : ℕ) (ns ss source names : List ℕ) where

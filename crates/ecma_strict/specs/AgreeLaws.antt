@@ -18,14 +18,13 @@ use Rattle.table_scoping.specs.Scoping.{inStaticBlock}
 use Rattle.table_scoping.specs.ScopingLaws.{static-here, static-function, static-up, static-root}
 use Rattle.ecma_trees.specs.Trail.{unitOf}
 use Rattle.ecma_base.specs.Strict.{strictCode}
-use Rattle.ecma_strict.specs.Identifiers.{assignsEval}
-use Rattle.ecma_base.specs.Contains.{initializer}
-use Rattle.ecma_strict.specs.Contains.{staticBlock, argumentsReference, parameter, unbound, awaitInBlock, argumentsInClass, awaitInParameter, letBound}
-use Rattle.ecma_strict.specs.NodeRules.{awaitUp, argumentsUp, parameterUp, letUp}
+use Rattle.ecma_names.specs.Identifiers.{assignsEval}
+use Rattle.ecma_base.specs.Contains.{initializer, staticBlock}
+use Rattle.ecma_contains.specs.Contains.{argumentsReference, parameter, unbound, awaitInBlock, argumentsInClass, awaitInParameter, letBound}
+use Rattle.ecma_contains.specs.NodeRules.{awaitUp, argumentsUp, parameterUp, letUp}
 use Rattle.ecma_base.specs.Scopes.{blockScope, functionScope}
-use Rattle.ecma_base.specs.ContainsLaws.{upward, unitRoot}
-use Rattle.ecma_strict.specs.SearchLaws.{unitHere, unitPass}
-use Rattle.ecma_strict.specs.Changed.{awaitEdge, argumentsEdge, argumentsHome, parameterEdge, boundEdge, classPart, scopedInBlock, letEdge, letBoundSaid, fieldEdge, fieldHome, argumentsSaid, throughClassEdge, awaitInParameterSaid}
+use Rattle.ecma_base.specs.ContainsLaws.{upward, unitRoot, unitHere, unitPass}
+use Rattle.ecma_contains.specs.Changed.{awaitEdge, argumentsEdge, argumentsHome, parameterEdge, boundEdge, classPart, scopedInBlock, letEdge, letBoundSaid, fieldEdge, fieldHome, argumentsSaid, throughClassEdge, awaitInParameterSaid}
 
 -- two sets of edges, one larger: where the nearest of the larger set is none of the surplus, it is the nearest of the smaller too
 module _ (ns : List ℕ) (t : Tree ns) (large small : ℕ → ℕ → Bool) (surplus : ℕ → Bool)

@@ -23,11 +23,11 @@ use Rattle.ecma_dispatch.specs.NodesOf.{raised}
 use Rattle.ecma_dispatch.specs.NodesOfLaws.{raisedNil, raisedAppend}
 use Rattle.ecma_base.specs.Strict.{strictCode}
 use Rattle.ecma_base.specs.Telling.{Telling, asyncOrGenerator, ordinary}
-use Rattle.ecma_strict.specs.Nodes.{ofCheck}
+use Rattle.ecma_base.specs.Nodes.{ofCheck}
 use Rattle.ecma_strict.specs.NodesLaws.{raisedListed}
-use Rattle.ecma_strict.specs.Functions.{endsInStatement, annexHolder, annexAllows, misplaced, functionMisplaced, functionMisplacedElse, labelsFunction, labelledFunctionAt}
-use Rattle.ecma_strict.specs.FunctionsLaws.{labelledAgrees, labelledStrict}
-use Rattle.ecma_strict.specs.Changed.{strictFunction, strictFunctionElse, sloppyFunction, sloppyFunctionElse, labelledFunctionSaid}
+use Rattle.ecma_statements.specs.Functions.{endsInStatement, annexHolder, annexAllows, misplaced, functionMisplaced, functionMisplacedElse, labelsFunction, labelledFunctionAt}
+use Rattle.ecma_statements.specs.FunctionsLaws.{labelledAgrees, labelledStrict}
+use Rattle.ecma_statements.specs.Changed.{strictFunction, strictFunctionElse, sloppyFunction, sloppyFunctionElse, labelledFunctionSaid}
 use Rattle.ecma_strict.specs.Theorems.{code15, code16}
 use Rattle.ecma_strict.specs.Bodies.{Flagged}
 

@@ -11,9 +11,9 @@ use Rattle.table_children.specs.Children.{keep, children, isChild, firstNode}
 use Rattle.ecma_trees.specs.Rose.{kids, others, forest, partsOf}
 use Rattle.ecma_trees.specs.Trail as trails
 use Rattle.ecma_base.specs.Scopes.{followsAt, flaggedAt, classAt, scopesFollow}
-use Rattle.ecma_strict.specs.Literals.{textOf, legacyOctalInteger, octalsThenNonOctal, nonOctalDecimalInteger, legacyOctalEscape, nonOctalDecimalEscape, escapes, strictOctalEscape, strictNonOctalEscape, escaped, forbiddenEscape}
-use Rattle.ecma_strict.specs.Delete.{ultimately, privateReference, deletesPrivate}
-use Rattle.ecma_strict.specs.Changed.{octalFirst, nonOctalFirst, firstOctalEscape, firstNonOctalEscape, deletesPrivateAnywhere}
+use Rattle.ecma_literals.specs.Literals.{textOf, legacyOctalInteger, octalsThenNonOctal, nonOctalDecimalInteger, legacyOctalEscape, nonOctalDecimalEscape, escapes, strictOctalEscape, strictNonOctalEscape, escaped, forbiddenEscape}
+use Rattle.ecma_literals.specs.Delete.{ultimately, privateReference, deletesPrivate}
+use Rattle.ecma_literals.specs.Changed.{octalFirst, nonOctalFirst, firstOctalEscape, firstNonOctalEscape, deletesPrivateAnywhere}
 use Rattle.ecma_strict.specs.ExampleTrees.{Tree}
 
 -- 12.9.3: numbers that are a LegacyOctalIntegerLiteral, and that begin with a NonOctalDecimalIntegerLiteral

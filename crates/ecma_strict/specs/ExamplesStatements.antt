@@ -10,9 +10,9 @@ use Rattle.ecma_trees.specs.Rose.{kids, others, forest, partsOf}
 use Rattle.ecma_trees.specs.Trail as trails
 use Rattle.ecma_base.specs.Telling.{ordinary}
 use Rattle.ecma_base.specs.Scopes.{followsAt, flaggedAt, classAt, scopesFollow}
-use Rattle.ecma_strict.specs.Statements.{annexHead, badHead, initializedHead, heldUsing, badUsing}
-use Rattle.ecma_strict.specs.Functions.{functionMisplaced, functionMisplacedElse, isLabelledFunction, labelledAmong, endsInLabelled, labelledFunctionAt}
-use Rattle.ecma_strict.specs.Changed.{saidHead, topUsing, labelledFunctionSaid}
+use Rattle.ecma_statements.specs.Statements.{annexHead, badHead, initializedHead, heldUsing, badUsing}
+use Rattle.ecma_statements.specs.Functions.{functionMisplaced, functionMisplacedElse, isLabelledFunction, labelledAmong, endsInLabelled, labelledFunctionAt}
+use Rattle.ecma_statements.specs.Changed.{saidHead, topUsing, labelledFunctionSaid}
 use Rattle.ecma_strict.specs.ExampleTrees.{Tree, asyncAt, generatorAt}
 
 -- `for (let x = 1 in o);`

@@ -18,7 +18,7 @@ use Rattle.ecma_dispatch.specs.WithCode.{withCode}
 use Rattle.ecma_dispatch.specs.Dispatch.{wholeOther}
 use Rattle.ecma_dispatch.specs.NodesOf.{nodesOf, raised}
 use Rattle.ecma_dispatch.specs.NodesOfLaws.{nodesAppend, raisedNil, raisedAgain}
-use Rattle.ecma_strict.specs.Nodes.{ofCheck}
+use Rattle.ecma_base.specs.Nodes.{ofCheck}
 
 -- a check
 pub raisedListed : (c : ℕ) (r : Raised) → raised c (listed r) ≡ ofCheck c r

@@ -34,41 +34,17 @@ use Rattle.check_statements.specs.Statements.{checkForOfStatement, checkAwaitUs
 use Rattle.refusal_standing.specs.Standing.{Placed}
 use Rattle.ecma_trees.specs.Walk.{only}
 use Rattle.ecma_trees.specs.Trail.{unitOf}
-use Rattle.ecma_strict.specs.Nodes.{ofCheck}
+use Rattle.ecma_base.specs.Nodes.{ofCheck}
 use Rattle.ecma_base.specs.Strict.{strictCode}
-use Rattle.ecma_strict.specs.StatementsLaws.{ifOnly}
-use Rattle.ecma_strict.specs.Identifiers.{evalOrArguments, bindsEval, assignsEval}
-use Rattle.ecma_strict.specs.Contains.{awaitExpression, forAwait, awaitUsing, parameter, awaitOrYield, lexicalDeclaration}
-use Rattle.ecma_base.specs.ContainsLaws.{rootOnly, upward, unitUp, unitRoot}
-use Rattle.ecma_strict.specs.Changed.{scopedInBlock, letEdge, letBoundSaid, fieldEdge, fieldHome, argumentsSaid, throughClassEdge, awaitInParameterSaid}
+use Rattle.ecma_base.specs.NodesLaws.{ifOnly}
+use Rattle.ecma_names.specs.Identifiers.{evalOrArguments, bindsEval, assignsEval}
+use Rattle.ecma_contains.specs.Contains.{awaitExpression, forAwait, awaitUsing, parameter, awaitOrYield, lexicalDeclaration}
+use Rattle.ecma_base.specs.ContainsLaws.{positive, upward, unitRoot, unitHere, unitPass}
+use Rattle.ecma_contains.specs.Changed.{scopedInBlock, letEdge, letBoundSaid, fieldEdge, fieldHome, argumentsSaid, throughClassEdge, awaitInParameterSaid}
 
 orTrue : (b : Bool) → (b || true) ≡ true
 orTrue true = refl
 orTrue false = refl
-
-pub positive : (a : ℕ) → (a ≡ 0 → ⊥) → 1 ≤ a
-positive a n = ⊎-elim (λ (e : 0 ≡ a). absurd (n (sym e))) (λ (z : 0 < a). z) (eq-or-lt-of-le (omega arith))
-
--- A STEP UP
-module _ (ns : List ℕ) (t : Tree ns) where
-  module _ (edge : ℕ → ℕ → Bool) (i : ℕ) (z : 0 < i) (h : i < count ns) where
-    pub unitHere : edge (parentOf ns i) i ≡ true → unitOf ns edge i ≡ parentOf ns i
-    unitHere e = unitUp ns t edge i z h ∙ rw e
-
-    -- no edge, or only that of the program, which is where the way up ends in any case
-    pub unitPass : ((kindOf ns (parentOf ns i) ≡ 0 → ⊥) → edge (parentOf ns i) i ≡ false) → unitOf ns edge i ≡ unitOf ns edge (parentOf ns i)
-    unitPass f = unitUp ns t edge i z h ∙ go (eqb (kindOf ns (parentOf ns i)) 0) refl
-      where
-        both : (b : Bool) (x : ℕ) → cond b x x ≡ x
-        both true x = refl
-        both false x = refl
-
-        go : (b : Bool) → eqb (kindOf ns (parentOf ns i)) 0 ≡ b → cond (edge (parentOf ns i) i) (parentOf ns i) (unitOf ns edge (parentOf ns i)) ≡ unitOf ns edge (parentOf ns i)
-        go true e =
-            let q : parentOf ns i ≡ 0 = rootOnly ns t (parentOf ns i) (parent-in ns t i h) (eqb-true (kindOf ns (parentOf ns i)) 0 e) in
-            let u : unitOf ns edge (parentOf ns i) ≡ parentOf ns i = ap (λ (x : ℕ). unitOf ns edge x) q ∙ unitRoot ns t edge ∙ sym q in
-            rw u (both (edge (parentOf ns i) i) (parentOf ns i))
-        go false e = rw (f (eqb-false (kindOf ns (parentOf ns i)) 0 e))
 
 -- CODES 4 AND 5
 module _ (ns : List ℕ) (t : Tree ns) (n : ℕ) where

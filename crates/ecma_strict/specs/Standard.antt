@@ -19,27 +19,31 @@ use Rattle.ecma_trees.specs.Trail.{unitOf}
 use Rattle.ecma_dispatch.specs.NodesOf.{raised}
 use Rattle.ecma_base.specs.Telling.{Telling, ordinary}
 use Rattle.ecma_base.specs.Strict.{strictCode}
-use Rattle.ecma_strict.specs.Literals.{numericLiteral, stringLiteral, strictOctal, strictNonOctal, strictOctalEscape, strictNonOctalEscape}
-use Rattle.ecma_strict.specs.LiteralsLaws.{octalAgrees, nonOctalAgrees, octalEscapeAgrees, nonOctalEscapeAgrees}
-use Rattle.ecma_strict.specs.Delete.{privateReference, derives, deleteExpression, deletesPrivate}
+use Rattle.ecma_literals.specs.Literals.{numericLiteral, stringLiteral, strictOctal, strictNonOctal, strictOctalEscape, strictNonOctalEscape}
+use Rattle.ecma_literals.specs.LiteralsLaws.{octalAgrees, nonOctalAgrees, octalEscapeAgrees, nonOctalEscapeAgrees}
+use Rattle.ecma_literals.specs.Delete.{privateReference, derives, deleteExpression, deletesPrivate}
 use Rattle.table_children.specs.Children.{valueOf}
-use Rattle.ecma_strict.specs.DeleteLaws.{deletePrivateAgrees}
-use Rattle.ecma_strict.specs.Statements.{usingDeclaration, initializedHead, badUsing}
-use Rattle.ecma_strict.specs.StatementsLaws.{headAgrees, usingAgrees}
-use Rattle.ecma_strict.specs.Identifiers.{identifier, identifierError, assignsEval, useStrictThere}
-use Rattle.ecma_strict.specs.IdentifiersLaws.{useStrictAgrees}
-use Rattle.ecma_strict.specs.NamesLaws.{namesAgree, namesAgreeOnly, namesSound}
-use Rattle.ecma_strict.specs.ParametersLaws.{yieldFrom, awaitTold, awaitOnly, blockAwait}
-use Rattle.ecma_strict.specs.Contains.{letName, argumentsReference, awaitOrYield, awaitExpression, forAwait, awaitUsing, awaitInBlock, argumentsInClass, awaitInParameter, letBound, lexicalDeclaration, parameter}
-use Rattle.ecma_strict.specs.NodeRules.{awaitUp, argumentsUp, parameterUp, letUp}
+use Rattle.ecma_literals.specs.DeleteLaws.{deletePrivateAgrees}
+use Rattle.ecma_statements.specs.Statements.{usingDeclaration, initializedHead, badUsing}
+use Rattle.ecma_statements.specs.StatementsLaws.{headAgrees, usingAgrees}
+use Rattle.ecma_names.specs.Identifiers.{identifier, identifierError, assignsEval, useStrictThere}
+use Rattle.ecma_names.specs.IdentifiersLaws.{useStrictAgrees}
+use Rattle.ecma_names.specs.NamesLaws.{namesAgree, namesAgreeOnly, namesSound}
+use Rattle.ecma_names.specs.ParametersLaws.{yieldFrom, awaitTold, awaitOnly, blockAwait}
+use Rattle.ecma_contains.specs.Contains.{letName, argumentsReference, awaitOrYield, awaitExpression, forAwait, awaitUsing, awaitInBlock, argumentsInClass, awaitInParameter, letBound, lexicalDeclaration, parameter}
+use Rattle.ecma_contains.specs.NodeRules.{awaitUp, argumentsUp, parameterUp, letUp}
 use Rattle.ecma_base.specs.Scopes.{scopesFollow}
 use Rattle.ecma_base.specs.ScopesLaws.{notProgram}
-use Rattle.ecma_strict.specs.ScopesLaws.{scopesTold, directiveScope, usingScope}
+use Rattle.ecma_statements.specs.UsingLaws.{usingScope}
+use Rattle.ecma_strict.specs.ScopesLaws.{scopesTold, directiveScope}
 use Rattle.ecma_strict.specs.AgreeLaws.{letAgrees, argumentsAgree, parameterAgrees, blockAgrees}
-use Rattle.ecma_strict.specs.Functions.{functionMisplaced, functionMisplacedElse, labelsFunction, labelledFunctionAt}
-use Rattle.ecma_strict.specs.FunctionsLaws.{labelledAgrees, labelledStrict, misplacedAgrees, misplacedElseAgrees}
+use Rattle.ecma_statements.specs.Functions.{functionMisplaced, functionMisplacedElse, labelsFunction, labelledFunctionAt}
+use Rattle.ecma_statements.specs.FunctionsLaws.{labelledAgrees, labelledStrict, misplacedAgrees, misplacedElseAgrees}
 use Rattle.ecma_strict.specs.Theorems.{code3, code5, code6, code9, code10, code11, code12, code13, code14, code15, code16, code24, code25, code32, code33, beyond, code2}
-use Rattle.ecma_strict.specs.Changed.{boundEdge, awaitEdge, argumentsEdge, parameterEdge, sloppyFunction, sloppyFunctionElse, BlockTold, LetTold, ArgumentsTold, DirectiveTold, UsingTold, HeadTold, DeleteTold, ParameterTold, letEdge, letBoundSaid, fieldEdge, fieldHome, classPart, argumentsSaid, topUsing, deletesPrivateAnywhere, awaitInParameterSaid, toldOctal, toldNonOctal, firstOctalEscape, firstNonOctalEscape, BaseTold, EscapesTold, useStrictScoped, awaitNameScoped, scopedInBlock, labelledFunctionSaid, OrdinaryHeld, reservedName, NameTold}
+use Rattle.ecma_contains.specs.Changed.{boundEdge, awaitEdge, argumentsEdge, parameterEdge, BlockTold, LetTold, ArgumentsTold, ParameterTold, letEdge, letBoundSaid, fieldEdge, fieldHome, classPart, argumentsSaid, awaitInParameterSaid, scopedInBlock}
+use Rattle.ecma_statements.specs.Changed.{sloppyFunction, sloppyFunctionElse, UsingTold, HeadTold, topUsing, labelledFunctionSaid, OrdinaryHeld}
+use Rattle.ecma_names.specs.Changed.{DirectiveTold, useStrictScoped, awaitNameScoped, reservedName, NameTold}
+use Rattle.ecma_literals.specs.Changed.{DeleteTold, deletesPrivateAnywhere, toldOctal, toldNonOctal, firstOctalEscape, firstNonOctalEscape, BaseTold, EscapesTold}
 
 module _ (t : ℕ) (ns ss source names : List ℕ) (w : WellFormed t ns ss source names) (n : ℕ) (h : n < count ns) where
   abbrev at : ℕ → List ℕ

@@ -31,23 +31,26 @@ use Rattle.ecma_dispatch.specs.Dispatch.{atCode, at2, at3, at15, at16, at33}
 use Rattle.ecma_dispatch.specs.NodesOf.{raised}
 use Rattle.ecma_dispatch.specs.NodesOfLaws.{raisedNil, raisedAgain, raisedAppend}
 use Rattle.ecma_base.specs.Strict.{strictCode}
-use Rattle.ecma_strict.specs.Nodes.{ofCheck}
+use Rattle.ecma_base.specs.Nodes.{ofCheck}
 use Rattle.ecma_strict.specs.NodesLaws.{raisedBy, raisedListed, atListed, atWith, atTwo, atTwoListed, atTwoMixed, wholeIs}
-use Rattle.ecma_strict.specs.EscapeSpans.{StringTold, NumberTold}
-use Rattle.ecma_strict.specs.EscapeSpansLaws.{stringTold, numberTold}
-use Rattle.ecma_strict.specs.LiteralsLaws.{numberOctal, numberNonOctal, stringOctal, stringNonOctal}
-use Rattle.ecma_strict.specs.Delete.{deletesName}
-use Rattle.ecma_strict.specs.DeleteLaws.{deleteName, deletePrivate}
-use Rattle.ecma_strict.specs.Statements.{strictWith}
-use Rattle.ecma_strict.specs.StatementsLaws.{withIs, headIs, usingIs}
-use Rattle.ecma_strict.specs.Identifiers.{identifier, bindsEval, assignsEval}
-use Rattle.ecma_strict.specs.IdentifiersLaws.{reservedIs, awaitNameIs, useStrictIs}
-use Rattle.ecma_strict.specs.Contains.{awaitExpression, awaitUsing, forAwait, awaitOrYield}
+use Rattle.ecma_literals.specs.EscapeSpans.{StringTold, NumberTold}
+use Rattle.ecma_literals.specs.EscapeSpansLaws.{stringTold, numberTold}
+use Rattle.ecma_literals.specs.LiteralsLaws.{numberOctal, numberNonOctal, stringOctal, stringNonOctal}
+use Rattle.ecma_literals.specs.Delete.{deletesName}
+use Rattle.ecma_literals.specs.DeleteLaws.{deleteName, deletePrivate}
+use Rattle.ecma_statements.specs.Statements.{strictWith}
+use Rattle.ecma_statements.specs.StatementsLaws.{withIs, headIs, usingIs}
+use Rattle.ecma_names.specs.Identifiers.{identifier, bindsEval, assignsEval}
+use Rattle.ecma_names.specs.IdentifiersLaws.{reservedIs, awaitNameIs, useStrictIs}
+use Rattle.ecma_contains.specs.Contains.{awaitExpression, awaitUsing, forAwait, awaitOrYield}
 use Rattle.ecma_strict.specs.SearchLaws.{bindingIs, letBoundIs, referenceIs, argumentsSaidIs, parameterIs, awaitBlockIs, awaitUsingIs, forAwaitIs}
 use Rattle.ecma_base.specs.Telling.{Telling, ordinary}
-use Rattle.ecma_strict.specs.Functions.{functionMisplaced, functionMisplacedElse}
-use Rattle.ecma_strict.specs.FunctionsLaws.{andFalse, bodyStrict, consequentStrict, alternateStrict, bodySloppy, consequentSloppy, alternateSloppy, labelStrict, labelSloppy, labelFree}
-use Rattle.ecma_strict.specs.Changed.{strictFunction, strictFunctionElse, sloppyFunction, sloppyFunctionElse, toldOctal, toldNonOctal, firstOctalEscape, firstNonOctalEscape, deletesPrivateAnywhere, saidHead, topUsing, useStrictScoped, scopedInBlock, awaitNameScoped, letBoundSaid, argumentsSaid, awaitInParameterSaid, labelledFunctionSaid, reservedName}
+use Rattle.ecma_statements.specs.Functions.{functionMisplaced, functionMisplacedElse}
+use Rattle.ecma_statements.specs.FunctionsLaws.{andFalse, bodyStrict, consequentStrict, alternateStrict, bodySloppy, consequentSloppy, alternateSloppy, labelStrict, labelSloppy, labelFree}
+use Rattle.ecma_statements.specs.Changed.{strictFunction, strictFunctionElse, sloppyFunction, sloppyFunctionElse, saidHead, topUsing, labelledFunctionSaid}
+use Rattle.ecma_literals.specs.Changed.{toldOctal, toldNonOctal, firstOctalEscape, firstNonOctalEscape, deletesPrivateAnywhere}
+use Rattle.ecma_names.specs.Changed.{useStrictScoped, awaitNameScoped, reservedName}
+use Rattle.ecma_contains.specs.Changed.{scopedInBlock, letBoundSaid, argumentsSaid, awaitInParameterSaid}
 
 -- one of two rules, where the other says nothing
 left : (a b : Bool) (n : ℕ) → b ≡ false → only a n ≡ only (a || b) n

@@ -28,22 +28,23 @@ use Rattle.ecma_trees.specs.Trail.{unitOf}
 use Rattle.ecma_dispatch.specs.NodesOf.{raised}
 use Rattle.ecma_base.specs.Strict.{strictCode}
 use Rattle.ecma_base.specs.Telling.{ordinary}
-use Rattle.ecma_strict.specs.Identifiers.{strictReserved, bindsEval, assignsEval, useStrictDirective, simpleParameters, containsUseStrict, useStrictThere}
-use Rattle.ecma_base.specs.Contains.{containsFrom, initializer, containsIn, comes}
-use Rattle.ecma_strict.specs.BoundNames.{bindsLet}
-use Rattle.ecma_strict.specs.BoundNamesLaws.{bindsLetIs}
-use Rattle.ecma_strict.specs.Contains.{containsInto, staticBlock, blockBegin, awaitExpression, forAwait, awaitUsing, argumentsReference, argumentsBegin, argumentsInto, parameter, parameterBegin, awaitOrYield, lexicalDeclaration, unbound, boundBegin, boundInto, letName}
+use Rattle.ecma_names.specs.Identifiers.{strictReserved, bindsEval, assignsEval, useStrictDirective, simpleParameters, containsUseStrict, useStrictThere}
+use Rattle.ecma_base.specs.Contains.{containsFrom, initializer, containsIn, comes, staticBlock}
+use Rattle.ecma_contains.specs.BoundNames.{bindsLet}
+use Rattle.ecma_contains.specs.BoundNamesLaws.{bindsLetIs}
+use Rattle.ecma_contains.specs.Contains.{containsInto, blockBegin, awaitExpression, forAwait, awaitUsing, argumentsReference, argumentsBegin, argumentsInto, parameter, parameterBegin, awaitOrYield, lexicalDeclaration, unbound, boundBegin, boundInto, letName}
 use Rattle.ecma_base.specs.Scopes.{scopesFollow}
 use Rattle.ecma_strict.specs.ScopesLaws.{scopesTold}
-use Rattle.ecma_base.specs.ContainsLaws.{containsIs, comesIs, comesHome}
-use Rattle.ecma_strict.specs.SearchLaws.{positive}
+use Rattle.ecma_base.specs.ContainsLaws.{containsIs, comesIs, comesHome, positive}
 use Rattle.ecma_strict.specs.AgreeLaws.{blockEdge, scopesAre}
-use Rattle.ecma_strict.specs.Functions.{isFunction, endsInStatement, endsInLabelled, labelledAmong, labelsFunction, labelEdge, functionMisplaced}
-use Rattle.ecma_strict.specs.FunctionsLaws.{strictMisplaced}
-use Rattle.ecma_strict.specs.LabelledLaws.{statementsOf}
+use Rattle.ecma_statements.specs.Functions.{isFunction, endsInStatement, endsInLabelled, labelledAmong, labelsFunction, labelEdge, functionMisplaced}
+use Rattle.ecma_statements.specs.FunctionsLaws.{strictMisplaced}
+use Rattle.ecma_statements.specs.LabelledLaws.{statementsOf}
 use Rattle.ecma_strict.specs.Standard.{standard12}
 use Rattle.ecma_strict.specs.Theorems.{code2, code3, code4, code5, code6, code14, code15, code16, code25, code33}
-use Rattle.ecma_strict.specs.Changed.{strictFunction, strictFunctionElse, sloppyFunction, sloppyFunctionElse, reservedName, scopedInBlock, awaitNameScoped, letEdge, letBoundSaid, fieldEdge, fieldHome, argumentsSaid, throughClassEdge, awaitInParameterSaid, labelledFunctionSaid}
+use Rattle.ecma_statements.specs.Changed.{strictFunction, strictFunctionElse, sloppyFunction, sloppyFunctionElse, labelledFunctionSaid}
+use Rattle.ecma_names.specs.Changed.{reservedName, awaitNameScoped}
+use Rattle.ecma_contains.specs.Changed.{scopedInBlock, letEdge, letBoundSaid, fieldEdge, fieldHome, argumentsSaid, throughClassEdge, awaitInParameterSaid}
 
 -- two ways to say something, of which each says something where the other does
 someSame : (f g : ℕ → List ℕ) (n : ℕ) → ((j : ℕ) → j < n → some (f j) ≡ some (g j)) → (i : ℕ) → some (each f (upto i n)) ≡ some (each g (upto i n))

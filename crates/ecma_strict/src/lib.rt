@@ -1,1 +1,1 @@
-// Early errors of names, literals, expressions and statements, as ECMA-262 states them: definitions and laws only.
+// The findings of names, literals, expressions and statements are where the rules of ECMA-262 are broken: theorems and laws only.

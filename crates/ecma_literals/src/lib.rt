@@ -1,0 +1,1 @@
+// Early errors of literals and of delete, as ECMA-262 states them: definitions and laws only.
