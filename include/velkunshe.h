@@ -129,6 +129,31 @@ struct velkunshe_route_answer velkunshe_route(
     uint32_t *code, size_t code_length,
     uint32_t *route, size_t route_length);
 
+/* refusal, place: as of velkunshe_code.
+ * shared: how many entries the two routes have in common from their start on; 0 after a refusal.
+ * needed: after 11 the length of the code, else 0. */
+struct velkunshe_shared_answer {
+    uint32_t refusal;
+    uint32_t place;
+    uint64_t shared;
+    uint64_t needed;
+};
+
+/* Makes the code of a unit and says how long the longest beginning is that its routes for two lists of answers share. The lists may have
+ * any lengths and any numbers. Refusals are those of velkunshe_code, in its order; a route slice is not asked for. After a refusal the
+ * code slice is as it was; else it holds the code, and no entry past the last one written is changed. */
+struct velkunshe_shared_answer velkunshe_shared(
+    uint32_t source_type,
+    uint32_t async_bodies,
+    const uint32_t *nodes, size_t nodes_length,
+    const uint32_t *scopes, size_t scopes_length,
+    const uint8_t *source, size_t source_length,
+    const uint8_t *names, size_t names_length,
+    uint32_t unit,
+    const uint32_t *first, size_t first_length,
+    const uint32_t *second, size_t second_length,
+    uint32_t *code, size_t code_length);
+
 #ifdef __cplusplus
 }
 #endif

@@ -9,7 +9,11 @@ cargo build --profile checked --offline -q --features cases/proved || give_up
 compare=target/cargo/checked/compare
 if cargo test --profile checked --offline -q --features cases/proved >/dev/null 2>&1; then ok; else bad "cargo test of the judges"; fi
 answer=$($compare run 20000 2027)
-if [ "$(tail -n 1 <<<"$answer")" = "20000 cases, 0 differences" ] && grep -q "^route calls of the proved library" <<<"$answer"; then ok; else bad "compare run 20000 2027: $answer"; fi
+if [ "$(tail -n 1 <<<"$answer")" = "20000 cases, 0 differences" ]; then ok; else bad "compare run 20000 2027: $answer"; fi
+# each call of the library was compared, and was not only refused
+for call in check code route shared; do
+    if grep "^$call calls of the proved library by refusal 0 to 20: \[[1-9]" <<<"$answer"; then ok; else bad "no $call calls compared"; fi
+done
 
 work=$(mktemp -d)
 stored=compare/stored/routes.txt

@@ -37,7 +37,12 @@ differences() { sed -n '/^# The texts of docs.DIFFERENCES/,$p' tools/examples.tx
 lines() { tools/treemaker --route 0 "$1" rules/while-switch.js | target/bin/ruleroute; }
 appended() { { tools/treemaker rules/while-switch.js && echo U,0 && echo A,1,0; } | target/bin/ruleroute; }
 
-needs rulecheck ruleroute node
+# beside ANSWERS..: rulecalls on the lines of a rule with a line A for each
+beside() { { tools/treemaker rules/while-switch.js && echo U,0 && printf 'A,%s\n' "$@"; } | target/bin/rulecalls shared; }
+
+needs rulecheck ruleroute node cargo
+static_library || give_up
+needs rulecalls
 
 check "the rule that comes with the repository" says 'F,22,4,0,1,14,15,0\nE,1' ./check-rule --lines rules/block-label.js
 check "a rule without errors" says 'E,0' ./check-rule --lines rules/office-hours.js
@@ -188,6 +193,23 @@ check "the question that waits" says 'route of the program with answers 1, 5
 2  line 1  switch(s)  5: no case
 3  line 1  x;
 it stopped for want of an answer after 3 entries and 2 answers; line 1 asks next: while(t)' ./show-route rules/while-switch.js 'y 5'
+check "two routes side by side" says 'routes of the program with answers 1, 0, 0 and with answers 1, 5, 0
+  1, 0, 0                                  |   1, 5, 0
+= 1  line 1  while(t)     1: another turn  | = 1  line 1  while(t)   1: another turn
+= 2  line 1  switch(s)    0: case c        | = 2  line 1  switch(s)  5: no case
+  3  line 1  continue a;                   |   3  line 1  x;
+  4  line 1  while(t)     0: no more turns |   4  line 1  while(t)   0: no more turns
+they share their first 2 entries
+the first fell through its last statement after 4 entries and 3 answers
+the second fell through its last statement after 4 entries and 3 answers' ./show-route rules/while-switch.js 1,0,0 --against 1,5,0
+check "two routes that are the same" says 'routes of the program with answers 0 and with answers 0, 4
+  0                                     |   0, 4
+= 1  line 1  while(t)  0: no more turns | = 1  line 1  while(t)  0: no more turns
+they share all entries
+the first fell through its last statement after 1 entry and 1 answer
+the second fell through its last statement after 1 entry and 1 answer; left over: 4' ./show-route rules/while-switch.js 0 --against 0,4
+check "no second route of a rule with an error" status 2 ./show-route rules/block-label.js '' --against 1
+check "a call of rulecalls that can't be read" says 'R,0,22' beside 1
 check "the units of a rule" says '0  program  line 1, column 1
 3  function opens  line 3, column 1' ./show-route rules/office-hours.js --units
 check "the route of a TypeScript function" says 'route of the function at line 3 with answers 1, 0, 1

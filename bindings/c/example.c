@@ -1,5 +1,5 @@
 /* By way of include/velkunshe.h: checks `a: { continue a; }` and prints what rulecheck prints; then shows routes of
- * `a: while(t){ switch(s){ case c: continue a; } x; }`. */
+ * `a: while(t){ switch(s){ case c: continue a; } x; }`, and how much of them two lists of answers share. */
 #include <inttypes.h>
 #include <stdio.h>
 #include "velkunshe.h"
@@ -53,6 +53,14 @@ static void show(const uint32_t *answers, size_t count, size_t room) {
     printf("refusal %" PRIu32 ", needed %" PRIu64 ", end %" PRIu32 ", taken %" PRIu64 "\n", a.refusal, a.needed, a.end, a.taken);
 }
 
+static void compare(const uint32_t *first, size_t first_count, const uint32_t *second, size_t second_count) {
+    uint32_t code[13 * VELKUNSHE_CODE];
+    struct velkunshe_shared_answer a = velkunshe_shared(
+        0, 0, routed_nodes, sizeof routed_nodes / sizeof *routed_nodes, routed_scopes, 9, source, 0, (const uint8_t *)"atsc", 4, 0,
+        first, first_count, second, second_count, code, 13 * VELKUNSHE_CODE);
+    printf("refusal %" PRIu32 ", shared %" PRIu64 "\n", a.refusal, a.shared);
+}
+
 int main(void) {
     uint32_t findings[8] = {0};
     findings[7] = 77;
@@ -74,5 +82,6 @@ int main(void) {
     made = velkunshe_code(
         0, 0, routed_nodes, sizeof routed_nodes / sizeof *routed_nodes, routed_scopes, 9, source, 0, (const uint8_t *)"atsc", 4, 0, code, 0);
     printf("refusal %" PRIu32 ", needed %" PRIu64 "\n", made.refusal, made.needed);
+    compare(answers, 3, others, 3);
     return 0;
 }

@@ -6,14 +6,14 @@ const os = require('os');
 const path = require('path');
 const { spawnSync } = require('child_process');
 
-// The output lines for each input, in order. A program that fails gives a last line `C,status`.
-function answersOf(program, inputs) {
+// The output lines for each input, in order. A program that fails gives a last line `C,status`. A program may come with an argument.
+function answersOf(program, inputs, argument = '') {
   if (!fs.existsSync(program)) throw new Error(`no program ${program}: name one that is there`);
   const dir = fs.mkdtempSync(path.join(os.tmpdir(), 'lines-'));
   try {
     inputs.forEach((input, i) => fs.writeFileSync(path.join(dir, String(i)), input));
-    const loop = 'cd "$1"; i=0; while [ $i -lt $3 ]; do "$2" < $i || echo "C,$?"; echo; echo .; i=$((i+1)); done';
-    const run = spawnSync('sh', ['-c', loop, 'sh', dir, path.resolve(program), String(inputs.length)], { maxBuffer: 1 << 30 });
+    const loop = 'cd "$1"; i=0; while [ $i -lt $3 ]; do "$2" $4 < $i || echo "C,$?"; echo; echo .; i=$((i+1)); done';
+    const run = spawnSync('sh', ['-c', loop, 'sh', dir, path.resolve(program), String(inputs.length), argument], { maxBuffer: 1 << 30 });
     if (run.error) throw run.error;
     const answers = [[]];
     for (const line of run.stdout.toString('utf8').split('\n')) {
@@ -43,12 +43,18 @@ function routeOf(lines) {
   return { list: lines.slice(0, -1).map((l) => Number(l.slice(2))), end, entries, taken };
 }
 
+// How many entries two routes share, or the line of a refusal or failure.
+function sharedOf(lines) {
+  const last = lines[lines.length - 1] || 'C,nothing';
+  return /^B,\d+$/.test(last) ? { shared: Number(last.slice(2)) } : { refused: last };
+}
+
 // The program as named, else the proved one where the build leaves it.
 function programOf(named, name) {
   if (named) return named;
   const built = path.resolve(__dirname, '../../target/bin', name);
-  if (!fs.existsSync(built)) throw new Error(`${name} is not built: run rt check ${name}, or name a program that reads the same lines`);
+  if (!fs.existsSync(built)) throw new Error(`${name} is not built: run tools/setup ${name}, or name a program that reads the same lines`);
   return built;
 }
 
-module.exports = { answersOf, findingsOf, routeOf, programOf };
+module.exports = { answersOf, findingsOf, routeOf, sharedOf, programOf };

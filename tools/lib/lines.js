@@ -61,9 +61,9 @@ function answersIn(text) {
   return fits ? answers : null;
 }
 
-// with the unit and the answers behind them, for ruleroute
-function routeLinesOf(tree, unit, answers) {
-  return Buffer.concat([linesOf(tree), Buffer.from(`U,${unit}\n${lineOf(answers)}\n`)]);
+// with the unit and the answers behind them, for ruleroute; with several lists of answers for rulecalls
+function routeLinesOf(tree, unit, ...lists) {
+  return Buffer.concat([linesOf(tree), Buffer.from(`U,${unit}\n${lists.map((answers) => `${lineOf(answers)}\n`).join('')}`)]);
 }
 
 function viewOf(tree) {

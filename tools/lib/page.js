@@ -16,8 +16,9 @@ const takesAnswer = (kind) => kind === K.If || kind === K.Switch || LOOPS.includ
 const escape = (s) => shownLines(s).replace(/[&<>"]/g, (c) => ({ '&': '&amp;', '<': '&lt;', '>': '&gt;', '"': '&quot;' }[c]));
 
 class Page {
-  constructor(tree, unit, answers, route) {
-    Object.assign(this, { tree, unit, answers, route, lines: new Lines(tree.source.toString('utf8')) });
+  // Of two routes on one page each has a prefix for its places; the first `shared` steps are marked as those of both.
+  constructor(tree, unit, answers, route, { prefix = '', shared = 0 } = {}) {
+    Object.assign(this, { tree, unit, answers, route, prefix, shared, lines: new Lines(tree.source.toString('utf8')) });
     this.children = tree.nodes.map(() => []);
     tree.nodes.forEach((n, i) => { if (i > 0) this.children[n.parent].push(i); });
   }
@@ -183,7 +184,7 @@ class Page {
     for (const p of pieces) {
       const end = p.to - Buffer.byteLength(/\s*$/.exec(this.text(p.from, p.to))[0]);
       out += escape(this.text(at, p.from));
-      out += `<span class="${p.steps.length > 0 ? 'ran' : 'idle'}"${p.steps.length > 0 ? ` id="n${p.steps[0].node}"` : ''}>`;
+      out += `<span class="${p.steps.length > 0 ? 'ran' : 'idle'}"${p.steps.length > 0 ? ` id="${this.prefix}n${p.steps[0].node}"` : ''}>`;
       out += p.steps.map((s) => this.badge(s)).join('') + escape(this.text(p.from, end)) + '</span>';
       at = end;
     }
@@ -192,8 +193,10 @@ class Page {
 
   badge(s) {
     const answer = s.answer === undefined ? '' : `<i>${escape(this.words(s))}</i>`;
-    return `<a class="step" href="#s${s.number}">${s.number}${answer}</a>`;
+    return `<a class="step${this.isShared(s) ? ' shared' : ''}" href="#${this.prefix}s${s.number}">${s.number}${answer}</a>`;
   }
+
+  isShared({ number }) { return number <= this.shared; }
 
   // a step's statement in short, and the line on which it is shown
   shown({ node }) {
@@ -205,8 +208,8 @@ class Page {
   rows(steps) {
     return steps.map((s) => {
       const { line, text } = this.shown(s);
-      return `<tr id="s${s.number}"><td>${s.number}</td><td>${line}</td>`
-        + `<td><a href="#n${s.node}"><code>${escape(text)}</code></a>${this.note(s) ? `<br><small>${escape(this.note(s))}</small>` : ''}</td><td>${escape(this.words(s))}</td></tr>`;
+      return `<tr id="${this.prefix}s${s.number}"${this.isShared(s) ? ' class="shared"' : ''}><td>${s.number}</td><td>${line}</td>`
+        + `<td><a href="#${this.prefix}n${s.node}"><code>${escape(text)}</code></a>${this.note(s) ? `<br><small>${escape(this.note(s))}</small>` : ''}</td><td>${escape(this.words(s))}</td></tr>`;
     }).join('\n');
   }
 
@@ -222,45 +225,66 @@ class Page {
     return `; line ${line} asks next: ${text}`;
   }
 
+  taken() { return this.route.taken; }
   left() { return this.answers.slice(this.route.taken); }
   counted() { return `${count(this.route.list.length, 'entry', 'entries')} and ${count(this.route.taken, 'answer')}`; }
 
-  plain() {
+  // a line for each step
+  plainSteps() {
     const rows = this.steps().map((s) => ({ number: String(s.number), ...this.shown(s), words: this.words(s) || this.note(s) }));
     const wide = (f) => Math.max(0, ...rows.map((r) => String(f(r)).length));
     const [a, b, c] = [wide((r) => r.number), wide((r) => r.line), wide((r) => r.text)];
-    const lines = rows.map((r) => `${r.number.padStart(a)}  line ${String(r.line).padStart(b)}  ${r.text.padEnd(c)}  ${r.words}`.trimEnd());
+    return rows.map((r) => `${r.number.padStart(a)}  line ${String(r.line).padStart(b)}  ${r.text.padEnd(c)}  ${r.words}`.trimEnd());
+  }
+
+  plainEnd() {
     const left = this.left().length > 0 ? `; left over: ${this.left().join(', ')}` : '';
-    return `route of ${this.unitWords()} with answers ${this.answers.join(', ') || 'none'}\n${lines.map((l) => `${l}\n`).join('')}`
-      + `it ${ENDS[this.route.end]} after ${this.counted()}${left}${this.waits()}\n`;
+    return `${ENDS[this.route.end]} after ${this.counted()}${left}${this.waits()}`;
+  }
+
+  given() { return this.answers.join(', ') || 'none'; }
+
+  plain() {
+    return `route of ${this.unitWords()} with answers ${this.given()}\n${this.plainSteps().map((l) => `${l}\n`).join('')}it ${this.plainEnd()}\n`;
+  }
+
+  // the end in words
+  says() {
+    const left = this.left();
+    return `It <b>${ENDS[this.route.end]}</b> after ${this.counted()}${left.length > 0 ? `; left over: <code>${left.join(', ')}</code>` : ''}${escape(this.waits())}.`;
+  }
+
+  // the text and the table
+  shownSteps() {
+    const steps = this.steps();
+    return `<pre>
+${this.source(steps)}</pre>
+<table><thead><tr><th></th><th>line</th><th>statement</th><th>answer</th></tr></thead><tbody>
+${this.rows(steps)}
+<tr class="end"><td></td><td></td><td colspan="2">${ENDS[this.route.end]}</td></tr></tbody></table>`;
   }
 
   html(title) {
-    const steps = this.steps();
-    const { end } = this.route;
-    const left = this.left();
-    return `<!doctype html>
+    return pageOf(title, `<p>Route of ${this.unitWords()} with answers <code>${this.given()}</code>.
+${this.says()}</p>
+<main>${this.shownSteps()}</main>`);
+  }
+}
+
+const pageOf = (title, body) => `<!doctype html>
 <html lang="en"><head><meta charset="utf-8"><title>${escape(title)}</title>
 <meta name="viewport" content="width=device-width, initial-scale=1">
 <style>${STYLE}</style></head><body>
 <h1>${escape(title)}</h1>
-<p>Route of ${this.unitWords()} with answers <code>${this.answers.join(', ') || 'none'}</code>.
-It <b>${ENDS[end]}</b> after ${this.counted()}${left.length > 0 ? `; left over: <code>${left.join(', ')}</code>` : ''}${escape(this.waits())}.</p>
-<main><pre>
-${this.source(steps)}</pre>
-<table><thead><tr><th></th><th>line</th><th>statement</th><th>answer</th></tr></thead><tbody>
-${this.rows(steps)}
-<tr class="end"><td></td><td></td><td colspan="2">${ENDS[end]}</td></tr></tbody></table></main>
+${body}
 </body></html>
 `;
-  }
-}
 
 const count = (n, one, many = `${one}s`) => `${n} ${n === 1 ? one : many}`;
 
 const STYLE = `
-:root { color-scheme: light dark; --ran: #d8f0d8; --mark: #1c6b2a; --idle: #8a8a8a; --at: #ffe08a; }
-@media (prefers-color-scheme: dark) { :root { --ran: #17381d; --mark: #7ed491; --idle: #7a7a7a; --at: #6a5200; } }
+:root { color-scheme: light dark; --ran: #d8f0d8; --mark: #1c6b2a; --idle: #8a8a8a; --at: #ffe08a; --shared: #dfe6ff; }
+@media (prefers-color-scheme: dark) { :root { --ran: #17381d; --mark: #7ed491; --idle: #7a7a7a; --at: #6a5200; --shared: #232c52; } }
 body { font: 16px/1.5 system-ui, sans-serif; margin: 2rem; max-width: 90rem; }
 h1 { font-size: 1.3rem; }
 main { display: flex; flex-wrap: wrap; gap: 2rem; align-items: flex-start; }
@@ -273,7 +297,10 @@ table { border-collapse: collapse; flex: 1 1 24rem; font-size: 14px; }
 td, th { text-align: left; padding: 2px 8px; border-bottom: 1px solid #8884; }
 td a { color: inherit; text-decoration: none; }
 .end td { font-weight: bold; }
+section { flex: 1 1 34rem; min-width: 0; }
+section h2 { font-size: 1.1rem; }
+.shared { background: var(--shared); }
 :target { background: var(--at); }
 `;
 
-module.exports = { Page };
+module.exports = { Page, pageOf, count };

@@ -27,6 +27,14 @@ pub struct RouteAnswer {
     pub end: u32,
 }
 
+#[repr(C)]
+pub struct SharedAnswer {
+    pub refusal: u32,
+    pub place: u32,
+    pub shared: u64,
+    pub needed: u64,
+}
+
 extern "C" {
     pub fn velkunshe_check(
         source_type: u32,
@@ -78,4 +86,24 @@ extern "C" {
         route: *mut u32,
         route_length: usize,
     ) -> RouteAnswer;
+
+    pub fn velkunshe_shared(
+        source_type: u32,
+        async_bodies: u32,
+        nodes: *const u32,
+        nodes_length: usize,
+        scopes: *const u32,
+        scopes_length: usize,
+        source: *const u8,
+        source_length: usize,
+        names: *const u8,
+        names_length: usize,
+        unit: u32,
+        first: *const u32,
+        first_length: usize,
+        second: *const u32,
+        second_length: usize,
+        code: *mut u32,
+        code_length: usize,
+    ) -> SharedAnswer;
 }

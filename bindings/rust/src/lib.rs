@@ -2,7 +2,7 @@
 //!
 //! A rule comes as tables of numbers (see [`Rule`]). [`check`] gives its early errors; [`code`] makes the flat code of one of its units (the
 //! program, a function, an arrow or a static block), and [`route`] lists the statements that the unit comes to on a list of answers.
-//! [`findings`], [`code_of`] and [`route_of`] give the same in vectors. Whatever the tables hold, a call ends and does nothing undefined, and its answer
+//! [`findings`], [`code_of`] and [`route_of`] give the same in vectors. [`shared`] says how much two routes of one unit share. Whatever the tables hold, a call ends and does nothing undefined, and its answer
 //! is the one that is proved; nothing here asks for `unsafe`.
 //!
 //! The library is linked as `build.rs` says: from `VELKUNSHE_LIB`, the path of an archive, or from this repository's
@@ -86,10 +86,32 @@
 
 #![warn(missing_docs)]
 
+/// A call of the library on a rule, whose arguments come first in each.
+macro_rules! on_rule {
+    ($call:ident, $rule:expr, $($more:expr),* $(,)?) => {
+        $crate::ffi::$call(
+            $rule.source_type,
+            u32::from($rule.async_bodies),
+            $rule.nodes.as_ptr(),
+            $rule.nodes.len(),
+            $rule.scopes.as_ptr(),
+            $rule.scopes.len(),
+            $rule.source.as_ptr(),
+            $rule.source.len(),
+            $rule.names.as_ptr(),
+            $rule.names.len(),
+            $($more),*
+        )
+    };
+}
+
 mod ffi;
+mod shared;
 
 use std::error::Error;
 use std::fmt;
+
+pub use shared::{shared, shared_of};
 
 /// How many numbers a node takes in [`Rule::nodes`].
 pub const NODE: usize = 10;
@@ -178,6 +200,22 @@ impl fmt::Display for Refusal {
 
 impl Error for Refusal {}
 
+/// What a call writes to an empty slice, or to one that is as long as its refusal says. Where so much memory can't be had, the refusal
+/// is the answer.
+fn with_room<T: Clone + Default, A>(
+    mut call: impl FnMut(&mut [T]) -> Result<A, Refusal>,
+) -> Result<(Vec<T>, A), Refusal> {
+    let mut out = Vec::new();
+    let refusal = match call(&mut out) {
+        Ok(answer) => return Ok((out, answer)),
+        Err(refusal) => refusal,
+    };
+    let length = refusal.needed.and_then(|n| usize::try_from(n).ok()).ok_or(refusal)?;
+    out.try_reserve_exact(length).map_err(|_| refusal)?;
+    out.resize(length, T::default());
+    call(&mut out).map(|answer| (out, answer))
+}
+
 /// One early error.
 #[derive(Clone, Copy, Debug, PartialEq, Eq)]
 pub struct Finding {
@@ -208,22 +246,7 @@ impl Finding {
 /// Refusals 1 to 6 and 13 to 15, and 10 with the length needed where `out` is shorter than 7 × findings.
 pub fn check(rule: &Rule, out: &mut [u32]) -> Result<usize, Refusal> {
     // SAFETY: pointers and lengths of live slices; `out` is borrowed alone.
-    let answer = unsafe {
-        ffi::velkunshe_check(
-            rule.source_type,
-            rule.async_bodies.into(),
-            rule.nodes.as_ptr(),
-            rule.nodes.len(),
-            rule.scopes.as_ptr(),
-            rule.scopes.len(),
-            rule.source.as_ptr(),
-            rule.source.len(),
-            rule.names.as_ptr(),
-            rule.names.len(),
-            out.as_mut_ptr(),
-            out.len(),
-        )
-    };
+    let answer = unsafe { on_rule!(velkunshe_check, rule, out.as_mut_ptr(), out.len()) };
     match answer.refusal {
         0 => Ok(answer.findings as usize),
         number => Err(Refusal::new(number, answer.place, answer.needed)),
@@ -234,14 +257,9 @@ pub fn check(rule: &Rule, out: &mut [u32]) -> Result<usize, Refusal> {
 ///
 /// # Errors
 ///
-/// Refusals 1 to 6 and 13 to 15.
+/// Refusals 1 to 6 and 13 to 15; 10 where there is no memory for the vector.
 pub fn findings(rule: &Rule) -> Result<Vec<Finding>, Refusal> {
-    let mut numbers = Vec::new();
-    if let Err(refusal) = check(rule, &mut numbers) {
-        let Some(needed) = refusal.needed else { return Err(refusal) };
-        numbers.resize(needed as usize, 0);
-        check(rule, &mut numbers)?;
-    }
+    let (numbers, _) = with_room(|out| check(rule, out))?;
     Ok(numbers
         .chunks_exact(FINDING)
         .map(|n| Finding::from_numbers([n[0], n[1], n[2], n[3], n[4], n[5], n[6]]))
@@ -259,6 +277,17 @@ pub enum End {
     Thrown,
     /// No answer was left for an if, a switch or a turn of a loop.
     AnswersSpent,
+}
+
+impl End {
+    fn of(number: u32) -> End {
+        match number {
+            0 => End::FellThrough,
+            1 => End::Returned,
+            2 => End::Thrown,
+            _ => End::AnswersSpent,
+        }
+    }
 }
 
 /// What [`route`] gives of a route whose nodes it wrote.
@@ -283,6 +312,12 @@ pub struct Route {
     pub taken: u64,
 }
 
+impl Route {
+    fn of((nodes, shown): (Vec<u32>, Shown)) -> Route {
+        Route { nodes, end: shown.end, taken: shown.taken }
+    }
+}
+
 /// Makes the flat code of a unit from the start of `out` and gives its length. No entry past the last one written is changed. How long it is
 /// depends on the tree and the unit alone: a call with an empty slice is refused by 11 and tells it.
 ///
@@ -291,23 +326,7 @@ pub struct Route {
 /// Refusals 1 to 7, 9 and 13 to 15, and 11 with the length needed where `out` is shorter than the code.
 pub fn code(rule: &Rule, unit: u32, out: &mut [u32]) -> Result<usize, Refusal> {
     // SAFETY: pointers and lengths of live slices; `out` is borrowed alone.
-    let answer = unsafe {
-        ffi::velkunshe_code(
-            rule.source_type,
-            rule.async_bodies.into(),
-            rule.nodes.as_ptr(),
-            rule.nodes.len(),
-            rule.scopes.as_ptr(),
-            rule.scopes.len(),
-            rule.source.as_ptr(),
-            rule.source.len(),
-            rule.names.as_ptr(),
-            rule.names.len(),
-            unit,
-            out.as_mut_ptr(),
-            out.len(),
-        )
-    };
+    let answer = unsafe { on_rule!(velkunshe_code, rule, unit, out.as_mut_ptr(), out.len()) };
     match answer.refusal {
         0 => Ok(answer.length as usize),
         number => Err(Refusal::new(number, answer.place, answer.needed)),
@@ -324,17 +343,9 @@ pub fn code(rule: &Rule, unit: u32, out: &mut [u32]) -> Result<usize, Refusal> {
 pub fn route(rule: &Rule, unit: u32, answers: &[u32], code: &mut [u32], out: &mut [u32]) -> Result<Shown, Refusal> {
     // SAFETY: pointers and lengths of live slices; `code` and `out` are each borrowed alone.
     let answer = unsafe {
-        ffi::velkunshe_route(
-            rule.source_type,
-            rule.async_bodies.into(),
-            rule.nodes.as_ptr(),
-            rule.nodes.len(),
-            rule.scopes.as_ptr(),
-            rule.scopes.len(),
-            rule.source.as_ptr(),
-            rule.source.len(),
-            rule.names.as_ptr(),
-            rule.names.len(),
+        on_rule!(
+            velkunshe_route,
+            rule,
             unit,
             answers.as_ptr(),
             answers.len(),
@@ -344,47 +355,31 @@ pub fn route(rule: &Rule, unit: u32, answers: &[u32], code: &mut [u32], out: &mu
             out.len(),
         )
     };
-    if answer.refusal != 0 {
-        return Err(Refusal::new(answer.refusal, answer.place, answer.needed));
+    shown(answer)
+}
+
+fn shown(answer: ffi::RouteAnswer) -> Result<Shown, Refusal> {
+    match answer.refusal {
+        0 => Ok(Shown { entries: answer.entries as usize, end: End::of(answer.end), taken: answer.taken }),
+        number => Err(Refusal::new(number, answer.place, answer.needed)),
     }
-    let end = match answer.end {
-        0 => End::FellThrough,
-        1 => End::Returned,
-        2 => End::Thrown,
-        _ => End::AnswersSpent,
-    };
-    Ok(Shown { entries: answer.entries as usize, end, taken: answer.taken })
 }
 
 /// The flat code of a unit, in a vector as long as it needs.
 ///
 /// # Errors
 ///
-/// Refusals 1 to 7, 9 and 13 to 15.
+/// Refusals 1 to 7, 9 and 13 to 15; 11 where there is no memory for the vector.
 pub fn code_of(rule: &Rule, unit: u32) -> Result<Vec<u32>, Refusal> {
-    let mut made = Vec::new();
-    if let Err(refusal) = code(rule, unit, &mut made) {
-        let Some(needed) = refusal.needed else { return Err(refusal) };
-        made.resize(needed as usize, 0);
-        code(rule, unit, &mut made)?;
-    }
-    Ok(made)
+    with_room(|out| code(rule, unit, out)).map(|(made, _)| made)
 }
 
 /// The route of a unit, in a vector as long as it needs.
 ///
 /// # Errors
 ///
-/// Refusals 1 to 7, 9 and 13 to 15.
+/// Refusals 1 to 7, 9 and 13 to 15; 11 or 12 where there is no memory for the code or the route.
 pub fn route_of(rule: &Rule, unit: u32, answers: &[u32]) -> Result<Route, Refusal> {
     let mut code = code_of(rule, unit)?;
-    let mut nodes = Vec::new();
-    let shown = match route(rule, unit, answers, &mut code, &mut nodes) {
-        Err(Refusal { needed: Some(needed), .. }) => {
-            nodes.resize(needed as usize, 0);
-            route(rule, unit, answers, &mut code, &mut nodes)?
-        }
-        answer => answer?,
-    };
-    Ok(Route { nodes, end: shown.end, taken: shown.taken })
+    with_room(|out| route(rule, unit, answers, &mut code, out)).map(Route::of)
 }

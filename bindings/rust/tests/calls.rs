@@ -1,6 +1,8 @@
 //! The calls on slices of every length: nothing but what is promised is written.
 
-use velkunshe::{check, code, code_of, findings, route, route_of, End, Refusal, Rule, Shown, CODE, FINDING};
+use velkunshe::{
+    check, code, code_of, findings, route, route_of, shared, shared_of, End, Refusal, Rule, Shown, CODE, FINDING,
+};
 
 /// A script with nothing in it.
 const EMPTY: Rule =
@@ -268,4 +270,35 @@ fn refusals_of_units() {
     assert_eq!(refused(&ROUTED, 0, room - 1), (11, 0));
     assert_eq!(refused(&ROUTED, 0, 0), (11, 0));
     assert_eq!(refused(&Rule { nodes: &[], ..ROUTED }, 0, room), (1, 0));
+}
+
+/// Lists of one length that differ in one answer, a list and a longer one, and lists that have nothing in common.
+#[test]
+fn shared_beginnings() {
+    let of = |first: &[u32], second: &[u32]| shared_of(&ROUTED, 0, first, second).unwrap();
+    assert_eq!(of(&[1, 0, 0], &[1, 5, 0]), 2);
+    assert_eq!(of(&[1, 0, 0], &[1, 0, 1]), 4);
+    assert_eq!(of(&[1, 0, 0], &[1, 0, 0, 1]), 4);
+    assert_eq!(of(&[1, 0, 1], &[1]), 1);
+    assert_eq!(of(&[1, 7], &[7, 1]), 3);
+    assert_eq!(of(&[0], &[]), 0);
+    assert_eq!(of(&[], &[]), 0);
+}
+
+/// The code alone is written, and the refusals are the code call's.
+#[test]
+fn shared_with_slices_of_every_length() {
+    let made = code_of(&ROUTED, 0).unwrap();
+    for room in [0, made.len() - 1, made.len(), made.len() + 3] {
+        let (mut alone, mut out) = (vec![77; room], vec![77; room]);
+        let expected = code(&ROUTED, 0, &mut alone);
+        assert_eq!(shared(&ROUTED, 0, &[1, 0, 0], &[1, 5, 0], &mut out), expected.map(|_| 2));
+        assert_eq!(out, alone);
+    }
+    let mut out = vec![77; made.len()];
+    for (rule, unit) in [(&ROUTED, 1), (&ROUTED, u32::MAX), (&TWO, 0), (&Rule { nodes: &[], ..ROUTED }, 0)] {
+        let refusal = code(rule, unit, &mut out).unwrap_err();
+        assert_eq!(shared(rule, unit, &[1], &[0], &mut out), Err(refusal));
+    }
+    assert!(out.iter().all(|&n| n == 77));
 }

@@ -31,6 +31,7 @@ fn compare_calls(t: &Tables, rng: &mut Rng, counts: &mut Counts) -> Result<(), S
     units.into_iter().try_for_each(|n| {
         let given = answers(rng);
         unit(t, n as u32, &given, counts)?;
+        shared(t, n as u32, &given, &similar(&given, rng), counts)?;
         // What is said of a unit's code holds of the proved library's.
         match code_of(t, n as u32) {
             Ok(made) if t.node_count() < 2000 => over_code::over(t, n, &made, &given, rng),
@@ -134,6 +135,34 @@ fn route(
         let _ = velkunshe::code(&rule(t), unit, &mut alone[code_part]);
     }
     same(&format!("{what}: code slice"), &alone, &made)
+}
+
+/// Answers that begin as these do: one of them changed, some left out at the end, more behind, or others altogether.
+fn similar(given: &[u32], rng: &mut Rng) -> Vec<u32> {
+    let (mut other, k) = (given.to_vec(), rng.below(given.len() + 1));
+    match rng.below(4) {
+        0 if k < given.len() => other[k] = other[k].wrapping_add(1 + rng.number(2)),
+        1 => other.truncate(k),
+        2 => other.extend(answers(rng)),
+        _ => other = answers(rng),
+    }
+    other
+}
+
+/// The shared beginning of two routes, with the code slice at every length; that slice is what the code call leaves.
+fn shared(t: &Tables, unit: u32, first: &[u32], second: &[u32], counts: &mut Counts) -> Result<(), String> {
+    let lengths = plain::needed_code(t, unit).map_or(vec![0, MARGIN], around);
+    lengths.into_iter().try_for_each(|length| {
+        let what = format!("shared of {unit} with {first:?} and {second:?}, code into {length}, plain and proved");
+        let (mut made, part) = lent(length);
+        let plain = plain::shared(t, unit, first, second, length).map(|entries| entries as u64);
+        let proved = velkunshe::shared(&rule(t), unit, first, second, &mut made[part.clone()]).map_err(refusal);
+        counts.proved_call("shared", &proved);
+        same(&what, &plain, &proved)?;
+        let (mut alone, _) = lent(length);
+        let _ = velkunshe::code(&rule(t), unit, &mut alone[part]);
+        same(&format!("{what}: code slice"), &alone, &made)
+    })
 }
 
 fn shown(route: velkunshe::Shown) -> Route {

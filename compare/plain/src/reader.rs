@@ -97,7 +97,7 @@ impl<'a> Reader<'a> {
     }
 
     /// A line that is its letter and any number of numbers.
-    fn numbers(&mut self, letter: u8) -> Result<Vec<u32>, BadLine> {
+    pub fn numbers(&mut self, letter: u8) -> Result<Vec<u32>, BadLine> {
         let line = self.next_line()?;
         let mut parts = line.split(|&b| b == b',');
         let read = (parts.next() == Some(&[letter])).then(|| parts.map(number).collect::<Option<Vec<u32>>>()).flatten();

@@ -3,12 +3,15 @@ use Rattle.call_check.specs.declared.Checked.{Checked}
 use Rattle.call_check.specs.declared.Checked.the-variants as checked
 use Rattle.call_routes.specs.declared.Coded.{Coded}
 use Rattle.call_routes.specs.declared.Coded.the-variants as coded
+use Rattle.call_shared.specs.declared.Beginning.{Beginning}
+use Rattle.call_shared.specs.declared.Beginning.the-variants as beginning
 use Rattle.refusal_verdict.specs.Refusals as refusals
 use Rattle.route_viewer.specs.declared.Routed.{Routed}
 use Rattle.route_viewer.specs.declared.Routed.the-variants as routed
 use Rattle.exports.specs.declared.CheckAnswer.{CheckAnswer}
 use Rattle.exports.specs.declared.CodeAnswer.{CodeAnswer}
 use Rattle.exports.specs.declared.RouteAnswer.{RouteAnswer}
+use Rattle.exports.specs.declared.SharedAnswer.{SharedAnswer}
 
 abbrev pub checkNumbers : Checked → CheckAnswer
 checkNumbers (checked.Findings n) = record { refusal = 0; place = 0; findings = n; needed = 0 }
@@ -25,3 +28,8 @@ routeNumbers (routed.Route end entries taken) = record { refusal = 0; place = 0;
 routeNumbers (routed.Refused number place) = record { refusal = number; place = place; entries = 0; needed = 0; taken = 0; end = 0 }
 routeNumbers (routed.Short needed) = record { refusal = refusals.RouteSlice; place = 0; entries = 0; needed = needed; taken = 0; end = 0 }
 routeNumbers (routed.CodeShort needed) = record { refusal = refusals.CodeSlice; place = 0; entries = 0; needed = needed; taken = 0; end = 0 }
+
+abbrev pub sharedNumbers : Beginning → SharedAnswer
+sharedNumbers (beginning.Entries n) = record { refusal = 0; place = 0; shared = n; needed = 0 }
+sharedNumbers (beginning.Refused number place) = record { refusal = number; place = place; shared = 0; needed = 0 }
+sharedNumbers (beginning.Short needed) = record { refusal = refusals.CodeSlice; place = 0; shared = 0; needed = needed }

@@ -4,9 +4,11 @@ ghost use lib.ListN.{length};
 ghost use Rattle.check_dispatch.specs.Rule.{rule};
 ghost use Rattle.call_check.specs.Check.{checkAnswer, checkSlice};
 ghost use Rattle.call_routes.specs.Calls.{codeAnswer, codeSlice, routeAnswer, routeSlice};
-ghost use Rattle.exports.specs.Numbers.{checkNumbers, codeNumbers, routeNumbers};
+ghost use Rattle.call_shared.specs.Shared.{sharedAnswer};
+ghost use Rattle.exports.specs.Numbers.{checkNumbers, codeNumbers, routeNumbers, sharedNumbers};
 use call_check::Checked;
 use call_routes::Coded;
+use call_shared::Beginning;
 use refusal_verdict::refusals;
 use route_viewer::Routed;
 
@@ -37,6 +39,15 @@ pub struct RouteAnswer {
     pub needed: u64,
     pub taken: u64,
     pub end: u32,
+}
+
+// The shared call's answer: the refusal's number and place, how many entries the two routes share from their beginning, and after 11 the length needed.
+#[repr(C)]
+pub struct SharedAnswer {
+    pub refusal: u32,
+    pub place: u32,
+    pub shared: u64,
+    pub needed: u64,
 }
 
 fn check_numbers(answer: Checked) -> CheckAnswer
@@ -209,5 +220,61 @@ pub extern "C" fn velkunshe_route(
         answers,
         code,
         route,
+    ))
+}
+
+fn shared_numbers(answer: Beginning) -> SharedAnswer
+    ensures { λ r. ⌜ r ≡ sharedNumbers answer ⌝ }
+{
+    match answer {
+        Beginning::Entries(shared) => SharedAnswer {
+            refusal: 0,
+            place: 0,
+            shared: shared,
+            needed: 0,
+        },
+        Beginning::Refused(number, place) => SharedAnswer {
+            refusal: number,
+            place: place,
+            shared: 0,
+            needed: 0,
+        },
+        Beginning::Short(needed) => SharedAnswer {
+            refusal: refusals::CODE_SLICE,
+            place: 0,
+            shared: 0,
+            needed: needed as u64,
+        },
+    }
+}
+
+// Makes the flat code of a unit, and tells how much the routes for two lists of answers share.
+#[no_mangle]
+pub extern "C" fn velkunshe_shared(
+    source_type: u32,
+    async_bodies: u32,
+    nodes: &[u32],
+    scopes: &[u32],
+    source: &[u8],
+    names: &[u8],
+    unit: u32,
+    first: &[u32],
+    second: &[u32],
+    code: &mut [u32],
+) -> SharedAnswer
+    ensures { λ r. ⌜ r ≡ sharedNumbers (sharedAnswer (rule «source_type» «async_bodies» (now (nodes .entry)) (now (scopes .entry)) (now (source .entry)) (now (names .entry))) unit (now (first .entry)) (now (second .entry)) (length (now (code .entry)))) ⌝ }
+    ensures { λ _. ⌜ now (code .exit) ≡ codeSlice (rule «source_type» «async_bodies» (now (nodes .entry)) (now (scopes .entry)) (now (source .entry)) (now (names .entry))) unit (now (code .entry)) ⌝ }
+{
+    shared_numbers(call_shared::shared(
+        source_type,
+        async_bodies,
+        nodes,
+        scopes,
+        source,
+        names,
+        unit,
+        first,
+        second,
+        code,
     ))
 }

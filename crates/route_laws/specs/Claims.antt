@@ -34,6 +34,7 @@ pub record Compared (ss : Stmts) (k : ℕ) (qs ps : List ℕ) : Type 0 where
 pub record ComparedRuns (C : List ℕ) (k : ℕ) (qs ps : List ℕ) : Type 0 where
   pub entries : upTo k (started C qs .nodes) ≡ upTo k (started C ps .nodes)
   pub lists : take (length (upTo k (started C qs .nodes))) (codeRoute C qs .list) ≡ take (length (upTo k (started C qs .nodes))) (codeRoute C ps .list)
+  pub shares : length (upTo k (started C qs .nodes)) ≤ shared (codeRoute C qs .list) (codeRoute C ps .list)
   pub same : codeRoute C qs .taken ≤ k → codeRoute C qs ≡ codeRoute C ps
 
 -- "at most (answers taken + 1) × (nodes of the unit) entries", for a unit of n nodes.
@@ -50,6 +51,7 @@ changedCode C k qs ps h =
     record {
       entries = a .first;
       lists = sameTake k (started C qs .nodes) (started C ps .nodes) (a .first);
+      shares = sameShare k (started C qs .nodes) (started C ps .nodes) (a .first);
       same = λ p. let w = a .whole p in ap (λ l. routeOf l (started C qs .end)) (w .0) ∙ ap (routeOf (started C ps .nodes)) (w .1);
     }
 

@@ -8,7 +8,7 @@ use lib.Dec.{eqb}
 use borrow.Author.Tests.{eqb-true, eq-eqb}
 use native.Mathlib.Omega.{arith}
 use Rattle.route_completion.specs.Sem.{pick}
-use Rattle.route_laws.specs.Shared.{shared}
+use Rattle.route_laws.specs.Shared.{shared, Longest}
 
 -- It is a beginning of both, within them,
 pub sharedSame : (xs ys : List ℕ) → take (shared xs ys) xs ≡ take (shared xs ys) ys
@@ -41,3 +41,6 @@ sharedLongest (suc n) (x ∷ xs) [] e p q = absurd (omega arith)
 sharedLongest (suc n) (x ∷ xs) (y ∷ ys) e p q =
     subst (λ b. suc n ≤ pick b (suc (shared xs ys)) 0) (sym (eq-eqb x y (ap (λ l. getD l 0 0) e)))
     (omega (arith, sharedLongest n xs ys (ap (drop 1) e) (omega arith) (omega arith)))
+
+pub longest : (xs ys : List ℕ) → Longest xs ys (shared xs ys)
+longest xs ys = record { within = sharedWithin xs ys; same = sharedSame xs ys; most = λ m p q e. sharedLongest m xs ys e p q }

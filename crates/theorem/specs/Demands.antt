@@ -25,6 +25,7 @@ use Rattle.ecma_standard.specs.Findings.{Broken, findings262}
 use Rattle.ecma_standard.specs.AsyncBodies.{OptionOn, optionOn}
 use Rattle.code_jump_scope.specs.UnitScoped.{Targeted}
 use Rattle.call_routes.specs.Theorem.{Routes, routes, targeted}
+use Rattle.call_shared.specs.Theorem.{OneAnswerChanged, one-answer-changed}
 use Rattle.call_rows.specs.Rows.{rows, Each, Holds}
 use Rattle.call_rows.specs.RowsHold.{rows-hold}
 use Rattle.exports.proofs.velkunshe_check.Statement as check-call
@@ -33,6 +34,8 @@ use Rattle.exports.proofs.velkunshe_code.Statement as code-call
 use Rattle.exports.proofs.velkunshe_code.Met as code-proved
 use Rattle.exports.proofs.velkunshe_route.Statement as route-call
 use Rattle.exports.proofs.velkunshe_route.Met as route-proved
+use Rattle.exports.proofs.velkunshe_shared.Statement as shared-call
+use Rattle.exports.proofs.velkunshe_shared.Met as shared-proved
 use Rattle.code_machine.proofs.run.Statement as machine-run
 use Rattle.code_machine.proofs.run.Met as run-proved
 
@@ -43,6 +46,9 @@ pub record Demands : Type 2 where
   pub check : {M : Type 1} → check-call.statement M
   pub code : {M : Type 1} → code-call.statement M
   pub route : {M : Type 1} → route-call.statement M
+  -- "A call that gives, for two answer lists of any kind, the length of the longest beginning that their routes share; it writes the code alone and gives the code call's refusals" (document 02,
+  -- request 11): equal to `sharedAnswer` (crates/call_shared/specs/Shared.antt), and `codeSlice` is what it leaves.
+  pub shared : {M : Type 1} → shared-call.statement M
   -- "A run reads the code and the answers, never the tables": the machine is lent nothing else, and is total on any list of numbers as code.
   pub machine : {M : Type 1} → machine-run.statement M
   -- 2. "On well-formed tables .. the findings .. save on the conditions listed in docs/DIFFERENCES.md, are proved against definitions from ECMA-262 with Annex B: one where a rule is
@@ -65,6 +71,10 @@ pub record Demands : Type 2 where
   -- statement twice."
   pub routes : (t asyncBodies : ℕ) (ns ss source names : List ℕ) (u : ℕ) → inputRefusal t ns ss source names ≡ Passed → stateAnswer (rule t asyncBodies ns ss source names) u ≡ Passed
       → (answers : List ℕ) → Routes ns names u answers
+  -- One answer changed (document 02, request 11): "two answer lists of one length differ only at position k .. equal up to and including the entry that takes answer k. If the first route takes k answers
+  -- or fewer, they are equal to the end. Each route has at most (answers taken + 1) × (nodes of the unit) entries", by the completion rules and by the code.
+  pub oneAnswerChanged : (t asyncBodies : ℕ) (ns ss source names : List ℕ) (u : ℕ) → inputRefusal t ns ss source names ≡ Passed → stateAnswer (rule t asyncBodies ns ss source names) u ≡ Passed
+      → OneAnswerChanged ns names u
   -- Document 01's rows, of the calls.
   pub rowsHold : Each Holds rows
 
@@ -73,6 +83,7 @@ demands = record {
   check = check-proved.met;
   code = code-proved.met;
   route = route-proved.met;
+  shared = shared-proved.met;
   machine = run-proved.met;
   standard = standard262;
   changed = findings262;
@@ -83,5 +94,6 @@ demands = record {
   typescript = typescript;
   targets = λ t asyncBodies ns ss source names u f p. targeted t asyncBodies ns ss source names u f p;
   routes = λ t asyncBodies ns ss source names u f p. routes t asyncBodies ns ss source names u f p;
+  oneAnswerChanged = λ t asyncBodies ns ss source names u f p. one-answer-changed t asyncBodies ns ss source names u f p;
   rowsHold = rows-hold;
 }

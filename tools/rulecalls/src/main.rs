@@ -1,0 +1,89 @@
+//! Calls of the proved library that ruleroute doesn't make, over lines as it reads and prints them.
+//!
+//!     rulecalls shared    behind the rule's lines U, A with answers and A with others: prints B,entries shared
+//!
+//! A refusal is printed as R,number,place, and R,0,line where a line can't be read or is missing. What is read and
+//! printed is not proved; what the calls answer is.
+
+use std::io::{Read, Write};
+use std::process::ExitCode;
+
+use plain::reader::{BadLine, OwnedTables, Reader};
+use velkunshe::Rule;
+
+type Call = fn(&mut Reader) -> Result<Vec<u8>, Refused>;
+
+const CALLS: [(&str, Call); 1] = [("shared", shared)];
+
+/// A wrong call, or an input or output that is lost.
+const FAILED: u8 = 2;
+
+enum Refused {
+    Line(BadLine),
+    Call(velkunshe::Refusal),
+}
+
+impl From<BadLine> for Refused {
+    fn from(line: BadLine) -> Refused {
+        Refused::Line(line)
+    }
+}
+
+impl From<velkunshe::Refusal> for Refused {
+    fn from(refusal: velkunshe::Refusal) -> Refused {
+        Refused::Call(refusal)
+    }
+}
+
+impl Refused {
+    fn line(&self) -> Vec<u8> {
+        match self {
+            Refused::Line(BadLine(line)) => format!("R,0,{line}\n"),
+            Refused::Call(refusal) => format!("R,{},{}\n", refusal.number, refusal.place),
+        }
+        .into_bytes()
+    }
+}
+
+fn main() -> ExitCode {
+    let args: Vec<String> = std::env::args().skip(1).collect();
+    let named = CALLS.iter().find(|call| args == [call.0]);
+    let Some((_, call)) = named else {
+        eprintln!("usage: rulecalls {}    (reads standard input)", CALLS.map(|call| call.0).join("|"));
+        return ExitCode::from(FAILED);
+    };
+    match answer(*call) {
+        Ok(()) => ExitCode::SUCCESS,
+        Err(error) => {
+            eprintln!("rulecalls: {error}");
+            ExitCode::from(FAILED)
+        }
+    }
+}
+
+fn answer(call: Call) -> std::io::Result<()> {
+    let mut input = Vec::new();
+    std::io::stdin().read_to_end(&mut input)?;
+    let lines = call(&mut Reader::new(&input)).unwrap_or_else(|refused| refused.line());
+    std::io::stdout().write_all(&lines)
+}
+
+/// With the option on async bodies off, as in ruleroute.
+fn rule(t: &OwnedTables) -> Rule<'_> {
+    Rule {
+        source_type: t.source_type,
+        async_bodies: false,
+        nodes: &t.nodes,
+        scopes: &t.scopes,
+        source: &t.source,
+        names: &t.names,
+    }
+}
+
+fn shared(reader: &mut Reader) -> Result<Vec<u8>, Refused> {
+    let tables = reader.tables()?;
+    let (unit, first) = reader.unit_and_answers()?;
+    let second = reader.numbers(b'A')?;
+    let entries = velkunshe::shared_of(&rule(&tables), unit, &first, &second)?;
+    Ok(format!("B,{entries}\n").into_bytes())
+}
