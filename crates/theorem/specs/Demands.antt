@@ -25,6 +25,7 @@ use Rattle.ecma_standard.specs.Findings.{Broken, findings262}
 use Rattle.ecma_standard.specs.AsyncBodies.{OptionOn, optionOn}
 use Rattle.code_jump_scope.specs.UnitScoped.{Targeted}
 use Rattle.call_routes.specs.Theorem.{Routes, routes, targeted}
+use Rattle.call_walk.specs.Theorem.{BothEngines, bothEngines}
 use Rattle.call_rows.specs.Rows.{rows, Each, Holds}
 use Rattle.call_rows.specs.RowsHold.{rows-hold}
 use Rattle.exports.proofs.velkunshe_check.Statement as check-call
@@ -33,6 +34,8 @@ use Rattle.exports.proofs.velkunshe_code.Statement as code-call
 use Rattle.exports.proofs.velkunshe_code.Met as code-proved
 use Rattle.exports.proofs.velkunshe_route.Statement as route-call
 use Rattle.exports.proofs.velkunshe_route.Met as route-proved
+use Rattle.exports.proofs.velkunshe_walk.Statement as walk-call
+use Rattle.exports.proofs.velkunshe_walk.Met as walk-proved
 use Rattle.code_machine.proofs.run.Statement as machine-run
 use Rattle.code_machine.proofs.run.Met as run-proved
 
@@ -43,6 +46,8 @@ pub record Demands : Type 2 where
   pub check : {M : Type 1} → check-call.statement M
   pub code : {M : Type 1} → code-call.statement M
   pub route : {M : Type 1} → route-call.statement M
+  -- The second engine (document 02, request 6): `walkAnswer`, `walkSlice` (crates/call_walk/specs/Walked.antt).
+  pub walk : {M : Type 1} → walk-call.statement M
   -- "A run reads the code and the answers, never the tables": the machine is lent nothing else, and is total on any list of numbers as code.
   pub machine : {M : Type 1} → machine-run.statement M
   -- 2. "On well-formed tables .. the findings .. save on the conditions listed in docs/DIFFERENCES.md, are proved against definitions from ECMA-262 with Annex B: one where a rule is
@@ -65,6 +70,8 @@ pub record Demands : Type 2 where
   -- statement twice."
   pub routes : (t asyncBodies : ℕ) (ns ss source names : List ℕ) (u : ℕ) → inputRefusal t ns ss source names ≡ Passed → stateAnswer (rule t asyncBodies ns ss source names) u ≡ Passed
       → (answers : List ℕ) → Routes ns names u answers
+  -- "For every tree, unit and answer list it gives the list, end and count of answers of the code engine .. It gives the refusals of the route call except 11" (document 02, request 6).
+  pub engines : (r : Rule) (u : ℕ) (answers : List ℕ) → BothEngines r u answers
   -- Document 01's rows, of the calls.
   pub rowsHold : Each Holds rows
 
@@ -73,6 +80,7 @@ demands = record {
   check = check-proved.met;
   code = code-proved.met;
   route = route-proved.met;
+  walk = walk-proved.met;
   machine = run-proved.met;
   standard = standard262;
   changed = findings262;
@@ -83,5 +91,6 @@ demands = record {
   typescript = typescript;
   targets = λ t asyncBodies ns ss source names u f p. targeted t asyncBodies ns ss source names u f p;
   routes = λ t asyncBodies ns ss source names u f p. routes t asyncBodies ns ss source names u f p;
+  engines = bothEngines;
   rowsHold = rows-hold;
 }
