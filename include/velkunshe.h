@@ -155,6 +155,22 @@ struct velkunshe_shared_answer velkunshe_shared(
     const uint32_t *second, size_t second_length,
     uint32_t *code, size_t code_length);
 
+/* The second engine: the route of a unit by a walk over its tree, without code. For every rule, unit and answers it gives what
+ * velkunshe_route gives, entry by entry, wherever that one has room for its code.
+ * refusal: as of velkunshe_route, in its order, but never 11.
+ * needed: after 12 the length that the route slice must have, else 0.
+ * After a refusal the route slice is as it was; no entry past the last one written is changed. */
+struct velkunshe_route_answer velkunshe_walk(
+    uint32_t source_type,
+    uint32_t async_bodies,
+    const uint32_t *nodes, size_t nodes_length,
+    const uint32_t *scopes, size_t scopes_length,
+    const uint8_t *source, size_t source_length,
+    const uint8_t *names, size_t names_length,
+    uint32_t unit,
+    const uint32_t *answers, size_t answers_length,
+    uint32_t *route, size_t route_length);
+
 #ifdef __cplusplus
 }
 #endif
