@@ -14,7 +14,8 @@
  *
  * Whatever the numbers are, a call ends, reads and writes nothing but what it is lent, keeps nothing, and answers what is proved of it.
  * Calls may run at the same time on different threads where nothing that one of them writes is lent to another.
- * It has no global state, calls nothing but memset of the C library, and needs up to 600 KB of stack.
+ * It has no global state, calls nothing but memset of the C library, and needs up to 1,060 KB of stack; velkunshe_check up to 270 KB,
+ * velkunshe_walk, which calls itself as deep as statements are nested, up to 480 KB (471,400 bytes with 512 loops in one another).
  *
  * What a caller owes, and no call can test:
  *   - No pointer is null, not even with length 0. For "none" pass the address of any object of the right type and length 0.
@@ -153,6 +154,22 @@ struct velkunshe_shared_answer velkunshe_shared(
     const uint32_t *first, size_t first_length,
     const uint32_t *second, size_t second_length,
     uint32_t *code, size_t code_length);
+
+/* The second engine: the route of a unit by a walk over its tree, without code. For every rule, unit and answers it gives what
+ * velkunshe_route gives, entry by entry, wherever that one has room for its code.
+ * refusal: as of velkunshe_route, in its order, but never 11.
+ * needed: after 12 the length that the route slice must have, else 0.
+ * After a refusal the route slice is as it was; no entry past the last one written is changed. */
+struct velkunshe_route_answer velkunshe_walk(
+    uint32_t source_type,
+    uint32_t async_bodies,
+    const uint32_t *nodes, size_t nodes_length,
+    const uint32_t *scopes, size_t scopes_length,
+    const uint8_t *source, size_t source_length,
+    const uint8_t *names, size_t names_length,
+    uint32_t unit,
+    const uint32_t *answers, size_t answers_length,
+    uint32_t *route, size_t route_length);
 
 #ifdef __cplusplus
 }

@@ -208,6 +208,21 @@ check "two routes that are the same" says 'routes of the program with answers 0 
 they share all entries
 the first fell through its last statement after 1 entry and 1 answer
 the second fell through its last statement after 1 entry and 1 answer; left over: 4' ./show-route rules/while-switch.js 0 --against 0,4
+check "both engines" says 'route of the program with answers 1, 1
+1  line  3  class Doors                                its static blocks run
+2  line  6  for (const door of config.doors)           1: another turn
+3  line  7  if (!door.name)                            1: yes
+4  line  7  throw new Error("a door without a name");  the catch at line 16 takes it
+5  line 17  alarm(error);
+it fell through its last statement after 5 entries and 2 answers
+both engines give this' ./show-route rules/doors.js 1,1 --engine both
+# a router that loses its first line
+lossy=$(mktemp)
+printf '#!/bin/sh\n%s/target/bin/ruleroute | sed 1d\n' "$PWD" >"$lossy"
+chmod +x "$lossy"
+check "engines that differ" says 'show-route: the engines differ: code gives Z,0,1,1; walk gives L,3 Z,0,1,1' ./show-route rules/while-switch.js 0 --engine both --router "$lossy"
+check "status 2: engines that differ" status 2 ./show-route rules/while-switch.js 0 --engine both --router "$lossy"
+rm -f "$lossy"
 check "no second route of a rule with an error" status 2 ./show-route rules/block-label.js '' --against 1
 check "a call of rulecalls that can't be read" says 'R,0,22' beside 1
 check "the units of a rule" says '0  program  line 1, column 1
@@ -231,9 +246,9 @@ check "a text for each disagreement" tools/v8-verdicts --texts
 check "each of them told" told < <(disagreements)
 check "each difference's text told" told < <(differences)
 # the figures too: every end and every kind of unit is among the runs
-check "V8's routes" says '1000 units (447 programs, 231 functions, 64 arrows, 258 static blocks; 0 with a try, 133 with a static block of a class), 4000 runs: 2728 fell through, 27 returned, 155 threw, 1090 spent their answers; 17639 entries, 8561 answers taken, longest list 60; 0 disagree' \
-    tools/v8-routes 1000 3 --quiet
-check "V8's routes, with try" says '200 units (94 programs, 47 functions, 15 arrows, 44 static blocks; 61 with a try, 24 with a static block of a class), 800 runs: 528 fell through, 7 returned, 57 threw, 208 spent their answers; 3988 entries, 1731 answers taken, longest list 59; 0 disagree' \
-    tools/v8-routes 200 4 --try --quiet
+check "V8's routes, by both engines" says '1000 units (447 programs, 231 functions, 64 arrows, 258 static blocks; 0 with a try, 133 with a static block of a class), 4000 runs: 2728 fell through, 27 returned, 155 threw, 1090 spent their answers; 17639 entries, 8561 answers taken, longest list 60; 0 disagree' \
+    tools/v8-routes 1000 3 --engine both --quiet
+check "V8's routes, with try, by both engines" says '200 units (94 programs, 47 functions, 15 arrows, 44 static blocks; 61 with a try, 24 with a static block of a class), 800 runs: 528 fell through, 7 returned, 57 threw, 208 spent their answers; 3988 entries, 1731 answers taken, longest list 59; 0 disagree' \
+    tools/v8-routes 200 4 --engine both --try --quiet
 if tools/setup chromium; then check "pages in Chromium" tools/pages 60 5; else unrun "pages in Chromium" "it can't be installed"; fi
 finish

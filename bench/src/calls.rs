@@ -1,6 +1,6 @@
 //! Who is timed in each call: the proved library, the plain version, and for `check` the crate's text. That one gives no
 //! refusals and writes to no slice, and makes its tree of the tables first. The plain version makes no code: of the code
-//! call it has the refusals alone.
+//! call it has the refusals alone, and its route is its walk.
 
 use std::hint::black_box;
 
@@ -63,10 +63,11 @@ pub struct Call {
     pub compare: fn(&Input) -> usize,
 }
 
-pub const CALLS: [Call; 3] = [
+pub const CALLS: [Call; 4] = [
     Call { name: "check", contenders: &[check, plain_check, crate_check], compare: compare_check },
     Call { name: "code", contenders: &[code, plain_code_refusal], compare: compare_code },
     Call { name: "route", contenders: &[route, plain_route], compare: compare_route },
+    Call { name: "walk", contenders: &[walk, plain_walk], compare: compare_walk },
 ];
 
 fn check(rule: &Input, slices: &mut Slices) {
@@ -99,6 +100,14 @@ fn plain_route(rule: &Input, slices: &mut Slices) {
     let _ = black_box(plain::route(&rule.tables.lend(), 0, &rule.answers, length, &mut slices.route));
 }
 
+fn walk(rule: &Input, slices: &mut Slices) {
+    let _ = black_box(velkunshe::walk(&rule.rule(), 0, &rule.answers, &mut slices.route));
+}
+
+fn plain_walk(rule: &Input, slices: &mut Slices) {
+    let _ = black_box(plain::walk(&rule.tables.lend(), 0, &rule.answers, &mut slices.route));
+}
+
 fn compare_check(rule: &Input) -> usize {
     let mut expected = vec![0; room_for_findings(rule)];
     let mut found = expected.clone();
@@ -117,6 +126,16 @@ fn compare_route(rule: &Input) -> usize {
     let mut listed = expected.clone();
     let plain = plain::route(&rule.tables.lend(), 0, &rule.answers, code.len(), &mut expected).expect("no findings");
     let shown = velkunshe::route(&rule.rule(), 0, &rule.answers, &mut code, &mut listed).expect("no findings");
+    assert_eq!((shown.entries, shown.taken), (plain.entries, plain.answers_taken as u64));
+    assert_eq!(listed, expected);
+    plain.entries
+}
+
+fn compare_walk(rule: &Input) -> usize {
+    let mut expected = vec![0; room_for_route(rule)];
+    let mut listed = expected.clone();
+    let plain = plain::walk(&rule.tables.lend(), 0, &rule.answers, &mut expected).expect("no findings");
+    let shown = velkunshe::walk(&rule.rule(), 0, &rule.answers, &mut listed).expect("no findings");
     assert_eq!((shown.entries, shown.taken), (plain.entries, plain.answers_taken as u64));
     assert_eq!(listed, expected);
     plain.entries

@@ -43,14 +43,18 @@ static const uint32_t routed_nodes[] = {
 };
 static const uint32_t routed_scopes[] = {0, 2, 0, 0, 0, 5, 1, 0, 6};
 
+static void print_route(struct velkunshe_route_answer a, const uint32_t *route) {
+    for (uint64_t i = 0; i < a.entries; i++)
+        printf("%" PRIu32 " ", route[i]);
+    printf("refusal %" PRIu32 ", needed %" PRIu64 ", end %" PRIu32 ", taken %" PRIu64 "\n", a.refusal, a.needed, a.end, a.taken);
+}
+
 static void show(const uint32_t *answers, size_t count, size_t room) {
     uint32_t code[13 * VELKUNSHE_CODE], route[8];
     struct velkunshe_route_answer a = velkunshe_route(
         0, 0, routed_nodes, sizeof routed_nodes / sizeof *routed_nodes, routed_scopes, 9, source, 0, (const uint8_t *)"atsc", 4, 0,
         answers, count, code, 13 * VELKUNSHE_CODE, route, room);
-    for (uint64_t i = 0; i < a.entries; i++)
-        printf("%" PRIu32 " ", route[i]);
-    printf("refusal %" PRIu32 ", needed %" PRIu64 ", end %" PRIu32 ", taken %" PRIu64 "\n", a.refusal, a.needed, a.end, a.taken);
+    print_route(a, route);
 }
 
 static void compare(const uint32_t *first, size_t first_count, const uint32_t *second, size_t second_count) {
@@ -59,6 +63,15 @@ static void compare(const uint32_t *first, size_t first_count, const uint32_t *s
         0, 0, routed_nodes, sizeof routed_nodes / sizeof *routed_nodes, routed_scopes, 9, source, 0, (const uint8_t *)"atsc", 4, 0,
         first, first_count, second, second_count, code, 13 * VELKUNSHE_CODE);
     printf("refusal %" PRIu32 ", shared %" PRIu64 "\n", a.refusal, a.shared);
+}
+
+/* The second engine needs no code slice. */
+static void walk(const uint32_t *answers, size_t count, size_t room) {
+    uint32_t route[8];
+    struct velkunshe_route_answer a = velkunshe_walk(
+        0, 0, routed_nodes, sizeof routed_nodes / sizeof *routed_nodes, routed_scopes, 9, source, 0, (const uint8_t *)"atsc", 4, 0,
+        answers, count, route, room);
+    print_route(a, route);
 }
 
 int main(void) {
@@ -83,5 +96,7 @@ int main(void) {
         0, 0, routed_nodes, sizeof routed_nodes / sizeof *routed_nodes, routed_scopes, 9, source, 0, (const uint8_t *)"atsc", 4, 0, code, 0);
     printf("refusal %" PRIu32 ", needed %" PRIu64 "\n", made.refusal, made.needed);
     compare(answers, 3, others, 3);
+    walk(answers, 3, 8);
+    walk(answers, 3, 3);
     return 0;
 }

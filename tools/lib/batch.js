@@ -57,4 +57,11 @@ function programOf(named, name) {
   return built;
 }
 
-module.exports = { answersOf, findingsOf, routeOf, sharedOf, programOf };
+// The engines that give routes: ruleroute runs code, rulecalls walks over the tree. `both` are both, in this order.
+const ENGINES = ['code', 'walk', 'both'];
+function enginesOf(which, { router, caller }) {
+  const engine = { code: () => ({ program: programOf(router, 'ruleroute'), argument: '' }), walk: () => ({ program: programOf(caller, 'rulecalls'), argument: 'walk' }) };
+  return (which === 'both' ? ['code', 'walk'] : [which]).map((name) => ({ name, ...engine[name]() }));
+}
+
+module.exports = { ENGINES, answersOf, enginesOf, findingsOf, routeOf, sharedOf, programOf };

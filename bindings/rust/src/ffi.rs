@@ -106,4 +106,22 @@ extern "C" {
         code: *mut u32,
         code_length: usize,
     ) -> SharedAnswer;
+
+    pub fn velkunshe_walk(
+        source_type: u32,
+        async_bodies: u32,
+        nodes: *const u32,
+        nodes_length: usize,
+        scopes: *const u32,
+        scopes_length: usize,
+        source: *const u8,
+        source_length: usize,
+        names: *const u8,
+        names_length: usize,
+        unit: u32,
+        answers: *const u32,
+        answers_length: usize,
+        route: *mut u32,
+        route_length: usize,
+    ) -> RouteAnswer;
 }

@@ -2,7 +2,8 @@
 //!
 //! A rule comes as tables of numbers (see [`Rule`]). [`check`] gives its early errors; [`code`] makes the flat code of one of its units (the
 //! program, a function, an arrow or a static block), and [`route`] lists the statements that the unit comes to on a list of answers.
-//! [`findings`], [`code_of`] and [`route_of`] give the same in vectors. [`shared`] says how much two routes of one unit share. Whatever the tables hold, a call ends and does nothing undefined, and its answer
+//! [`findings`], [`code_of`] and [`route_of`] give the same in vectors. [`shared`] says how much two routes of one unit share. [`walk`] gives
+//! a route by a second engine, which makes no code. Whatever the tables hold, a call ends and does nothing undefined, and its answer
 //! is the one that is proved; nothing here asks for `unsafe`.
 //!
 //! The library is linked as `build.rs` says: from `VELKUNSHE_LIB`, the path of an archive, or from this repository's
@@ -107,11 +108,13 @@ macro_rules! on_rule {
 
 mod ffi;
 mod shared;
+mod walk;
 
 use std::error::Error;
 use std::fmt;
 
 pub use shared::{shared, shared_of};
+pub use walk::{walk, walk_of};
 
 /// How many numbers a node takes in [`Rule::nodes`].
 pub const NODE: usize = 10;

@@ -1,7 +1,8 @@
 //! The calls on slices of every length: nothing but what is promised is written.
 
 use velkunshe::{
-    check, code, code_of, findings, route, route_of, shared, shared_of, End, Refusal, Rule, Shown, CODE, FINDING,
+    check, code, code_of, findings, route, route_of, shared, shared_of, walk, walk_of, End, Refusal, Rule, Shown, CODE,
+    FINDING,
 };
 
 /// A script with nothing in it.
@@ -301,4 +302,28 @@ fn shared_with_slices_of_every_length() {
         assert_eq!(shared(rule, unit, &[1], &[0], &mut out), Err(refusal));
     }
     assert!(out.iter().all(|&n| n == 77));
+}
+
+/// The second engine gives the route, with slices of every length, and never 11.
+#[test]
+fn walks() {
+    for answers in [&[1, 0, 0][..], &[1, 5, 0], &[1], &[]] {
+        assert_eq!(walk_of(&ROUTED, 0, answers), route_of(&ROUTED, 0, answers));
+    }
+    for room in 0..7 {
+        let mut out = vec![77; room];
+        let answer = walk(&ROUTED, 0, &[1, 0, 0], &mut out);
+        if room < 4 {
+            assert_eq!(answer, Err(Refusal { number: 12, place: 0, needed: Some(4) }));
+            assert!(out.iter().all(|&n| n == 77));
+        } else {
+            assert_eq!(answer, Ok(Shown { entries: 4, end: End::FellThrough, taken: 3 }));
+            assert_eq!(out[..4], [3, 6, 10, 3]);
+            assert!(out[4..].iter().all(|&n| n == 77));
+        }
+    }
+    let refused = |rule: &Rule, unit| walk_of(rule, unit, &[]).map_err(|r| (r.number, r.place)).unwrap_err();
+    assert_eq!(refused(&ROUTED, 1), (7, 1));
+    assert_eq!(refused(&TWO, 0), (9, 1));
+    assert_eq!(refused(&Rule { nodes: &[], ..ROUTED }, 0), (1, 0));
 }

@@ -32,6 +32,7 @@ fn compare_calls(t: &Tables, rng: &mut Rng, counts: &mut Counts) -> Result<(), S
         let given = answers(rng);
         unit(t, n as u32, &given, counts)?;
         shared(t, n as u32, &given, &similar(&given, rng), counts)?;
+        walk(t, n as u32, &given, counts)?;
         // What is said of a unit's code holds of the proved library's.
         match code_of(t, n as u32) {
             Ok(made) if t.node_count() < 2000 => over_code::over(t, n, &made, &given, rng),
@@ -162,6 +163,21 @@ fn shared(t: &Tables, unit: u32, first: &[u32], second: &[u32], counts: &mut Cou
         let (mut alone, _) = lent(length);
         let _ = velkunshe::code(&rule(t), unit, &mut alone[part]);
         same(&format!("{what}: code slice"), &alone, &made)
+    })
+}
+
+/// The second engine, with the route slice at every length.
+fn walk(t: &Tables, unit: u32, answers: &[u32], counts: &mut Counts) -> Result<(), String> {
+    let listed = plain::needed_code(t, unit).map(|_| plain::routes::run(t, unit as usize, answers).list.len());
+    listed.map_or(vec![0, MARGIN], around).into_iter().try_for_each(|length| {
+        let what = format!("walk of {unit} with {answers:?} into {length}, plain and proved");
+        let (mut expected, part) = lent(length);
+        let mut out = expected.clone();
+        let plain = plain::walk(t, unit, answers, &mut expected[part.clone()]);
+        let proved = velkunshe::walk(&rule(t), unit, answers, &mut out[part]).map(shown).map_err(refusal);
+        counts.proved_call("walk", &proved);
+        same(&what, &plain, &proved)?;
+        same(&format!("{what}: slice"), &expected, &out)
     })
 }
 

@@ -22,8 +22,8 @@ pub enum Coded {
     Short(usize),
 }
 
-// The refusals of both calls before 11.
-fn refusal(
+// The refusals of both calls before 11, and of the walk.
+pub fn refusal(
     source_type: u32,
     async_bodies: u32,
     nodes: &[u32],

@@ -5,6 +5,7 @@ ghost use Rattle.check_dispatch.specs.Rule.{rule};
 ghost use Rattle.call_check.specs.Check.{checkAnswer, checkSlice};
 ghost use Rattle.call_routes.specs.Calls.{codeAnswer, codeSlice, routeAnswer, routeSlice};
 ghost use Rattle.call_shared.specs.Shared.{sharedAnswer};
+ghost use Rattle.call_walk.specs.Walked.{walkAnswer, walkSlice};
 ghost use Rattle.exports.specs.Numbers.{checkNumbers, codeNumbers, routeNumbers, sharedNumbers};
 use call_check::Checked;
 use call_routes::Coded;
@@ -276,5 +277,34 @@ pub extern "C" fn velkunshe_shared(
         first,
         second,
         code,
+    ))
+}
+
+// The second engine: walks the statements of a unit over the answers, and shows the route. No code is made.
+#[no_mangle]
+pub extern "C" fn velkunshe_walk(
+    source_type: u32,
+    async_bodies: u32,
+    nodes: &[u32],
+    scopes: &[u32],
+    source: &[u8],
+    names: &[u8],
+    unit: u32,
+    answers: &[u32],
+    route: &mut [u32],
+) -> RouteAnswer
+    ensures { λ r. ⌜ r ≡ routeNumbers (walkAnswer (rule «source_type» «async_bodies» (now (nodes .entry)) (now (scopes .entry)) (now (source .entry)) (now (names .entry))) unit (now (answers .entry)) (length (now (route .entry)))) ⌝ }
+    ensures { λ _. ⌜ now (route .exit) ≡ walkSlice (rule «source_type» «async_bodies» (now (nodes .entry)) (now (scopes .entry)) (now (source .entry)) (now (names .entry))) unit (now (answers .entry)) (now (route .entry)) ⌝ }
+{
+    route_numbers(call_walk::walk(
+        source_type,
+        async_bodies,
+        nodes,
+        scopes,
+        source,
+        names,
+        unit,
+        answers,
+        route,
     ))
 }

@@ -24,7 +24,7 @@ use Rattle.code_tree.specs.Parts.{upOf, shapeAt, shapeBy, isPart, parts, withRo
 use Rattle.code_tree.specs.PartsLaws.{All, Part, parts-turn, parts-all}
 use Rattle.code_tree.specs.BoundLaws.{fuel-enough}
 use Rattle.code_tree.specs.ClassLaws.{class-runs}
-use Rattle.code_tree.specs.Statements.{leafAt, beforeAt, testAt, defaultAt, listOf, oneOf, ifOf, tryOf, classOf, casesOf, build, stmtAt, bodyOf}
+use Rattle.code_tree.specs.Statements.{leafAt, beforeAt, testAt, defaultAt, listOf, oneOf, ifOf, tryOf, classOf, casesOf, build, stmtAt, bodyOf, holderOf, unitBy, unitOf}
 use Rattle.code_tree.specs.declared.Shape.{Shape}
 use Rattle.code_tree.specs.declared.Shape.the-variants.{Leaf as Single, Class, If, With, Block, Label, Loop, Switch, Case, Try, Catch}
 use Rattle.code_layout.specs.Shaped.{isOne, isCase, isSwitch, One, Two, Three, Good}
@@ -303,6 +303,10 @@ module _ (ns names : List ℕ) (g : Good ns) where
   unfolding bodyOf statement order
   body-is b x = ap (λ s. listOf (stmtAt ns names (count ns)) (orderBy ns s (P b))) x
 
+  pub unit-is : (u b : ℕ) → holderOf ns u ≡ At (record { 0 = b }) → shapeAt ns b ≡ Block → unitOf ns names u ≡ listOf S (P b)
+  unfolding unitOf
+  unit-is u b e x = ap (unitBy ns names) e ∙ body-is b x
+
   -- Only nodes below node 0 are Labeled.
   pub labeled-inner : (p : ℕ) → isLabeled (shapeAt ns p) ≡ true → 0 < p
   unfolding shapeBy
@@ -362,3 +366,8 @@ module _ (ns names : List ℕ) (j m : ℕ) (e : m ≡ kindOf ns j) where
   pub comp-normal : (m ≡ k.Break → ⊥) → (m ≡ k.Continue → ⊥) → (m ≡ k.Return → ⊥) → (m ≡ k.Throw → ⊥) → normal ≡ compOf (leafAt ns names j)
   unfolding leafAt
   comp-normal a b c d = rw (unlike k.Break a, unlike k.Continue b, unlike k.Return c, unlike k.Throw d)
+
+-- A unit that no node holds statements of.
+pub unit-none : (ns names : List ℕ) (u : ℕ) → holderOf ns u ≡ Nothing → unitOf ns names u ≡ nil
+unfolding unitOf
+unit-none ns names u e = ap (unitBy ns names) e

@@ -6,17 +6,18 @@ use mathlib.Core.Bool.{Bool, true, false, cond}
 use lib.ListN.{length, drop, set}
 use Rattle.base_walk.specs.Above.{above}
 use Rattle.table_records.specs.Table.{count}
-use Rattle.table_records.specs.Facts.{Named}
+use Rattle.table_records.specs.Facts.{Tree, Named}
+use Rattle.table_records.specs.declared.Found.the-variants.{At}
 use Rattle.route_completion.specs.Tree.{near, named, Stmt}
 use Rattle.route_completion.specs.Sem.{Entry, Comp, normal, breaks, continues, returns, throws, spent, Out}
-use Rattle.route_completion.specs.Route.{nodeOf, asks}
-use Rattle.route_list.specs.Listing.{next}
+use Rattle.route_completion.specs.Route.{nodeOf, asks, endOf, Route}
+use Rattle.route_list.specs.Listing.{next, saturated, laid}
 use Rattle.code_tree.specs.Labels.{nameId, idAt}
 use Rattle.code_tree.specs.Parts.{upOf, shapeAt}
-use Rattle.code_tree.specs.Statements.{stmtAt}
+use Rattle.code_tree.specs.Statements.{stmtAt, holderOf}
 use Rattle.code_tree.specs.declared.Shape.{Shape}
 use Rattle.code_tree.specs.declared.Shape.the-variants.{Leaf, Class, If, With, Block, Label, Loop, Switch, Case, Try, Catch}
-use Rattle.code_layout.specs.Shaped.{Good}
+use Rattle.code_layout.specs.Shaped.{Good, Held}
 use Rattle.route_walk.specs.declared.Run.{Run}
 use Rattle.route_walk.specs.declared.Completion.{Completion}
 use Rattle.route_walk.specs.declared.Completion.the-variants as how
@@ -25,6 +26,12 @@ use Rattle.route_walk.specs.declared.Completion.the-variants as how
 pub record Walkable (ns names : List ℕ) : Type 0 where
   pub good : Good ns
   pub named : Named ns names
+
+-- What is asked of a unit: the node that holds its statements, where it has one, is a list of them in such tables.
+pub record Enterable (ns names : List ℕ) (u : ℕ) : Type 0 where
+  pub tree : Tree ns
+  pub root : u < count ns
+  pub held : (b : ℕ) → holderOf ns u ≡ At (record { 0 = b }) → Held ns names b
 
 -- The Completion Record that the walk's number stands for: a label by its node.
 abbrev pub compAt : List ℕ → List ℕ → Completion → Comp
@@ -66,6 +73,13 @@ pub record Walked (ns names qs f : List ℕ) (start : Run) (o : Out) (g : List �
   pub inside : r .taken ≤ length qs
   pub ended : o .comp ≡ compAt ns names (r .how)
   pub label : labelIn ns (r .how)
+
+-- What a whole walk comes to is the route w: its list, counted and laid over the slice f, which is then g; the answers taken; the end.
+pub record Shows (ns names : List ℕ) (w : Route) (f g : List ℕ) (r : Run) : Type 0 where
+  pub counts : r .entries ≡ saturated (length (w .list))
+  pub wrote : g ≡ laid (w .list) f
+  pub took : r .taken ≡ w .taken
+  pub ended : endOf (compAt ns names (r .how)) ≡ w .end
 
 abbrev pub isLabeled : Shape → Bool
 isLabeled Leaf = false

@@ -6,20 +6,21 @@ use mathlib.Core.Bool.{Bool, true, false, cond}
 use lib.ListN.{length, drop, set, getD, drop-of-length-le}
 use lib.Seq.{drop-cons, append-snoc}
 use native.Mathlib.Omega.{arith}
-use Rattle.route_completion.specs.Sem.{Entry, plain, asked, Comp, normal, spent, Out, out, more, ask, goOn, pick, isNormal, isSpent, finally, finallyIf, noBreak, noLabel, unbreak, unlabel}
+use Rattle.route_completion.specs.Sem.{Entry, plain, asked, Comp, normal, spent, Out, out, more, ask, goOn, pick, isNormal, isSpent, finally, finallyIf, noBreak, noLabel, unbreak, unlabel, exec, execs}
+use Rattle.route_completion.specs.Tree.{Stmts, nil}
 use lib.Dec.{eqb}
 use Rattle.code_tree.specs.Labels.{nameId}
 use Rattle.table_records.specs.declared.Found.{Found}
 use Rattle.table_records.specs.Table.{count}
 use Rattle.table_records.specs.declared.NodeId.{NodeId}
-use Rattle.route_completion.specs.Route.{nodeOf, asks}
+use Rattle.route_completion.specs.Route.{nodeOf, asks, endOf, route}
 use Rattle.route_completion.specs.Taken.{asksAppend}
 use Rattle.route_list.specs.Listing.{most, next, Listing}
-use Rattle.route_list.specs.ListingLaws.{listingMore}
+use Rattle.route_list.specs.ListingLaws.{listingFirst, listingMore}
 use Rattle.route_walk.specs.declared.Run.{Run}
 use Rattle.route_walk.specs.declared.Completion.{Completion}
 use Rattle.route_walk.specs.declared.Completion.the-variants as how
-use Rattle.route_walk.specs.Walk.{compAt, labelIn, written, counted, Walked}
+use Rattle.route_walk.specs.Walk.{compAt, labelIn, written, counted, Walked, Shows}
 
 written-append : (f : List ℕ) (n : ℕ) (a b : List Entry) → written f n (a ++ b) ≡ written (written f n a) (counted n a) b
 unfolding written counted
@@ -128,3 +129,22 @@ module _ (ns names qs : List ℕ) where
 
   pub unlabel-miss : (h : Completion) (l : NodeId) (i : ℕ) (b : Bool) → h ≡ how.BreakTo l → b ≡ eqb (nameId ns names (l .0)) i → b ≡ false → compAt ns names (how.BreakTo l) ≡ noLabel i (compAt ns names h)
   unlabel-miss h l i b e q t = sym (ap (λ x. noLabel i (compAt ns names x)) e ∙ ap (λ x. pick x normal (compAt ns names (how.BreakTo l))) (sym q ∙ t))
+
+  -- From the first answer on, a walk of the statements ss is their route.
+  module _ (f : List ℕ) (start r : Run) (none : start .entries ≡ 0) (first : start .taken ≡ 0) (m : length f ≤ most) where
+    pub whole : (g : List ℕ) (ss : Stmts) → Walked ns names qs f start (execs ss (drop (start .taken) qs)) g r → Shows ns names (route ss qs) f g r
+    whole g ss w =
+        let o = execs ss qs in
+        let v = subst (λ k. Walked ns names qs f start (execs ss (drop k qs)) g r) first w in
+        let l = listing-all f m f [] 0 (o .nodes) (listingFirst f) in
+        record {
+          counts = v .counts ∙ ap (λ k. counted k (o .nodes)) none ∙ l .counts;
+          wrote = v .wrote ∙ ap (λ k. written f k (o .nodes)) none ∙ l .wrote;
+          took = omega (arith, v .took, first);
+          ended = ap endOf (sym (v .ended));
+        }
+
+    -- A unit without statements.
+    pub whole-none : r .entries ≡ start .entries → r .taken ≡ start .taken → normal ≡ compAt ns names (r .how) → labelIn ns (r .how) → Shows ns names (route nil qs) f f r
+    unfolding exec
+    whole-none e t q l = whole f nil (still f start r normal e t (omega (arith, first)) q l)

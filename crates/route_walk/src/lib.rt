@@ -8,11 +8,12 @@ ghost use Rattle.table_records.specs.Table.{count};
 ghost use Rattle.table_records.specs.Roles as role;
 ghost use Rattle.table_records.specs.Facts.{Tree, Named};
 ghost use Rattle.route_completion.specs.Sem.{Out, plain, asked as ask′, normal, out as outcome, isNormal, isThrow, isSpent, elem, loopContinues, compOf, ask, loops, noBreak, noLabel, unbreak, unlabel, rounds, exec, execs};
+ghost use Rattle.route_completion.specs.Route.{endOf, route};
 ghost use Rattle.code_tree.specs.Labels.{nameId, idAt};
 ghost use Rattle.code_tree.specs.Parts.{upOf, parts};
 ghost use Rattle.code_tree.specs.PartsLaws.{Part};
-ghost use Rattle.code_tree.specs.Statements.{leafAt, beforeAt, testAt, listOf, oneOf};
-ghost use Rattle.route_walk.specs.Walk.{Walkable, compAt, labelIn, Walked, isLabeled, labelsOf, statement};
+ghost use Rattle.code_tree.specs.Statements.{leafAt, beforeAt, testAt, listOf, oneOf, unitOf};
+ghost use Rattle.route_walk.specs.Walk.{Walkable, Enterable, compAt, labelIn, Walked, Shows, isLabeled, labelsOf, statement};
 ghost use Rattle.route_walk.specs.Steps.{First, partOf, branchOf, casesFrom, fromDefault, roleIn, ranOf, caughtBy, finallyBy};
 use base_common::and;
 use code_shapes::shape_of;
@@ -22,6 +23,8 @@ use table_records::Found;
 use table_records::NodeId;
 use table_records::kinds;
 use table_records::roles;
+
+mod unit_end;
 
 // How a statement completes, as ECMA-262's Completion Record: a break or continue with its label's node where it has one. Or no answer was left.
 pub enum Completion {
@@ -707,4 +710,36 @@ fn walk_node(
         Shape::Try => walk_try(nodes, names, answers, out, n, start),
         Shape::Catch => walk_one(nodes, names, answers, out, n, start),
     }
+}
+
+// The number of a unit's end.
+pub fn end_of(how: Completion) -> u32
+    ensures { λ r. ⌜ ((ns names : List ℕ) → r ≡ endOf (compAt ns names how)) ⌝ }
+{
+    match how {
+        Completion::Normal => unit_end::FELL_THROUGH,
+        Completion::Break => unit_end::ASTRAY,
+        Completion::BreakTo(_) => unit_end::ASTRAY,
+        Completion::Continue => unit_end::ASTRAY,
+        Completion::ContinueTo(_) => unit_end::ASTRAY,
+        Completion::Return => unit_end::RETURNED,
+        Completion::Throw => unit_end::THROWN,
+        Completion::Spent => unit_end::SPENT,
+    }
+}
+
+// The unit u, from the first answer on.
+pub fn walk_unit(nodes: &[u32], names: &[u8], answers: &[u32], out: &mut [u32], u: NodeId) -> Run
+    requires { ⌜ Enterable (now nodes) (now names) (u .0) ⌝ }
+    ensures { λ r. ⌜ Shows (now (nodes .entry)) (now (names .entry)) (route (unitOf (now (nodes .entry)) (now (names .entry)) (u .0)) (now (answers .entry))) (now (out .entry)) (now (out .exit)) r ⌝ }
+{
+    let start = Run {
+        entries: 0,
+        taken: 0,
+        how: Completion::Normal,
+    };
+    let Found::At(b) = code_shapes::holder(nodes, u) else {
+        return start;
+    };
+    walk_parts(nodes, names, answers, out, b, b.0 + 1, start)
 }

@@ -26,6 +26,7 @@ use Rattle.ecma_standard.specs.AsyncBodies.{OptionOn, optionOn}
 use Rattle.code_jump_scope.specs.UnitScoped.{Targeted}
 use Rattle.call_routes.specs.Theorem.{Routes, routes, targeted}
 use Rattle.call_shared.specs.Theorem.{OneAnswerChanged, one-answer-changed}
+use Rattle.call_walk.specs.Theorem.{BothEngines, bothEngines}
 use Rattle.call_rows.specs.Rows.{rows, Each, Holds}
 use Rattle.call_rows.specs.RowsHold.{rows-hold}
 use Rattle.exports.proofs.velkunshe_check.Statement as check-call
@@ -36,6 +37,8 @@ use Rattle.exports.proofs.velkunshe_route.Statement as route-call
 use Rattle.exports.proofs.velkunshe_route.Met as route-proved
 use Rattle.exports.proofs.velkunshe_shared.Statement as shared-call
 use Rattle.exports.proofs.velkunshe_shared.Met as shared-proved
+use Rattle.exports.proofs.velkunshe_walk.Statement as walk-call
+use Rattle.exports.proofs.velkunshe_walk.Met as walk-proved
 use Rattle.code_machine.proofs.run.Statement as machine-run
 use Rattle.code_machine.proofs.run.Met as run-proved
 
@@ -49,6 +52,8 @@ pub record Demands : Type 2 where
   -- "A call that gives, for two answer lists of any kind, the length of the longest beginning that their routes share; it writes the code alone and gives the code call's refusals" (document 02,
   -- request 11): equal to `sharedAnswer` (crates/call_shared/specs/Shared.antt), and `codeSlice` is what it leaves.
   pub shared : {M : Type 1} → shared-call.statement M
+  -- The second engine (document 02, request 6): `walkAnswer`, `walkSlice` (crates/call_walk/specs/Walked.antt).
+  pub walk : {M : Type 1} → walk-call.statement M
   -- "A run reads the code and the answers, never the tables": the machine is lent nothing else, and is total on any list of numbers as code.
   pub machine : {M : Type 1} → machine-run.statement M
   -- 2. "On well-formed tables .. the findings .. save on the conditions listed in docs/DIFFERENCES.md, are proved against definitions from ECMA-262 with Annex B: one where a rule is
@@ -75,6 +80,8 @@ pub record Demands : Type 2 where
   -- or fewer, they are equal to the end. Each route has at most (answers taken + 1) × (nodes of the unit) entries", by the completion rules and by the code.
   pub oneAnswerChanged : (t asyncBodies : ℕ) (ns ss source names : List ℕ) (u : ℕ) → inputRefusal t ns ss source names ≡ Passed → stateAnswer (rule t asyncBodies ns ss source names) u ≡ Passed
       → OneAnswerChanged ns names u
+  -- "For every tree, unit and answer list it gives the list, end and count of answers of the code engine .. It gives the refusals of the route call except 11" (document 02, request 6).
+  pub engines : (r : Rule) (u : ℕ) (answers : List ℕ) → BothEngines r u answers
   -- Document 01's rows, of the calls.
   pub rowsHold : Each Holds rows
 
@@ -84,6 +91,7 @@ demands = record {
   code = code-proved.met;
   route = route-proved.met;
   shared = shared-proved.met;
+  walk = walk-proved.met;
   machine = run-proved.met;
   standard = standard262;
   changed = findings262;
@@ -95,5 +103,6 @@ demands = record {
   targets = λ t asyncBodies ns ss source names u f p. targeted t asyncBodies ns ss source names u f p;
   routes = λ t asyncBodies ns ss source names u f p. routes t asyncBodies ns ss source names u f p;
   oneAnswerChanged = λ t asyncBodies ns ss source names u f p. one-answer-changed t asyncBodies ns ss source names u f p;
+  engines = bothEngines;
   rowsHold = rows-hold;
 }

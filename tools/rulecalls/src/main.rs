@@ -1,5 +1,6 @@
 //! Calls of the proved library that ruleroute doesn't make, over lines as it reads and prints them.
 //!
+//!     rulecalls walk      as ruleroute, by the second engine: L,node for each entry, then Z,end,entries,answers taken
 //!     rulecalls shared    behind the rule's lines U, A with answers and A with others: prints B,entries shared
 //!
 //! A refusal is printed as R,number,place, and R,0,line where a line can't be read or is missing. What is read and
@@ -9,11 +10,11 @@ use std::io::{Read, Write};
 use std::process::ExitCode;
 
 use plain::reader::{BadLine, OwnedTables, Reader};
-use velkunshe::Rule;
+use velkunshe::{End, Route, Rule};
 
 type Call = fn(&mut Reader) -> Result<Vec<u8>, Refused>;
 
-const CALLS: [(&str, Call); 1] = [("shared", shared)];
+const CALLS: [(&str, Call); 2] = [("shared", shared), ("walk", walk)];
 
 /// A wrong call, or an input or output that is lost.
 const FAILED: u8 = 2;
@@ -86,4 +87,24 @@ fn shared(reader: &mut Reader) -> Result<Vec<u8>, Refused> {
     let second = reader.numbers(b'A')?;
     let entries = velkunshe::shared_of(&rule(&tables), unit, &first, &second)?;
     Ok(format!("B,{entries}\n").into_bytes())
+}
+
+fn walk(reader: &mut Reader) -> Result<Vec<u8>, Refused> {
+    let tables = reader.tables()?;
+    let (unit, answers) = reader.unit_and_answers()?;
+    Ok(route_lines(&velkunshe::walk_of(&rule(&tables), unit, &answers)?))
+}
+
+fn route_lines(route: &Route) -> Vec<u8> {
+    let listed: String = route.nodes.iter().map(|node| format!("L,{node}\n")).collect();
+    format!("{listed}Z,{},{},{}\n", number(route.end), route.nodes.len(), route.taken).into_bytes()
+}
+
+fn number(end: End) -> u32 {
+    match end {
+        End::FellThrough => 0,
+        End::Returned => 1,
+        End::Thrown => 2,
+        End::AnswersSpent => 3,
+    }
 }
