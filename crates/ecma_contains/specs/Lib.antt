@@ -3,3 +3,4 @@ pub mod BoundNames
 pub mod Changed
 pub mod BoundNamesLaws
 pub mod NodeRules
+pub mod ExamplesBoundNames
