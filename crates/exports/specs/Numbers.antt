@@ -1,14 +1,17 @@
--- Document 01's numbers for each case of an answer: the refusal's number, 0 where there is none, its place, and the length that 10, 11 and 12 give beside.
+-- Document 01's numbers for each case of an answer: the refusal's number, 0 where there is none, its place, and the length that 10, 11, 12 and 20 give beside.
 use Rattle.call_check.specs.declared.Checked.{Checked}
 use Rattle.call_check.specs.declared.Checked.the-variants as checked
 use Rattle.call_routes.specs.declared.Coded.{Coded}
 use Rattle.call_routes.specs.declared.Coded.the-variants as coded
+use Rattle.call_rename.specs.declared.Relabelled.{Relabelled}
+use Rattle.call_rename.specs.declared.Relabelled.the-variants as relabelled
 use Rattle.refusal_verdict.specs.Refusals as refusals
 use Rattle.route_viewer.specs.declared.Routed.{Routed}
 use Rattle.route_viewer.specs.declared.Routed.the-variants as routed
 use Rattle.exports.specs.declared.CheckAnswer.{CheckAnswer}
 use Rattle.exports.specs.declared.CodeAnswer.{CodeAnswer}
 use Rattle.exports.specs.declared.RouteAnswer.{RouteAnswer}
+use Rattle.exports.specs.declared.RenameAnswer.{RenameAnswer}
 
 abbrev pub checkNumbers : Checked → CheckAnswer
 checkNumbers (checked.Findings n) = record { refusal = 0; place = 0; findings = n; needed = 0 }
@@ -25,3 +28,8 @@ routeNumbers (routed.Route end entries taken) = record { refusal = 0; place = 0;
 routeNumbers (routed.Refused number place) = record { refusal = number; place = place; entries = 0; needed = 0; taken = 0; end = 0 }
 routeNumbers (routed.Short needed) = record { refusal = refusals.RouteSlice; place = 0; entries = 0; needed = needed; taken = 0; end = 0 }
 routeNumbers (routed.CodeShort needed) = record { refusal = refusals.CodeSlice; place = 0; entries = 0; needed = needed; taken = 0; end = 0 }
+
+abbrev pub renameNumbers : Relabelled → RenameAnswer
+renameNumbers (relabelled.Names n) = record { refusal = 0; place = 0; names = n; needed = 0 }
+renameNumbers (relabelled.Refused number place) = record { refusal = number; place = place; names = 0; needed = 0 }
+renameNumbers (relabelled.Short needed) = record { refusal = refusals.RenamedSlices; place = 0; names = 0; needed = needed }
