@@ -1,0 +1,5 @@
+pub mod Same
+pub mod UnitLaws
+pub mod StateLaws
+pub mod CallLaws
+pub mod Theorem
