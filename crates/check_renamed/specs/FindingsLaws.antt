@@ -13,9 +13,8 @@ use Rattle.table_names.specs.Name.{nameOf}
 use Rattle.check_dispatch.specs.Rule.{rule}
 use Rattle.check_dispatch.specs.Findings.{findingsAt}
 use Rattle.check_dispatch.specs.Reported.{reportedAt, reported}
-use Rattle.code_tree.specs.Labels.{isLabel}
 use Rattle.table_renamed.specs.Renamed.{Renamed}
-use Rattle.table_renamed.specs.RenamedLaws.{Alike, everywhere, label-in}
+use Rattle.table_renamed.specs.RenamedLaws.{Alike, everywhere}
 use Rattle.table_renamed.specs.TableLaws.{tables}
 use Rattle.table_renamed.specs.NameLaws.{cond-both, name-at-kind}
 use Rattle.check_renamed.specs.Unreserved.{Unreserved}
@@ -29,12 +28,6 @@ module _ (ns names ms mnames : List ℕ) (renamed : Renamed ns names ms mnames) 
     r : Alike ns names ms mnames
     r = everywhere ns names ms mnames whole renamed
 
-    whole-new : length ms ≡ count ms * 10
-    whole-new = let s = r .fields .size in omega arith
-
-    label-new : (i : ℕ) → isLabel ns i ≡ true → isLabel ms i ≡ true
-    label-new i e = simp (tables, r .fields) at e
-
     test : (n kind : ℕ) → eqb (kindOf ns n) kind ≡ eqb (kindOf ms n) kind
     test n kind = ap (λ x. eqb x kind) (r .fields .kind n)
 
@@ -46,8 +39,7 @@ module _ (ns names ms mnames : List ℕ) (renamed : Renamed ns names ms mnames) 
     findings-at =
         fun-ext (λ n.
         rw (
-          identifier ns names ms mnames r (λ i e. old .await i (label-in ns whole i e) e) (λ i e. old .strict i (label-in ns whole i e) e)
-              (λ i e. new .await i (label-in ms whole-new i (label-new i e)) (label-new i e)) (λ i e. new .strict i (label-in ms whole-new i (label-new i e)) (label-new i e)) t ss n,
+          identifier ns names ms mnames r whole old new t ss n,
           class ns names ms mnames r w v t n,
           object ns names ms mnames r n,
         )

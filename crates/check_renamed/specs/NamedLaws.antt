@@ -1,10 +1,11 @@
 -- The checks that ask for names.
-use Prim.Native.Nat.{ℕ, _+_}
+use Prim.Native.Nat.{ℕ, _+_, _*_}
 use mathlib.Core.Path.{_≡_, refl, ap, sym, fun-ext, _∙_}
 use mathlib.Core.List.{List, [], _∷_, flatMap}
 use mathlib.Core.Bool.{Bool, true, false, cond, _&&_}
 use native.Mathlib.Omega.{arith}
 use lib.Dec.{eqb}
+use lib.ListN.{length}
 use Rattle.base_common.specs.Upto.{upto}
 use Rattle.base_common.specs.UptoLaws.{and-left}
 use Rattle.table_records.specs.Table.{count, kindOf}
@@ -15,6 +16,7 @@ use Rattle.table_records.specs.declared.Found.the-variants.{At, Nothing}
 use Rattle.table_names.specs.Name.{nameOf, nameIs, sameName}
 use Rattle.table_names.specs.Words as word
 use Rattle.table_children.specs.Children.{keep, labelOf}
+use Rattle.check_diagnostics.specs.declared.Raised.the-variants.{Clear}
 use Rattle.check_diagnostics.specs.Finding.{listed}
 use Rattle.check_diagnostics.specs.Gather.{flat-keep, flat-same}
 use Rattle.check_jumps.specs.Jumps.{whenFound, walkUp, sameLabel, labelledBreakAt, labelledContinueAt, labeledAt, checkBreakStatement, checkContinueStatement, checkLabeledStatement}
@@ -28,9 +30,10 @@ use Rattle.check_duplicates.specs.declared.Place.{Place}
 use Rattle.check_duplicates.specs.Duplicates.{sideOf, isEarlier, previousOn, previousOf, clashes, clashCode, redeclaration, duplicateBy, duplicatesIn, duplicateElements}
 use Rattle.check_classes.specs.ClassChecks.{isReference, isClass, references, undeclaredAt, undeclaredIn, undeclaredBy, constructors, constructorSpan, firstPair, secondBy, checkClass}
 use Rattle.code_tree.specs.Labels.{isLabel}
-use Rattle.table_renamed.specs.RenamedLaws.{Alike}
+use Rattle.table_renamed.specs.RenamedLaws.{Alike, label-in}
 use Rattle.table_renamed.specs.TableLaws.{tables, size}
 use Rattle.table_renamed.specs.NameLaws.{cond-both, name-at-kind, at-key, at-label, two-labels, name-len}
+use Rattle.check_renamed.specs.Unreserved.{Unreserved}
 use Rattle.check_renamed.specs.CheckLaws.{checks}
 
 -- what is gathered from nodes that pass a test which both tables answer alike
@@ -110,18 +113,23 @@ module _ (ns names ms mnames : List ℕ) (r : Alike ns names ms mnames) where
   unfolding elementName
   element-name e = at-key ns names ms mnames r (nameAt ns names) (nameAt ms mnames) e (λ m l h. h) refl
 
--- THE RESERVED-WORD CHECK: it looks for no label's name
-module _ (ns names ms mnames : List ℕ) (r : Alike ns names ms mnames)
-    (oldAwait : (i : ℕ) → isLabel ns i ≡ true → nameIs ns names i word.awaitWord ≡ false) (oldStrict : (i : ℕ) → isLabel ns i ≡ true → isStrictWord ns names i ≡ false)
-    (newAwait : (i : ℕ) → isLabel ns i ≡ true → nameIs ms mnames i word.awaitWord ≡ false) (newStrict : (i : ℕ) → isLabel ns i ≡ true → isStrictWord ms mnames i ≡ false)
-  where
-    pub identifier : (t : ℕ) (ss : List ℕ) (n : ℕ) → checkIdentifier t ns ss names n ≡ checkIdentifier t ms ss mnames n
-    unfolding checkIdentifier
-    identifier t ss n = go (isLabel ns n) refl
-      where
-        go : (b : Bool) → isLabel ns n ≡ b → checkIdentifier t ns ss names n ≡ checkIdentifier t ms ss mnames n
-        go true e = rw (oldAwait n e, oldStrict n e, newAwait n e, newStrict n e)
-        go false e = other-identifier ns names ms mnames r t ss n (r .others n e)
+-- THE RESERVED-WORD CHECK: it raises nothing where it finds none of its words, and so at no label
+word-clear : (t : ℕ) (ns ss names : List ℕ) (n : ℕ) → nameIs ns names n word.awaitWord ≡ false → isStrictWord ns names n ≡ false → checkIdentifier t ns ss names n ≡ Clear
+unfolding checkIdentifier
+word-clear t ns ss names n a s = rw (a, s)
+
+label-clear : (t : ℕ) (ns ss names : List ℕ) → Unreserved ns names → length ns ≡ count ns * 10 → (n : ℕ) → isLabel ns n ≡ true → checkIdentifier t ns ss names n ≡ Clear
+label-clear t ns ss names u whole n e = word-clear t ns ss names n (u .await n (label-in ns whole n e) e) (u .strict n (label-in ns whole n e) e)
+
+module _ (ns names ms mnames : List ℕ) (r : Alike ns names ms mnames) (whole : length ns ≡ count ns * 10) (old : Unreserved ns names) (new : Unreserved ms mnames) where
+  pub identifier : (t : ℕ) (ss : List ℕ) (n : ℕ) → checkIdentifier t ns ss names n ≡ checkIdentifier t ms ss mnames n
+  identifier t ss n = go (isLabel ns n) refl
+    where
+      go : (b : Bool) → isLabel ns n ≡ b → checkIdentifier t ns ss names n ≡ checkIdentifier t ms ss mnames n
+      go true e =
+          let s = r .fields .size in
+          label-clear t ns ss names old whole n e ∙ sym (label-clear t ms ss mnames new (omega arith) n (simp (tables, r .fields) at e))
+      go false e = other-identifier ns names ms mnames r t ss n (r .others n e)
 
 -- CLASSES, of source type t
 module _ (ns names ms mnames : List ℕ) (r : Alike ns names ms mnames) (w : Named ns names) (v : Named ms mnames) (t : ℕ) where
