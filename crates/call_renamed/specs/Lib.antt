@@ -3,3 +3,4 @@ pub mod UnitLaws
 pub mod StateLaws
 pub mod CallLaws
 pub mod Theorem
+pub mod WrittenLaws
