@@ -18,6 +18,8 @@ use Rattle.check_dispatch.specs.Rule.{Rule, rule}
 use Rattle.check_dispatch.specs.Reported.{reported}
 use Rattle.check_dispatch.specs.ReportedLaws as option
 use Rattle.refusal_state.specs.Targets.{stateAnswer}
+use Rattle.call_renamed.specs.Same.{LabelsRenamed, Same, withTables}
+use Rattle.call_renamed.specs.Theorem.{labels-renamed}
 use Rattle.ecma_base.specs.Telling.{Telling}
 use Rattle.ecma_dispatch.specs.TypescriptLaws.{Typescript, typescript}
 use Rattle.ecma_standard.specs.Standard.{Standard, standard262}
@@ -58,6 +60,9 @@ pub record Demands : Type 2 where
   pub before : (t : ℕ) → t ≤ 1 → (ns ss source names : List ℕ) → findingsOf t ns ss source names ≡ Former.findingsOf t ns ss source names
   pub clashes : (t : ℕ) (ns names : List ℕ) → duplicateElements t ns names ≡ flatMap (clashFindings t ns names) (classesOf ns)
   pub typescript : (ns ss source names : List ℕ) → Typescript ns ss source names
+  -- "If every label name .. is replaced by a name, one to one over the whole tree, .. then findings are equal in code, node, spans and context, and routes of units are equal too" (document 02, request 12):
+  -- what the calls answer and leave of every slice.
+  pub renamed : (x : Rule) (ms mnames : List ℕ) → LabelsRenamed x ms mnames → Same x (withTables x ms mnames)
   -- 3. "For every well-formed tree without findings, whose breaks and continues all have the target that ECMA-262 asks for inside their own unit": those without findings have it.
   pub targets : (t asyncBodies : ℕ) (ns ss source names : List ℕ) (u : ℕ) → inputRefusal t ns ss source names ≡ Passed → stateAnswer (rule t asyncBodies ns ss source names) u ≡ Passed → Targeted ns names
   -- "every unit of it .. and every list of answers, empty, too short or too long included", with `try` (document 02, request 1) and static blocks (request 5): "the flat jump code .. lists the same statements in the same order, takes the same
@@ -81,6 +86,7 @@ demands = record {
   before = λ t s ns ss source names. former-of t s ns names ss source;
   clashes = each-clash;
   typescript = typescript;
+  renamed = labels-renamed;
   targets = λ t asyncBodies ns ss source names u f p. targeted t asyncBodies ns ss source names u f p;
   routes = λ t asyncBodies ns ss source names u f p. routes t asyncBodies ns ss source names u f p;
   rowsHold = rows-hold;
