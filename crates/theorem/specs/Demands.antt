@@ -29,12 +29,18 @@ use Rattle.code_jump_scope.specs.UnitScoped.{Targeted}
 use Rattle.call_routes.specs.Theorem.{Routes, routes, targeted}
 use Rattle.call_rows.specs.Rows.{rows, Each, Holds}
 use Rattle.call_rows.specs.RowsHold.{rows-hold}
+use Rattle.call_labels.specs.Written.{renamedNodes, renamedNames}
+use Rattle.call_rename.specs.declared.Relabelled.the-variants.{Names}
+use Rattle.call_rename_laws.specs.Output.{renamingOf, Output}
+use Rattle.call_rename_laws.specs.OutputLaws.{output}
 use Rattle.exports.proofs.velkunshe_check.Statement as check-call
 use Rattle.exports.proofs.velkunshe_check.Met as check-proved
 use Rattle.exports.proofs.velkunshe_code.Statement as code-call
 use Rattle.exports.proofs.velkunshe_code.Met as code-proved
 use Rattle.exports.proofs.velkunshe_route.Statement as route-call
 use Rattle.exports.proofs.velkunshe_route.Met as route-proved
+use Rattle.exports.proofs.velkunshe_rename.Statement as rename-call
+use Rattle.exports.proofs.velkunshe_rename.Met as rename-proved
 use Rattle.code_machine.proofs.run.Statement as machine-run
 use Rattle.code_machine.proofs.run.Met as run-proved
 
@@ -45,6 +51,8 @@ pub record Demands : Type 2 where
   pub check : {M : Type 1} → check-call.statement M
   pub code : {M : Type 1} → code-call.statement M
   pub route : {M : Type 1} → route-call.statement M
+  -- .. and of the renaming call to `renaming` (crates/call_rename/specs/Rename.antt; document 02, request 12).
+  pub rename : {M : Type 1} → rename-call.statement M
   -- "A run reads the code and the answers, never the tables": the machine is lent nothing else, and is total on any list of numbers as code.
   pub machine : {M : Type 1} → machine-run.statement M
   -- 2. "On well-formed tables .. the findings .. save on the conditions listed in docs/DIFFERENCES.md, are proved against definitions from ECMA-262 with Annex B: one where a rule is
@@ -63,6 +71,8 @@ pub record Demands : Type 2 where
   -- "If every label name .. is replaced by a name, one to one over the whole tree, .. then findings are equal in code, node, spans and context, and routes of units are equal too" (document 02, request 12):
   -- what the calls answer and leave of every slice.
   pub renamed : (x : Rule) (ms mnames : List ℕ) → LabelsRenamed x ms mnames → Same x (withTables x ms mnames)
+  -- What the renaming call writes is such a renaming, with the names length that it answers, and "Renaming twice gives the bytes of renaming once."
+  pub written : (x : Rule) (s u : List ℕ) (n : ℕ) → (renamingOf x s u) .answer ≡ Names n → Output x s u n (renamedNodes (x .nodes) (x .names)) (renamedNames (x .nodes) (x .names))
   -- 3. "For every well-formed tree without findings, whose breaks and continues all have the target that ECMA-262 asks for inside their own unit": those without findings have it.
   pub targets : (t asyncBodies : ℕ) (ns ss source names : List ℕ) (u : ℕ) → inputRefusal t ns ss source names ≡ Passed → stateAnswer (rule t asyncBodies ns ss source names) u ≡ Passed → Targeted ns names
   -- "every unit of it .. and every list of answers, empty, too short or too long included", with `try` (document 02, request 1) and static blocks (request 5): "the flat jump code .. lists the same statements in the same order, takes the same
@@ -78,6 +88,7 @@ demands = record {
   check = check-proved.met;
   code = code-proved.met;
   route = route-proved.met;
+  rename = rename-proved.met;
   machine = run-proved.met;
   standard = standard262;
   changed = findings262;
@@ -87,6 +98,7 @@ demands = record {
   clashes = each-clash;
   typescript = typescript;
   renamed = labels-renamed;
+  written = output;
   targets = λ t asyncBodies ns ss source names u f p. targeted t asyncBodies ns ss source names u f p;
   routes = λ t asyncBodies ns ss source names u f p. routes t asyncBodies ns ss source names u f p;
   rowsHold = rows-hold;
