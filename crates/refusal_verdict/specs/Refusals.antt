@@ -60,3 +60,11 @@ WrongCount = 14
 -- 15. A Return whose nearest unit is a static block.
 abbrev pub ReturnInStatic : ℕ
 ReturnInStatic = 15
+
+-- 19. A label that the reserved-word check looks for, or a 700th different label.
+abbrev pub Label : ℕ
+Label = 19
+
+-- 20. A slice for the renamed tables is too short, or their names are above 1,048,576 bytes.
+abbrev pub RenamedSlices : ℕ
+RenamedSlices = 20

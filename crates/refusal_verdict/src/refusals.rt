@@ -45,3 +45,9 @@ pub const WRONG_COUNT: u32 = 14;
 
 // 15. A Return whose nearest unit is a static block.
 pub const RETURN_IN_STATIC: u32 = 15;
+
+// 19. A label that the reserved-word check looks for, or a 700th different label.
+pub const LABEL: u32 = 19;
+
+// 20. A slice for the renamed tables is too short, or their names are above 1,048,576 bytes.
+pub const RENAMED_SLICES: u32 = 20;
