@@ -123,6 +123,11 @@ fn run(cases: u64, seed: u64) {
 /// Stops at the tenth difference.
 fn compare_all(cases: u64, seed: u64) -> Counts {
     let mut counts = Counts::new();
+    #[cfg(feature = "proved")]
+    if let Err(what) = proved::at_limits(&mut counts) {
+        counts.differences += 1;
+        println!("difference at a limit: {what}");
+    }
     for index in 0..cases {
         let (sort, tables, mut rng) = case(seed, index);
         counts.case(sort, tables.source_type);

@@ -1,6 +1,8 @@
 //! The proved static library beside the plain version: every answer and every entry of every slice. Only with the
 //! feature `proved`.
 
+mod rename;
+
 use std::ops::Range;
 
 use cases::rng::Rng;
@@ -18,8 +20,14 @@ const MARGIN: usize = 9;
 /// "The code takes at most 16 numbers per node of the unit".
 const MOST_CODE: usize = 16;
 
-/// With the option on async bodies off and on.
+/// What no seeded case has.
+pub fn at_limits(counts: &mut Counts) -> Result<(), String> {
+    rename::at_limits(counts)
+}
+
+/// With the option on async bodies off and on; the calls that don't take it once.
 pub fn compare(t: &Tables, rng: &mut Rng, counts: &mut Counts) -> Result<(), String> {
+    rename::compare(t, counts)?;
     [false, true].into_iter().try_for_each(|async_bodies| compare_calls(&Tables { async_bodies, ..*t }, rng, counts))
 }
 
