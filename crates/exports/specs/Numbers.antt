@@ -36,6 +36,7 @@ abbrev pub sharedNumbers : Beginning → SharedAnswer
 sharedNumbers (beginning.Entries n) = record { refusal = 0; place = 0; shared = n; needed = 0 }
 sharedNumbers (beginning.Refused number place) = record { refusal = number; place = place; shared = 0; needed = 0 }
 sharedNumbers (beginning.Short needed) = record { refusal = refusals.CodeSlice; place = 0; shared = 0; needed = needed }
+
 abbrev pub renameNumbers : Relabelled → RenameAnswer
 renameNumbers (relabelled.Names n) = record { refusal = 0; place = 0; names = n; needed = 0 }
 renameNumbers (relabelled.Refused number place) = record { refusal = number; place = place; names = 0; needed = 0 }
