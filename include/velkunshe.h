@@ -52,7 +52,7 @@ extern "C" {
 #define VELKUNSHE_NODE 10
 #define VELKUNSHE_SCOPE 3
 #define VELKUNSHE_FINDING 7
-#define VELKUNSHE_CODE 16
+#define VELKUNSHE_CODE 10
 
 /* refusal: 0, or why the tables were turned down (1 to 6, 13 to 15), or 10 where the findings slice is too short.
  * place: the node or scope of refusals 2 to 6 and 13 to 15, else 0.

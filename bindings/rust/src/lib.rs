@@ -126,7 +126,7 @@ pub const SCOPE: usize = 3;
 pub const FINDING: usize = 7;
 /// The most numbers that a node of a unit gives to its code: a code slice with so many for each node of the tree is long enough. [`code`] with
 /// an empty slice says how long it must be.
-pub const CODE: usize = 16;
+pub const CODE: usize = 10;
 
 /// The tables of a rule. Nothing is asked of the numbers: what is no rule is turned down by a [`Refusal`].
 #[derive(Clone, Copy, Debug)]

@@ -11,14 +11,12 @@ use velkunshe::{End, Rule};
 
 use crate::counts::Counts;
 use crate::stored::RouteAnswer;
-use crate::{answers, over_code, same};
+use crate::{MOST_CODE, answers, over_code, same};
 
 /// What an entry holds that nothing was written to.
 const UNTOUCHED: u32 = 0xa5a5_5a5a;
 /// Entries before and behind a lent slice, which must stay as they are.
 const MARGIN: usize = 9;
-/// "The code takes at most 16 numbers per node of the unit".
-const MOST_CODE: usize = 16;
 
 /// What no seeded case has.
 pub fn at_limits(counts: &mut Counts) -> Result<(), String> {
@@ -100,7 +98,7 @@ fn unit(t: &Tables, unit: u32, answers: &[u32], counts: &mut Counts) -> Result<(
     around(listed).into_iter().try_for_each(|length| route(t, unit, answers, needed, length, counts))
 }
 
-/// The code itself is free: it has the length that request 9 states, at most 16 numbers per node of the unit, and
+/// The code itself is free: it has the length that request 9 states, at most 10 numbers per node of the unit, and
 /// nothing past it is written.
 fn code(t: &Tables, unit: u32, length: usize, counts: &mut Counts) -> Result<(), String> {
     let (mut made, part) = lent(length);
