@@ -52,7 +52,7 @@ extern "C" {
 #define VELKUNSHE_NODE 10
 #define VELKUNSHE_SCOPE 3
 #define VELKUNSHE_FINDING 7
-#define VELKUNSHE_CODE 16
+#define VELKUNSHE_CODE 10
 
 /* refusal: 0, or why the tables were turned down (1 to 6, 13 to 15), or 10 where the findings slice is too short.
  * place: the node or scope of refusals 2 to 6 and 13 to 15, else 0.
@@ -170,6 +170,31 @@ struct velkunshe_route_answer velkunshe_walk(
     uint32_t unit,
     const uint32_t *answers, size_t answers_length,
     uint32_t *route, size_t route_length);
+
+/* refusal: 0, or 1 to 6, 13 to 15; 19: a label (a node of kind 33 with role 6) has a name that the check of reserved words looks for, or is
+ *   the first of a 700th different name; 20: one of the two slices is too short, or the names would take more than 1,048,576 bytes.
+ * place: the node or scope of refusals 2 to 6 and 13 to 15, the label of 19, else 0.
+ * names: how many bytes of names were written, from the slice's start; 0 after a refusal.
+ * needed: after 20 how many bytes the names take, else 0. The node slice must be as long as the node table. */
+struct velkunshe_rename_answer {
+    uint32_t refusal;
+    uint32_t place;
+    uint64_t names;
+    uint64_t needed;
+};
+
+/* Renames the labels of a rule to a, b, .., z, aa, ab and so on (without do, if and in), in the order in which their names first appear,
+ * and writes a node table and a names slice of its own: the table as it was but for the names, each node's name in node order. A node
+ * without a name, label or not, keeps length 0 and starts where the next name would. Refusals of the tables come first, then 19, then 20;
+ * findings don't stop it. After a refusal both slices are as they were; no entry past the last one written is changed. */
+struct velkunshe_rename_answer velkunshe_rename(
+    uint32_t source_type,
+    const uint32_t *nodes, size_t nodes_length,
+    const uint32_t *scopes, size_t scopes_length,
+    const uint8_t *source, size_t source_length,
+    const uint8_t *names, size_t names_length,
+    uint32_t *renamed_nodes, size_t renamed_nodes_length,
+    uint8_t *renamed_names, size_t renamed_names_length);
 
 #ifdef __cplusplus
 }

@@ -20,5 +20,10 @@ while read -r p f; do
     failed=$((failed + f))
 done < <(sed -nE 's/^test result: .* ([0-9]+) passed; ([0-9]+) failed;.*/\1 \2/p' "$work/cargo")
 if sed -n '/Doc-tests/,$p' "$work/cargo" | grep -qE '^test result: ok\. [1-9]'; then ok; else bad "the documentation's example"; fi
+# 160 MB of a route in 120 MB of memory: the refusal is told, and nothing ends in an abort
+short_of_memory() { (ulimit -v 120000 && target/cargo/debug/examples/long_route) >"$work/long"; }
+if short_of_memory && [ "$(cat "$work/long")" = "refusal 12 at 0: the route slice is too short (length needed: 40020000)" ]; then ok; else
+    bad "a route that is too long for the memory: $(cat "$work/long")"
+fi
 rm -rf "$work"
 finish

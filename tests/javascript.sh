@@ -225,6 +225,13 @@ check "status 2: engines that differ" status 2 ./show-route rules/while-switch.j
 rm -f "$lossy"
 check "no second route of a rule with an error" status 2 ./show-route rules/block-label.js '' --against 1
 check "a call of rulecalls that can't be read" says 'R,0,22' beside 1
+# renamed TEXT: the text of a script with its labels renamed
+renamed() { printf '%b' "$1" | tools/rename-labels --script -; }
+check "labels renamed" says 'a: for (;;) { b: do { if (x) continue a; break b } while (y) }' renamed 'outer: for (;;) { inner: do { if (x) continue outer; break inner } while (y) }'
+check "labels renamed that are written with escapes" says 'a: { break /**/ a }' renamed '\\u0061bc: { break /**/ abc }'
+check "no label renamed" says 'x; // a: b' renamed 'x; // a: b'
+check "a label that is a reserved word in some code" says 'rename-labels: not renamed: the name of this label is a reserved word in some code, or there are 700 different labels (label yield)' renamed 'a: b: yield: ;'
+check "the tables of renamed texts" says '300 texts with labels: 288 changed, 0 as they were, 12 with a label that is not renamed' tools/rename-labels --generated 300 3
 check "the units of a rule" says '0  program  line 1, column 1
 3  function opens  line 3, column 1' ./show-route rules/office-hours.js --units
 check "the route of a TypeScript function" says 'route of the function at line 3 with answers 1, 0, 1

@@ -5,7 +5,7 @@
 use std::hint::black_box;
 
 use plain::reader::OwnedTables;
-use velkunshe::Rule;
+use velkunshe::{CODE, Rule};
 
 pub struct Input {
     pub tables: OwnedTables,
@@ -41,7 +41,7 @@ pub struct Slices {
 impl Slices {
     pub fn for_all(rules: &[Input]) -> Slices {
         let most = |f: fn(&Input) -> usize| vec![0; rules.iter().map(f).max().unwrap_or(0)];
-        Slices { findings: most(room_for_findings), code: most(|r| 16 * r.nodes()), route: most(room_for_route) }
+        Slices { findings: most(room_for_findings), code: most(|r| CODE * r.nodes()), route: most(room_for_route) }
     }
 }
 
@@ -118,11 +118,11 @@ fn compare_check(rule: &Input) -> usize {
 }
 
 fn compare_code(rule: &Input) -> usize {
-    velkunshe::code(&rule.rule(), 0, &mut vec![0; 16 * rule.nodes()]).expect("no findings")
+    velkunshe::code(&rule.rule(), 0, &mut vec![0; CODE * rule.nodes()]).expect("no findings")
 }
 
 fn compare_route(rule: &Input) -> usize {
-    let (mut code, mut expected) = (vec![0; 16 * rule.nodes()], vec![0; room_for_route(rule)]);
+    let (mut code, mut expected) = (vec![0; CODE * rule.nodes()], vec![0; room_for_route(rule)]);
     let mut listed = expected.clone();
     let plain = plain::route(&rule.tables.lend(), 0, &rule.answers, code.len(), &mut expected).expect("no findings");
     let shown = velkunshe::route(&rule.rule(), 0, &rule.answers, &mut code, &mut listed).expect("no findings");

@@ -74,6 +74,20 @@ static void walk(const uint32_t *answers, size_t count, size_t room) {
     print_route(a, route);
 }
 
+/* `long: { continue long; }`, the names at 0 and 4: both become a. */
+static void rename_labels(size_t room) {
+    static const uint8_t old_names[] = "longlong";
+    uint32_t table[sizeof nodes / sizeof *nodes], renamed[sizeof nodes / sizeof *nodes];
+    uint8_t renamed_names[8];
+    for (size_t i = 0; i < sizeof nodes / sizeof *nodes; i++)
+        table[i] = nodes[i];
+    table[2 * VELKUNSHE_NODE + 9] = table[5 * VELKUNSHE_NODE + 8] = table[5 * VELKUNSHE_NODE + 9] = 4;
+    struct velkunshe_rename_answer a = velkunshe_rename(
+        0, table, sizeof table / sizeof *table, scopes, 6, source, sizeof source - 1, old_names, sizeof old_names - 1, renamed,
+        sizeof renamed / sizeof *renamed, renamed_names, room);
+    printf("refusal %" PRIu32 ", needed %" PRIu64 ", names %.*s\n", a.refusal, a.needed, (int)a.names, (const char *)renamed_names);
+}
+
 int main(void) {
     uint32_t findings[8] = {0};
     findings[7] = 77;
@@ -98,5 +112,7 @@ int main(void) {
     compare(answers, 3, others, 3);
     walk(answers, 3, 8);
     walk(answers, 3, 3);
+    rename_labels(8);
+    rename_labels(1);
     return 0;
 }

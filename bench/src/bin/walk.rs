@@ -10,7 +10,7 @@ mod shapes;
 
 use plain::reader::OwnedTables;
 use shapes::SHAPES;
-use velkunshe::Rule;
+use velkunshe::{CODE, Rule};
 
 #[link(name = "bench_walk", kind = "static")]
 unsafe extern "C" {
@@ -71,7 +71,7 @@ fn main() {
     for shape in SHAPES.iter().filter(|s| ["depth 512", "breaks deep down"].contains(&s.name)) {
         let tables = (shape.make)(shape.sizes[0]);
         let nodes = tables.nodes.len() / 10;
-        let mut slice = vec![0; 16 * nodes];
+        let mut slice = vec![0; CODE * nodes];
         let [mut checked, mut coded] = [f64::INFINITY; 2];
         for _ in 0..batches {
             checked = checked.min(timed(|| check(&tables, &mut slice)));

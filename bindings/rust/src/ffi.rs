@@ -35,6 +35,14 @@ pub struct SharedAnswer {
     pub needed: u64,
 }
 
+#[repr(C)]
+pub struct RenameAnswer {
+    pub refusal: u32,
+    pub place: u32,
+    pub names: u64,
+    pub needed: u64,
+}
+
 extern "C" {
     pub fn velkunshe_check(
         source_type: u32,
@@ -124,4 +132,20 @@ extern "C" {
         route: *mut u32,
         route_length: usize,
     ) -> RouteAnswer;
+
+    pub fn velkunshe_rename(
+        source_type: u32,
+        nodes: *const u32,
+        nodes_length: usize,
+        scopes: *const u32,
+        scopes_length: usize,
+        source: *const u8,
+        source_length: usize,
+        names: *const u8,
+        names_length: usize,
+        renamed_nodes: *mut u32,
+        renamed_nodes_length: usize,
+        renamed_names: *mut u8,
+        renamed_names_length: usize,
+    ) -> RenameAnswer;
 }

@@ -3,7 +3,7 @@
 //! A rule comes as tables of numbers (see [`Rule`]). [`check`] gives its early errors; [`code`] makes the flat code of one of its units (the
 //! program, a function, an arrow or a static block), and [`route`] lists the statements that the unit comes to on a list of answers.
 //! [`findings`], [`code_of`] and [`route_of`] give the same in vectors. [`shared`] says how much two routes of one unit share. [`walk`] gives
-//! a route by a second engine, which makes no code. Whatever the tables hold, a call ends and does nothing undefined, and its answer
+//! a route by a second engine, which makes no code. [`renamed`] gives a rule with short labels. Whatever the tables hold, a call ends and does nothing undefined, and its answer
 //! is the one that is proved; nothing here asks for `unsafe`.
 //!
 //! The library is linked as `build.rs` says: from `VELKUNSHE_LIB`, the path of an archive, or from this repository's
@@ -107,12 +107,14 @@ macro_rules! on_rule {
 }
 
 mod ffi;
+mod rename;
 mod shared;
 mod walk;
 
 use std::error::Error;
 use std::fmt;
 
+pub use rename::{rename, renamed, Renamed};
 pub use shared::{shared, shared_of};
 pub use walk::{walk, walk_of};
 
@@ -124,7 +126,7 @@ pub const SCOPE: usize = 3;
 pub const FINDING: usize = 7;
 /// The most numbers that a node of a unit gives to its code: a code slice with so many for each node of the tree is long enough. [`code`] with
 /// an empty slice says how long it must be.
-pub const CODE: usize = 16;
+pub const CODE: usize = 10;
 
 /// The tables of a rule. Nothing is asked of the numbers: what is no rule is turned down by a [`Refusal`].
 #[derive(Clone, Copy, Debug)]
@@ -163,17 +165,17 @@ impl<'a> Rule<'a> {
 #[derive(Clone, Copy, Debug, PartialEq, Eq)]
 pub struct Refusal {
     /// 1 to 6, 13 to 15: the tables, looked at in the order 1, 2, 3, 4, 5, 13, 14, 6, 15; 7: the unit; 9: the rule has findings; 10, 11,
-    /// 12: the findings, code or route slice is too short. 8 is no longer given.
+    /// 12: the findings, code or route slice is too short; 19, 20: a label, or a slice, of [`rename`]. 8 is no longer given.
     pub number: u32,
-    /// The lowest node or scope that 2 to 6 and 13 to 15 speak of, the unit of 7, the node of 9, else 0.
+    /// The lowest node or scope that 2 to 6 and 13 to 15 speak of, the unit of 7, the node of 9, the label of 19, else 0.
     pub place: u32,
-    /// After 10, 11 and 12: the length that the slice must have.
+    /// After 10, 11, 12 and 20: the length that the slice must have (after 20 that of the names).
     pub needed: Option<u64>,
 }
 
 impl Refusal {
     fn new(number: u32, place: u32, needed: u64) -> Refusal {
-        Refusal { number, place, needed: matches!(number, 10..=12).then_some(needed) }
+        Refusal { number, place, needed: matches!(number, 10..=12 | 20).then_some(needed) }
     }
 }
 
@@ -194,6 +196,8 @@ impl fmt::Display for Refusal {
             13 => "the node stands under a parent that may not hold it, or has a kind or role that this parent doesn't take",
             14 => "the node has too few or too many children of some sort",
             15 => "a return stands in a static block",
+            19 => "a label's name is one that the check of reserved words looks for, or there are 700 different labels",
+            20 => "a slice for the renamed tables is too short, or their names are too long",
             _ => "turned down",
         };
         write!(f, "refusal {} at {}: {why}", self.number, self.place)?;

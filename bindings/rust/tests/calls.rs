@@ -1,8 +1,8 @@
 //! The calls on slices of every length: nothing but what is promised is written.
 
 use velkunshe::{
-    check, code, code_of, findings, route, route_of, shared, shared_of, walk, walk_of, End, Refusal, Rule, Shown, CODE,
-    FINDING,
+    check, code, code_of, findings, rename, renamed, route, route_of, shared, shared_of, walk, walk_of, End, Refusal,
+    Rule, Shown, CODE, FINDING,
 };
 
 /// A script with nothing in it.
@@ -326,4 +326,55 @@ fn walks() {
     assert_eq!(refused(&ROUTED, 1), (7, 1));
     assert_eq!(refused(&TWO, 0), (9, 1));
     assert_eq!(refused(&Rule { nodes: &[], ..ROUTED }, 0), (1, 0));
+}
+
+/// A label within a label, with jumps to both.
+const NAMES: &[u8] = b"outerinner";
+fn labelled() -> Vec<u32> {
+    let node = |kind, parent, role, name: [u32; 2]| [kind, parent, role, 0, 0, 0, 0, 0, name[0], name[1]];
+    [
+        node(0, 0, 0, [0, 0]),
+        node(6, 0, 3, [0, 0]),
+        node(33, 1, 6, [0, 5]),
+        node(6, 1, 3, [0, 0]),
+        node(33, 3, 6, [5, 5]),
+        node(18, 3, 3, [0, 0]),
+        node(33, 5, 6, [0, 5]),
+    ]
+    .concat()
+}
+
+#[test]
+fn renamed_labels() {
+    let nodes = labelled();
+    let rule = Rule { nodes: &nodes, names: NAMES, ..EMPTY };
+    let once = renamed(&rule).unwrap();
+    assert_eq!(once.names, b"aba");
+    let starts: Vec<(u32, u32)> = once.nodes.chunks(10).map(|n| (n[8], n[9])).collect();
+    assert_eq!(starts, [(0, 0), (0, 0), (0, 1), (1, 0), (1, 1), (2, 0), (2, 1)]);
+    assert_eq!(renamed(&once.rule(&rule)), Ok(once.clone()));
+    assert_eq!(route_of(&once.rule(&rule), 0, &[]), route_of(&rule, 0, &[]));
+    // 19 at the first label of that name, 20 after it.
+    let reserved = Rule { names: b"awaityield", ..rule };
+    assert_eq!(renamed(&reserved), Err(Refusal { number: 19, place: 2, needed: None }));
+    assert_eq!(rename(&reserved, &mut [], &mut []), Err(Refusal { number: 19, place: 2, needed: None }));
+}
+
+#[test]
+fn renamed_into_slices_of_every_length() {
+    let table = labelled();
+    let rule = Rule { nodes: &table, names: NAMES, ..EMPTY };
+    let once = renamed(&rule).unwrap();
+    for (node_room, name_room) in [(0, 9), (69, 9), (70, 2), (70, 3), (73, 7)] {
+        let (mut nodes, mut names) = (vec![77; node_room], vec![b'-'; name_room]);
+        let answer = rename(&rule, &mut nodes, &mut names);
+        if node_room < 70 || name_room < 3 {
+            assert_eq!(answer, Err(Refusal { number: 20, place: 0, needed: Some(3) }));
+            assert!(nodes.iter().all(|&n| n == 77) && names.iter().all(|&b| b == b'-'));
+        } else {
+            assert_eq!(answer, Ok(3));
+            assert_eq!((&nodes[..70], &names[..3]), (&once.nodes[..], &once.names[..]));
+            assert!(nodes[70..].iter().all(|&n| n == 77) && names[3..].iter().all(|&b| b == b'-'));
+        }
+    }
 }

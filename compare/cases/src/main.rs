@@ -25,6 +25,9 @@ use plain::{Refusal, Tables};
 
 use counts::Counts;
 
+/// The most numbers of code for a node, by the table of docs/CODE.md; the unit's own has 8.
+const MOST_CODE: usize = 10;
+
 fn main() {
     let args: Vec<String> = std::env::args().skip(1).collect();
     let number = |i: usize| args.get(i).and_then(|a| a.parse().ok()).unwrap_or_else(usage);
@@ -123,6 +126,11 @@ fn run(cases: u64, seed: u64) {
 /// Stops at the tenth difference.
 fn compare_all(cases: u64, seed: u64) -> Counts {
     let mut counts = Counts::new();
+    #[cfg(feature = "proved")]
+    if let Err(what) = proved::at_limits(&mut counts) {
+        counts.differences += 1;
+        println!("difference at a limit: {what}");
+    }
     for index in 0..cases {
         let (sort, tables, mut rng) = case(seed, index);
         counts.case(sort, tables.source_type);
@@ -232,7 +240,7 @@ fn routes(t: &Tables, rng: &mut Rng, counts: &mut Counts) -> Result<(), String> 
     for unit in units {
         let answers = answers(rng);
         let mut out = vec![77; 1 + (answers.len() + 1) * t.node_count()];
-        let answer = plain::route(t, unit as u32, &answers, 16 * t.node_count(), &mut out);
+        let answer = plain::route(t, unit as u32, &answers, MOST_CODE * t.node_count(), &mut out);
         counts.route(&answer);
         let Ok(route) = answer else { continue };
         counts.unit(t, unit);

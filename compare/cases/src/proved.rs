@@ -1,6 +1,8 @@
 //! The proved static library beside the plain version: every answer and every entry of every slice. Only with the
 //! feature `proved`.
 
+mod rename;
+
 use std::ops::Range;
 
 use cases::rng::Rng;
@@ -9,17 +11,21 @@ use velkunshe::{End, Rule};
 
 use crate::counts::Counts;
 use crate::stored::RouteAnswer;
-use crate::{answers, over_code, same};
+use crate::{MOST_CODE, answers, over_code, same};
 
 /// What an entry holds that nothing was written to.
 const UNTOUCHED: u32 = 0xa5a5_5a5a;
 /// Entries before and behind a lent slice, which must stay as they are.
 const MARGIN: usize = 9;
-/// "The code takes at most 16 numbers per node of the unit".
-const MOST_CODE: usize = 16;
 
-/// With the option on async bodies off and on.
+/// What no seeded case has.
+pub fn at_limits(counts: &mut Counts) -> Result<(), String> {
+    rename::at_limits(counts)
+}
+
+/// With the option on async bodies off and on; the calls that don't take it once.
 pub fn compare(t: &Tables, rng: &mut Rng, counts: &mut Counts) -> Result<(), String> {
+    rename::compare(t, counts)?;
     [false, true].into_iter().try_for_each(|async_bodies| compare_calls(&Tables { async_bodies, ..*t }, rng, counts))
 }
 
@@ -92,7 +98,7 @@ fn unit(t: &Tables, unit: u32, answers: &[u32], counts: &mut Counts) -> Result<(
     around(listed).into_iter().try_for_each(|length| route(t, unit, answers, needed, length, counts))
 }
 
-/// The code itself is free: it has the length that request 9 states, at most 16 numbers per node of the unit, and
+/// The code itself is free: it has the length that request 9 states, at most 10 numbers per node of the unit, and
 /// nothing past it is written.
 fn code(t: &Tables, unit: u32, length: usize, counts: &mut Counts) -> Result<(), String> {
     let (mut made, part) = lent(length);

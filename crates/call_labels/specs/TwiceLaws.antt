@@ -3,23 +3,29 @@ use Prim.Native.Nat.{ℕ, zero, suc, _+_, _*_, _≤_, _<_}
 use mathlib.Core.Path.{_≡_, refl, ap, sym, subst, _∙_}
 use mathlib.Core.Logic.{_⊎_, inl, inr, ⊎-elim}
 use mathlib.Core.List.{List, [], _∷_, _++_, map, map-append, flatMap}
-use mathlib.Core.Bool.{Bool, true, false, cond, _||_}
+use mathlib.Core.Bool.{Bool, true, false, cond, not, _&&_, _||_}
 use native.Mathlib.Omega.{arith}
-use lib.ListN.{length, getD, take, drop}
+use lib.Dec.{leb}
+use lib.ListN.{length, length-map, getD, take, drop}
 use lib.Seq.{take-append-seam, drop-append-seam}
 use Rattle.base_common.specs.Upto.{upto}
 use Rattle.base_common.specs.UptoLaws.{upto-nil, upto-cons}
-use Rattle.base_common.specs.Bools.{never}
+use Rattle.base_common.specs.Bools.{never, or-second}
 use Rattle.check_diagnostics.specs.Gather.{flat-turn, flat-end}
-use Rattle.refusal_verdict.specs.FirstLaws.{le-or-lt}
+use Rattle.refusal_verdict.specs.First.{first}
+use Rattle.refusal_verdict.specs.FirstLaws.{le-or-lt, first-nowhere}
+use Rattle.refusal_verdict.specs.declared.Place.the-variants.{Nowhere}
 use Rattle.table_records.specs.Table.{count, kindOf, roleOf}
 use Rattle.table_names.specs.Name.{same, nameOf, has}
 use Rattle.table_names.specs.NameLaws.{same-self, same-eq}
 use Rattle.code_tree.specs.Labels.{isLabel}
 use Rattle.call_labels.specs.Short.{most, shortName}
 use Rattle.call_labels.specs.ShortLaws.{short-some}
-use Rattle.call_labels.specs.Order.{add, seeing, labelNames, placeIn, newName}
-use Rattle.call_labels.specs.OrderLaws.{Known, label-known, new-once}
+use Rattle.call_labels.specs.Reserved.{isReserved}
+use Rattle.call_labels.specs.Order.{add, seeing, seenBefore, labelNames, placeIn, newName}
+use Rattle.call_labels.specs.OrderLaws.{Known, label-known, new-once, new-free}
+use Rattle.call_labels.specs.Unfit.{isNew, unfitAt}
+use Rattle.call_labels.specs.UnfitLaws.{fit, renamable}
 use Rattle.call_labels.specs.Written.{newNameOf, namesTo, recordOf, renamedNodes, renamedNames}
 use Rattle.call_labels.specs.WrittenLaws.{label-new, other-new, piece, in-piece, records-length}
 
@@ -79,6 +85,10 @@ some-new : (l : List (List ℕ)) (w : List ℕ) → (w ≡ [] → ⊥) → newNa
 some-new l [] h = absurd (h refl)
 some-new l (b ∷ bs) h = refl
 
+some-isnew : (l : List (List ℕ)) (w : List ℕ) → (w ≡ [] → ⊥) → isNew l w ≡ not (has l w)
+some-isnew l [] h = absurd (h refl)
+some-isnew l (b ∷ bs) h = refl
+
 module _ (L : List (List ℕ)) (few : length L ≤ most) where
   -- every member is one of L
   abbrev In : List (List ℕ) → Type 0
@@ -128,6 +138,24 @@ module _ (L : List (List ℕ)) (few : length L ≤ most) where
             rw (same-label i g, e, named i g e, map-add seen (nameOf ns names i) h (known i g e)) (r (add seen (nameOf ns names i)) (in-add seen (nameOf ns names i) h (known i g e)))
         go g false e r = rw (same-label i g, e) (r seen h)
 
+  -- the names seen are among them
+  module _ (ns names : List ℕ) (n : ℕ) (known : (i : ℕ) → i < n → isLabel ns i ≡ true → Known L (nameOf ns names i)) where
+    see-in : (f i : ℕ) → n ≤ i + f → (seen : List (List ℕ)) → In seen → In (seeing ns names seen (upto i n))
+    unfolding seeing
+    see-in zero i hf seen h = rw (upto-nil i n (omega arith)) h
+    see-in (suc f) i hf seen h =
+        ⊎-elim (λ (g : n ≤ i). rw (upto-nil i n g) h) (λ (g : i < n). rw (upto-cons i n g) (go g (isLabel ns i) refl (see-in f (i + 1) (omega arith)))) (le-or-lt n i)
+      where
+        go : i < n → (b : Bool) → isLabel ns i ≡ b → ((s : List (List ℕ)) → In s → In (seeing ns names s (upto (i + 1) n)))
+            → In (seeing ns names (cond b (add seen (nameOf ns names i)) seen) (upto (i + 1) n))
+        go g true e r = r (add seen (nameOf ns names i)) (in-add seen (nameOf ns names i) h (known i g e))
+        go g false e r = r seen h
+
+  -- a name that is new stays so
+  map-new : (l : List (List ℕ)) (z : List ℕ) → In l → Known L z → isNew (map (newName L) l) (newName L z) ≡ isNew l z
+  map-new l [] h k = refl
+  map-new l (b ∷ bs) h k = some-isnew (map (newName L) l) (newName L (b ∷ bs)) (λ e. short-some _ (sym e)) ∙ ap not (map-has l (b ∷ bs) h k)
+
   -- a new name stays
   new-new : (z : List ℕ) → Known L z → newName (map (newName L) L) (newName L z) ≡ newName L z
   new-new [] k = refl
@@ -159,11 +187,13 @@ module _ (ns names : List ℕ) (few : length (labelNames ns names) ≤ most) whe
   abbrev L : List (List ℕ)
   L = labelNames ns names
 
+  pub seen-alike : (n : ℕ) → n ≤ count ns → seenBefore ms mnames n ≡ map (newName L) (seenBefore ns names n)
+  seen-alike n l =
+      see-map L few ns names ms mnames n (λ i h. written-label ns names i (omega arith)) (λ i h e. written-name ns names i (omega arith) ∙ label-new ns names i e)
+      (λ i h e. label-known ns names i (omega arith) e) n 0 (omega arith) [] (λ y e. never (sym e))
+
   all-labels : labelNames ms mnames ≡ map (newName L) L
-  all-labels =
-      ap (λ z. seeing ms mnames [] (upto 0 z)) (written-count ns names)
-      ∙ see-map L few ns names ms mnames (count ns) (written-label ns names) (λ i h e. written-name ns names i h ∙ label-new ns names i e) (λ i h e. label-known ns names i h e) (count ns) 0 (omega arith) []
-      (λ y e. never (sym e))
+  all-labels = ap (λ z. seeing ms mnames [] (upto 0 z)) (written-count ns names) ∙ seen-alike (count ns) (omega arith)
 
   same-name : (i : ℕ) → i < count ns → newNameOf ms mnames i ≡ newNameOf ns names i
   same-name i h = go (isLabel ns i) refl
@@ -204,3 +234,33 @@ module _ (ns names : List ℕ) (few : length (labelNames ns names) ≤ most) whe
 
       from-pieces : flatMap (recordOf ns names) (upto 0 (count ns)) ≡ renamedNodes ns names
       from-pieces = sym (nodes-by ns names)
+
+-- 19 applies nowhere in what was renamed
+module _ (ns names : List ℕ) (e : first (unfitAt ns names) 0 (count ns) ≡ Nowhere) where
+  few : length (labelNames ns names) ≤ most
+  few = renamable ns names e .few
+
+  fit-again : (i : ℕ) → i < count ns → unfitAt (renamedNodes ns names) (renamedNames ns names) i ≡ false
+  unfolding unfitAt
+  fit-again i h = go (isLabel ns i) refl
+    where
+      go : (b : Bool) → isLabel ns i ≡ b
+          → (isLabel (renamedNodes ns names) i && (isReserved (nameOf (renamedNodes ns names) (renamedNames ns names) i)
+          || (isNew (seenBefore (renamedNodes ns names) (renamedNames ns names) i) (nameOf (renamedNodes ns names) (renamedNames ns names) i)
+          && leb most (length (seenBefore (renamedNodes ns names) (renamedNames ns names) i))))) ≡ false
+      go true l =
+          rw (
+            written-label ns names i h,
+            l,
+            written-name ns names i h,
+            label-new ns names i l,
+            seen-alike ns names few i (omega arith),
+            new-free (labelNames ns names) few (nameOf ns names i) (label-known ns names i h l),
+            map-new (labelNames ns names) few (seenBefore ns names i) (nameOf ns names i) (see-in (labelNames ns names) few ns names i (λ j g k. label-known ns names j (omega arith) k) i 0 (omega arith) [] (λ y q. never (sym q))) (label-known ns names i h l),
+            length-map (seenBefore ns names i) (newName (labelNames ns names)),
+          )
+          (or-second (isReserved (nameOf ns names i)) _ (fit ns names e i h l))
+      go false l = rw (written-label ns names i h, l)
+
+  pub twice-fit : first (unfitAt (renamedNodes ns names) (renamedNames ns names)) 0 (count (renamedNodes ns names)) ≡ Nowhere
+  twice-fit = first-nowhere (unfitAt (renamedNodes ns names) (renamedNames ns names)) (count (renamedNodes ns names)) 0 (λ j a b. fit-again j (omega (arith, written-count ns names)))

@@ -94,7 +94,7 @@ grows seen (b ∷ bs) h e = go (has seen (b ∷ bs)) e
     go false q = let l = leb-false most (length seen) q in let s = length-append seen ((b ∷ bs) ∷ []) in omega arith
 
 module _ (ns names : List ℕ) (e : first (unfitAt ns names) 0 (count ns) ≡ Nowhere) where
-  fit : (i : ℕ) → i < count ns → isLabel ns i ≡ true
+  pub fit : (i : ℕ) → i < count ns → isLabel ns i ≡ true
       → (isReserved (nameOf ns names i) || (isNew (seenBefore ns names i) (nameOf ns names i) && leb most (length (seenBefore ns names i)))) ≡ false
   unfolding unfitAt
   fit i h l = let r = first-none (unfitAt ns names) (count ns) 0 e i (omega arith) h in rw l at r

@@ -15,8 +15,9 @@ ghost use Rattle.call_labels.specs.Order.{seenBefore, placeIn};
 ghost use Rattle.call_labels.specs.Written.{newNameOf, recordWith, renamedNodes, renamedNames};
 ghost use Rattle.call_labels.specs.Firsts.{keptFrom, Nodes, Firsts, Entered, Listed, Ready};
 use base_common::and;
+use check_identifiers::is_strict_word;
 use table_names::name;
-use table_names::same;
+use table_names::name_is;
 use table_names::same_name;
 use table_records::NodeId;
 use table_records::kinds;
@@ -45,41 +46,16 @@ fn is_label(nodes: &[u32], n: NodeId) -> bool
     )
 }
 
-// Whether the reserved-word check looks for this name.
-fn is_reserved(name: &[u8]) -> bool
-    ensures { λ r. ⌜ r ≡ isReserved (now (name .entry)) ⌝ }
+// Whether the reserved-word check looks for the name of n.
+fn is_reserved(nodes: &[u32], names: &[u8], n: NodeId) -> bool
+    requires { ⌜ Named (now nodes) (now names) ⌝ }
+    requires { ⌜ n .0 < count (now nodes) ⌝ }
+    ensures { λ r. ⌜ r ≡ isReserved (nameOf (now (nodes .entry)) (now (names .entry)) (n .0)) ⌝ }
 {
-    if same(name, b"await") {
+    if name_is(nodes, names, n, b"await") {
         return true;
     }
-    if same(name, b"implements") {
-        return true;
-    }
-    if same(name, b"interface") {
-        return true;
-    }
-    if same(name, b"let") {
-        return true;
-    }
-    if same(name, b"package") {
-        return true;
-    }
-    if same(name, b"private") {
-        return true;
-    }
-    if same(name, b"protected") {
-        return true;
-    }
-    if same(name, b"public") {
-        return true;
-    }
-    if same(name, b"static") {
-        return true;
-    }
-    if same(name, b"yield") {
-        return true;
-    }
-    false
+    is_strict_word(nodes, names, n)
 }
 
 // Where the name of n stands among those of the labels kept; their number where it is none of them.
@@ -109,7 +85,7 @@ fn enter(nodes: &[u32], names: &[u8], kept: &mut [u32], size: usize, i: u32) -> 
     if !is_label(nodes, NodeId(i)) {
         return Labels::Few(size);
     }
-    if is_reserved(name(nodes, names, NodeId(i))) {
+    if is_reserved(nodes, names, NodeId(i)) {
         return Labels::Unfit(i);
     }
     if table_records::name_len(nodes, NodeId(i)) == 0 {
@@ -248,7 +224,7 @@ fn put_name(
         return;
     }
     if !is_label(nodes, n) {
-        line_digits::copy(name(nodes, names, n), out, w);
+        table_put::copy(name(nodes, names, n), out, w);
         return;
     }
     put_short(place_in(nodes, names, kept, size, n), out, w);

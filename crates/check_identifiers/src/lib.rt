@@ -62,7 +62,7 @@ fn check_await(source_type: u32, nodes: &[u32], scopes: &[u32], n: NodeId) -> Ra
 // Whether a name is reserved in strict code.
 // > It is a Syntax Error if this phrase is contained in strict mode code and the StringValue of IdentifierName is: "implements", "interface", "let",
 // > "package", "private", "protected", "public", "static", or "yield".
-fn is_strict_word(nodes: &[u32], names: &[u8], n: NodeId) -> bool
+pub fn is_strict_word(nodes: &[u32], names: &[u8], n: NodeId) -> bool
     requires { ⌜ Named (now nodes) (now names) ⌝ }
     requires { ⌜ n .0 < count (now nodes) ⌝ }
     ensures { λ r. ⌜ r ≡ isStrictWord (now (nodes .entry)) (now (names .entry)) (n .0) ⌝ }

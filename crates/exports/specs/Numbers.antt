@@ -1,10 +1,12 @@
--- Document 01's numbers for each case of an answer: the refusal's number, 0 where there is none, its place, and the length that 10, 11 and 12 give beside.
+-- Document 01's numbers for each case of an answer: the refusal's number, 0 where there is none, its place, and the length that 10, 11, 12 and 20 give beside.
 use Rattle.call_check.specs.declared.Checked.{Checked}
 use Rattle.call_check.specs.declared.Checked.the-variants as checked
 use Rattle.call_routes.specs.declared.Coded.{Coded}
 use Rattle.call_routes.specs.declared.Coded.the-variants as coded
 use Rattle.call_shared.specs.declared.Beginning.{Beginning}
 use Rattle.call_shared.specs.declared.Beginning.the-variants as beginning
+use Rattle.call_rename.specs.declared.Relabelled.{Relabelled}
+use Rattle.call_rename.specs.declared.Relabelled.the-variants as relabelled
 use Rattle.refusal_verdict.specs.Refusals as refusals
 use Rattle.route_viewer.specs.declared.Routed.{Routed}
 use Rattle.route_viewer.specs.declared.Routed.the-variants as routed
@@ -12,6 +14,7 @@ use Rattle.exports.specs.declared.CheckAnswer.{CheckAnswer}
 use Rattle.exports.specs.declared.CodeAnswer.{CodeAnswer}
 use Rattle.exports.specs.declared.RouteAnswer.{RouteAnswer}
 use Rattle.exports.specs.declared.SharedAnswer.{SharedAnswer}
+use Rattle.exports.specs.declared.RenameAnswer.{RenameAnswer}
 
 abbrev pub checkNumbers : Checked → CheckAnswer
 checkNumbers (checked.Findings n) = record { refusal = 0; place = 0; findings = n; needed = 0 }
@@ -33,3 +36,8 @@ abbrev pub sharedNumbers : Beginning → SharedAnswer
 sharedNumbers (beginning.Entries n) = record { refusal = 0; place = 0; shared = n; needed = 0 }
 sharedNumbers (beginning.Refused number place) = record { refusal = number; place = place; shared = 0; needed = 0 }
 sharedNumbers (beginning.Short needed) = record { refusal = refusals.CodeSlice; place = 0; shared = 0; needed = needed }
+
+abbrev pub renameNumbers : Relabelled → RenameAnswer
+renameNumbers (relabelled.Names n) = record { refusal = 0; place = 0; names = n; needed = 0 }
+renameNumbers (relabelled.Refused number place) = record { refusal = number; place = place; names = 0; needed = 0 }
+renameNumbers (relabelled.Short needed) = record { refusal = refusals.RenamedSlices; place = 0; names = 0; needed = needed }

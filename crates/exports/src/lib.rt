@@ -4,10 +4,12 @@ ghost use lib.ListN.{length};
 ghost use Rattle.check_dispatch.specs.Rule.{rule};
 ghost use Rattle.call_check.specs.Check.{checkAnswer, checkSlice};
 ghost use Rattle.call_routes.specs.Calls.{codeAnswer, codeSlice, routeAnswer, routeSlice};
+ghost use Rattle.call_rename.specs.Rename.{renaming};
 ghost use Rattle.call_shared.specs.Shared.{sharedAnswer};
 ghost use Rattle.call_walk.specs.Walked.{walkAnswer, walkSlice};
-ghost use Rattle.exports.specs.Numbers.{checkNumbers, codeNumbers, routeNumbers, sharedNumbers};
+ghost use Rattle.exports.specs.Numbers.{checkNumbers, codeNumbers, routeNumbers, sharedNumbers, renameNumbers};
 use call_check::Checked;
+use call_rename::Relabelled;
 use call_routes::Coded;
 use call_shared::Beginning;
 use refusal_verdict::refusals;
@@ -48,6 +50,15 @@ pub struct SharedAnswer {
     pub refusal: u32,
     pub place: u32,
     pub shared: u64,
+    pub needed: u64,
+}
+
+// The rename call's answer: the refusal's number and place, how many bytes of names were written, and after 20 the names length needed.
+#[repr(C)]
+pub struct RenameAnswer {
+    pub refusal: u32,
+    pub place: u32,
+    pub names: u64,
     pub needed: u64,
 }
 
@@ -306,5 +317,56 @@ pub extern "C" fn velkunshe_walk(
         unit,
         answers,
         route,
+    ))
+}
+
+fn rename_numbers(answer: Relabelled) -> RenameAnswer
+    ensures { λ r. ⌜ r ≡ renameNumbers answer ⌝ }
+{
+    match answer {
+        Relabelled::Names(length) => RenameAnswer {
+            refusal: 0,
+            place: 0,
+            names: length as u64,
+            needed: 0,
+        },
+        Relabelled::Refused(number, place) => RenameAnswer {
+            refusal: number,
+            place: place,
+            names: 0,
+            needed: 0,
+        },
+        Relabelled::Short(needed) => RenameAnswer {
+            refusal: refusals::RENAMED_SLICES,
+            place: 0,
+            names: 0,
+            needed: needed as u64,
+        },
+    }
+}
+
+// Writes the tables of a rule with its labels renamed to short names.
+#[no_mangle]
+pub extern "C" fn velkunshe_rename(
+    source_type: u32,
+    nodes: &[u32],
+    scopes: &[u32],
+    source: &[u8],
+    names: &[u8],
+    renamed_nodes: &mut [u32],
+    renamed_names: &mut [u8],
+) -> RenameAnswer
+    ensures { λ r. ⌜ r ≡ renameNumbers ((renaming «source_type» (now (nodes .entry)) (now (scopes .entry)) (now (source .entry)) (now (names .entry)) (now («renamed_nodes» .entry)) (now («renamed_names» .entry))) .answer) ⌝ }
+    ensures { λ _. ⌜ now («renamed_nodes» .exit) ≡ (renaming «source_type» (now (nodes .entry)) (now (scopes .entry)) (now (source .entry)) (now (names .entry)) (now («renamed_nodes» .entry)) (now («renamed_names» .entry))) .nodes ⌝ }
+    ensures { λ _. ⌜ now («renamed_names» .exit) ≡ (renaming «source_type» (now (nodes .entry)) (now (scopes .entry)) (now (source .entry)) (now (names .entry)) (now («renamed_nodes» .entry)) (now («renamed_names» .entry))) .names ⌝ }
+{
+    rename_numbers(call_rename::rename(
+        source_type,
+        nodes,
+        scopes,
+        source,
+        names,
+        renamed_nodes,
+        renamed_names,
     ))
 }

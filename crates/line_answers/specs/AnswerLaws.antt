@@ -7,7 +7,7 @@ use lib.ListN.{length, getD, take, drop, length-append, length-take}
 use lib.Seq.{drop-drop}
 use Rattle.base_common.specs.Wrote.{Wrote, put}
 use Rattle.base_common.specs.WroteLaws.{wrote-start, wrote-put, length-put}
-use Rattle.line_digits.specs.Writes.{put-put}
+use Rattle.table_put.specs.Writes.{put-put}
 use Rattle.line_print.specs.Print.{lineOf}
 use Rattle.line_print.specs.PrintLaws.{line-numbers}
 use Rattle.refusal_verdict.specs.Refusals as refusal

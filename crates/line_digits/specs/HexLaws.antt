@@ -14,7 +14,7 @@ use Rattle.base_common.specs.Upto.{all}
 use Rattle.base_common.specs.UptoLaws.{and-left, and-right}
 use Rattle.base_common.specs.Wrote.{Wrote}
 use Rattle.line_digits.specs.Lists.{drop-step, drop-end, part-from}
-use Rattle.line_digits.specs.Writes.{wrote-one, wrote-done}
+use Rattle.table_put.specs.Writes.{wrote-one, wrote-done}
 use Rattle.line_digits.specs.Hex.{isHexDigit, nibbleOf, isHex, bytesOf}
 
 -- the ranges of a digit, in numbers

@@ -1,6 +1,5 @@
 pub mod Number
 pub mod Hex
 pub mod Lists
-pub mod Writes
 pub mod NumberLaws
 pub mod HexLaws

@@ -1,7 +1,6 @@
 // Numbers as text: decimal digits, and bytes in hexadecimal.
 ghost use mathlib.Core.Path.{_≡_};
 ghost use Prim.Native.Nat.{_+_, _≤_, _<_};
-ghost use Rattle.base_common.specs.Wrote.{put};
 ghost use mathlib.Core.Bool.{true};
 ghost use mathlib.Core.List.{_++_};
 ghost use lib.ListN.{length, drop};
@@ -118,18 +117,4 @@ pub fn write_bytes(s: &[u8], out: &mut [u8]) -> usize
         k += 1;
     }
     k
-}
-
-// Copies src to dst from place w on.
-pub fn copy(src: &[u8], dst: &mut [u8], w: usize)
-    requires { ⌜ w + length (now src) ≤ length (now dst) ⌝ }
-    ensures { λ _. ⌜ now (dst .exit) ≡ put (now (dst .entry)) w (now (src .entry)) ⌝ }
-{
-    let mut i = 0;
-    let mut at = w;
-    while i < src.len() {
-        dst[at] = src[i];
-        at += 1;
-        i += 1;
-    }
 }

@@ -10,7 +10,7 @@ use lib.Seq.{length-take-le}
 use Rattle.base_common.specs.Upto.{all}
 use Rattle.base_common.specs.UptoLaws.{and-left, and-right}
 use Rattle.base_common.specs.Wrote.{Wrote}
-use Rattle.line_digits.specs.Writes.{wrote-one}
+use Rattle.table_put.specs.Writes.{wrote-one}
 use Rattle.line_digits.specs.Number.{isNumber, valueOf}
 use Rattle.line_fields.specs.Split.{fieldOf, nextOf, firsts, fieldsIn}
 use Rattle.line_fields.specs.SplitLaws.{onward-short, fields-turn, fields-end}

@@ -12,7 +12,7 @@ use Rattle.base_common.specs.Bools.{never}
 use Rattle.base_common.specs.Wrote.{Wrote, put}
 use Rattle.base_common.specs.WroteLaws.{wrote-put, length-put}
 use Rattle.line_digits.specs.Number.{valueOf}
-use Rattle.line_digits.specs.Writes.{wrote-done, put-put}
+use Rattle.table_put.specs.Writes.{wrote-done, put-put}
 use Rattle.line_fields.specs.Split.{fieldsOf}
 use Rattle.line_forms.specs.Forms.{lettered, rest, numbersOf, isNumbers, isS, isN, nameOf}
 use Rattle.line_input.specs.Format.{leading, named, scopeLines, nodeLines, scopesOf, namesOf, nodeOf, nodesOf, front}

@@ -127,7 +127,7 @@ fn read_nodes(b: &[u8], n: usize, nodes: &mut [u32], names: &mut [u8]) -> Named
             };
         }
         write_node(l, nodes, i * 10, used as u32, len as u32);
-        line_digits::copy(text, names, used);
+        table_put::copy(text, names, used);
         let u = line_fields::after(t);
         t = u;
         used += len;

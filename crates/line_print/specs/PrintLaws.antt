@@ -13,7 +13,7 @@ use native.Mathlib.Numerals.{add-one}
 use Rattle.base_common.specs.Wrote.{Wrote, put}
 use Rattle.base_common.specs.WroteLaws.{wrote-put, length-put}
 use Rattle.line_digits.specs.Lists.{drop-step, drop-end}
-use Rattle.line_digits.specs.Writes.{put-put, put-end, wrote-done}
+use Rattle.table_put.specs.Writes.{put-put, put-end, wrote-done}
 use Rattle.line_fields.specs.Split.{joined}
 use Rattle.line_print.specs.Print.{spelled, decimal, lineOf}
 

@@ -29,9 +29,7 @@ Walk = 6
 abbrev pub Unit : ℕ
 Unit = 7
 
--- 8. The unit holds a Try.
-abbrev pub Try : ℕ
-Try = 8
+-- 8 is no longer given: units that hold a Try have routes.
 
 -- 9. The tree has findings, or a jump without a target.
 abbrev pub Findings : ℕ
@@ -60,3 +58,23 @@ WrongCount = 14
 -- 15. A Return whose nearest unit is a static block.
 abbrev pub ReturnInStatic : ℕ
 ReturnInStatic = 15
+
+-- 16. A mark above 7, or one taken up that is not set.
+abbrev pub Mark : ℕ
+Mark = 16
+
+-- 17. A mark taken up holds a place where no instruction of the unit's code begins.
+abbrev pub MarkPlace : ℕ
+MarkPlace = 17
+
+-- 18. The numbers of a lent code slice are no code.
+abbrev pub NoCode : ℕ
+NoCode = 18
+
+-- 19. A label that the reserved-word check looks for, or a 700th different label.
+abbrev pub Label : ℕ
+Label = 19
+
+-- 20. A slice for the renamed tables is too short, or their names are above 1,048,576 bytes.
+abbrev pub RenamedSlices : ℕ
+RenamedSlices = 20

@@ -22,8 +22,7 @@ pub const WALK: u32 = 6;
 // 7. What is named as unit is none.
 pub const UNIT: u32 = 7;
 
-// 8. The unit holds a Try.
-pub const TRY: u32 = 8;
+// 8 is no longer given: units that hold a Try have routes.
 
 // 9. The tree has findings, or a jump without a target.
 pub const FINDINGS: u32 = 9;
@@ -45,3 +44,18 @@ pub const WRONG_COUNT: u32 = 14;
 
 // 15. A Return whose nearest unit is a static block.
 pub const RETURN_IN_STATIC: u32 = 15;
+
+// 16. A mark above 7, or one taken up that is not set.
+pub const MARK: u32 = 16;
+
+// 17. A mark taken up holds a place where no instruction of the unit's code begins.
+pub const MARK_PLACE: u32 = 17;
+
+// 18. The numbers of a lent code slice are no code.
+pub const NO_CODE: u32 = 18;
+
+// 19. A label that the reserved-word check looks for, or a 700th different label.
+pub const LABEL: u32 = 19;
+
+// 20. A slice for the renamed tables is too short, or their names are above 1,048,576 bytes.
+pub const RENAMED_SLICES: u32 = 20;

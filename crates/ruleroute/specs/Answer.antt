@@ -5,6 +5,7 @@ use mathlib.Core.List.{List, [], _∷_}
 use Rattle.route_viewer.specs.declared.Routed.{Routed}
 use Rattle.route_viewer.specs.declared.Routed.the-variants as routed
 use Rattle.check_dispatch.specs.Rule.{rule}
+use Rattle.code_length.specs.Most.{mostLength}
 use Rattle.call_routes.specs.Calls.{routeAnswer, routeSlice}
 use Rattle.line_input.specs.declared.Route.{Route}
 use Rattle.line_input.specs.declared.Route.the-variants.{Asked, Unasked}
@@ -23,12 +24,13 @@ lastLine (routed.Refused number place) = refusalText number place
 lastLine (routed.Short needed) = refusalText 12 0
 lastLine (routed.CodeShort needed) = refusalText 11 0
 
--- "up to 1,024 answers"; the code's room is 16 × 1,024 numbers
+-- "up to 1,024 answers"
 abbrev pub answersRoom : ℕ
 answersRoom = 1024
 
+-- the code's room: the most that a code takes in a tree of 1,024 nodes, the most that are read
 abbrev pub codeRoom : ℕ
-codeRoom = 16384
+codeRoom = mostLength 1024
 
 -- the option on async bodies is off; what was read, the answers among it, and the length of the slice for the route
 unfoldable pub routedBy : Route → Reading → List ℕ → ℕ → Routed

@@ -19,8 +19,14 @@ use route_viewer::Routed;
 const ASYNC_BODIES_OFF: u32 = 0;
 // Room for a line.
 const LINE: usize = 256;
-// Room for the code, 16 numbers a node, and for the route.
-const CODE: usize = 16 * 1024;
+// The most nodes that are read.
+const NODES: usize = 1024;
+// How many numbers of code the unit's own node takes, and at most each other node.
+const UNIT_NUMBER: usize = 8;
+
+const MOST_NUMBER: usize = 10;
+// Room for the code of every unit, so that 11 is never given (`code-fits`), and for the route.
+const CODE: usize = UNIT_NUMBER + MOST_NUMBER * (NODES - 1);
 
 const ROUTE: usize = 655360;
 

@@ -1,4 +1,4 @@
-// Writes the ten numbers of a node record.
+// Writes numbers to a slice from a place on: the ten of a node record, and a copy of bytes.
 ghost use mathlib.Core.Path.{_≡_};
 ghost use mathlib.Core.List.{[], _∷_};
 ghost use Prim.Native.Nat.{_+_, _≤_};
@@ -32,4 +32,18 @@ pub fn put10(
     code[w + 7] = x;
     code[w + 8] = y;
     code[w + 9] = z;
+}
+
+// Copies src to dst from place w on.
+pub fn copy(src: &[u8], dst: &mut [u8], w: usize)
+    requires { ⌜ w + length (now src) ≤ length (now dst) ⌝ }
+    ensures { λ _. ⌜ now (dst .exit) ≡ put (now (dst .entry)) w (now (src .entry)) ⌝ }
+{
+    let mut i = 0;
+    let mut at = w;
+    while i < src.len() {
+        dst[at] = src[i];
+        at += 1;
+        i += 1;
+    }
 }

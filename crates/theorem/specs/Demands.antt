@@ -18,6 +18,8 @@ use Rattle.check_dispatch.specs.Rule.{Rule, rule}
 use Rattle.check_dispatch.specs.Reported.{reported}
 use Rattle.check_dispatch.specs.ReportedLaws as option
 use Rattle.refusal_state.specs.Targets.{stateAnswer}
+use Rattle.call_renamed.specs.Same.{LabelsRenamed, Same, withTables}
+use Rattle.call_renamed.specs.Theorem.{labels-renamed}
 use Rattle.ecma_base.specs.Telling.{Telling}
 use Rattle.ecma_dispatch.specs.TypescriptLaws.{Typescript, typescript}
 use Rattle.ecma_standard.specs.Standard.{Standard, standard262}
@@ -29,6 +31,10 @@ use Rattle.call_shared.specs.Theorem.{OneAnswerChanged, one-answer-changed}
 use Rattle.call_walk.specs.Theorem.{BothEngines, bothEngines}
 use Rattle.call_rows.specs.Rows.{rows, Each, Holds}
 use Rattle.call_rows.specs.RowsHold.{rows-hold}
+use Rattle.call_labels.specs.Written.{renamedNodes, renamedNames}
+use Rattle.call_rename.specs.declared.Relabelled.the-variants.{Names}
+use Rattle.call_rename_laws.specs.Output.{renamingOf, Output}
+use Rattle.call_rename_laws.specs.OutputLaws.{output}
 use Rattle.exports.proofs.velkunshe_check.Statement as check-call
 use Rattle.exports.proofs.velkunshe_check.Met as check-proved
 use Rattle.exports.proofs.velkunshe_code.Statement as code-call
@@ -39,6 +45,8 @@ use Rattle.exports.proofs.velkunshe_shared.Statement as shared-call
 use Rattle.exports.proofs.velkunshe_shared.Met as shared-proved
 use Rattle.exports.proofs.velkunshe_walk.Statement as walk-call
 use Rattle.exports.proofs.velkunshe_walk.Met as walk-proved
+use Rattle.exports.proofs.velkunshe_rename.Statement as rename-call
+use Rattle.exports.proofs.velkunshe_rename.Met as rename-proved
 use Rattle.code_machine.proofs.run.Statement as machine-run
 use Rattle.code_machine.proofs.run.Met as run-proved
 
@@ -54,6 +62,8 @@ pub record Demands : Type 2 where
   pub shared : {M : Type 1} → shared-call.statement M
   -- The second engine (document 02, request 6): `walkAnswer`, `walkSlice` (crates/call_walk/specs/Walked.antt).
   pub walk : {M : Type 1} → walk-call.statement M
+  -- .. and of the renaming call to `renaming` (crates/call_rename/specs/Rename.antt; document 02, request 12).
+  pub rename : {M : Type 1} → rename-call.statement M
   -- "A run reads the code and the answers, never the tables": the machine is lent nothing else, and is total on any list of numbers as code.
   pub machine : {M : Type 1} → machine-run.statement M
   -- 2. "On well-formed tables .. the findings .. save on the conditions listed in docs/DIFFERENCES.md, are proved against definitions from ECMA-262 with Annex B: one where a rule is
@@ -69,6 +79,11 @@ pub record Demands : Type 2 where
   pub before : (t : ℕ) → t ≤ 1 → (ns ss source names : List ℕ) → findingsOf t ns ss source names ≡ Former.findingsOf t ns ss source names
   pub clashes : (t : ℕ) (ns names : List ℕ) → duplicateElements t ns names ≡ flatMap (clashFindings t ns names) (classesOf ns)
   pub typescript : (ns ss source names : List ℕ) → Typescript ns ss source names
+  -- "If every label name .. is replaced by a name, one to one over the whole tree, .. then findings are equal in code, node, spans and context, and routes of units are equal too" (document 02, request 12):
+  -- what the calls answer and leave of every slice.
+  pub renamed : (x : Rule) (ms mnames : List ℕ) → LabelsRenamed x ms mnames → Same x (withTables x ms mnames)
+  -- What the renaming call writes is such a renaming, with the names length that it answers, and "Renaming twice gives the bytes of renaming once."
+  pub written : (x : Rule) (s u : List ℕ) (n : ℕ) → (renamingOf x s u) .answer ≡ Names n → Output x s u n (renamedNodes (x .nodes) (x .names)) (renamedNames (x .nodes) (x .names))
   -- 3. "For every well-formed tree without findings, whose breaks and continues all have the target that ECMA-262 asks for inside their own unit": those without findings have it.
   pub targets : (t asyncBodies : ℕ) (ns ss source names : List ℕ) (u : ℕ) → inputRefusal t ns ss source names ≡ Passed → stateAnswer (rule t asyncBodies ns ss source names) u ≡ Passed → Targeted ns names
   -- "every unit of it .. and every list of answers, empty, too short or too long included", with `try` (document 02, request 1) and static blocks (request 5): "the flat jump code .. lists the same statements in the same order, takes the same
@@ -92,6 +107,7 @@ demands = record {
   route = route-proved.met;
   shared = shared-proved.met;
   walk = walk-proved.met;
+  rename = rename-proved.met;
   machine = run-proved.met;
   standard = standard262;
   changed = findings262;
@@ -100,6 +116,8 @@ demands = record {
   before = λ t s ns ss source names. former-of t s ns names ss source;
   clashes = each-clash;
   typescript = typescript;
+  renamed = labels-renamed;
+  written = output;
   targets = λ t asyncBodies ns ss source names u f p. targeted t asyncBodies ns ss source names u f p;
   routes = λ t asyncBodies ns ss source names u f p. routes t asyncBodies ns ss source names u f p;
   oneAnswerChanged = λ t asyncBodies ns ss source names u f p. one-answer-changed t asyncBodies ns ss source names u f p;

@@ -2,6 +2,7 @@
 //!
 //!     rulecalls walk      as ruleroute, by the second engine: L,node for each entry, then Z,end,entries,answers taken
 //!     rulecalls shared    behind the rule's lines U, A with answers and A with others: prints B,entries shared
+//!     rulecalls rename    the rule's lines alone: prints them with its labels renamed
 //!
 //! A refusal is printed as R,number,place, and R,0,line where a line can't be read or is missing. What is read and
 //! printed is not proved; what the calls answer is.
@@ -14,7 +15,7 @@ use velkunshe::{End, Route, Rule};
 
 type Call = fn(&mut Reader) -> Result<Vec<u8>, Refused>;
 
-const CALLS: [(&str, Call); 2] = [("shared", shared), ("walk", walk)];
+const CALLS: [(&str, Call); 3] = [("shared", shared), ("walk", walk), ("rename", rename)];
 
 /// A wrong call, or an input or output that is lost.
 const FAILED: u8 = 2;
@@ -93,6 +94,12 @@ fn walk(reader: &mut Reader) -> Result<Vec<u8>, Refused> {
     let tables = reader.tables()?;
     let (unit, answers) = reader.unit_and_answers()?;
     Ok(route_lines(&velkunshe::walk_of(&rule(&tables), unit, &answers)?))
+}
+
+fn rename(reader: &mut Reader) -> Result<Vec<u8>, Refused> {
+    let tables = reader.tables()?;
+    let renamed = velkunshe::renamed(&rule(&tables))?;
+    Ok(OwnedTables { nodes: renamed.nodes, names: renamed.names, ..tables }.lines())
 }
 
 fn route_lines(route: &Route) -> Vec<u8> {

@@ -1,132 +1,30 @@
+use Rattle.check_identifiers.specs.Identifiers.{isStrictWord}
 use borrow.Author.Needs.{needs}
 use Rattle.call_labels.proofs.is_reserved.Statement.{statement}
 use Rattle.call_labels.proofs.is_reserved.Tie as tie
 
-slice-aggregate-same : tie.Need-slice-aggregate-same
-slice-aggregate-same c = search needs
+slice-aggregate-name-is : tie.Need-slice-aggregate-name-is
+slice-aggregate-name-is c = search needs
 
-same-requires : tie.Need-same-requires
-same-requires c κs = search needs
+name-is-requires : tie.Need-name-is-requires
+name-is-requires c κs = search needs
 
 returns : tie.Need-returns
-returns c = rw (c .before .before .same-arg .given .1, ← c .before .same .ensures, c .if1 .taken)
+returns c = rw (c .before .before .name-is-arg .given .1, ← c .before .name-is .ensures, c .if1 .taken)
 
-slice-aggregate-same-2 : tie.Need-slice-aggregate-same-2
-slice-aggregate-same-2 c = search needs
-
-same-requires-2 : tie.Need-same-requires-2
-same-requires-2 c κs = search needs
+is-strict-word-requires : tie.Need-is-strict-word-requires
+is-strict-word-requires c κs = search needs
 
 returns-2 : tie.Need-returns-2
-returns-2 c = rw (c .before .before .before .before .before .same-arg .given .1, ← c .before .before .before .before .same .ensures, c .before .before .before .if1 .left, c .before .before .same-arg2 .given .1, ← c .before .same2 .ensures, c .if2 .taken)
-
-slice-aggregate-same-3 : tie.Need-slice-aggregate-same-3
-slice-aggregate-same-3 c = search needs
-
-same-requires-3 : tie.Need-same-requires-3
-same-requires-3 c κs = search needs
-
-returns-3 : tie.Need-returns-3
-returns-3 c = rw (c .before .before .before .before .before .before .before .before .same-arg .given .1, ← c .before .before .before .before .before .before .before .same .ensures, c .before .before .before .before .before .before .if1 .left, c .before .before .before .before .before .same-arg2 .given .1, ← c .before .before .before .before .same2 .ensures, c .before .before .before .if2 .left, c .before .before .same-arg3 .given .1, ← c .before .same3 .ensures, c .if3 .taken)
-
-slice-aggregate-same-4 : tie.Need-slice-aggregate-same-4
-slice-aggregate-same-4 c = search needs
-
-same-requires-4 : tie.Need-same-requires-4
-same-requires-4 c κs = search needs
-
-returns-4 : tie.Need-returns-4
-returns-4 c = rw (c .before .before .before .before .before .before .before .before .before .before .before .same-arg .given .1, ← c .before .before .before .before .before .before .before .before .before .before .same .ensures, c .before .before .before .before .before .before .before .before .before .if1 .left, c .before .before .before .before .before .before .before .before .same-arg2 .given .1, ← c .before .before .before .before .before .before .before .same2 .ensures, c .before .before .before .before .before .before .if2 .left, c .before .before .before .before .before .same-arg3 .given .1, ← c .before .before .before .before .same3 .ensures, c .before .before .before .if3 .left, c .before .before .same-arg4 .given .1, ← c .before .same4 .ensures, c .if4 .taken)
-
-slice-aggregate-same-5 : tie.Need-slice-aggregate-same-5
-slice-aggregate-same-5 c = search needs
-
-same-requires-5 : tie.Need-same-requires-5
-same-requires-5 c κs = search needs
-
-returns-5 : tie.Need-returns-5
-returns-5 c = rw (c .before .before .before .before .before .before .before .before .before .before .before .before .before .before .same-arg .given .1, ← c .before .before .before .before .before .before .before .before .before .before .before .before .before .same .ensures, c .before .before .before .before .before .before .before .before .before .before .before .before .if1 .left, c .before .before .before .before .before .before .before .before .before .before .before .same-arg2 .given .1, ← c .before .before .before .before .before .before .before .before .before .before .same2 .ensures, c .before .before .before .before .before .before .before .before .before .if2 .left, c .before .before .before .before .before .before .before .before .same-arg3 .given .1, ← c .before .before .before .before .before .before .before .same3 .ensures, c .before .before .before .before .before .before .if3 .left, c .before .before .before .before .before .same-arg4 .given .1, ← c .before .before .before .before .same4 .ensures, c .before .before .before .if4 .left, c .before .before .same-arg5 .given .1, ← c .before .same5 .ensures, c .if5 .taken)
-
-slice-aggregate-same-6 : tie.Need-slice-aggregate-same-6
-slice-aggregate-same-6 c = search needs
-
-same-requires-6 : tie.Need-same-requires-6
-same-requires-6 c κs = search needs
-
-returns-6 : tie.Need-returns-6
-returns-6 c = rw (c .before .before .before .before .before .before .before .before .before .before .before .before .before .before .before .before .before .same-arg .given .1, ← c .before .before .before .before .before .before .before .before .before .before .before .before .before .before .before .before .same .ensures, c .before .before .before .before .before .before .before .before .before .before .before .before .before .before .before .if1 .left, c .before .before .before .before .before .before .before .before .before .before .before .before .before .before .same-arg2 .given .1, ← c .before .before .before .before .before .before .before .before .before .before .before .before .before .same2 .ensures, c .before .before .before .before .before .before .before .before .before .before .before .before .if2 .left, c .before .before .before .before .before .before .before .before .before .before .before .same-arg3 .given .1, ← c .before .before .before .before .before .before .before .before .before .before .same3 .ensures, c .before .before .before .before .before .before .before .before .before .if3 .left, c .before .before .before .before .before .before .before .before .same-arg4 .given .1, ← c .before .before .before .before .before .before .before .same4 .ensures, c .before .before .before .before .before .before .if4 .left, c .before .before .before .before .before .same-arg5 .given .1, ← c .before .before .before .before .same5 .ensures, c .before .before .before .if5 .left, c .before .before .same-arg6 .given .1, ← c .before .same6 .ensures, c .if6 .taken)
-
-slice-aggregate-same-7 : tie.Need-slice-aggregate-same-7
-slice-aggregate-same-7 c = search needs
-
-same-requires-7 : tie.Need-same-requires-7
-same-requires-7 c κs = search needs
-
-returns-7 : tie.Need-returns-7
-returns-7 c = rw (c .before .before .before .before .before .before .before .before .before .before .before .before .before .before .before .before .before .before .before .before .same-arg .given .1, ← c .before .before .before .before .before .before .before .before .before .before .before .before .before .before .before .before .before .before .before .same .ensures, c .before .before .before .before .before .before .before .before .before .before .before .before .before .before .before .before .before .before .if1 .left, c .before .before .before .before .before .before .before .before .before .before .before .before .before .before .before .before .before .same-arg2 .given .1, ← c .before .before .before .before .before .before .before .before .before .before .before .before .before .before .before .before .same2 .ensures, c .before .before .before .before .before .before .before .before .before .before .before .before .before .before .before .if2 .left, c .before .before .before .before .before .before .before .before .before .before .before .before .before .before .same-arg3 .given .1, ← c .before .before .before .before .before .before .before .before .before .before .before .before .before .same3 .ensures, c .before .before .before .before .before .before .before .before .before .before .before .before .if3 .left, c .before .before .before .before .before .before .before .before .before .before .before .same-arg4 .given .1, ← c .before .before .before .before .before .before .before .before .before .before .same4 .ensures, c .before .before .before .before .before .before .before .before .before .if4 .left, c .before .before .before .before .before .before .before .before .same-arg5 .given .1, ← c .before .before .before .before .before .before .before .same5 .ensures, c .before .before .before .before .before .before .if5 .left, c .before .before .before .before .before .same-arg6 .given .1, ← c .before .before .before .before .same6 .ensures, c .before .before .before .if6 .left, c .before .before .same-arg7 .given .1, ← c .before .same7 .ensures, c .if7 .taken)
-
-slice-aggregate-same-8 : tie.Need-slice-aggregate-same-8
-slice-aggregate-same-8 c = search needs
-
-same-requires-8 : tie.Need-same-requires-8
-same-requires-8 c κs = search needs
-
-returns-8 : tie.Need-returns-8
-returns-8 c = rw (c .before .before .before .before .before .before .before .before .before .before .before .before .before .before .before .before .before .before .before .before .before .before .before .same-arg .given .1, ← c .before .before .before .before .before .before .before .before .before .before .before .before .before .before .before .before .before .before .before .before .before .before .same .ensures, c .before .before .before .before .before .before .before .before .before .before .before .before .before .before .before .before .before .before .before .before .before .if1 .left, c .before .before .before .before .before .before .before .before .before .before .before .before .before .before .before .before .before .before .before .before .same-arg2 .given .1, ← c .before .before .before .before .before .before .before .before .before .before .before .before .before .before .before .before .before .before .before .same2 .ensures, c .before .before .before .before .before .before .before .before .before .before .before .before .before .before .before .before .before .before .if2 .left, c .before .before .before .before .before .before .before .before .before .before .before .before .before .before .before .before .before .same-arg3 .given .1, ← c .before .before .before .before .before .before .before .before .before .before .before .before .before .before .before .before .same3 .ensures, c .before .before .before .before .before .before .before .before .before .before .before .before .before .before .before .if3 .left, c .before .before .before .before .before .before .before .before .before .before .before .before .before .before .same-arg4 .given .1, ← c .before .before .before .before .before .before .before .before .before .before .before .before .before .same4 .ensures, c .before .before .before .before .before .before .before .before .before .before .before .before .if4 .left, c .before .before .before .before .before .before .before .before .before .before .before .same-arg5 .given .1, ← c .before .before .before .before .before .before .before .before .before .before .same5 .ensures, c .before .before .before .before .before .before .before .before .before .if5 .left, c .before .before .before .before .before .before .before .before .same-arg6 .given .1, ← c .before .before .before .before .before .before .before .same6 .ensures, c .before .before .before .before .before .before .if6 .left, c .before .before .before .before .before .same-arg7 .given .1, ← c .before .before .before .before .same7 .ensures, c .before .before .before .if7 .left, c .before .before .same-arg8 .given .1, ← c .before .same8 .ensures, c .if8 .taken)
-
-slice-aggregate-same-9 : tie.Need-slice-aggregate-same-9
-slice-aggregate-same-9 c = search needs
-
-same-requires-9 : tie.Need-same-requires-9
-same-requires-9 c κs = search needs
-
-returns-9 : tie.Need-returns-9
-returns-9 c = rw (c .before .before .before .before .before .before .before .before .before .before .before .before .before .before .before .before .before .before .before .before .before .before .before .before .before .before .same-arg .given .1, ← c .before .before .before .before .before .before .before .before .before .before .before .before .before .before .before .before .before .before .before .before .before .before .before .before .before .same .ensures, c .before .before .before .before .before .before .before .before .before .before .before .before .before .before .before .before .before .before .before .before .before .before .before .before .if1 .left, c .before .before .before .before .before .before .before .before .before .before .before .before .before .before .before .before .before .before .before .before .before .before .before .same-arg2 .given .1, ← c .before .before .before .before .before .before .before .before .before .before .before .before .before .before .before .before .before .before .before .before .before .before .same2 .ensures, c .before .before .before .before .before .before .before .before .before .before .before .before .before .before .before .before .before .before .before .before .before .if2 .left, c .before .before .before .before .before .before .before .before .before .before .before .before .before .before .before .before .before .before .before .before .same-arg3 .given .1, ← c .before .before .before .before .before .before .before .before .before .before .before .before .before .before .before .before .before .before .before .same3 .ensures, c .before .before .before .before .before .before .before .before .before .before .before .before .before .before .before .before .before .before .if3 .left, c .before .before .before .before .before .before .before .before .before .before .before .before .before .before .before .before .before .same-arg4 .given .1, ← c .before .before .before .before .before .before .before .before .before .before .before .before .before .before .before .before .same4 .ensures, c .before .before .before .before .before .before .before .before .before .before .before .before .before .before .before .if4 .left, c .before .before .before .before .before .before .before .before .before .before .before .before .before .before .same-arg5 .given .1, ← c .before .before .before .before .before .before .before .before .before .before .before .before .before .same5 .ensures, c .before .before .before .before .before .before .before .before .before .before .before .before .if5 .left, c .before .before .before .before .before .before .before .before .before .before .before .same-arg6 .given .1, ← c .before .before .before .before .before .before .before .before .before .before .same6 .ensures, c .before .before .before .before .before .before .before .before .before .if6 .left, c .before .before .before .before .before .before .before .before .same-arg7 .given .1, ← c .before .before .before .before .before .before .before .same7 .ensures, c .before .before .before .before .before .before .if7 .left, c .before .before .before .before .before .same-arg8 .given .1, ← c .before .before .before .before .same8 .ensures, c .before .before .before .if8 .left, c .before .before .same-arg9 .given .1, ← c .before .same9 .ensures, c .if9 .taken)
-
-slice-aggregate-same-10 : tie.Need-slice-aggregate-same-10
-slice-aggregate-same-10 c = search needs
-
-same-requires-10 : tie.Need-same-requires-10
-same-requires-10 c κs = search needs
-
-returns-10 : tie.Need-returns-10
-returns-10 c = rw (c .before .before .before .before .before .before .before .before .before .before .before .before .before .before .before .before .before .before .before .before .before .before .before .before .before .before .before .before .before .same-arg .given .1, ← c .before .before .before .before .before .before .before .before .before .before .before .before .before .before .before .before .before .before .before .before .before .before .before .before .before .before .before .before .same .ensures, c .before .before .before .before .before .before .before .before .before .before .before .before .before .before .before .before .before .before .before .before .before .before .before .before .before .before .before .if1 .left, c .before .before .before .before .before .before .before .before .before .before .before .before .before .before .before .before .before .before .before .before .before .before .before .before .before .before .same-arg2 .given .1, ← c .before .before .before .before .before .before .before .before .before .before .before .before .before .before .before .before .before .before .before .before .before .before .before .before .before .same2 .ensures, c .before .before .before .before .before .before .before .before .before .before .before .before .before .before .before .before .before .before .before .before .before .before .before .before .if2 .left, c .before .before .before .before .before .before .before .before .before .before .before .before .before .before .before .before .before .before .before .before .before .before .before .same-arg3 .given .1, ← c .before .before .before .before .before .before .before .before .before .before .before .before .before .before .before .before .before .before .before .before .before .before .same3 .ensures, c .before .before .before .before .before .before .before .before .before .before .before .before .before .before .before .before .before .before .before .before .before .if3 .left, c .before .before .before .before .before .before .before .before .before .before .before .before .before .before .before .before .before .before .before .before .same-arg4 .given .1, ← c .before .before .before .before .before .before .before .before .before .before .before .before .before .before .before .before .before .before .before .same4 .ensures, c .before .before .before .before .before .before .before .before .before .before .before .before .before .before .before .before .before .before .if4 .left, c .before .before .before .before .before .before .before .before .before .before .before .before .before .before .before .before .before .same-arg5 .given .1, ← c .before .before .before .before .before .before .before .before .before .before .before .before .before .before .before .before .same5 .ensures, c .before .before .before .before .before .before .before .before .before .before .before .before .before .before .before .if5 .left, c .before .before .before .before .before .before .before .before .before .before .before .before .before .before .same-arg6 .given .1, ← c .before .before .before .before .before .before .before .before .before .before .before .before .before .same6 .ensures, c .before .before .before .before .before .before .before .before .before .before .before .before .if6 .left, c .before .before .before .before .before .before .before .before .before .before .before .same-arg7 .given .1, ← c .before .before .before .before .before .before .before .before .before .before .same7 .ensures, c .before .before .before .before .before .before .before .before .before .if7 .left, c .before .before .before .before .before .before .before .before .same-arg8 .given .1, ← c .before .before .before .before .before .before .before .same8 .ensures, c .before .before .before .before .before .before .if8 .left, c .before .before .before .before .before .same-arg9 .given .1, ← c .before .before .before .before .same9 .ensures, c .before .before .before .if9 .left, c .before .before .same-arg10 .given .1, ← c .before .same10 .ensures, c .if10 .taken)
-
-returns-11 : tie.Need-returns-11
-returns-11 c = rw (c .before .before .before .before .before .before .before .before .before .before .before .before .before .before .before .before .before .before .before .before .before .before .before .before .before .before .before .before .before .same-arg .given .1, ← c .before .before .before .before .before .before .before .before .before .before .before .before .before .before .before .before .before .before .before .before .before .before .before .before .before .before .before .before .same .ensures, c .before .before .before .before .before .before .before .before .before .before .before .before .before .before .before .before .before .before .before .before .before .before .before .before .before .before .before .if1 .left, c .before .before .before .before .before .before .before .before .before .before .before .before .before .before .before .before .before .before .before .before .before .before .before .before .before .before .same-arg2 .given .1, ← c .before .before .before .before .before .before .before .before .before .before .before .before .before .before .before .before .before .before .before .before .before .before .before .before .before .same2 .ensures, c .before .before .before .before .before .before .before .before .before .before .before .before .before .before .before .before .before .before .before .before .before .before .before .before .if2 .left, c .before .before .before .before .before .before .before .before .before .before .before .before .before .before .before .before .before .before .before .before .before .before .before .same-arg3 .given .1, ← c .before .before .before .before .before .before .before .before .before .before .before .before .before .before .before .before .before .before .before .before .before .before .same3 .ensures, c .before .before .before .before .before .before .before .before .before .before .before .before .before .before .before .before .before .before .before .before .before .if3 .left, c .before .before .before .before .before .before .before .before .before .before .before .before .before .before .before .before .before .before .before .before .same-arg4 .given .1, ← c .before .before .before .before .before .before .before .before .before .before .before .before .before .before .before .before .before .before .before .same4 .ensures, c .before .before .before .before .before .before .before .before .before .before .before .before .before .before .before .before .before .before .if4 .left, c .before .before .before .before .before .before .before .before .before .before .before .before .before .before .before .before .before .same-arg5 .given .1, ← c .before .before .before .before .before .before .before .before .before .before .before .before .before .before .before .before .same5 .ensures, c .before .before .before .before .before .before .before .before .before .before .before .before .before .before .before .if5 .left, c .before .before .before .before .before .before .before .before .before .before .before .before .before .before .same-arg6 .given .1, ← c .before .before .before .before .before .before .before .before .before .before .before .before .before .same6 .ensures, c .before .before .before .before .before .before .before .before .before .before .before .before .if6 .left, c .before .before .before .before .before .before .before .before .before .before .before .same-arg7 .given .1, ← c .before .before .before .before .before .before .before .before .before .before .same7 .ensures, c .before .before .before .before .before .before .before .before .before .if7 .left, c .before .before .before .before .before .before .before .before .same-arg8 .given .1, ← c .before .before .before .before .before .before .before .same8 .ensures, c .before .before .before .before .before .before .if8 .left, c .before .before .before .before .before .same-arg9 .given .1, ← c .before .before .before .before .same9 .ensures, c .before .before .before .if9 .left, c .before .before .same-arg10 .given .1, ← c .before .same10 .ensures, c .if10 .left)
+unfolding isStrictWord
+returns-2 c = rw (c .before .before .before .name-is-arg .given .1, ← c .before .before .name-is .ensures, c .before .if1 .left) (c .is-strict-word .ensures)
 
 pub is-reserved-spec : {M : Type 1} → statement M
 is-reserved-spec =
     tie.close
     (tie.spec
-    slice-aggregate-same
-    same-requires
+    slice-aggregate-name-is
+    name-is-requires
     returns
-    slice-aggregate-same-2
-    same-requires-2
-    returns-2
-    slice-aggregate-same-3
-    same-requires-3
-    returns-3
-    slice-aggregate-same-4
-    same-requires-4
-    returns-4
-    slice-aggregate-same-5
-    same-requires-5
-    returns-5
-    slice-aggregate-same-6
-    same-requires-6
-    returns-6
-    slice-aggregate-same-7
-    same-requires-7
-    returns-7
-    slice-aggregate-same-8
-    same-requires-8
-    returns-8
-    slice-aggregate-same-9
-    same-requires-9
-    returns-9
-    slice-aggregate-same-10
-    same-requires-10
-    returns-10
-    returns-11)
+    is-strict-word-requires
+    returns-2)

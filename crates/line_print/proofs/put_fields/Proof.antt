@@ -1,6 +1,6 @@
 -- `print::put_fields` meets its contract. The loop keeps: what is left of the work, with what is done, is the whole.
 use Rattle.line_print.specs.PrintLaws.{put-done, fieldsFor, fields-turn, fields-room, fields-end}
-use Rattle.line_digits.specs.Writes.{put-start}
+use Rattle.table_put.specs.Writes.{put-start}
 use Rattle.base_common.specs.Wrote.{Wrote}
 use lib.ListN.{length, take, drop}
 use native.Mathlib.Omega.{arith}

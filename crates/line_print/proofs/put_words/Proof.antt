@@ -4,7 +4,7 @@ use mathlib.Core.List.{_++_}
 use native.Mathlib.Omega.{arith}
 use lib.ListN.{length, take, drop}
 use Rattle.base_common.specs.Wrote.{Wrote}
-use Rattle.line_digits.specs.Writes.{put-start}
+use Rattle.table_put.specs.Writes.{put-start}
 use Rattle.line_print.specs.PrintLaws.{fieldsFor, fields-turn, fields-room, fields-end, put-done}
 use borrow.Author.Needs.{needs}
 use Rattle.line_print.proofs.put_words.Statement.{statement}

@@ -4,7 +4,7 @@ use Rattle.line_reader.specs.StepLaws.{step-number, step-never, past-dro
 use Rattle.line_reader.specs.Step.{pastAt}
 use Rattle.line_fields.specs.Split.{fieldOf, nextOf, firsts, fieldsIn}
 use Rattle.line_fields.specs.FieldLaws.{firsts-none, values-turn, length-values, count-turn, tail-some, number-first, numbers-rest}
-use Rattle.line_digits.specs.Writes.{put-start, put-end}
+use Rattle.table_put.specs.Writes.{put-start, put-end}
 use Rattle.line_digits.specs.Number.{isNumber, valueOf}
 use Rattle.base_common.specs.Wrote.{Wrote}
 use Rattle.base_common.specs.Upto.{all}

@@ -24,7 +24,7 @@ slice-aggregate-respond-by-6 : tie.Need-slice-aggregate-respond-by-6
 slice-aggregate-respond-by-6 c = search needs
 
 respond-by-requires : tie.Need-respond-by-requires
-respond-by-requires c κs = ((length-replicate {A = ℕ} 10240 0, length-replicate {A = ℕ} 3072 0, length-replicate {A = ℕ} 1024 0, length-replicate {A = ℕ} 1024 0), (length-replicate {A = ℕ} 1024 0, length-replicate {A = ℕ} 16384 0))
+respond-by-requires c κs = ((length-replicate {A = ℕ} 10240 0, length-replicate {A = ℕ} 3072 0, length-replicate {A = ℕ} 1024 0, length-replicate {A = ℕ} 1024 0), (length-replicate {A = ℕ} 1024 0, length-replicate {A = ℕ} 10238 0))
 
 same-length : tie.Need-same-length
 same-length c = search needs

@@ -1,5 +1,5 @@
--- `digits::copy` meets its contract. The loop keeps: what is left of the work, with what is done, is the whole.
-use Rattle.line_digits.specs.Writes.{put-start, put-end, copy-turn, copy-room, copy-end}
+-- `table_put::copy` meets its contract. The loop keeps: what is left of the work, with what is done, is the whole.
+use Rattle.table_put.specs.Writes.{put-start, put-end, copy-turn, copy-room, copy-end}
 use Rattle.base_common.specs.Wrote.{Wrote}
 use lib.ListN.{length, drop, take}
 use native.Mathlib.Omega.{arith}
@@ -7,8 +7,8 @@ use mathlib.Core.List.{_++_}
 use mathlib.Core.Path.{_≡_}
 use Prim.Native.Nat.{_≤_, _+_, _-_}
 use borrow.Author.Needs.{needs}
-use Rattle.line_digits.proofs.copy.Statement.{statement}
-use Rattle.line_digits.proofs.copy.Tie as tie
+use Rattle.table_put.proofs.copy.Statement.{statement}
+use Rattle.table_put.proofs.copy.Tie as tie
 
 abbrev Inv-loop : tie.InvT-loop
 Inv-loop src dst₀ w i₀ at₀ dst i at = (i ≤ length src) × (at ≡ w + i) × Wrote dst₀ dst at (drop i src) (take w dst₀ ++ src)

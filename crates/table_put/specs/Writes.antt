@@ -4,11 +4,10 @@ use mathlib.Core.Path.{_≡_, refl, ap, sym, subst, _∙_}
 use mathlib.Core.List.{List, [], _∷_, _++_, append-assoc, append-nil}
 use native.Mathlib.Numerals.{add-one}
 use native.Mathlib.Omega.{arith}
-use lib.ListN.{length, getD, set, take, drop, length-append, length-drop}
-use lib.Seq.{set-split, length-take-le, take-at, drop-at, drop-drop}
+use lib.ListN.{length, getD, set, take, drop, length-append, length-drop, drop-of-length-le}
+use lib.Seq.{set-split, length-take-le, take-at, drop-at, drop-drop, drop-cons}
 use Rattle.base_common.specs.Wrote.{Wrote, put}
 use Rattle.base_common.specs.WroteLaws.{wrote-put, wrote-end}
-use Rattle.line_digits.specs.Lists.{drop-step, drop-end}
 
 -- a number written behind those already written
 pub wrote-one : (f₀ f : List ℕ) (w v : ℕ) (rest whole : List ℕ) → Wrote f₀ f w (v ∷ rest) whole → Wrote f₀ (set f w v) (w + 1) rest whole
@@ -50,7 +49,7 @@ put-put f w a b h =
 -- a byte of a copy: what is left of src goes behind what is written
 module _ (f₀ f : List ℕ) (w : ℕ) (src : List ℕ) (i : ℕ) (whole : List ℕ) where
   pub copy-turn : i < length src → Wrote f₀ f w (drop i src) whole → Wrote f₀ (set f w (getD src i 0)) (w + 1) (drop (i + 1) src) whole
-  copy-turn h o = wrote-one f₀ f w (getD src i 0) (drop (i + 1) src) whole (rw (drop-step src i h) at o)
+  copy-turn h o = wrote-one f₀ f w (getD src i 0) (drop (i + 1) src) whole (subst (λ r. Wrote f₀ f w r whole) (rw (add-one i) (drop-cons src i 0 h)) o)
 
   pub copy-room : i < length src → Wrote f₀ f w (drop i src) whole → w < length f
   copy-room h o =
@@ -60,4 +59,4 @@ module _ (f₀ f : List ℕ) (w : ℕ) (src : List ℕ) (i : ℕ) (whole : List 
       omega arith
 
   pub copy-end : length src ≤ i → Wrote f₀ f w (drop i src) whole → Wrote f₀ f w [] whole
-  copy-end h o = rw (drop-end src i h) at o
+  copy-end h o = rw (drop-of-length-le src h) at o

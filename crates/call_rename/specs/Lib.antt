@@ -1,0 +1,4 @@
+pub mod Rename
+pub mod Sized
+pub mod RenameLaws
+pub mod TwiceLaws

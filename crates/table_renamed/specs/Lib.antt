@@ -1,0 +1,4 @@
+pub mod Renamed
+pub mod RenamedLaws
+pub mod TableLaws
+pub mod NameLaws
