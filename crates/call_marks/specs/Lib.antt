@@ -1,4 +1,5 @@
 pub mod Marked
+pub mod Calls
 pub mod Made
 pub mod MarkedLaws
 pub mod BackLaws
