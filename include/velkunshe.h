@@ -196,6 +196,75 @@ struct velkunshe_rename_answer velkunshe_rename(
     uint32_t *renamed_nodes, size_t renamed_nodes_length,
     uint8_t *renamed_names, size_t renamed_names_length);
 
+/* Routes that are stopped under a mark, and taken up again there with further answers.
+ *
+ * `marks` points to VELKUNSHE_MARKS numbers, aligned as other slices are: eight marks, 0 to 7, of 1,026 numbers each. A mark's first number
+ * is 0 where it is not set, else how many ends are pending and 1; then come the place in the code and 512 pairs for the pending ends. All
+ * marks are clear when all numbers are 0. The array may hold any numbers: a first number above 513 counts as not set, and what a call makes
+ * of the others is no route, but ends without harm. A call writes to it only where it sets a mark, and then only to that mark's part,
+ * whose unused rest stays.
+ *
+ * A route is stopped right after the entry that takes the last of `stop` answers (for 0, at its start), counted from where it began or was
+ * taken up; its end is 4, and the mark is set. One that ends before sets no mark, nor does a refusal. For a mark that is taken up on the
+ * tables and unit of all its stops, the entries so far and those that follow, where it isn't stopped again, are the route for the
+ * answers taken so far with the further ones behind them, and so is the end.
+ *
+ * Refusals are those of velkunshe_code up to 9; then 16: the mark is above 7, or is not set where it is taken up (place: the mark; the one
+ * that is taken up is looked at first); 11; 17: a mark that is taken up holds a place where no instruction of the unit's code begins
+ * (place: the mark); and 12. needed: after 11 and 12, as of velkunshe_route. After a refusal the marks and both slices are as they were, but
+ * after 12 and 17 the code slice holds the code; no entry past the last one written is changed.
+ *
+ * end: as of velkunshe_route, or 4: stopped under the mark, 5: it comes to no other end (only where a mark was taken up otherwise). */
+#define VELKUNSHE_MARKS 8208
+
+/* From the start, stopped under `mark` behind `stop` answers. */
+struct velkunshe_route_answer velkunshe_route_stop(
+    uint32_t source_type,
+    uint32_t async_bodies,
+    const uint32_t *nodes, size_t nodes_length,
+    const uint32_t *scopes, size_t scopes_length,
+    const uint8_t *source, size_t source_length,
+    const uint8_t *names, size_t names_length,
+    uint32_t unit,
+    const uint32_t *answers, size_t answers_length,
+    uint32_t mark,
+    uint64_t stop,
+    uint32_t *marks,
+    uint32_t *code, size_t code_length,
+    uint32_t *route, size_t route_length);
+
+/* Taken up at `mark`, and not stopped again. It doesn't change the marks. */
+struct velkunshe_route_answer velkunshe_route_resume(
+    uint32_t source_type,
+    uint32_t async_bodies,
+    const uint32_t *nodes, size_t nodes_length,
+    const uint32_t *scopes, size_t scopes_length,
+    const uint8_t *source, size_t source_length,
+    const uint8_t *names, size_t names_length,
+    uint32_t unit,
+    uint32_t mark,
+    const uint32_t *answers, size_t answers_length,
+    uint32_t *marks,
+    uint32_t *code, size_t code_length,
+    uint32_t *route, size_t route_length);
+
+/* Taken up at `from`, and stopped again under `to` behind `stop` further answers. The two may be one mark: it is read first. */
+struct velkunshe_route_answer velkunshe_route_resume_stop(
+    uint32_t source_type,
+    uint32_t async_bodies,
+    const uint32_t *nodes, size_t nodes_length,
+    const uint32_t *scopes, size_t scopes_length,
+    const uint8_t *source, size_t source_length,
+    const uint8_t *names, size_t names_length,
+    uint32_t unit,
+    uint32_t from,
+    const uint32_t *answers, size_t answers_length,
+    uint32_t to,
+    uint64_t stop,
+    uint32_t *marks,
+    uint32_t *code, size_t code_length,
+    uint32_t *route, size_t route_length);
+
 #ifdef __cplusplus
 }
 #endif

@@ -225,6 +225,21 @@ check "status 2: engines that differ" status 2 ./show-route rules/while-switch.j
 rm -f "$lossy"
 check "no second route of a rule with an error" status 2 ./show-route rules/block-label.js '' --against 1
 check "a call of rulecalls that can't be read" says 'R,0,22' beside 1
+check "a route stopped and taken up" says 'route of the program with answers 1, 0, 7
+1  line 1  while(t)   1: another turn
+2  line 1  switch(s)  0: case c
+it was stopped after 2 entries and 2 answers; left over: 7
+then with answers 0
+3  line 1  continue a;
+4  line 1  while(t)     0: no more turns
+it fell through its last statement after 4 entries and 3 answers
+then with answers 1, 5
+3  line 1  continue a;
+4  line 1  while(t)     1: another turn
+5  line 1  switch(s)    5: no case
+6  line 1  x;
+it stopped for want of an answer after 6 entries and 4 answers; line 1 asks next: while(t)' ./show-route rules/while-switch.js 1,0,7 --stop 2 --then 0 --then y,5
+check "a route that ends before it is stopped" says 'show-route: the route ends before 2 answers are taken: there is nothing to stop' ./show-route rules/while-switch.js 0 --stop 2 --then 1
 # renamed TEXT: the text of a script with its labels renamed
 renamed() { printf '%b' "$1" | tools/rename-labels --script -; }
 check "labels renamed" says 'a: for (;;) { b: do { if (x) continue a; break b } while (y) }' renamed 'outer: for (;;) { inner: do { if (x) continue outer; break inner } while (y) }'
@@ -253,9 +268,9 @@ check "a text for each disagreement" tools/v8-verdicts --texts
 check "each of them told" told < <(disagreements)
 check "each difference's text told" told < <(differences)
 # the figures too: every end and every kind of unit is among the runs
-check "V8's routes, by both engines" says '1000 units (447 programs, 231 functions, 64 arrows, 258 static blocks; 0 with a try, 133 with a static block of a class), 4000 runs: 2728 fell through, 27 returned, 155 threw, 1090 spent their answers; 17639 entries, 8561 answers taken, longest list 60; 0 disagree' \
-    tools/v8-routes 1000 3 --engine both --quiet
-check "V8's routes, with try, by both engines" says '200 units (94 programs, 47 functions, 15 arrows, 44 static blocks; 61 with a try, 24 with a static block of a class), 800 runs: 528 fell through, 7 returned, 57 threw, 208 spent their answers; 3988 entries, 1731 answers taken, longest list 59; 0 disagree' \
-    tools/v8-routes 200 4 --engine both --try --quiet
+check "V8's routes, by all engines" says '1000 units (447 programs, 231 functions, 64 arrows, 258 static blocks; 0 with a try, 133 with a static block of a class), 4000 runs: 2728 fell through, 27 returned, 155 threw, 1090 spent their answers; 17639 entries, 8561 answers taken, longest list 60; 0 disagree' \
+    tools/v8-routes 1000 3 --engine all --quiet
+check "V8's routes, with try, by all engines" says '200 units (94 programs, 47 functions, 15 arrows, 44 static blocks; 61 with a try, 24 with a static block of a class), 800 runs: 528 fell through, 7 returned, 57 threw, 208 spent their answers; 3988 entries, 1731 answers taken, longest list 59; 0 disagree' \
+    tools/v8-routes 200 4 --engine all --try --quiet
 if tools/setup chromium; then check "pages in Chromium" tools/pages 60 5; else unrun "pages in Chromium" "it can't be installed"; fi
 finish

@@ -88,6 +88,26 @@ static void rename_labels(size_t room) {
     printf("refusal %" PRIu32 ", needed %" PRIu64 ", names %.*s\n", a.refusal, a.needed, (int)a.names, (const char *)renamed_names);
 }
 
+/* Stopped behind two answers, then taken up there with two lists of further ones. */
+static void stop_and_resume(const uint32_t *answers, size_t count) {
+    static uint32_t marks[VELKUNSHE_MARKS];
+    uint32_t more[] = {0, 1}, code[13 * VELKUNSHE_CODE], route[8];
+    struct velkunshe_route_answer a = velkunshe_route_stop(
+        0, 0, routed_nodes, sizeof routed_nodes / sizeof *routed_nodes, routed_scopes, 9, source, 0, (const uint8_t *)"atsc", 4, 0,
+        answers, count, 3, 2, marks, code, 13 * VELKUNSHE_CODE, route, 8);
+    print_route(a, route);
+    for (size_t i = 0; i < 2; i++) {
+        a = velkunshe_route_resume(
+            0, 0, routed_nodes, sizeof routed_nodes / sizeof *routed_nodes, routed_scopes, 9, source, 0, (const uint8_t *)"atsc", 4, 0, 3,
+            more + i, 1, marks, code, 13 * VELKUNSHE_CODE, route, 8);
+        print_route(a, route);
+    }
+    a = velkunshe_route_resume_stop(
+        0, 0, routed_nodes, sizeof routed_nodes / sizeof *routed_nodes, routed_scopes, 9, source, 0, (const uint8_t *)"atsc", 4, 0, 5, more,
+        2, 6, 1, marks, code, 13 * VELKUNSHE_CODE, route, 8);
+    printf("R,%" PRIu32 ",%" PRIu32 "\n", a.refusal, a.place);
+}
+
 int main(void) {
     uint32_t findings[8] = {0};
     findings[7] = 77;
@@ -114,5 +134,6 @@ int main(void) {
     walk(answers, 3, 3);
     rename_labels(8);
     rename_labels(1);
+    stop_and_resume(answers, 3);
     return 0;
 }

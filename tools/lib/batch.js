@@ -43,6 +43,16 @@ function routeOf(lines) {
   return { list: lines.slice(0, -1).map((l) => Number(l.slice(2))), end, entries, taken };
 }
 
+// Several routes one after the other.
+function routesOf(lines) {
+  const routes = [[]];
+  for (const line of lines) {
+    routes[routes.length - 1].push(line);
+    if (!line.startsWith('L,')) routes.push([]);
+  }
+  return routes.slice(0, -1).map(routeOf);
+}
+
 // How many entries two routes share, or the line of a refusal or failure.
 function sharedOf(lines) {
   const last = lines[lines.length - 1] || 'C,nothing';
@@ -57,11 +67,11 @@ function programOf(named, name) {
   return built;
 }
 
-// The engines that give routes: ruleroute runs code, rulecalls walks over the tree. `both` are both, in this order.
-const ENGINES = ['code', 'walk', 'both'];
+// The engines that give routes: ruleroute runs code, rulecalls walks over the tree, or stops behind each answer and takes the route up again.
+const ENGINES = { code: ['code'], walk: ['walk'], both: ['code', 'walk'], all: ['code', 'walk', 'stopped'] };
 function enginesOf(which, { router, caller }) {
-  const engine = { code: () => ({ program: programOf(router, 'ruleroute'), argument: '' }), walk: () => ({ program: programOf(caller, 'rulecalls'), argument: 'walk' }) };
-  return (which === 'both' ? ['code', 'walk'] : [which]).map((name) => ({ name, ...engine[name]() }));
+  const of = (name) => (name === 'code' ? { program: programOf(router, 'ruleroute'), argument: '' } : { program: programOf(caller, 'rulecalls'), argument: name });
+  return ENGINES[which].map((name) => ({ name, ...of(name) }));
 }
 
-module.exports = { ENGINES, answersOf, enginesOf, findingsOf, routeOf, sharedOf, programOf };
+module.exports = { ENGINES, answersOf, enginesOf, findingsOf, routeOf, routesOf, sharedOf, programOf };

@@ -66,6 +66,11 @@ function routeLinesOf(tree, unit, ...lists) {
   return Buffer.concat([linesOf(tree), Buffer.from(`U,${unit}\n${lists.map((answers) => `${lineOf(answers)}\n`).join('')}`)]);
 }
 
+// with the unit and a line for each call over marks, of a letter and numbers, for rulecalls
+function markLinesOf(tree, unit, calls) {
+  return Buffer.concat([linesOf(tree), Buffer.from(`U,${unit}\n${calls.map((call) => `${call.join()}\n`).join('')}`)]);
+}
+
 function viewOf(tree) {
   const depth = depthOf(tree.nodes);
   const out = [];
@@ -83,4 +88,4 @@ function viewOf(tree) {
   return out.join('\n') + '\n';
 }
 
-module.exports = { linesOf, treeIn, routeLinesOf, answersIn, viewOf, tooLarge, depthOf };
+module.exports = { linesOf, treeIn, routeLinesOf, markLinesOf, answersIn, viewOf, tooLarge, depthOf };

@@ -6,7 +6,7 @@ const { K, R, F } = require('./kinds.js');
 const { Lines, shown, shownLines } = require('./place.js');
 
 const LOOPS = [K.For, K.ForIn, K.ForOf, K.While, K.DoWhile];
-const ENDS = ['fell through its last statement', 'returned', 'threw', 'stopped for want of an answer'];
+const ENDS = ['fell through its last statement', 'returned', 'threw', 'stopped for want of an answer', 'was stopped', 'came to no end'];
 const UNITS = ['the program', 'the function', 'the arrow function', 'the static block'];
 
 const EXPORTS = [K.ExportDefault, K.ExportNamed];

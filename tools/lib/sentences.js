@@ -57,6 +57,8 @@ const REFUSALS = {
   13: 'this node stands under a parent that does not take it, or not in this role',
   14: 'this node has too few or too many children of some sort',
   15: 'a return stands in a static block, where it has no meaning',
+  16: 'there is no such mark, or it is not set',
+  17: 'the mark holds a place where no instruction of this unit begins',
   19: 'the name of this label is a reserved word in some code, or there are 700 different labels',
   20: 'the names are longer than their slice',
 };

@@ -3,7 +3,8 @@
 //! A rule comes as tables of numbers (see [`Rule`]). [`check`] gives its early errors; [`code`] makes the flat code of one of its units (the
 //! program, a function, an arrow or a static block), and [`route`] lists the statements that the unit comes to on a list of answers.
 //! [`findings`], [`code_of`] and [`route_of`] give the same in vectors. [`shared`] says how much two routes of one unit share. [`walk`] gives
-//! a route by a second engine, which makes no code. [`renamed`] gives a rule with short labels. Whatever the tables hold, a call ends and does nothing undefined, and its answer
+//! a route by a second engine, which makes no code. [`renamed`] gives a rule with short labels.
+//! [`Marks`] has routes that are stopped and taken up again. Whatever the tables hold, a call ends and does nothing undefined, and its answer
 //! is the one that is proved; nothing here asks for `unsafe`.
 //!
 //! The library is linked as `build.rs` says: from `VELKUNSHE_LIB`, the path of an archive, or from this repository's
@@ -107,6 +108,7 @@ macro_rules! on_rule {
 }
 
 mod ffi;
+mod marks;
 mod rename;
 mod shared;
 mod walk;
@@ -114,6 +116,7 @@ mod walk;
 use std::error::Error;
 use std::fmt;
 
+pub use marks::{Marks, Slices, Stop, MARKS};
 pub use rename::{rename, renamed, Renamed};
 pub use shared::{shared, shared_of};
 pub use walk::{walk, walk_of};
@@ -161,13 +164,15 @@ impl<'a> Rule<'a> {
     }
 }
 
-/// Why a call turned its input down. The slices are then as they were, but that after 12 the code slice holds the code.
+/// Why a call turned its input down. The slices are then as they were, but that after 12 and 17 the code slice holds the code.
 #[derive(Clone, Copy, Debug, PartialEq, Eq)]
 pub struct Refusal {
     /// 1 to 6, 13 to 15: the tables, looked at in the order 1, 2, 3, 4, 5, 13, 14, 6, 15; 7: the unit; 9: the rule has findings; 10, 11,
-    /// 12: the findings, code or route slice is too short; 19, 20: a label, or a slice, of [`rename`]. 8 is no longer given.
+    /// 12: the findings, code or route slice is too short; 16, 17: a mark of [`Marks`]; 19, 20: a label,
+    /// or a slice, of [`rename`]. 8 is no longer given.
     pub number: u32,
-    /// The lowest node or scope that 2 to 6 and 13 to 15 speak of, the unit of 7, the node of 9, the label of 19, else 0.
+    /// The lowest node or scope that 2 to 6 and 13 to 15 speak of, the unit of 7, the node of 9, the mark of 16 and 17, the
+    /// label of 19, else 0.
     pub place: u32,
     /// After 10, 11, 12 and 20: the length that the slice must have (after 20 that of the names).
     pub needed: Option<u64>,
@@ -196,6 +201,8 @@ impl fmt::Display for Refusal {
             13 => "the node stands under a parent that may not hold it, or has a kind or role that this parent doesn't take",
             14 => "the node has too few or too many children of some sort",
             15 => "a return stands in a static block",
+            16 => "there is no such mark, or it is not set",
+            17 => "the mark holds a place where no instruction of the unit's code begins",
             19 => "a label's name is one that the check of reserved words looks for, or there are 700 different labels",
             20 => "a slice for the renamed tables is too short, or their names are too long",
             _ => "turned down",
@@ -284,6 +291,10 @@ pub enum End {
     Thrown,
     /// No answer was left for an if, a switch or a turn of a loop.
     AnswersSpent,
+    /// It was stopped under a mark.
+    Stopped,
+    /// It came to no other end; a route of [`route`] doesn't end so.
+    NoOtherEnd,
 }
 
 impl End {
@@ -292,7 +303,9 @@ impl End {
             0 => End::FellThrough,
             1 => End::Returned,
             2 => End::Thrown,
-            _ => End::AnswersSpent,
+            3 => End::AnswersSpent,
+            4 => End::Stopped,
+            _ => End::NoOtherEnd,
         }
     }
 }

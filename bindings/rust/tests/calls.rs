@@ -1,8 +1,8 @@
 //! The calls on slices of every length: nothing but what is promised is written.
 
 use velkunshe::{
-    check, code, code_of, findings, rename, renamed, route, route_of, shared, shared_of, walk, walk_of, End, Refusal,
-    Rule, Shown, CODE, FINDING,
+    check, code, code_of, findings, rename, renamed, route, route_of, shared, shared_of, walk, walk_of, End, Marks,
+    Refusal, Rule, Shown, Slices, Stop, CODE, FINDING,
 };
 
 /// A script with nothing in it.
@@ -377,4 +377,59 @@ fn renamed_into_slices_of_every_length() {
             assert!(nodes[70..].iter().all(|&n| n == 77) && names[3..].iter().all(|&b| b == b'-'));
         }
     }
+}
+
+/// Stopped behind each number of answers and taken up again, the lists joined are the route.
+#[test]
+fn stopped_and_taken_up() {
+    let answers = [1, 5, 1, 0, 0];
+    let whole = route_of(&ROUTED, 0, &answers).unwrap();
+    for behind in 0..=answers.len() {
+        let mut marks = Marks::new();
+        let mut so_far = marks.route_stop_of(&ROUTED, 0, &answers, Stop { mark: 7, answers: behind as u64 }).unwrap();
+        assert_eq!((so_far.end, so_far.taken), (End::Stopped, behind as u64));
+        let rest = marks.route_resume_of(&ROUTED, 0, 7, &answers[behind..]).unwrap();
+        so_far.nodes.extend(&rest.nodes);
+        assert_eq!((so_far.nodes, rest.end, so_far.taken + rest.taken), (whole.nodes.clone(), whole.end, whole.taken));
+    }
+    // Ends before the named number: no mark is set.
+    let mut marks = Marks::new();
+    let early = marks.route_stop_of(&ROUTED, 0, &[0], Stop { mark: 0, answers: 2 }).unwrap();
+    assert_eq!((early.end, &marks), (End::FellThrough, &Marks::new()));
+    // Twice under one mark, which is read first.
+    let begun = marks.route_stop_of(&ROUTED, 0, &answers, Stop { mark: 1, answers: 1 }).unwrap();
+    let next = marks.route_resume_stop_of(&ROUTED, 0, 1, &answers[1..], Stop { mark: 1, answers: 2 }).unwrap();
+    let last = marks.route_resume_of(&ROUTED, 0, 1, &answers[3..]).unwrap();
+    assert_eq!([begun.nodes, next.nodes, last.nodes].concat(), whole.nodes);
+}
+
+fn refusal<T>(number: u32, place: u32, needed: Option<u64>) -> Result<T, Refusal> {
+    Err(Refusal { number, place, needed })
+}
+
+/// What each refusal leaves: 16, 11, 17, 12 in this order.
+#[test]
+fn refusals_of_marks() {
+    let made = code_of(&ROUTED, 0).unwrap();
+    let mut marks = Marks::new();
+    let stop = |mark| Stop { mark, answers: 0 };
+    let length = made.len() as u64;
+    assert_eq!(marks.route_stop_of(&ROUTED, 0, &[], stop(8)), refusal(16, 8, None));
+    assert_eq!(marks.route_resume_of(&ROUTED, 0, 7, &[]), refusal(16, 7, None));
+    assert_eq!(marks.route_resume_stop_of(&ROUTED, 0, 3, &[], stop(9)), refusal(16, 3, None));
+    assert_eq!(marks.route_stop_of(&ROUTED, 1, &[], stop(8)), refusal(7, 1, None));
+    // Pending ends and 1, then a place within an instruction.
+    marks.numbers_mut()[3 * 1026..][..2].copy_from_slice(&[1, 1]);
+    assert_eq!(marks.route_resume_stop_of(&ROUTED, 0, 3, &[], stop(9)), refusal(16, 9, None));
+    let before = marks.clone();
+    let (mut short, mut code, mut route) = (vec![77; made.len() - 1], vec![77; made.len() + 1], [77; 9]);
+    let slices = Slices { code: &mut short, route: &mut route };
+    assert_eq!(marks.route_resume(&ROUTED, 0, 3, &[1], slices), refusal(11, 0, Some(length)));
+    assert!(short.iter().all(|&n| n == 77));
+    let slices = Slices { code: &mut code, route: &mut [] };
+    assert_eq!(marks.route_resume(&ROUTED, 0, 3, &[1], slices), refusal(17, 3, None));
+    assert_eq!((&code[..made.len()], code[made.len()]), (&made[..], 77));
+    let slices = Slices { code: &mut code, route: &mut [] };
+    assert_eq!(marks.route_stop(&ROUTED, 0, &[1], Stop { mark: 0, answers: 1 }, slices), refusal(12, 0, Some(1)));
+    assert_eq!((marks, route), (before, [77; 9]));
 }

@@ -1,6 +1,7 @@
 //! The proved static library beside the plain version: every answer and every entry of every slice. Only with the
 //! feature `proved`.
 
+mod marks;
 mod rename;
 
 use std::ops::Range;
@@ -39,6 +40,7 @@ fn compare_calls(t: &Tables, rng: &mut Rng, counts: &mut Counts) -> Result<(), S
         unit(t, n as u32, &given, counts)?;
         shared(t, n as u32, &given, &similar(&given, rng), counts)?;
         walk(t, n as u32, &given, counts)?;
+        marks::compare(t, n as u32, rng, counts)?;
         // What is said of a unit's code holds of the proved library's.
         match code_of(t, n as u32) {
             Ok(made) if t.node_count() < 2000 => over_code::over(t, n, &made, &given, rng),
@@ -197,6 +199,8 @@ fn end_number(end: End) -> u32 {
         End::Returned => 1,
         End::Thrown => 2,
         End::AnswersSpent => 3,
+        End::Stopped => 4,
+        End::NoOtherEnd => 5,
     }
 }
 

@@ -76,7 +76,8 @@ impl<'a> Reader<'a> {
         Reader { rest: input, line: 0 }
     }
 
-    fn bad(&self) -> BadLine {
+    /// The line read last, where it is none that could stand there.
+    pub fn bad(&self) -> BadLine {
         BadLine(self.line)
     }
 
@@ -104,8 +105,20 @@ impl<'a> Reader<'a> {
         read.ok_or(self.bad())
     }
 
+    /// Any line of that sort, or none where the input ends.
+    pub fn letter_and_numbers(&mut self) -> Result<Option<(u8, Vec<u32>)>, BadLine> {
+        if self.rest.is_empty() {
+            return Ok(None);
+        }
+        let mut parts = self.next_line()?.split(|&b| b == b',');
+        let letter = parts.next().and_then(|part| <[u8; 1]>::try_from(part).ok());
+        let numbers = parts.map(number).collect::<Option<Vec<u32>>>();
+        let read = letter.zip(numbers).map(|([letter], numbers)| (letter, numbers));
+        read.ok_or(self.bad()).map(Some)
+    }
+
     /// The same with exactly so many numbers.
-    fn exactly<const N: usize>(&mut self, letter: u8) -> Result<[u32; N], BadLine> {
+    pub fn exactly<const N: usize>(&mut self, letter: u8) -> Result<[u32; N], BadLine> {
         let numbers = self.numbers(letter)?;
         numbers.try_into().map_err(|_| self.bad())
     }

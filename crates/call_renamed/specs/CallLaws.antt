@@ -9,6 +9,8 @@ use Rattle.code_length.specs.Length.{codeLength}
 use Rattle.call_check.specs.Check.{checkAnswer, checkSlice}
 use Rattle.call_routes.specs.Calls.{codeRefusal, codeAnswer, codeSlice, routeAnswer, routeSlice}
 use Rattle.call_walk.specs.Walked.{walkAnswer, walkSlice}
+use Rattle.call_marks.specs.Marked.{markAnswer, markCode, markSlice, marksLeft}
+use Rattle.call_marks.specs.Calls.{stopAnswer, stopCode, stopSlice, stopMarks, resumeAnswer, resumeCode, resumeSlice, resumeStopAnswer, resumeStopCode, resumeStopSlice, resumeStopMarks}
 use Rattle.call_shared.specs.Shared.{sharedAnswer}
 use Rattle.call_renamed.specs.Same.{refusedInput, Read, Same}
 
@@ -66,6 +68,50 @@ module _ (x y : Rule) (r : Read x y) where
   unfolding walkSlice
   walk-slice u answers s = simp (unit-reads, r)
 
+  stop-answer : (u : ℕ) (answers : List ℕ) (mark stop : ℕ) (M : List ℕ) (codeLen len : ℕ) → stopAnswer x u answers mark stop M codeLen len ≡ stopAnswer y u answers mark stop M codeLen len
+  unfolding markAnswer
+  stop-answer u answers mark stop M codeLen len = simp (unit-reads, r)
+
+  stop-code : (u : ℕ) (mark : ℕ) (k : List ℕ) → stopCode x u mark k ≡ stopCode y u mark k
+  unfolding markCode
+  stop-code u mark k = simp (unit-reads, r)
+
+  stop-slice : (u : ℕ) (answers : List ℕ) (mark stop : ℕ) (M : List ℕ) (codeLen : ℕ) (o : List ℕ) → stopSlice x u answers mark stop M codeLen o ≡ stopSlice y u answers mark stop M codeLen o
+  unfolding markSlice
+  stop-slice u answers mark stop M codeLen o = simp (unit-reads, r)
+
+  stop-marks : (u : ℕ) (answers : List ℕ) (mark stop : ℕ) (M : List ℕ) (codeLen len : ℕ) → stopMarks x u answers mark stop M codeLen len ≡ stopMarks y u answers mark stop M codeLen len
+  unfolding marksLeft
+  stop-marks u answers mark stop M codeLen len = simp (unit-reads, r)
+
+  resume-answer : (u : ℕ) (mark : ℕ) (answers M : List ℕ) (codeLen len : ℕ) → resumeAnswer x u mark answers M codeLen len ≡ resumeAnswer y u mark answers M codeLen len
+  unfolding markAnswer
+  resume-answer u mark answers M codeLen len = simp (unit-reads, r)
+
+  resume-code : (u : ℕ) (mark : ℕ) (M k : List ℕ) → resumeCode x u mark M k ≡ resumeCode y u mark M k
+  unfolding markCode
+  resume-code u mark M k = simp (unit-reads, r)
+
+  resume-slice : (u : ℕ) (mark : ℕ) (answers M : List ℕ) (codeLen : ℕ) (o : List ℕ) → resumeSlice x u mark answers M codeLen o ≡ resumeSlice y u mark answers M codeLen o
+  unfolding markSlice
+  resume-slice u mark answers M codeLen o = simp (unit-reads, r)
+
+  again-answer : (u : ℕ) (from : ℕ) (answers : List ℕ) (to stop : ℕ) (M : List ℕ) (codeLen len : ℕ) → resumeStopAnswer x u from answers to stop M codeLen len ≡ resumeStopAnswer y u from answers to stop M codeLen len
+  unfolding markAnswer
+  again-answer u from answers to stop M codeLen len = simp (unit-reads, r)
+
+  again-code : (u : ℕ) (from to : ℕ) (M k : List ℕ) → resumeStopCode x u from to M k ≡ resumeStopCode y u from to M k
+  unfolding markCode
+  again-code u from to M k = simp (unit-reads, r)
+
+  again-slice : (u : ℕ) (from : ℕ) (answers : List ℕ) (to stop : ℕ) (M : List ℕ) (codeLen : ℕ) (o : List ℕ) → resumeStopSlice x u from answers to stop M codeLen o ≡ resumeStopSlice y u from answers to stop M codeLen o
+  unfolding markSlice
+  again-slice u from answers to stop M codeLen o = simp (unit-reads, r)
+
+  again-marks : (u : ℕ) (from : ℕ) (answers : List ℕ) (to stop : ℕ) (M : List ℕ) (codeLen len : ℕ) → resumeStopMarks x u from answers to stop M codeLen len ≡ resumeStopMarks y u from answers to stop M codeLen len
+  unfolding marksLeft
+  again-marks u from answers to stop M codeLen len = simp (unit-reads, r)
+
   shared-answer : (u : ℕ) (first second : List ℕ) (codeLen : ℕ) → sharedAnswer x u first second codeLen ≡ sharedAnswer y u first second codeLen
   unfolding sharedAnswer
   shared-answer u first second codeLen = simp (unit-reads, r)
@@ -82,5 +128,16 @@ module _ (x y : Rule) (r : Read x y) where
         routes = route-slice;
         walk = walk-answer;
         walks = walk-slice;
+        stop = stop-answer;
+        stopCodes = stop-code;
+        stopRoutes = stop-slice;
+        stopArrays = stop-marks;
+        resume = resume-answer;
+        resumeCodes = resume-code;
+        resumeRoutes = resume-slice;
+        again = again-answer;
+        againCodes = again-code;
+        againRoutes = again-slice;
+        againArrays = again-marks;
         shared = shared-answer;
       }

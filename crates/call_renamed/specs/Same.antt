@@ -12,6 +12,7 @@ use Rattle.code_length.specs.Length.{codeLength}
 use Rattle.call_check.specs.Check.{checkAnswer, checkSlice}
 use Rattle.call_routes.specs.Calls.{codeRefusal, codeAnswer, codeSlice, routeAnswer, routeSlice}
 use Rattle.call_walk.specs.Walked.{walkAnswer, walkSlice}
+use Rattle.call_marks.specs.Calls.{stopAnswer, stopCode, stopSlice, stopMarks, resumeAnswer, resumeCode, resumeSlice, resumeStopAnswer, resumeStopCode, resumeStopSlice, resumeStopMarks}
 use Rattle.call_shared.specs.Shared.{sharedAnswer}
 use Rattle.table_renamed.specs.Renamed.{Renamed}
 use Rattle.check_renamed.specs.Unreserved.{Unreserved}
@@ -54,4 +55,16 @@ pub record Same (x y : Rule) : Type 0 where
   pub routes : (u : ℕ) (answers : List ℕ) (codeLen : ℕ) (s : List ℕ) → routeSlice x u answers codeLen s ≡ routeSlice y u answers codeLen s
   pub walk : (u : ℕ) (answers : List ℕ) (len : ℕ) → walkAnswer x u answers len ≡ walkAnswer y u answers len
   pub walks : (u : ℕ) (answers s : List ℕ) → walkSlice x u answers s ≡ walkSlice y u answers s
+  -- the calls of marks, with the array M
+  pub stop : (u : ℕ) (answers : List ℕ) (mark stop : ℕ) (M : List ℕ) (codeLen len : ℕ) → stopAnswer x u answers mark stop M codeLen len ≡ stopAnswer y u answers mark stop M codeLen len
+  pub stopCodes : (u : ℕ) (mark : ℕ) (k : List ℕ) → stopCode x u mark k ≡ stopCode y u mark k
+  pub stopRoutes : (u : ℕ) (answers : List ℕ) (mark stop : ℕ) (M : List ℕ) (codeLen : ℕ) (o : List ℕ) → stopSlice x u answers mark stop M codeLen o ≡ stopSlice y u answers mark stop M codeLen o
+  pub stopArrays : (u : ℕ) (answers : List ℕ) (mark stop : ℕ) (M : List ℕ) (codeLen len : ℕ) → stopMarks x u answers mark stop M codeLen len ≡ stopMarks y u answers mark stop M codeLen len
+  pub resume : (u : ℕ) (mark : ℕ) (answers M : List ℕ) (codeLen len : ℕ) → resumeAnswer x u mark answers M codeLen len ≡ resumeAnswer y u mark answers M codeLen len
+  pub resumeCodes : (u : ℕ) (mark : ℕ) (M k : List ℕ) → resumeCode x u mark M k ≡ resumeCode y u mark M k
+  pub resumeRoutes : (u : ℕ) (mark : ℕ) (answers M : List ℕ) (codeLen : ℕ) (o : List ℕ) → resumeSlice x u mark answers M codeLen o ≡ resumeSlice y u mark answers M codeLen o
+  pub again : (u : ℕ) (from : ℕ) (answers : List ℕ) (to stop : ℕ) (M : List ℕ) (codeLen len : ℕ) → resumeStopAnswer x u from answers to stop M codeLen len ≡ resumeStopAnswer y u from answers to stop M codeLen len
+  pub againCodes : (u : ℕ) (from to : ℕ) (M k : List ℕ) → resumeStopCode x u from to M k ≡ resumeStopCode y u from to M k
+  pub againRoutes : (u : ℕ) (from : ℕ) (answers : List ℕ) (to stop : ℕ) (M : List ℕ) (codeLen : ℕ) (o : List ℕ) → resumeStopSlice x u from answers to stop M codeLen o ≡ resumeStopSlice y u from answers to stop M codeLen o
+  pub againArrays : (u : ℕ) (from : ℕ) (answers : List ℕ) (to stop : ℕ) (M : List ℕ) (codeLen len : ℕ) → resumeStopMarks x u from answers to stop M codeLen len ≡ resumeStopMarks y u from answers to stop M codeLen len
   pub shared : (u : ℕ) (first second : List ℕ) (codeLen : ℕ) → sharedAnswer x u first second codeLen ≡ sharedAnswer y u first second codeLen

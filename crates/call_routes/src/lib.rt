@@ -22,7 +22,7 @@ pub enum Coded {
     Short(usize),
 }
 
-// The refusals of both calls before 11, and of the walk.
+// The refusals of both calls before 11, of the walk and of the calls of marks.
 pub fn refusal(
     source_type: u32,
     async_bodies: u32,
@@ -88,7 +88,7 @@ pub fn code(
 }
 
 // The first n numbers.
-fn front(s: &[u32], n: usize) -> &[u32]
+pub fn front(s: &[u32], n: usize) -> &[u32]
     requires { ⌜ n ≤ length (now s) ⌝ }
     ensures { λ r. ⌜ now r ≡ take n (now (s .entry)) ⌝ }
 {

@@ -6,6 +6,7 @@ ghost use Rattle.call_check.specs.Check.{checkAnswer, checkSlice};
 ghost use Rattle.call_routes.specs.Calls.{codeAnswer, codeSlice, routeAnswer, routeSlice};
 ghost use Rattle.call_rename.specs.Rename.{renaming};
 ghost use Rattle.call_shared.specs.Shared.{sharedAnswer};
+ghost use Rattle.call_marks.specs.Calls.{stopAnswer, stopCode, stopSlice, stopMarks, resumeAnswer, resumeCode, resumeSlice, resumeStopAnswer, resumeStopCode, resumeStopSlice, resumeStopMarks};
 ghost use Rattle.call_walk.specs.Walked.{walkAnswer, walkSlice};
 ghost use Rattle.exports.specs.Numbers.{checkNumbers, codeNumbers, routeNumbers, sharedNumbers, renameNumbers};
 use call_check::Checked;
@@ -13,6 +14,7 @@ use call_rename::Relabelled;
 use call_routes::Coded;
 use call_shared::Beginning;
 use refusal_verdict::refusals;
+use route_marks::Marks;
 use route_viewer::Routed;
 
 // A check's answer: the refusal's number (0 where there is none) and place, how many findings were written, and after 10 the length needed.
@@ -368,5 +370,122 @@ pub extern "C" fn velkunshe_rename(
         names,
         renamed_nodes,
         renamed_names,
+    ))
+}
+
+// From the start, stopped under `mark` behind `stop` answers.
+#[no_mangle]
+pub extern "C" fn velkunshe_route_stop(
+    source_type: u32,
+    async_bodies: u32,
+    nodes: &[u32],
+    scopes: &[u32],
+    source: &[u8],
+    names: &[u8],
+    unit: u32,
+    answers: &[u32],
+    mark: u32,
+    stop: u64,
+    marks: &mut Marks,
+    code: &mut [u32],
+    route: &mut [u32],
+) -> RouteAnswer
+    ensures { λ r. ⌜ r ≡ routeNumbers (stopAnswer (rule «source_type» «async_bodies» (now (nodes .entry)) (now (scopes .entry)) (now (source .entry)) (now (names .entry))) unit (now (answers .entry)) mark stop (now (marks .entry)) (length (now (code .entry))) (length (now (route .entry)))) ⌝ }
+    ensures { λ _. ⌜ now (code .exit) ≡ stopCode (rule «source_type» «async_bodies» (now (nodes .entry)) (now (scopes .entry)) (now (source .entry)) (now (names .entry))) unit mark (now (code .entry)) ⌝ }
+    ensures { λ _. ⌜ now (route .exit) ≡ stopSlice (rule «source_type» «async_bodies» (now (nodes .entry)) (now (scopes .entry)) (now (source .entry)) (now (names .entry))) unit (now (answers .entry)) mark stop (now (marks .entry)) (length (now (code .entry))) (now (route .entry)) ⌝ }
+    ensures { λ _. ⌜ now (marks .exit) ≡ stopMarks (rule «source_type» «async_bodies» (now (nodes .entry)) (now (scopes .entry)) (now (source .entry)) (now (names .entry))) unit (now (answers .entry)) mark stop (now (marks .entry)) (length (now (code .entry))) (length (now (route .entry))) ⌝ }
+{
+    route_numbers(call_marks::route_stop(
+        source_type,
+        async_bodies,
+        nodes,
+        scopes,
+        source,
+        names,
+        unit,
+        answers,
+        mark,
+        stop,
+        marks,
+        code,
+        route,
+    ))
+}
+
+// Taken up at `mark`, and not stopped again.
+#[no_mangle]
+pub extern "C" fn velkunshe_route_resume(
+    source_type: u32,
+    async_bodies: u32,
+    nodes: &[u32],
+    scopes: &[u32],
+    source: &[u8],
+    names: &[u8],
+    unit: u32,
+    mark: u32,
+    answers: &[u32],
+    marks: &mut Marks,
+    code: &mut [u32],
+    route: &mut [u32],
+) -> RouteAnswer
+    ensures { λ r. ⌜ r ≡ routeNumbers (resumeAnswer (rule «source_type» «async_bodies» (now (nodes .entry)) (now (scopes .entry)) (now (source .entry)) (now (names .entry))) unit mark (now (answers .entry)) (now (marks .entry)) (length (now (code .entry))) (length (now (route .entry)))) ⌝ }
+    ensures { λ _. ⌜ now (code .exit) ≡ resumeCode (rule «source_type» «async_bodies» (now (nodes .entry)) (now (scopes .entry)) (now (source .entry)) (now (names .entry))) unit mark (now (marks .entry)) (now (code .entry)) ⌝ }
+    ensures { λ _. ⌜ now (route .exit) ≡ resumeSlice (rule «source_type» «async_bodies» (now (nodes .entry)) (now (scopes .entry)) (now (source .entry)) (now (names .entry))) unit mark (now (answers .entry)) (now (marks .entry)) (length (now (code .entry))) (now (route .entry)) ⌝ }
+    ensures { λ _. ⌜ now (marks .exit) ≡ now (marks .entry) ⌝ }
+{
+    route_numbers(call_marks::route_resume(
+        source_type,
+        async_bodies,
+        nodes,
+        scopes,
+        source,
+        names,
+        unit,
+        mark,
+        answers,
+        marks,
+        code,
+        route,
+    ))
+}
+
+// Taken up at `from`, and stopped again under `to` behind `stop` answers.
+#[no_mangle]
+pub extern "C" fn velkunshe_route_resume_stop(
+    source_type: u32,
+    async_bodies: u32,
+    nodes: &[u32],
+    scopes: &[u32],
+    source: &[u8],
+    names: &[u8],
+    unit: u32,
+    from: u32,
+    answers: &[u32],
+    to: u32,
+    stop: u64,
+    marks: &mut Marks,
+    code: &mut [u32],
+    route: &mut [u32],
+) -> RouteAnswer
+    ensures { λ r. ⌜ r ≡ routeNumbers (resumeStopAnswer (rule «source_type» «async_bodies» (now (nodes .entry)) (now (scopes .entry)) (now (source .entry)) (now (names .entry))) unit from (now (answers .entry)) to stop (now (marks .entry)) (length (now (code .entry))) (length (now (route .entry)))) ⌝ }
+    ensures { λ _. ⌜ now (code .exit) ≡ resumeStopCode (rule «source_type» «async_bodies» (now (nodes .entry)) (now (scopes .entry)) (now (source .entry)) (now (names .entry))) unit from to (now (marks .entry)) (now (code .entry)) ⌝ }
+    ensures { λ _. ⌜ now (route .exit) ≡ resumeStopSlice (rule «source_type» «async_bodies» (now (nodes .entry)) (now (scopes .entry)) (now (source .entry)) (now (names .entry))) unit from (now (answers .entry)) to stop (now (marks .entry)) (length (now (code .entry))) (now (route .entry)) ⌝ }
+    ensures { λ _. ⌜ now (marks .exit) ≡ resumeStopMarks (rule «source_type» «async_bodies» (now (nodes .entry)) (now (scopes .entry)) (now (source .entry)) (now (names .entry))) unit from (now (answers .entry)) to stop (now (marks .entry)) (length (now (code .entry))) (length (now (route .entry))) ⌝ }
+{
+    route_numbers(call_marks::route_resume_stop(
+        source_type,
+        async_bodies,
+        nodes,
+        scopes,
+        source,
+        names,
+        unit,
+        from,
+        answers,
+        to,
+        stop,
+        marks,
+        code,
+        route,
     ))
 }

@@ -1,14 +1,18 @@
 -- One scan over the code finds whether an instruction begins at a place.
 use Prim.Native.Nat.{ℕ, zero, suc, _+_, _≤_, _<_}
 use mathlib.Core.Path.{_≡_, refl, sym, _∙_, ap}
-use mathlib.Core.Bool.{Bool, true, false}
+use mathlib.Core.Bool.{Bool, true, false, _&&_, _||_, true≢false}
+use mathlib.Core.Logic.{_↔_}
 use mathlib.Core.List.{List}
 use lib.ListN.{getD}
-use lib.Dec.{eqb}
+use lib.Dec.{eqb, ltb}
+use borrow.Author.Tests.{eqb-true, eqb-false, eq-eqb, ltb-true, lt-ltb}
 use native.Mathlib.Omega.{arith}
 use Rattle.route_completion.specs.Sem.{pick}
 use Rattle.code_flat.specs.Opcodes as op
+use Rattle.base_common.specs.UptoLaws.{and-left, and-right}
 use Rattle.code_marks.specs.Begins.{width, offset, Begins}
+use Rattle.route_marks.specs.Taken.{leads, beginsAt}
 
 -- An instruction takes at most four numbers.
 pub widthMost : (x : ℕ) → width x ≤ 4
@@ -76,3 +80,47 @@ module _ (C : List ℕ) (x o : ℕ) (s : Scanned C x o) where
 
   pub scanHere : o ≡ x → (w : ℕ) → w ≡ width (getD C x 0) → 0 < w → Begins C x
   scanHere e w q h = record { index = s .index; place = s .place ∙ e; some = omega arith }
+
+-- The test of 17 is what `Begins` says.
+module _ (C : List ℕ) (x : ℕ) where
+  leadsSome : (n o : ℕ) → leads C x n o ≡ true → (j : ℕ) × (offset C o j ≡ x)
+  unfolding leads
+  leadsSome zero o e = (0, eqb-true o x e)
+  leadsSome (suc n) o e = go (eqb o x) refl e (leadsSome n (o + width (getD C o 0)))
+    where
+      go : (b : Bool) → eqb o x ≡ b → (b || leads C x n (o + width (getD C o 0))) ≡ true
+          → (leads C x n (o + width (getD C o 0)) ≡ true → (j : ℕ) × (offset C (o + width (getD C o 0)) j ≡ x)) → (j : ℕ) × (offset C o j ≡ x)
+      go true q h ih = (0, eqb-true o x q)
+      go false q h ih = let (j, p) = ih h in (suc j, p)
+
+  leadsAll : (n o j : ℕ) → offset C o j ≡ x → x ≤ o + n → leads C x n o ≡ true
+  unfolding leads
+  leadsAll zero o j p h = eq-eqb o x (omega (arith, further C o j))
+  leadsAll (suc n) o j p h = go (eqb o x) refl j p (leadsAll n (o + width (getD C o 0)))
+    where
+      go : (b : Bool) → eqb o x ≡ b → (j : ℕ) → offset C o j ≡ x → ((j : ℕ) → offset C (o + width (getD C o 0)) j ≡ x → x ≤ o + width (getD C o 0) + n → leads C x n (o + width (getD C o 0)) ≡ true)
+          → (b || leads C x n (o + width (getD C o 0))) ≡ true
+      go true q j p ih = refl
+      go false q zero p ih = absurd (eqb-false o x q p)
+      go false q (suc j) p ih = more (width (getD C o 0)) refl
+        where
+          more : (w : ℕ) → width (getD C o 0) ≡ w → leads C x n (o + width (getD C o 0)) ≡ true
+          more zero z = absurd (eqb-false o x q (sym (stays C o (suc j) z) ∙ p))
+          more (suc w) z = ih j p (omega arith)
+
+  pub beginsIs : (beginsAt C x ≡ true) ↔ Begins C x
+  unfolding beginsAt
+  beginsIs = (
+    λ e. let (j, p) = leadsSome x 0 (and-left (leads C x x 0) (ltb 0 (width (getD C x 0))) e) in
+        record { index = j; place = p; some = ltb-true 0 (width (getD C x 0)) (and-right (leads C x x 0) (ltb 0 (width (getD C x 0))) e) },
+    λ b. rw (leadsAll x 0 (b .index) (b .place) (omega arith), lt-ltb 0 (width (getD C x 0)) (b .some)),
+  )
+
+  -- What answers as `Begins` does, answers as the test.
+  pub sameTest : (t : Bool) → (t ≡ true) ↔ Begins C x → t ≡ beginsAt C x
+  sameTest true h = sym (beginsIs .1 (h .0 refl))
+  sameTest false h = go (beginsAt C x) refl
+    where
+      go : (b : Bool) → beginsAt C x ≡ b → false ≡ beginsAt C x
+      go true e = absurd (true≢false (sym (h .1 (beginsIs .0 e))))
+      go false e = sym e

@@ -4,7 +4,7 @@ use mathlib.Core.List.{List, [], _∷_, _++_}
 use mathlib.Core.Bool.{Bool, _&&_}
 use lib.Dec.{ltb, leb}
 use lib.ListN.{length, getD}
-use Rattle.base_common.specs.Wrote.{put}
+use lib.Seq.{sets}
 use Rattle.code_flat.specs.Machine.{Frame, open′, pend, Pos, pos}
 use Rattle.code_machine.specs.Pending.{frameBy}
 
@@ -49,6 +49,6 @@ endsNumbers (f ∷ K) = endsNumbers K ++ endNumbers f
 abbrev pub markNumbers : Pos → List ℕ
 markNumbers p = suc (length (p .stack)) ∷ p .pc ∷ endsNumbers (p .stack)
 
--- The array with mark m set: its numbers are written, and all others stay as they were.
+-- The array with mark m set: its numbers are stored one after the other from the part's start on, and all others stay as they were.
 abbrev pub setMark : List ℕ → ℕ → Pos → List ℕ
-setMark M m p = put M (partAt m) (markNumbers p)
+setMark M m p = sets M (partAt m) (markNumbers p)

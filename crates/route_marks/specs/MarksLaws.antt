@@ -5,17 +5,19 @@ use mathlib.Core.List.{List, [], _∷_, _++_, append-assoc, append-nil}
 use native.Mathlib.Omega.{arith}
 use native.Mathlib.Numerals.{add-one}
 use native.Mathlib.Nat.{add-zero}
-use lib.ListN.{length, getD, set, take, drop, length-append, take-append-drop}
-use lib.Seq.{take-at, drop-at, drop-drop, length-take-le, sets-eq}
-use Rattle.base_common.specs.Wrote.{put}
-use Rattle.base_common.specs.WroteLaws.{length-put}
+use mathlib.Core.Bool.{true, true≢false}
+use lib.Dec.{ltb, leb}
+use borrow.Author.Tests.{ltb-true, leb-true}
+use lib.ListN.{length, getD, set, length-append, length-set, List·getD-append}
+use lib.Seq.{sets, getD-set-same, getD-set-other, getD-at, getD-append-add}
+use Rattle.base_common.specs.UptoLaws.{and-left, and-right}
 use Rattle.code_flat.specs.Machine.{Frame, open′, pend, Pos, pos}
 use Rattle.code_machine.specs.Pending.{half, frameBy, frameOf, stack}
 use Rattle.code_machine.specs.PendingLaws.{stackPush, stackTop, stackLength}
-use Rattle.route_marks.specs.Marks.{partAt, endsAt, endNumbers, endsNumbers, markNumbers, setMark}
+use Rattle.route_marks.specs.Marks.{marks, partAt, firstOf, isSet, placeOf, endsAt, markAt, endNumbers, endsNumbers, markNumbers, setMark}
 
 -- A pair read.
-pairFrame : (t d : ℕ) → t < half → frameOf (d * half + t) ≡ frameBy d t
+pub pairFrame : (t d : ℕ) → t < half → frameOf (d * half + t) ≡ frameBy d t
 pairFrame t d h =
     let u : (d * half + t) / half ≡ d = omega arith in
     let v : (d * half + t) % half ≡ t = omega arith in
@@ -42,48 +44,56 @@ numbersLength [] = refl
 numbersLength (open′ f ∷ K) = length-append (endsNumbers K) (f ∷ 0 ∷ []) ∙ omega (arith, numbersLength K)
 numbersLength (pend t d ∷ K) = length-append (endsNumbers K) (t ∷ suc d ∷ []) ∙ omega (arith, numbersLength K)
 
--- What is put behind what was put.
-pub putTwice : (f : List ℕ) (w : ℕ) (vs us : List ℕ) → w + length vs + length us ≤ length f → put (put f w vs) (w + length vs) us ≡ put f w (vs ++ us)
-putTwice f w vs us h =
-    let t : length (take w f) ≡ w = length-take-le w f (omega arith) in
-    let lp : length (take w f ++ vs) ≡ w + length vs = length-append (take w f) vs ∙ ap (λ (k : ℕ). k + length vs) t in
-    let n : w + length vs + length us ≡ w + length (vs ++ us) = omega (arith, length-append vs us) in
-    (λ i. take-at (take w f ++ vs) (drop (w + length vs) f) (w + length vs) lp i ++ us
-    ++ (sym (drop-drop (length us) (w + length vs) (put f w vs)) ∙ ap (drop (length us)) (drop-at (take w f ++ vs) (drop (w + length vs) f) (w + length vs) lp) ∙ drop-drop (length us) (w + length vs) f ∙ ap (λ k. drop k f) n) i)
-    ∙ ap (λ l. l ++ drop (w + length (vs ++ us)) f) (append-assoc (take w f) vs us)
-
-putTwo : (f : List ℕ) (w a b : ℕ) → w + 2 ≤ length f → set (set f w a) (w + 1) b ≡ put f w (a ∷ b ∷ [])
-putTwo f w a b h = rw (add-one w) (sets-eq (a ∷ b ∷ []) f w h)
+-- Stores that follow stores.
+pub setsTwice : (vs us M : List ℕ) (o : ℕ) → sets (sets M o vs) (o + length vs) us ≡ sets M o (vs ++ us)
+setsTwice [] us M o = ap (λ k. sets M k us) (add-zero o)
+setsTwice (v ∷ vs) us M o =
+    let e : o + suc (length vs) ≡ suc o + length vs = omega arith in
+    ap (λ k. sets (sets (set M o v) (suc o) vs) k us) e ∙ setsTwice vs us (set M o v) (suc o)
 
 -- One more pending end is written.
-pub writeMore : (M f ends : List ℕ) (o i x y : ℕ) → o + (i + 1) * 2 ≤ length M → f ≡ put M o (endsNumbers (stack ends i)) → x ≡ getD ends i 0 % half → y ≡ getD ends i 0 / half
-    → set (set f (o + i * 2) x) (o + i * 2 + 1) y ≡ put M o (endsNumbers (stack ends (i + 1)))
+pub writeMore : (M f ends : List ℕ) (o i x y : ℕ) → f ≡ sets M o (endsNumbers (stack ends i)) → x ≡ getD ends i 0 % half → y ≡ getD ends i 0 / half
+    → set (set f (o + i * 2) x) (o + i * 2 + 1) y ≡ sets M o (endsNumbers (stack ends (i + 1)))
 unfolding endsNumbers
-writeMore M f ends o i x y l e hx hy =
+writeMore M f ends o i x y e hx hy =
     ap (λ g. set (set g (o + i * 2) x) (o + i * 2 + 1) y) e
-    ∙ putTwo (put M o (endsNumbers (stack ends i))) (o + i * 2) x y (omega (arith, length-put M o (endsNumbers (stack ends i)) (omega (arith, long))))
-    ∙ ap (λ k. put (put M o (endsNumbers (stack ends i))) k (x ∷ y ∷ [])) at
-    ∙ putTwice M o (endsNumbers (stack ends i)) (x ∷ y ∷ []) (omega (arith, long))
-    ∙ ap (λ l. put M o (endsNumbers (stack ends i) ++ l)) (sym numbers)
-    ∙ ap (λ K. put M o (endsNumbers K)) (sym (stackTop ends (i + 1) i (omega arith)))
+    ∙ ap (λ k. set (set (sets M o (endsNumbers (stack ends i))) (o + i * 2) x) k y) (add-one (o + i * 2))
+    ∙ ap (λ k. sets (sets M o (endsNumbers (stack ends i))) k (x ∷ y ∷ [])) at
+    ∙ setsTwice (endsNumbers (stack ends i)) (x ∷ y ∷ []) M o
+    ∙ ap (λ l. sets M o (endsNumbers (stack ends i) ++ l)) (sym numbers)
+    ∙ ap (λ K. sets M o (endsNumbers K)) (sym (stackTop ends (i + 1) i (omega arith)))
   where
-    long : length (endsNumbers (stack ends i)) ≡ i * 2
-    long = numbersLength (stack ends i) ∙ ap (λ k. k * 2) (stackLength ends i)
-
     at : o + i * 2 ≡ o + length (endsNumbers (stack ends i))
-    at = omega (arith, long)
+    at = omega (arith, numbersLength (stack ends i), stackLength ends i)
 
     numbers : endNumbers (frameOf (getD ends i 0)) ≡ x ∷ y ∷ []
     numbers = pairNumbers (getD ends i 0 / half) (getD ends i 0 % half) ∙ (λ j. sym hx j ∷ sym hy j ∷ [])
 
-pub writeFirst : (M ends : List ℕ) (o : ℕ) → o ≤ length M → M ≡ put M o (endsNumbers (stack ends 0))
+pub writeFirst : (M ends : List ℕ) (o : ℕ) → M ≡ sets M o (endsNumbers (stack ends 0))
 unfolding endsNumbers stack
-writeFirst M ends o l = sym (ap (λ k. take o M ++ [] ++ drop k M) (add-zero o) ∙ ap (λ r. r ++ drop o M) (append-nil (take o M)) ∙ take-append-drop o M)
+writeFirst M ends o = refl
 
 -- The first two numbers, and then the pending ends: the mark.
-pub markWritten : (M ends : List ℕ) (m t n a : ℕ) → partAt m + 2 + n * 2 ≤ length M → a ≡ n + 1
-    → put (set (set M (partAt m) a) (partAt m + 1) t) (partAt m + 2) (endsNumbers (stack ends n)) ≡ setMark M m (pos t (stack ends n))
-markWritten M ends m t n a l e =
-    ap (λ g. put g (partAt m + 2) (endsNumbers (stack ends n))) (putTwo M (partAt m) a t (omega arith))
-    ∙ putTwice M (partAt m) (a ∷ t ∷ []) (endsNumbers (stack ends n)) (omega (arith, numbersLength (stack ends n), stackLength ends n))
-    ∙ ap (λ k. put M (partAt m) (k ∷ t ∷ endsNumbers (stack ends n))) (omega (arith, e, stackLength ends n))
+pub markWritten : (M ends : List ℕ) (m t n a o : ℕ) → o ≡ partAt m → a ≡ n + 1
+    → sets (set (set M o a) (o + 1) t) (o + 2) (endsNumbers (stack ends n)) ≡ setMark M m (pos t (stack ends n))
+markWritten M ends m t n a o e f =
+    let two : o + 2 ≡ suc (suc o) = omega arith in
+    let first : a ≡ suc (length (stack ends n)) = omega (arith, stackLength ends n) in
+    ap (λ k. sets (set (set M o a) k t) (o + 2) (endsNumbers (stack ends n))) (add-one o)
+    ∙ ap (λ k. sets (set (set M o a) (suc o) t) k (endsNumbers (stack ends n))) two
+    ∙ (λ i. sets M (e i) (first i ∷ t ∷ endsNumbers (stack ends n)))
+
+-- A mark that is set.
+pub record SetFacts (M : List ℕ) (m : ℕ) : Type 0 where
+  pub one : m < marks
+  pub some : 1 ≤ firstOf M m
+  pub most : firstOf M m ≤ 513
+
+pub setFacts : (M : List ℕ) (m : ℕ) → isSet M m ≡ true → SetFacts M m
+setFacts M m e =
+    let r = and-right (ltb m marks) _ e in
+    record {
+      one = ltb-true m marks (and-left (ltb m marks) _ e);
+      some = leb-true 1 (firstOf M m) (and-left (leb 1 (firstOf M m)) (leb (firstOf M m) 513) r);
+      most = leb-true (firstOf M m) 513 (and-right (leb 1 (firstOf M m)) (leb (firstOf M m) 513) r);
+    }

@@ -1,13 +1,13 @@
 -- A route taken up and stopped, and what it leaves of the array of marks.
-use Prim.Native.Nat.{ℕ}
+use Prim.Native.Nat.{ℕ, zero, suc, _+_}
 use mathlib.Core.Path.{_≡_}
 use mathlib.Core.List.{List, []}
-use mathlib.Core.Bool.{true, cond}
-use lib.Dec.{leb}
-use lib.ListN.{length}
-use Rattle.route_completion.specs.Route.{Route, routeOf}
+use mathlib.Core.Bool.{Bool, true, cond, _&&_, _||_}
+use lib.Dec.{eqb, ltb, leb}
+use lib.ListN.{length, getD}
 use Rattle.code_flat.specs.Machine.{room, Pos, pos}
 use Rattle.code_marks.specs.Stop.{Stop, held, over, stopped, takenUp}
+use Rattle.code_marks.specs.Begins.{width}
 use Rattle.code_machine.specs.Halted.{routeTo}
 use Rattle.route_marks.specs.Marks.{isSet, markAt, setMark}
 use Rattle.route_marks.specs.declared.Begin.{Begin}
@@ -17,6 +17,15 @@ use Rattle.route_marks.specs.declared.Begin.the-variants.{Start, Mark}
 abbrev pub beginAt : List ℕ → Begin → Pos
 beginAt M Start = pos 0 []
 beginAt M (Mark m) = markAt M m
+
+-- 17: "holds a place where no instruction of the unit's code begins". From o at most n instructions lead to x, ..
+unfoldable pub leads : List ℕ → ℕ → ℕ → ℕ → Bool
+leads C x zero o = eqb o x
+leads C x (suc n) o = eqb o x || leads C x n (o + width (getD C o 0))
+
+-- .. and one begins there. It is that of Begins (BeginsLaws.beginsIs): each takes a number at least, so that x lead as far as any.
+unfoldable pub beginsAt : List ℕ → ℕ → Bool
+beginsAt C x = leads C x x 0 && ltb 0 (width (getD C x 0))
 
 -- A mark that is taken up is set: refusal 16 has been tested.
 abbrev pub Ready : List ℕ → Begin → Type 0
@@ -28,9 +37,9 @@ Ready M (Mark m) = isSet M m ≡ true
 abbrev pub stopOf : List ℕ → List ℕ → List ℕ → Begin → ℕ → Stop
 stopOf M C qs begin stop = stopped room C stop (beginAt M begin) qs
 
--- Not stopped again.
-abbrev pub resumed : List ℕ → List ℕ → List ℕ → ℕ → Route
-resumed M C qs m = routeTo (over (takenUp room C (markAt M m) qs))
+-- Taken up, and not stopped again: "with 5 where it comes to no other end", as the machine has it on any code, place and pending ends.
+abbrev pub goneOn : List ℕ → List ℕ → List ℕ → ℕ → Stop
+goneOn M C qs m = over (takenUp room C (markAt M m) qs)
 
 -- "A route that ends before the named number sets no mark".
 abbrev pub marksAfter : List ℕ → ℕ → Stop → List ℕ

@@ -3,17 +3,19 @@ use Prim.Native.Nat.{ℕ, _+_, _≤_, _<_}
 use mathlib.Core.Path.{_≡_, refl, sym, _∙_, ap, subst}
 use mathlib.Core.Logic.{_≢_, inl, inr}
 use mathlib.Core.List.{List}
+use mathlib.Core.Bool.{Bool, true, false, cond}
 use native.Mathlib.Omega.{arith}
 use borrow.Author.Tests.{le-leb, lt-leb}
+use lib.Dec.{leb}
 use lib.ListN.{length}
 use Rattle.route_list.specs.Listing.{most, saturated}
-use Rattle.code_flat.specs.Machine.{room, Pos, pos, run}
+use Rattle.code_flat.specs.Machine.{room, Res, Pos, pos}
 use Rattle.code_flat.specs.Runs.{Ends, runEnds}
 use Rattle.code_marks.specs.Stop.{Stop, held, over, stopped, takenUp}
 use Rattle.code_marks.specs.StopLaws.{finished, stoppedLaw, neverStopped}
-use Rattle.code_machine.specs.Halted.{stoppedEnd, routeTo, StandsAt}
+use Rattle.code_machine.specs.Halted.{stoppedEnd, routeTo, StandsAt, Told}
 use Rattle.route_marks.specs.Marks.{markAt, setMark}
-use Rattle.route_marks.specs.Taken.{resumed, stopOf, marksAfter, marksShown}
+use Rattle.route_marks.specs.Taken.{goneOn, stopOf, marksAfter, marksShown}
 use Rattle.route_marks.specs.declared.Begin.the-variants.{Mark}
 
 -- No run ends with 4 by itself.
@@ -48,5 +50,22 @@ module _ (M C qs : List ℕ) (p : Pos) (stop to len n : ℕ) (small : len < most
       rw (le-leb (length (routeTo (stopped room C stop p qs) .list)) len (omega arith)) (unmarked M to (stopped room C stop p qs) (λ z. d (q ∙ z)))
 
 -- More answers than there are never stop it.
-pub resumedIs : (M C qs : List ℕ) (m n : ℕ) → n ≡ length qs + 1 → routeTo (stopOf M C qs (Mark m) n) ≡ resumed M C qs m
-resumedIs M C qs m n e = ap routeTo (neverStopped room C n (markAt M m) qs (omega arith))
+pub resumedIs : (M C qs : List ℕ) (m n : ℕ) → n ≡ length qs + 1 → stopOf M C qs (Mark m) n ≡ goneOn M C qs m
+resumedIs M C qs m n e = neverStopped room C n (markAt M m) qs (omega arith)
+
+-- .. and so no mark is set.
+pub noneSet : (M : List ℕ) (to len : ℕ) (r : Res) → marksShown M to (over r) len ≡ M
+unfolding marksShown
+noneSet M to len r = go (leb (length (routeTo (over r) .list)) len)
+  where
+    go : (b : Bool) → cond b M M ≡ M
+    go true = refl
+    go false = refl
+
+-- What a run from one place tells, where it is another's.
+module _ (C qs : List ℕ) (stop : ℕ) (p q : Pos) (e : p ≡ q) where
+  pub toldFrom : (f g : List ℕ) (end n i : ℕ) → Told (stopped room C stop p qs) f g end n i → Told (stopped room C stop q qs) f g end n i
+  toldFrom f g end n i t = subst (λ x. Told (stopped room C stop x qs) f g end n i) e t
+
+  pub standsFrom : (x : Pos) → StandsAt (stopped room C stop p qs) x → StandsAt (stopped room C stop q qs) x
+  standsFrom x t = subst (λ y. StandsAt (stopped room C stop y qs) x) e t

@@ -1,22 +1,17 @@
 -- A walk of the tree by the completion rules: what it lists, what it takes, how it completes.
 use Prim.Native.Nat.{ℕ, _+_, _≤_, _<_}
 use mathlib.Core.Path.{_≡_}
-use mathlib.Core.List.{List, [], _∷_, foldr}
-use mathlib.Core.Bool.{Bool, true, false, cond}
+use mathlib.Core.List.{List, [], _∷_}
 use lib.ListN.{length, drop, set}
-use Rattle.base_walk.specs.Above.{above}
 use Rattle.table_records.specs.Table.{count}
 use Rattle.table_records.specs.Facts.{Tree, Named}
 use Rattle.table_records.specs.declared.Found.the-variants.{At}
-use Rattle.route_completion.specs.Tree.{near, named, Stmt}
+use Rattle.route_completion.specs.Tree.{near, named}
 use Rattle.route_completion.specs.Sem.{Entry, Comp, normal, breaks, continues, returns, throws, spent, Out}
 use Rattle.route_completion.specs.Route.{nodeOf, asks, endOf, Route}
 use Rattle.route_list.specs.Listing.{next, saturated, laid}
-use Rattle.code_tree.specs.Labels.{nameId, idAt}
-use Rattle.code_tree.specs.Parts.{upOf, shapeAt}
-use Rattle.code_tree.specs.Statements.{stmtAt, holderOf}
-use Rattle.code_tree.specs.declared.Shape.{Shape}
-use Rattle.code_tree.specs.declared.Shape.the-variants.{Leaf, Class, If, With, Block, Label, Loop, Switch, Case, Try, Catch}
+use Rattle.code_tree.specs.Labels.{nameId}
+use Rattle.code_tree.specs.Statements.{holderOf}
 use Rattle.code_layout.specs.Shaped.{Good, Held}
 use Rattle.route_walk.specs.declared.Run.{Run}
 use Rattle.route_walk.specs.declared.Completion.{Completion}
@@ -80,24 +75,3 @@ pub record Shows (ns names : List ℕ) (w : Route) (f g : List ℕ) (r : Run) : 
   pub wrote : g ≡ laid (w .list) f
   pub took : r .taken ≡ w .taken
   pub ended : endOf (compAt ns names (r .how)) ≡ w .end
-
-abbrev pub isLabeled : Shape → Bool
-isLabeled Leaf = false
-isLabeled Class = false
-isLabeled If = false
-isLabeled With = false
-isLabeled Block = false
-isLabeled Label = true
-isLabeled Loop = false
-isLabeled Switch = false
-isLabeled Case = false
-isLabeled Try = false
-isLabeled Catch = false
-
--- 14.13.4 LabelledEvaluation: the label set of what p holds, by names: p and the Labeled right above it.
-unfoldable pub labelsOf : List ℕ → List ℕ → ℕ → List ℕ
-labelsOf ns names p = foldr (λ a r. cond (isLabeled (shapeAt ns a)) (idAt ns names a ∷ r) []) [] (p ∷ above (upOf ns) p)
-
--- The statement of a node.
-unfoldable pub statement : List ℕ → List ℕ → ℕ → Stmt
-statement ns names j = stmtAt ns names (count ns) j

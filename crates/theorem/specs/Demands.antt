@@ -29,6 +29,7 @@ use Rattle.code_jump_scope.specs.UnitScoped.{Targeted}
 use Rattle.call_routes.specs.Theorem.{Routes, routes, targeted}
 use Rattle.call_shared.specs.Theorem.{OneAnswerChanged, one-answer-changed}
 use Rattle.call_walk.specs.Theorem.{BothEngines, bothEngines}
+use Rattle.call_marks.specs.Theorem.{History, TakenUp, marks-in-a-route}
 use Rattle.call_rows.specs.Rows.{rows, Each, Holds}
 use Rattle.call_rows.specs.RowsHold.{rows-hold}
 use Rattle.call_labels.specs.Written.{renamedNodes, renamedNames}
@@ -45,6 +46,12 @@ use Rattle.exports.proofs.velkunshe_shared.Statement as shared-call
 use Rattle.exports.proofs.velkunshe_shared.Met as shared-proved
 use Rattle.exports.proofs.velkunshe_walk.Statement as walk-call
 use Rattle.exports.proofs.velkunshe_walk.Met as walk-proved
+use Rattle.exports.proofs.velkunshe_route_stop.Statement as stop-call
+use Rattle.exports.proofs.velkunshe_route_stop.Met as stop-proved
+use Rattle.exports.proofs.velkunshe_route_resume.Statement as resume-call
+use Rattle.exports.proofs.velkunshe_route_resume.Met as resume-proved
+use Rattle.exports.proofs.velkunshe_route_resume_stop.Statement as resume-stop-call
+use Rattle.exports.proofs.velkunshe_route_resume_stop.Met as resume-stop-proved
 use Rattle.exports.proofs.velkunshe_rename.Statement as rename-call
 use Rattle.exports.proofs.velkunshe_rename.Met as rename-proved
 use Rattle.code_machine.proofs.run.Statement as machine-run
@@ -62,6 +69,10 @@ pub record Demands : Type 2 where
   pub shared : {M : Type 1} → shared-call.statement M
   -- The second engine (document 02, request 6): `walkAnswer`, `walkSlice` (crates/call_walk/specs/Walked.antt).
   pub walk : {M : Type 1} → walk-call.statement M
+  -- The calls of marks (document 02, request 7), on any array of marks (crates/call_marks/specs/Calls.antt).
+  pub stop : {M : Type 1} → stop-call.statement M
+  pub resume : {M : Type 1} → resume-call.statement M
+  pub resumeStop : {M : Type 1} → resume-stop-call.statement M
   -- .. and of the renaming call to `renaming` (crates/call_rename/specs/Rename.antt; document 02, request 12).
   pub rename : {M : Type 1} → rename-call.statement M
   -- "A run reads the code and the answers, never the tables": the machine is lent nothing else, and is total on any list of numbers as code.
@@ -97,6 +108,9 @@ pub record Demands : Type 2 where
       → OneAnswerChanged ns names u
   -- "For every tree, unit and answer list it gives the list, end and count of answers of the code engine .. It gives the refusals of the route call except 11" (document 02, request 6).
   pub engines : (r : Rule) (u : ℕ) (answers : List ℕ) → BothEngines r u answers
+  -- "For a mark taken up on the tables and unit of all its stops, the list so far followed by what comes after, if not stopped again, equals the route, its end too, for the answers taken so far joined
+  -- with the further ones" (document 02, request 7).
+  pub marks : (r : Rule) (u : ℕ) (M : List ℕ) (m : ℕ) (qs l : List ℕ) → History r u M m qs l → (more : List ℕ) → TakenUp r u M m qs l more
   -- Document 01's rows, of the calls.
   pub rowsHold : Each Holds rows
 
@@ -107,6 +121,9 @@ demands = record {
   route = route-proved.met;
   shared = shared-proved.met;
   walk = walk-proved.met;
+  stop = stop-proved.met;
+  resume = resume-proved.met;
+  resumeStop = resume-stop-proved.met;
   rename = rename-proved.met;
   machine = run-proved.met;
   standard = standard262;
@@ -122,5 +139,6 @@ demands = record {
   routes = λ t asyncBodies ns ss source names u f p. routes t asyncBodies ns ss source names u f p;
   oneAnswerChanged = λ t asyncBodies ns ss source names u f p. one-answer-changed t asyncBodies ns ss source names u f p;
   engines = bothEngines;
+  marks = marks-in-a-route;
   rowsHold = rows-hold;
 }

@@ -19,11 +19,12 @@ use Rattle.code_tree.specs.Labels.{idAt}
 use Rattle.code_tree.specs.Parts.{upOf, shapeAt, parts}
 use Rattle.code_tree.specs.Statements.{testAt, listOf, oneOf}
 use Rattle.route_walk.specs.declared.Run.{Run}
-use Rattle.route_walk.specs.Walk.{compAt, Walked, isLabeled, labelsOf, statement as statementOf}
-use Rattle.route_walk.specs.Steps.{First, partOf, branchOf, casesFrom, roleIn, ranOf, caughtBy, finallyBy}
-use Rattle.route_walk.specs.StepsLaws.{first-low, from-part}
+use Rattle.route_walk.specs.Walk.{compAt, Walked}
+use Rattle.route_steps.specs.Statement.{isLabeled, labelsOf, statement as statementOf}
+use Rattle.route_steps.specs.Steps.{First, partOf, branchOf, casesFrom, roleIn, ranOf, caughtBy, finallyBy}
+use Rattle.route_steps.specs.StepsLaws.{first-low, from-part}
 use Rattle.route_walk.specs.WalkLaws.{still, then, goes, stays, asks-on, asks-none, lasts, lasts-spent}
-use Rattle.route_walk.specs.StatementLaws.{labels-on, labels-off, leaf-is, class-is, block-is, case-is, with-is, label-is, loop-is, catch-is, if-is, switch-is, try-is, list-on, list-end, one-on, one-end}
+use Rattle.route_steps.specs.StatementLaws.{labels-on, labels-off, leaf-is, class-is, block-is, case-is, with-is, label-is, loop-is, catch-is, if-is, switch-is, try-is, list-on, list-end, one-on, one-end}
 use Prim.Native.Nat.{ℕ, _<_}
 use borrow.Fn.Kinds.{In}
 use borrow.Fn.PlainCycle.{Measures, is, falls, and}

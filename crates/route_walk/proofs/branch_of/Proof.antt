@@ -2,8 +2,8 @@ use mathlib.Core.Path.{_≡_, refl, sym, _∙_, ap, subst}
 use native.Mathlib.Omega.{arith}
 use Prim.Native.Nat.{_≤_, _<_, _-_, _+_}
 use Rattle.code_tree.specs.Parts.{parts, withRole}
-use Rattle.route_walk.specs.Steps.{First, fromDefault, headOf, roleIn}
-use Rattle.route_walk.specs.StepsLaws.{branch-none, branch-one-no, branch-one-yes, branch-alternate-no, branch-alternate-yes, branch-held-no, branch-held-yes}
+use Rattle.route_steps.specs.Steps.{First, fromDefault, headOf, roleIn}
+use Rattle.route_steps.specs.StepsLaws.{branch-none, branch-one-no, branch-one-yes, branch-alternate-no, branch-alternate-yes, branch-held-no, branch-held-yes}
 use borrow.Author.Needs.{needs}
 use Rattle.route_walk.proofs.branch_of.Statement.{statement}
 use Rattle.route_walk.proofs.branch_of.Tie as tie

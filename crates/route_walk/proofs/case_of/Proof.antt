@@ -2,8 +2,8 @@ use mathlib.Core.Path.{sym, _∙_, subst}
 use Prim.Native.Nat.{_+_}
 use lib.ListN.{drop}
 use Rattle.code_tree.specs.Parts.{parts}
-use Rattle.route_walk.specs.Steps.{First}
-use Rattle.route_walk.specs.StepsLaws.{case-nth, case-default}
+use Rattle.route_steps.specs.Steps.{First}
+use Rattle.route_steps.specs.StepsLaws.{case-nth, case-default}
 use borrow.Author.Needs.{needs}
 use Rattle.route_walk.proofs.case_of.Statement.{statement}
 use Rattle.route_walk.proofs.case_of.Tie as tie

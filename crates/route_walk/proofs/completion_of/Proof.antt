@@ -1,6 +1,6 @@
 use mathlib.Core.Path.{_≡_, refl, sym, _∙_, ap, subst}
 use Rattle.table_records.specs.declared.Found.the-variants.{At, Nothing}
-use Rattle.route_walk.specs.StatementLaws.{comp-break, comp-continue, comp-return, comp-throw, comp-normal}
+use Rattle.route_steps.specs.StatementLaws.{comp-break, comp-continue, comp-return, comp-throw, comp-normal}
 use borrow.Author.Needs.{needs}
 use Rattle.route_walk.proofs.completion_of.Statement.{statement}
 use Rattle.route_walk.proofs.completion_of.Tie as tie

@@ -3,8 +3,8 @@ use native.Mathlib.Omega.{arith}
 use Prim.Native.Nat.{_≤_, _<_, _-_, _+_}
 use Rattle.table_records.specs.Table.{count}
 use Rattle.code_tree.specs.Parts.{parts, withRole}
-use Rattle.route_walk.specs.Steps.{First, fromDefault, headOf, roleIn}
-use Rattle.route_walk.specs.StepsLaws.{first-low, default-on, default-hit, default-none}
+use Rattle.route_steps.specs.Steps.{First, fromDefault, headOf, roleIn}
+use Rattle.route_steps.specs.StepsLaws.{first-low, default-on, default-hit, default-none}
 use borrow.Author.Needs.{needs}
 use Rattle.route_walk.proofs.default_part.Statement.{statement}
 use Rattle.route_walk.proofs.default_part.Tie as tie

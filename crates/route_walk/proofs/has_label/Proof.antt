@@ -6,8 +6,8 @@ use Rattle.table_records.specs.Table.{count}
 use Rattle.code_tree.specs.Labels.{nameId}
 use Rattle.code_tree.specs.Parts.{shapeAt}
 use Rattle.route_completion.specs.Sem.{elem}
-use Rattle.route_walk.specs.Walk.{isLabeled, labelsOf}
-use Rattle.route_walk.specs.StatementLaws.{labels-hit, labels-next, labels-stop, labeled-inner}
+use Rattle.route_steps.specs.Statement.{isLabeled, labelsOf}
+use Rattle.route_steps.specs.StatementLaws.{labels-hit, labels-next, labels-stop, labeled-inner}
 use borrow.Author.Needs.{needs}
 use Rattle.route_walk.proofs.has_label.Statement.{statement}
 use Rattle.route_walk.proofs.has_label.Tie as tie

@@ -1,6 +1,7 @@
 use mathlib.Core.Path.{_≡_, refl, sym, _∙_, ap, subst}
 use native.Mathlib.Omega.{arith}
-use Rattle.route_walk.specs.Walk.{compAt, labelIn, labelsOf}
+use Rattle.route_walk.specs.Walk.{compAt, labelIn}
+use Rattle.route_steps.specs.Statement.{labelsOf}
 use Rattle.route_completion.specs.Sem.{elem, loopContinues}
 use Rattle.code_tree.specs.Labels.{nameId}
 use Rattle.code_tree.specs.Parts.{upOf}

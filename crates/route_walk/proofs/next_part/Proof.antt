@@ -4,7 +4,7 @@ use Prim.Native.Nat.{_≤_, _<_, _-_}
 use borrow.Author.Tests.{ltb-true, ltb-false}
 use Rattle.table_records.specs.Table.{count}
 use Rattle.code_tree.specs.Parts.{parts}
-use Rattle.route_walk.specs.StepsLaws.{part-hit, part-miss, part-none}
+use Rattle.route_steps.specs.StepsLaws.{part-hit, part-miss, part-none}
 use borrow.Author.Needs.{needs}
 use Rattle.route_walk.proofs.next_part.Statement.{statement}
 use Rattle.route_walk.proofs.next_part.Tie as tie

@@ -3,9 +3,9 @@ use native.Mathlib.Omega.{arith}
 use Prim.Native.Nat.{_≤_, _<_, _-_, _+_}
 use Rattle.table_records.specs.Table.{count}
 use Rattle.code_tree.specs.Parts.{parts, withRole}
-use Rattle.route_walk.specs.Steps.{First, fromDefault, headOf, roleIn}
+use Rattle.route_steps.specs.Steps.{First, fromDefault, headOf, roleIn}
 use lib.ListN.{drop}
-use Rattle.route_walk.specs.StepsLaws.{first-low, nth-on, nth-hit, nth-none}
+use Rattle.route_steps.specs.StepsLaws.{first-low, nth-on, nth-hit, nth-none}
 use borrow.Author.Needs.{needs}
 use Rattle.route_walk.proofs.nth_part.Statement.{statement}
 use Rattle.route_walk.proofs.nth_part.Tie as tie

@@ -6,9 +6,10 @@ use Rattle.route_completion.specs.Tree.{Stmts, nil}
 use Rattle.route_completion.specs.Route.{route}
 use Rattle.route_walk.specs.declared.Run.{Run}
 use Rattle.route_walk.specs.declared.Completion.the-variants as how
-use Rattle.route_walk.specs.Walk.{Shows, isLabeled}
+use Rattle.route_walk.specs.Walk.{Shows}
+use Rattle.route_steps.specs.Statement.{isLabeled}
 use Rattle.route_walk.specs.WalkLaws.{whole, whole-none}
-use Rattle.route_walk.specs.StatementLaws.{labels-off, unit-is, unit-none}
+use Rattle.route_steps.specs.StatementLaws.{labels-off, unit-is, unit-none}
 use borrow.Author.Needs.{needs}
 use Rattle.route_walk.proofs.walk_unit.Statement.{statement}
 use Rattle.route_walk.proofs.walk_unit.Tie as tie

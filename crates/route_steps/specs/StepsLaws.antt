@@ -18,7 +18,7 @@ use Rattle.route_completion.specs.Sem.{isYes, pick}
 use Rattle.code_tree.specs.Parts.{upOf, isPart, parts, withRole}
 use Rattle.code_tree.specs.PartsLaws.{All, Part, parts-turn, parts-end}
 use Rattle.code_tree.specs.Statements.{defaultAt}
-use Rattle.route_walk.specs.Steps.{First, partOf, headOf, branchOf, fromDefault, casesFrom, roleIn}
+use Rattle.route_steps.specs.Steps.{First, partOf, headOf, branchOf, fromDefault, casesFrom, roleIn}
 
 module _ (ns : List ℕ) (p : ℕ) where
   module _ (i : ℕ) (h : i < count ns) (u : ℕ) (q : Bool) (a : u ≡ upOf ns i) (b : q ≡ isPart ns i) (ps : List ℕ) (e : parts ns p i ≡ ps) where

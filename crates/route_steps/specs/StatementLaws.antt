@@ -28,8 +28,8 @@ use Rattle.code_tree.specs.Statements.{leafAt, beforeAt, testAt, defaultAt, lis
 use Rattle.code_tree.specs.declared.Shape.{Shape}
 use Rattle.code_tree.specs.declared.Shape.the-variants.{Leaf as Single, Class, If, With, Block, Label, Loop, Switch, Case, Try, Catch}
 use Rattle.code_layout.specs.Shaped.{isOne, isCase, isSwitch, One, Two, Three, Good}
-use Rattle.route_walk.specs.Walk.{isLabeled, labelsOf, statement}
-use Rattle.route_walk.specs.Steps.{headOf, branchOf, fromDefault, casesFrom, roleIn, ranOf, caughtBy, finallyBy}
+use Rattle.route_steps.specs.Statement.{isLabeled, labelsOf, statement}
+use Rattle.route_steps.specs.Steps.{headOf, branchOf, fromDefault, casesFrom, roleIn, ranOf, caughtBy, finallyBy}
 
 module _ (ns names : List ℕ) (g : Good ns) where
   abbrev S : ℕ → Stmt

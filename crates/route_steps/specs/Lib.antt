@@ -1,0 +1,4 @@
+pub mod Statement
+pub mod Steps
+pub mod StepsLaws
+pub mod StatementLaws
