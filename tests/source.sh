@@ -1,6 +1,6 @@
 #!/usr/bin/env bash
 # What the source says of itself: the layout, no hole or axiom in a proof, no long function, shell scripts without warnings,
-# documents in short lines, the table of the code's length as it is defined.
+# documents in short lines, the table of the code's length as it is defined, edits that can be applied.
 # shellcheck source=tests/lib.bash
 source "$(dirname "$0")/lib.bash" || exit 1
 
@@ -43,6 +43,9 @@ number_changed() {
     return $status
 }
 
+# those that the gate leaves out too (tools/slow-edits)
+edits_stand() { tools/setup node && tools/edits; }
+
 check "every file in rt's layout" formatted
 check "every crate listed in crates.txt" listed
 check "no hole and no axiom" no_holes
@@ -51,4 +54,5 @@ check "no warning of shellcheck" shell_scripts
 check "documents in lines of at most 120 columns" short_lines
 check "docs/CODE.md has the numbers of the definition" numbers
 check "a number changed in a copy is told" number_changed
+check "every must-fail edit changes one place of its crate" edits_stand
 finish
