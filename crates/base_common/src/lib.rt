@@ -1,4 +1,6 @@
 // Tests with no branch for the caller: each gives the Bool that a definition of specs/ has.
+#![tactic(auto)]
+
 ghost use Rattle.std.specs.Prelude.{◌≡◌, ◌&&◌, ◌||◌, not, eqb, leb};
 ghost use Rattle.base_common.specs.Tests.{within};
 

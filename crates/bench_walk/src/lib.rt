@@ -1,5 +1,7 @@
 // For the benchmark alone, and no part of the library: a walk up with a division at each step, and calls that time it
 // beside the library's own walk, which has none.
+#![tactic(auto)]
+
 ghost use Rattle.std.specs.Prelude.{◌≡◌, ◌<◌};
 ghost use Rattle.table_records.specs.Table.{count};
 ghost use Rattle.table_records.specs.Facts.{Tree};

@@ -1,4 +1,6 @@
 // The public call `check`: the refusals of the input (1 to 6, 13, 14) and 10, or the findings.
+#![tactic(auto)]
+
 ghost use Rattle.std.specs.Prelude.{◌≡◌, ◌*◌, ◌≤◌, length};
 ghost use Rattle.table_records.specs.Facts.{Input, Sourced};
 ghost use Rattle.check_dispatch.specs.Rule.{rule};
@@ -9,7 +11,7 @@ use refusal_verdict::Verdict;
 
 // What a check comes to: so many findings, seven numbers each, written from the slice's start; or a refusal, with its number and place; or a slice that is too
 // short (refusal 10, place 0), with the length needed.
-#[derive(Drop)]
+#[derive(Clone, Copy)]
 pub enum Checked {
     Findings(usize),
     Refused(u32, u32),

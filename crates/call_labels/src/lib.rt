@@ -1,4 +1,6 @@
 // Labels renamed: the first label of each name, the short names, and the node table and names with them.
+#![tactic(auto)]
+
 ghost use Rattle.std.specs.Prelude.{◌≡◌, [], ◌∷◌, ◌+◌, ◌*◌, ◌≤◌, ◌<◌, length};
 ghost use Rattle.base_common.specs.Wrote.{put};
 ghost use Rattle.table_records.specs.Table.{count};
@@ -25,7 +27,7 @@ const LETTERS: usize = 26;
 pub const MOST: usize = 699;
 
 // What the labels come to: at most 699 different names, or a label that cannot be renamed (19), by its node.
-#[derive(Drop)]
+#[derive(Clone, Copy)]
 pub enum Labels {
     Few(usize),
     Unfit(u32),

@@ -1,5 +1,7 @@
 // The public calls `route_stop`, `route_resume` and `route_resume_stop`: the code call's refusals with 16 before 11 and 17 behind it, 12, or a route that
 // begins at its start or at a mark and may be stopped.
+#![tactic(auto)]
+
 ghost use Rattle.std.specs.Prelude.{◌≡◌, ◌+◌, ◌<◌, length};
 ghost use Rattle.check_dispatch.specs.Rule.{rule};
 ghost use Rattle.refusal_state.specs.Targets.{refused_or};

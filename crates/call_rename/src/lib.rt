@@ -1,4 +1,6 @@
 // The public call `rename`: the refusals of the input (1 to 6, 13 to 15), 19 and 20, or the tables with their labels renamed.
+#![tactic(auto)]
+
 ghost use Rattle.std.specs.Prelude.{◌≡◌};
 ghost use Rattle.call_labels.specs.Firsts.{Ready};
 ghost use Rattle.call_rename.specs.Rename.{written, labelled, renaming};
@@ -12,7 +14,7 @@ const MOST_BYTES: usize = 1048576;
 
 // What renaming comes to: so many bytes of names, written with the node table from each slice's start; or a refusal, with its number and place; or a slice
 // that is too short, or too many names (refusal 20, place 0), with the names length needed.
-#[derive(Drop)]
+#[derive(Clone, Copy)]
 pub enum Relabelled {
     Names(usize),
     Refused(u32, u32),

@@ -1,4 +1,6 @@
 // The public calls `code` and `route`: a refusal (1 to 7, 9, 11 to 15), or the flat code of a unit, or its route.
+#![tactic(auto)]
+
 ghost use Rattle.std.specs.Prelude.{◌≡◌, ◌≤◌, length, take};
 ghost use Rattle.code_flat.specs.Code.{unit as code_of};
 ghost use Rattle.code_tree.specs.Statements.{unit_of};
@@ -15,7 +17,7 @@ use table_records::NodeId;
 
 // What `code` comes to: so many numbers of code from the slice's start; or a refusal, with its number and place; or a code slice that is too short
 // (refusal 11, place 0), with the length needed.
-#[derive(Drop)]
+#[derive(Clone, Copy)]
 pub enum Coded {
     Code(usize),
     Refused(u32, u32),

@@ -1,1 +1,2 @@
 // Specs only: document 01's rows, one table with one statement.
+#![tactic(auto)]

@@ -1,4 +1,6 @@
 // The public call `shared`: the code call's refusals, or the length of the longest beginning that the routes for two lists of answers share.
+#![tactic(auto)]
+
 ghost use Rattle.std.specs.Prelude.{◌≡◌, ◌≤◌, length, take};
 ghost use Rattle.check_dispatch.specs.Rule.{rule};
 ghost use Rattle.route_shared.specs.Shared.{shared_entries};
@@ -9,7 +11,7 @@ use call_routes::Coded;
 
 // What `shared` comes to: so many entries; or a refusal, with its number and place; or a code slice that is too short (refusal 11, place 0), with the
 // length needed.
-#[derive(Drop)]
+#[derive(Clone, Copy)]
 pub enum Beginning {
     Entries(u64),
     Refused(u32, u32),

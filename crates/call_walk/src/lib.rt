@@ -1,4 +1,6 @@
 // The public call `walk`, the second engine: a refusal (1 to 7, 9, 12 to 15), or the route of a unit by a walk of its statements. No code is made.
+#![tactic(auto)]
+
 ghost use Rattle.std.specs.Prelude.{◌≡◌, length};
 ghost use Rattle.route_completion.specs.Route.{route};
 ghost use Rattle.route_viewer.specs.Shown.{shown_answer, shown_slice};

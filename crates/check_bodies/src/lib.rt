@@ -1,4 +1,6 @@
 // Async functions and generators as bodies of an If or a label, which the Rust leaves to its parser.
+#![tactic(auto)]
+
 ghost use Rattle.std.specs.Prelude.{◌≡◌, ◌+◌, ◌<◌, ◌≤◌};
 ghost use Rattle.table_records.specs.Table.{count};
 ghost use Rattle.table_records.specs.Facts.{Tree, Scoped};

@@ -1,4 +1,6 @@
 // The classes of a tree, their elements and the class current at a node: class/table.rs and class/builder.rs, read off the node table.
+#![tactic(auto)]
+
 ghost use Rattle.std.specs.Prelude.{◌≡◌, ◌<◌};
 ghost use Rattle.table_records.specs.Table.{count, parent_of};
 ghost use Rattle.table_records.specs.Facts.{Tree, Named};
@@ -15,14 +17,14 @@ use table_source::is_typescript;
 pub const NO_FIXED_NAME: u32 = 16384;
 
 // The class that is current at a node, if there is one.
-#[derive(Drop)]
+#[derive(Clone, Copy)]
 pub enum Current {
     Class(ClassId),
     Outside,
 }
 
 // A half-open range of bytes of the source.
-#[derive(Drop)]
+#[derive(Clone, Copy)]
 pub struct Span {
     pub start: u32,
     pub end: u32,

@@ -1,4 +1,6 @@
 // What is checked at a private name and at a Class.
+#![tactic(auto)]
+
 ghost use Rattle.std.specs.Prelude.{◌≡◌, ◌+◌, ◌*◌, ◌<◌, ◌≤◌, length};
 ghost use Rattle.table_records.specs.Table.{count, span_start_of};
 ghost use Rattle.table_records.specs.Facts.{Tree, Named};

@@ -1,4 +1,6 @@
 // A finding, and a slice that takes the findings of several checks, one after the other.
+#![tactic(auto)]
+
 ghost use Rattle.std.specs.Prelude.{◌≡◌, ◌+◌, ◌*◌, ◌<◌, ◌≤◌, length, ◌++◌};
 ghost use Rattle.base_common.specs.Wrote.{put};
 ghost use Rattle.table_records.specs.Table.{count, span_start_of, span_end_of};
@@ -11,7 +13,7 @@ pub mod codes;
 pub mod contexts;
 
 // A finding: its code, the node that raises it, two spans and a context.
-#[derive(Drop)]
+#[derive(Clone, Copy)]
 pub struct Finding {
     pub code: u32,
     pub node: NodeId,
@@ -23,7 +25,7 @@ pub struct Finding {
 }
 
 // What a check that raises at most one finding gives.
-#[derive(Drop)]
+#[derive(Clone, Copy)]
 pub enum Raised {
     Error(Finding),
     Clear,

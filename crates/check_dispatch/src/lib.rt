@@ -1,4 +1,6 @@
 // The dispatch by kind: the findings of a node, in the order of the Rust's checks, and of the tree.
+#![tactic(auto)]
+
 ghost use Rattle.std.specs.Prelude.{◌≡◌, ◌+◌, ◌*◌, ◌<◌, ◌≤◌, length};
 ghost use Rattle.table_records.specs.Table.{count};
 ghost use Rattle.table_records.specs.Facts.{Input, Sourced};

@@ -1,5 +1,7 @@
 // Names declared twice in a class: check_duplicate_class_elements, of private names and in TypeScript of all. For each element the earlier ones of its class are
 // gone over, so a class costs the number of its compared elements times that of its nodes.
+#![tactic(auto)]
+
 ghost use Rattle.std.specs.Prelude.{◌≡◌, true, ◌∷◌, [], ◌+◌, ◌*◌, ◌<◌, ◌≤◌, length};
 ghost use Rattle.std.specs.Bool.{xor};
 ghost use Rattle.table_records.specs.Table.{count};
@@ -17,7 +19,7 @@ use table_source::is_typescript;
 pub const STATIC_AND_INSTANCE_PRIVATE: u32 = 35;
 
 // One of the two places of a name: the last element seen there, if any.
-#[derive(Drop)]
+#[derive(Clone, Copy)]
 pub struct Place {
     pub there: bool,
     pub element: ElementId,

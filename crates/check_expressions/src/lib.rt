@@ -1,4 +1,6 @@
 // Object literals, `delete`, and `await` and `yield` in parameters.
+#![tactic(auto)]
+
 ghost use Rattle.std.specs.Prelude.{◌≡◌, ◌+◌, ◌*◌, ◌<◌, ◌≤◌, length};
 ghost use Rattle.table_records.specs.Table.{count};
 ghost use Rattle.table_records.specs.Facts.{Tree, Chained, Scoped, Spanned, Named};

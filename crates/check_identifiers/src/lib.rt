@@ -1,4 +1,6 @@
 // Identifiers and directives: names that a place may not have.
+#![tactic(auto)]
+
 ghost use Rattle.std.specs.Prelude.{◌≡◌, ◌<◌};
 ghost use Rattle.table_records.specs.Table.{count, scope_of, scope_node_of};
 ghost use Rattle.table_records.specs.Facts.{Tree, Scoped, Named, Input};

@@ -1,4 +1,6 @@
 // Breaks, continues and labels: check_break_statement, check_continue_statement and check_labeled_statement of checker/javascript.rs.
+#![tactic(auto)]
+
 ghost use Rattle.std.specs.Prelude.{◌≡◌, ◌<◌};
 ghost use Rattle.table_records.specs.Table.{count};
 ghost use Rattle.table_records.specs.Facts.{Tree, Named};

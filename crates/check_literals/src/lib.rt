@@ -1,4 +1,6 @@
 // Strings and numbers as they stand in the source: escapes and leading zeros that strict code may not have.
+#![tactic(auto)]
+
 ghost use Rattle.std.specs.Prelude.{◌≡◌, ◌+◌, ◌<◌, ◌≤◌, length, get_or, drop};
 ghost use Rattle.base_common.specs.Tests.{within};
 ghost use Rattle.table_records.specs.Table.{count, span_start_of, span_end_of};
@@ -11,7 +13,7 @@ use check_diagnostics::{Finding, Raised, codes, contexts};
 use table_records::{NodeId, extras, kinds};
 
 // The first escape of a string that strict code may not have, with the offset of its backslash.
-#[derive(Drop)]
+#[derive(Clone, Copy)]
 pub enum Escape {
     LegacyOctal(usize),
     NonOctalDecimal(usize),

@@ -1,1 +1,2 @@
 // Each clash of two class elements gives its one finding, and nothing else does; no function of its own.
+#![tactic(auto)]

@@ -1,4 +1,6 @@
 // Statements and declarations: the checks of checker/javascript.rs on functions in statement position, with, for heads, `for await` and `using`.
+#![tactic(auto)]
+
 ghost use Rattle.std.specs.Prelude.{◌≡◌, ◌<◌};
 ghost use Rattle.table_records.specs.Table.{count};
 ghost use Rattle.table_records.specs.Facts.{Tree, Chained, Scoped, Spanned};

@@ -1,4 +1,6 @@
 // check_super: the search through the scopes, for the finding and for refusal 6.
+#![tactic(auto)]
+
 ghost use Rattle.std.specs.Prelude.{◌≡◌, ◌<◌};
 ghost use Rattle.table_records.specs.Table.{count, count_scopes};
 ghost use Rattle.table_records.specs.Facts.{Tree, Chained, Scoped};
@@ -32,7 +34,7 @@ fn stop_reach(step: Step) -> Reach
 }
 
 // The scopes that the search still has to look at: this one and those around it, or none.
-#[derive(Drop)]
+#[derive(Clone, Copy)]
 enum Scopes {
     From(ScopeId),
     Spent,

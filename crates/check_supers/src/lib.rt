@@ -1,4 +1,6 @@
 // Where `super` may stand: what one scope and one class say to check_super's search.
+#![tactic(auto)]
+
 ghost use Rattle.std.specs.Prelude.{◌≡◌, ◌<◌};
 ghost use Rattle.table_records.specs.Table.{count, count_scopes, scope_node_of};
 ghost use Rattle.table_records.specs.Facts.{Tree};
@@ -9,7 +11,7 @@ use check_class_table::Current;
 use table_records::{ClassId, Found, NodeId, ScopeId, extras, kinds, node_flag, scope_flag};
 
 // What the search finds of a `super`: that it is legal, or illegal, or a call in the constructor of this class, which has no heritage; or that the Rust fails.
-#[derive(Drop)]
+#[derive(Clone, Copy)]
 pub enum Reach {
     Legal,
     Illegal,
@@ -18,7 +20,7 @@ pub enum Reach {
 }
 
 // Where a node stands in the class element around it.
-#[derive(Drop)]
+#[derive(Clone, Copy)]
 pub enum ElementPart {
     Value,
     Key,
@@ -26,7 +28,7 @@ pub enum ElementPart {
 }
 
 // What one scope of the search says: it ends, or it goes on outside the class, or just on.
-#[derive(Drop)]
+#[derive(Clone, Copy)]
 pub enum Step {
     Stop(Reach),
     Leave,

@@ -1,4 +1,6 @@
 // The code of a unit, made from the tables alone: the words of each of its nodes at its place, and the ends behind them.
+#![tactic(auto)]
+
 ghost use Rattle.std.specs.Prelude.{◌≡◌, ◌+◌, ◌<◌, ◌≤◌, length};
 ghost use Rattle.table_records.specs.Table.{count};
 ghost use Rattle.code_flat.specs.Code.{unit, ends};
@@ -22,7 +24,7 @@ const SMALL: u32 = 1024;
 const END_WORDS: usize = 8;
 
 // What the maker comes to: so many numbers of code from the slice's start; or the slice is too short, and the code's length.
-#[derive(Drop)]
+#[derive(Clone, Copy)]
 pub enum Assembled {
     Code(usize),
     Short(usize),

@@ -1,4 +1,6 @@
 // Where control goes: from the end of a node, and by a jump.
+#![tactic(auto)]
+
 ghost use Rattle.std.specs.Prelude.{◌≡◌, true, ◌&&◌, ◌+◌, ◌<◌, ◌≤◌, eqb};
 ghost use Rattle.table_records.specs.Table.{count, role_of};
 ghost use Rattle.table_records.specs.Facts.{Tree, Named};
@@ -18,14 +20,14 @@ use code_tree::Shape;
 use table_records::{Found, NodeId, kinds, roles, wide};
 
 // A place of the code, and the depth of the pending ends there; the place 0 is what is pending.
-#[derive(Drop)]
+#[derive(Clone, Copy)]
 pub struct Target {
     pub place: u32,
     pub depth: u32,
 }
 
 // How a Break, Continue, Return or Throw completes; a label by its node.
-#[derive(Drop)]
+#[derive(Clone, Copy)]
 pub enum Jump {
     BreakNear,
     BreakNamed(NodeId),

@@ -1,4 +1,6 @@
 // Closes up a code whose jumps are sent on and whose reached instructions are marked: they are written to the front of another slice, with their targets moved.
+#![tactic(auto)]
+
 ghost use Rattle.std.specs.Prelude.{◌≡◌, true, List, ◌++◌, ℕ, ◌+◌, ◌≤◌, ◌<◌, get_or, length, drop, ltb};
 ghost use Rattle.route_completion.specs.Sem.{pick, elem};
 ghost use Rattle.code_flat.specs.Machine.{Instr, decode};

@@ -1,4 +1,6 @@
 // Where each node's words stand, how deep the pending ends are there, and from which node's end control goes on: forwards.
+#![tactic(auto)]
+
 ghost use Rattle.std.specs.Prelude.{◌≡◌, true, cond, ◌&&◌, suc, ◌+◌, ◌<◌, ◌≤◌, length};
 ghost use Rattle.table_records.specs.Table.{count};
 ghost use Rattle.table_records.specs.Roles as role;

@@ -1,4 +1,6 @@
 // The words of one node of the unit, by its shape: at most ten, in an array with zeros behind them.
+#![tactic(auto)]
+
 ghost use Rattle.std.specs.Prelude.{◌≡◌, true, false, ◌&&◌, ◌∷◌, [], ◌+◌, ◌<◌, ◌≤◌, eqb};
 ghost use Rattle.table_records.specs.Table.{count};
 ghost use Rattle.table_records.specs.Facts.{Tree};

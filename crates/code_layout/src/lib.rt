@@ -1,1 +1,2 @@
 // Where the words of each node of a unit stand, and which they are.
+#![tactic(auto)]

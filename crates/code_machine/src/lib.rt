@@ -1,5 +1,7 @@
 // The machine: it runs a unit's code, or any other list of numbers, over a list of answers.
 // What it lists goes to a slice that the caller lends, as far as that goes; with an empty slice it only counts.
+#![tactic(auto)]
+
 ghost use Rattle.std.specs.Prelude.{◌≡◌, List, ◌∷◌, ℕ, ◌%◌, ◌≤◌, ◌<◌, get_or, length};
 ghost use Rattle.code_flat.specs.Opcodes as op;
 ghost use Rattle.code_flat.specs.Machine.{room, Frame, open', pend, pos, unwind, is_case, chase, end_as, code_route};
@@ -12,7 +14,7 @@ pub mod opcodes;
 mod run_end;
 
 // What a run comes to: its end, how many nodes it lists, and how many answers it takes.
-#[derive(Drop)]
+#[derive(Clone, Copy)]
 pub struct Ran {
     pub end: u32,
     pub entries: u64,
@@ -20,7 +22,7 @@ pub struct Ran {
 }
 
 // Where a run stands: at pc, with the answers from at, a budget of instructions before the next answer, and so many ends pending.
-#[derive(Drop)]
+#[derive(Clone, Copy)]
 pub struct Place {
     pub pc: usize,
     pub at: usize,
@@ -29,7 +31,7 @@ pub struct Place {
 }
 
 // What an instruction comes to: the run is over, or goes on, with a node listed or not.
-#[derive(Drop)]
+#[derive(Clone, Copy)]
 enum Step {
     Over(u32),
     On(Place),
@@ -37,21 +39,21 @@ enum Step {
 }
 
 // What a run comes to next: it is over, or a node is listed.
-#[derive(Drop)]
+#[derive(Clone, Copy)]
 pub enum Next {
     Over(u32),
     Listed(u32, Place),
 }
 
 // The way of a jump: to a place, at a depth of the pending ends.
-#[derive(Drop)]
+#[derive(Clone, Copy)]
 struct Way {
     place: u32,
     depth: u32,
 }
 
 // What a jump comes to at the end on top: its place, at this depth; the open finally block at a place, and the way waits; or a way on below.
-#[derive(Drop)]
+#[derive(Clone, Copy)]
 enum Passing {
     Here,
     Into(u32),
@@ -59,14 +61,14 @@ enum Passing {
 }
 
 // Where a jump comes to, or a run begins: a place, and how many ends are pending there.
-#[derive(Drop)]
+#[derive(Clone, Copy)]
 pub struct Landing {
     pub place: u32,
     pub pending: usize,
 }
 
 // What a run comes to that may be stopped: its end, 4 if it is stopped; how many nodes it lists, and how many answers it takes; and where it stands then.
-#[derive(Drop)]
+#[derive(Clone, Copy)]
 pub struct Halt {
     pub end: u32,
     pub entries: u64,

@@ -1,1 +1,2 @@
 // No node stands twice in a unit's statements.
+#![tactic(auto)]

@@ -1,4 +1,6 @@
 // Writes the words of a node: one loop for all of them.
+#![tactic(auto)]
+
 ghost use Rattle.std.specs.Prelude.{◌+◌, ◌≤◌, length};
 ghost use Rattle.code_put.specs.Put.{Put};
 

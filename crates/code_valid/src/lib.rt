@@ -1,4 +1,6 @@
 // Whether a list of numbers is a code that a run can be sent through: refusal 18, with its place.
+#![tactic(auto)]
+
 ghost use Rattle.std.specs.Prelude.{◌≡◌, ◌≢◌, ◌&&◌, [], ◌∷◌, ℕ, ◌+◌, ◌-◌, ◌≤◌, ◌<◌, get_or, length, set};
 ghost use Rattle.code_flat.specs.Machine.{decode};
 ghost use Rattle.code_valid.specs.Instrs.{len, parse, begins, names, runs_on};
@@ -6,7 +8,7 @@ ghost use Rattle.code_valid.specs.Valid.{all_begin, sound, first_bad, check};
 ghost use Rattle.code_valid.specs.Reading.{standing, from, Table};
 
 // A code, or the lowest offset where it is none.
-#[derive(Drop)]
+#[derive(Clone, Copy)]
 pub enum Verdict {
     Good,
     BadAt(u64),

@@ -1,1 +1,2 @@
 // What well-formed tables give the code maker.
+#![tactic(auto)]

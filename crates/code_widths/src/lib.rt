@@ -1,4 +1,6 @@
 // Which nodes are the unit's, and how many words each takes with all below it: forwards, and then backwards.
+#![tactic(auto)]
+
 ghost use Rattle.std.specs.Prelude.{◌≡◌, true, cond, ◌+◌, ◌<◌, ◌≤◌, length};
 ghost use Rattle.table_records.specs.Table.{count};
 ghost use Rattle.code_layout.specs.Widths.{in_unit};

@@ -1,1 +1,2 @@
 // The findings of a node by their code: definitions and laws only.
+#![tactic(auto)]

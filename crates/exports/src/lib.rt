@@ -1,4 +1,6 @@
 // The calls for programs in C and Rust: numbers and slices in, document 01's numbers out.
+#![tactic(auto)]
+
 ghost use Rattle.std.specs.Prelude.{◌≡◌, length};
 ghost use Rattle.check_dispatch.specs.Rule.{rule};
 ghost use Rattle.call_check.specs.Check.{check_answer, check_slice};
@@ -19,7 +21,7 @@ use route_viewer::Routed;
 
 // A check's answer: the refusal's number (0 where there is none) and place, how many findings were written, and after 10 the length needed.
 #[repr(C)]
-#[derive(Drop)]
+#[derive(Clone, Copy)]
 pub struct CheckAnswer {
     pub refusal: u32,
     pub place: u32,
@@ -29,7 +31,7 @@ pub struct CheckAnswer {
 
 // The code call's answer: the refusal's number and place, how many numbers of code were written, and after 11 the length needed.
 #[repr(C)]
-#[derive(Drop)]
+#[derive(Clone, Copy)]
 pub struct CodeAnswer {
     pub refusal: u32,
     pub place: u32,
@@ -39,7 +41,7 @@ pub struct CodeAnswer {
 
 // The route call's answer: the refusal's number and place, how many entries were written, after 11 and 12 the length needed, how many answers were taken, and the end.
 #[repr(C)]
-#[derive(Drop)]
+#[derive(Clone, Copy)]
 pub struct RouteAnswer {
     pub refusal: u32,
     pub place: u32,
@@ -51,7 +53,7 @@ pub struct RouteAnswer {
 
 // The shared call's answer: the refusal's number and place, how many entries the two routes share from their beginning, and after 11 the length needed.
 #[repr(C)]
-#[derive(Drop)]
+#[derive(Clone, Copy)]
 pub struct SharedAnswer {
     pub refusal: u32,
     pub place: u32,
@@ -61,7 +63,7 @@ pub struct SharedAnswer {
 
 // The rename call's answer: the refusal's number and place, how many bytes of names were written, and after 20 the names length needed.
 #[repr(C)]
-#[derive(Drop)]
+#[derive(Clone, Copy)]
 pub struct RenameAnswer {
     pub refusal: u32,
     pub place: u32,

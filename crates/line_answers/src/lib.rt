@@ -1,4 +1,6 @@
 // What a check's answer prints: the findings' lines and the line of their count, or the refusal's line.
+#![tactic(auto)]
+
 ghost use Rattle.std.specs.Prelude.{◌≡◌, ◌+◌, ◌*◌, ◌≤◌, ◌<◌, length, take, drop};
 ghost use Rattle.base_common.specs.Wrote.{put};
 ghost use Rattle.line_print.specs.Print.{line_of};

@@ -1,10 +1,12 @@
 // Numbers as text: decimal digits, and bytes in hexadecimal.
+#![tactic(auto)]
+
 ghost use Rattle.std.specs.Prelude.{◌≡◌, ◌+◌, ◌≤◌, ◌<◌, true, ◌++◌, length, drop};
 ghost use Rattle.line_digits.specs.Hex.{is_hex_digit, nibble_of, is_hex, bytes_of};
 ghost use Rattle.line_digits.specs.HexLaws.{Nibble};
 ghost use Rattle.line_digits.specs.Number.{is_number, value_of, number_of};
 
-#[derive(Drop)]
+#[derive(Clone, Copy)]
 pub enum Numeral {
     Value(u32),
     NoNumber,

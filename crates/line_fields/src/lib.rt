@@ -1,4 +1,6 @@
 // Lines of bytes, and the fields of a line, as parts of the slice that holds them.
+#![tactic(auto)]
+
 ghost use Rattle.std.specs.Prelude.{◌≡◌, ◌≤◌, ◌-◌, [], length, drop, get_or};
 ghost use Rattle.base_common.specs.Upto.{all};
 ghost use Rattle.line_digits.specs.Number.{is_number};

@@ -1,4 +1,6 @@
 // Forms of lines: which can be read, and what stands in them.
+#![tactic(auto)]
+
 ghost use Rattle.std.specs.Prelude.{◌≡◌, ◌≤◌};
 ghost use Rattle.line_forms.specs.Forms.{lettered, is_numbers, fits, is_n, name_of, is_x};
 

@@ -1,4 +1,6 @@
 // The lines of rulecheck's and ruleroute's input, read into lent slices.
+#![tactic(auto)]
+
 ghost use Rattle.std.specs.Prelude.{◌≡◌, ◌+◌, ◌*◌, ◌≤◌, min, true, length};
 ghost use Rattle.base_common.specs.Wrote.{put};
 ghost use Rattle.line_fields.specs.Split.{lines_of};
@@ -14,7 +16,7 @@ ghost use Rattle.line_input.specs.Format.{node_of, scope_lines, node_lines, scop
 // end. `specs/Whole` proves that what follows them changes nothing.
 pub const ENOUGH: usize = 2052 * 2101;
 
-#[derive(Drop)]
+#[derive(Clone, Copy)]
 pub enum Input {
     Tables {
         kind: u32,
@@ -27,7 +29,7 @@ pub enum Input {
 }
 
 // The same with the unit and the number of answers.
-#[derive(Drop)]
+#[derive(Clone, Copy)]
 pub enum Route {
     Asked {
         kind: u32,
@@ -42,7 +44,7 @@ pub enum Route {
 }
 
 // What the two lines behind the X line say.
-#[derive(Drop)]
+#[derive(Clone, Copy)]
 enum Two {
     Both { unit: u32, answers: usize },
     NoUnit,
@@ -50,7 +52,7 @@ enum Two {
 }
 
 // What the J line says.
-#[derive(Drop)]
+#[derive(Clone, Copy)]
 enum Head {
     Counts {
         kind: u32,
@@ -97,7 +99,7 @@ fn least(a: usize, b: usize) -> usize
 }
 
 // How many lines were read, and how many bytes their names have.
-#[derive(Drop)]
+#[derive(Clone, Copy)]
 struct Named {
     lines: usize,
     bytes: usize,

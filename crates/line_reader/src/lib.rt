@@ -1,5 +1,7 @@
 // A reader holds a line's bytes and how far it has come. The functions over it are few and thin: each takes it apart and calls
 // one on the slice and the place, and `next_from` is for callers that hold only those.
+#![tactic(auto)]
+
 ghost use Rattle.std.specs.Prelude.{◌≡◌, ◌+◌, ◌≤◌, true, map, length, drop};
 ghost use Rattle.base_common.specs.Upto.{all};
 ghost use Rattle.base_common.specs.Wrote.{put};
@@ -9,14 +11,14 @@ ghost use Rattle.line_reader.specs.Step.{step_at};
 
 use line_digits::Numeral;
 
-#[derive(Drop)]
+#[derive(Clone, Copy)]
 pub struct Reader<'a> {
     pub line: &'a [u8],
     pub at: usize,
 }
 
 // The number of the field behind the comma at the place, and where that field ends; or that it is no number.
-#[derive(Drop)]
+#[derive(Clone, Copy)]
 pub enum Step {
     Number { value: u32, past: usize },
     Stop,

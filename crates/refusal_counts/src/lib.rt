@@ -1,4 +1,6 @@
 // Refusal 14, a wrong count: a child missing or too many. A count reads the nodes below the node, and only where its kind has a count.
+#![tactic(auto)]
+
 ghost use Rattle.std.specs.Prelude.{◌≡◌, ◌<◌};
 ghost use Rattle.table_records.specs.Table.{count};
 ghost use Rattle.table_records.specs.Facts.{Tree};

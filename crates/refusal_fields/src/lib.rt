@@ -1,4 +1,6 @@
 // Refusals 1, 2 and 4: sizes, listed numbers, spans and names within their bytes.
+#![tactic(auto)]
+
 ghost use Rattle.std.specs.Prelude.{◌≡◌, ◌&&◌, ◌||◌, not, ◌+◌, ◌<◌, ◌≤◌, length, ltb, leb};
 ghost use Rattle.table_records.specs.Table.{count, count_scopes, Some};
 ghost use Rattle.refusal_verdict.specs.First.{first};

@@ -1,5 +1,7 @@
 // The refusals of the input: 1, 2, 3, 4, 5 (scope records, then nodes), 13, 14, 6, 15. The first of them that applies is given, at its lowest place. Well-formed
 // tables are those that pass.
+#![tactic(auto)]
+
 ghost use Rattle.std.specs.Prelude.{◌≡◌};
 ghost use Rattle.table_records.specs.Table.{count};
 ghost use Rattle.table_records.specs.Facts.{Tree, Chained, Scoped};

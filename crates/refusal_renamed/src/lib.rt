@@ -1,1 +1,2 @@
 // Well-formed tables stay so when their labels are renamed; no function of its own.
+#![tactic(auto)]

@@ -1,4 +1,6 @@
 // Refusal 5: the scopes, and the scope of each node.
+#![tactic(auto)]
+
 ghost use Rattle.std.specs.Prelude.{◌≡◌, ◌≤◌, ◌<◌, length};
 ghost use Rattle.table_records.specs.Table.{count, count_scopes, Some};
 ghost use Rattle.refusal_verdict.specs.First.{first};

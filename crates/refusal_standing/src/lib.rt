@@ -1,4 +1,6 @@
 // Refusal 13, a misplaced child: where a node of a kind and a role may stand. `above` is the kind of its parent.
+#![tactic(auto)]
+
 ghost use Rattle.std.specs.Prelude.{◌≡◌, ◌<◌};
 ghost use Rattle.table_records.specs.Table.{count};
 ghost use Rattle.table_records.specs.Facts.{Tree};

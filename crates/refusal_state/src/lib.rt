@@ -1,4 +1,6 @@
 // Refusals 7 and 9: what is named as unit, and findings of the tree.
+#![tactic(auto)]
+
 ghost use Rattle.std.specs.Prelude.{◌≡◌};
 ghost use Rattle.table_records.specs.Facts.{Input, Sourced};
 ghost use Rattle.check_dispatch.specs.Rule.{rule};

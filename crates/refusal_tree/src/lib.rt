@@ -1,4 +1,6 @@
 // Refusal 3: the nodes are a tree in preorder, not too deep.
+#![tactic(auto)]
+
 ghost use Rattle.std.specs.Prelude.{◌≡◌, ◌+◌, ◌-◌, ◌<◌, ◌≤◌};
 ghost use Rattle.table_records.specs.Table.{count, parent_of, depth_of, Some};
 ghost use Rattle.base_walk.specs.Above.{Falls};
@@ -10,7 +12,7 @@ use refusal_verdict::Place;
 use table_records::NodeId;
 
 // How deep a node lies, or that it is out of place.
-#[derive(Drop)]
+#[derive(Clone, Copy)]
 pub enum Depth {
     Of(u32),
     Off,

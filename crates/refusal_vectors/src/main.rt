@@ -1,5 +1,7 @@
 // The refusals of the input on tables made by hand, each sentence of documents 01 and 02 with one that just passes and one that just fails. `stdout` has
 // what they say of each: its number and place, or "passed". A node is written as its kind, two digits of its parent and its role: 33_01_6; 1 before them is flag 4096.
+#![tactic(auto)]
+
 ghost use Rattle.std.specs.Prelude.{◌<◌};
 
 use libc::STDOUT_FILENO;

@@ -1,4 +1,6 @@
 // The list of a route as its caller gets it: counted, and written to a slice that the caller lends, as far as that goes.
+#![tactic(auto)]
+
 ghost use Rattle.std.specs.Prelude.{◌≡◌, set};
 ghost use Rattle.route_list.specs.Listing.{next};
 

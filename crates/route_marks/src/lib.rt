@@ -1,5 +1,7 @@
 // Marks in a route: the array that holds them, what is asked of a mark before it is taken up (refusals 16 and 17), and a route that begins at its start or
 // at a mark, is stopped, and is shown where it fits.
+#![tactic(auto)]
+
 ghost use Rattle.std.specs.Prelude.{◌≡◌, true, ◌↔◌, ◌+◌, ◌*◌, ◌/◌, ◌%◌, ◌<◌, ◌≤◌, length, get_or};
 ghost use Rattle.std.proofs.lemmas.List.Edits.{sets};
 ghost use Rattle.code_flat.specs.Machine.{room, pos};
@@ -25,7 +27,7 @@ const MOST_FIRST: u32 = 513;
 pub type Marks = [u32; 8208];
 
 // Where a route begins: at its start, or at a mark.
-#[derive(Drop)]
+#[derive(Clone, Copy)]
 pub enum Begin {
     Start,
     Mark(u32),

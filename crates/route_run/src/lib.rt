@@ -1,9 +1,11 @@
 // Runs a lent code slice: 18 first, then the run is shown as a route is.
+#![tactic(auto)]
+
 ghost use Rattle.std.specs.Prelude.{◌≡◌, length};
 ghost use Rattle.route_run.specs.Run.{run_answer, run_slice};
 
 // Refusal 18, with its place; or what a route comes to: its end, entries and answers taken, or 12 with the length needed.
-#[derive(Drop)]
+#[derive(Clone, Copy)]
 pub enum Ran {
     Invalid(u64),
     Shown(route_viewer::Routed),

@@ -1,5 +1,7 @@
 // "the length of the longest beginning that their routes share", for two lists of answers of any kind, on any list of numbers as code: both routes are
 // run in step, entry by entry.
+#![tactic(auto)]
+
 ghost use Rattle.std.specs.Prelude.{◌≡◌, length};
 ghost use Rattle.code_flat.specs.Machine.{room};
 ghost use Rattle.route_shared.specs.Shared.{shared_entries};

@@ -1,11 +1,13 @@
 // Shows the route of a code: counts it first, and writes it only where there is room for all of it.
+#![tactic(auto)]
+
 ghost use Rattle.std.specs.Prelude.{◌≡◌, length};
 ghost use Rattle.code_flat.specs.Machine.{code_route};
 ghost use Rattle.route_viewer.specs.Shown.{shown_answer, shown_slice};
 
 // What a route comes to: its end, the entries listed and the answers taken; or a refusal, with its number and place; or a route slice that is too short
 // (refusal 12, place 0), or a code slice that is (11, place 0), with the length needed.
-#[derive(Drop)]
+#[derive(Clone, Copy)]
 pub enum Routed {
     Route(u32, usize, u64),
     Refused(u32, u32),

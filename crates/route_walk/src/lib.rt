@@ -1,4 +1,6 @@
 // The second engine: it walks a unit's statements by the completion rules, and makes no code.
+#![tactic(auto)]
+
 ghost use Rattle.std.specs.Prelude.{◌≡◌, List, [], ◌∷◌, ℕ, ◌+◌, ◌<◌, ◌≤◌, eqb, length, drop};
 ghost use Rattle.table_records.specs.Table.{count};
 ghost use Rattle.table_records.specs.Roles as role;
@@ -21,7 +23,7 @@ use table_records::{Found, NodeId, kinds, roles};
 mod unit_end;
 
 // How a statement completes, as ECMA-262's Completion Record: a break or continue with its label's node where it has one. Or no answer was left.
-#[derive(Drop)]
+#[derive(Clone, Copy)]
 pub enum Completion {
     Normal,
     Break,
@@ -34,7 +36,7 @@ pub enum Completion {
 }
 
 // How far a walk has come: the entries listed, the answers taken, and how its last statement completed.
-#[derive(Drop)]
+#[derive(Clone, Copy)]
 pub struct Run {
     pub entries: u64,
     pub taken: usize,

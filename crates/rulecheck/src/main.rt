@@ -1,4 +1,6 @@
 // rulecheck: reads the lines of a rule's tables from standard input, checks them, and prints the findings or the refusal.
+#![tactic(auto)]
+
 ghost use Rattle.std.specs.Prelude.{◌≡◌, length, take};
 ghost use Rattle.line_input.specs.Format.{front};
 ghost use Rattle.line_answers.specs.Answer.{findings_room, text_room};

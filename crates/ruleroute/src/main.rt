@@ -1,4 +1,6 @@
 // ruleroute: reads the lines of a rule's tables, a unit and answers from standard input, and prints the unit's route or the refusal.
+#![tactic(auto)]
+
 ghost use Rattle.std.specs.Prelude.{◌≡◌, ◌≤◌, [], ◌∷◌, length, take};
 ghost use Rattle.base_common.specs.Wrote.{put};
 ghost use Rattle.line_print.specs.Print.{line_of};

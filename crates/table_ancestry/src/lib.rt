@@ -1,4 +1,6 @@
 // Ancestors of a node, nearest first, and the scopes around a scope: node/ancestry.rs in its stack form, as walks over parents.
+#![tactic(auto)]
+
 ghost use Rattle.std.specs.Prelude.{◌≡◌, ◌<◌, ◌≤◌};
 ghost use Rattle.base_walk.specs.On.{on};
 ghost use Rattle.table_records.specs.Table.{count, kind_of, parent_of, count_scopes, scope_parent_of};

@@ -1,1 +1,2 @@
 // Laws of lists of nodes; no function of its own.
+#![tactic(auto)]

@@ -1,4 +1,6 @@
 // Writes numbers to a slice from a place on: the ten of a node record, and a copy of bytes.
+#![tactic(auto)]
+
 ghost use Rattle.std.specs.Prelude.{◌≡◌, [], ◌∷◌, ◌+◌, ◌≤◌, length};
 ghost use Rattle.base_common.specs.Wrote.{put};
 

@@ -1,4 +1,6 @@
 // The node table, ten numbers to a node, and the scope table, three numbers to a scope.
+#![tactic(auto)]
+
 ghost use Rattle.std.specs.Prelude.{◌≡◌, ◌<◌, ltb};
 ghost use Rattle.table_records.specs.Table.{count, kind_of, parent_of, role_of, span_start_of, span_end_of, name_start_of, name_len_of, scope_of, flags_of, extra_of, count_scopes, scope_parent_of, scope_flags_of, scope_node_of, Some, has_flag};
 
@@ -9,23 +11,23 @@ pub mod roles;
 pub mod scope_flag;
 
 // A node, by its place in the node table.
-#[derive(Drop)]
+#[derive(Clone, Copy)]
 pub struct NodeId(pub u32);
 
 // A scope, by its place in the scope table.
-#[derive(Drop)]
+#[derive(Clone, Copy)]
 pub struct ScopeId(pub u32);
 
 // A class, by the place of its ClassBody in the node table: classes are declared in that order.
-#[derive(Drop)]
+#[derive(Clone, Copy)]
 pub struct ClassId(pub u32);
 
 // An element of a class, by its place in the node table.
-#[derive(Drop)]
+#[derive(Clone, Copy)]
 pub struct ElementId(pub u32);
 
 // What a search for a node finds.
-#[derive(Drop)]
+#[derive(Clone, Copy)]
 pub enum Found {
     At(NodeId),
     Nothing,

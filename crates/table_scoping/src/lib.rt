@@ -1,4 +1,6 @@
 // What the scope of a node says of its code.
+#![tactic(auto)]
+
 ghost use Rattle.std.specs.Prelude.{◌≡◌, ◌<◌};
 ghost use Rattle.table_records.specs.Table.{count, scope_of, scope_flags_of, count_scopes};
 ghost use Rattle.table_records.specs.Facts.{Chained, Scoped};

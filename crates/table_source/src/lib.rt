@@ -1,4 +1,6 @@
 // The source type of a rule.
+#![tactic(auto)]
+
 ghost use Rattle.std.specs.Prelude.{◌≡◌};
 ghost use Rattle.table_source.specs.SourceType.{is_module, is_typescript};
 

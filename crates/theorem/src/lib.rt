@@ -1,1 +1,2 @@
 // The three demands as one statement: see specs/Demands.antt.
+#![tactic(auto)]
