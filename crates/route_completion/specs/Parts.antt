@@ -11,6 +11,7 @@ use Rattle.route_completion.specs.Route.{Mem, Once, onto, parts, AllOnce, nodes_
 pub mem_left : (x : ℕ) (a b : List ℕ) → Mem x a → Mem x (a ++ b)
 mem_left x (y ∷ a) b (inl h) = inl h
 mem_left x (y ∷ a) b (inr h) = inr (mem_left x a b h)
+mem_left x [] b x'' = elim x'' [ ]
 
 pub mem_right : (x : ℕ) (a b : List ℕ) → Mem x b → Mem x (a ++ b)
 mem_right x [] b h = h
@@ -36,6 +37,7 @@ once_right (x ∷ a) b h = once_right a b h.1
 once_apart : (a b : List ℕ) → Once (a ++ b) → (x : ℕ) → Mem x a → Mem x b → ⊥
 once_apart (y ∷ a) b h x (inl e) v = h.0 (mem_right y a b (subst (λ z. Mem z b) e v))
 once_apart (y ∷ a) b h x (inr u) v = once_apart a b h.1 x u v
+once_apart [] b h x x5 v = elim x5 [ ]
 
 -- What has been listed since the last answer is seen: no entry lists a node that is.
 unfoldable Fresh : (ℕ → Type 0) → List Entry → Type 0
@@ -110,6 +112,7 @@ asked_of n E P es w = record { fresh = λ seen h. (h n (inl refl), w.fresh (λ x
   where
     go : (seen : ℕ → Type 0) (x : ℕ) → Mem x P ⊎ ⊥ → Mem x (n ∷ P) ⊎ seen x
     go seen x (inl e) = inl (inr e)
+    go seen x (inr x'') = elim x'' [ ]
 
 -- From here on over outcomes.
 ask_within : (n : ℕ) (E P : List ℕ) (qs : List ℕ) (k : ℕ → List ℕ → Out) → ((a : ℕ) (r : List ℕ) → Within E P (k a r).nodes) → Within (n ∷ []) (n ∷ P) (ask n qs k).nodes
@@ -133,6 +136,7 @@ pick_within E P E' P' false o o' u v = weaken E' (E ++ E') P' (P ++ P') o'.nodes
 module _ (n : ℕ) (test : Bool) (ls : List ℕ) (body : List ℕ → Out) (B : List ℕ) (apart : Mem n B → ⊥) (ok : (r : List ℕ) → Within B B (body r).nodes) where
   not_in : (x : ℕ) → Mem x B → Mem x (n ∷ []) → ⊥
   not_in x m (inl e) = apart (subst (λ z. Mem z B) e m)
+  not_in x m (inr x'') = elim x'' [ ]
 
   -- The body, and then the next turns.
   body_within : (b : Bool) (o : Out) (k : List ℕ → Out) → Within B B o.nodes → ((r : List ℕ) → Within (n ∷ []) (n ∷ B) (k r).nodes)
@@ -144,6 +148,7 @@ module _ (n : ℕ) (test : Bool) (ls : List ℕ) (body : List ℕ → Out) (B : 
       swap : (x : ℕ) → Mem x B ⊎ Mem x (n ∷ []) → Mem x (n ∷ B)
       swap x (inl m) = inr m
       swap x (inr (inl e)) = inl e
+      swap x (inr (inr x3)) = elim x3 [ ]
 
       both : (x : ℕ) → Mem x B ⊎ Mem x (n ∷ B) → Mem x (n ∷ B)
       both x (inl m) = inr m
@@ -252,6 +257,7 @@ fresh_parts seen (asked n ∷ es) h = (first, (((λ m. m), tt), (fresh_parts (λ
   where
     first : (x : ℕ) → Mem x (n ∷ []) → seen x → ⊥
     first x (inl e) s = h.0 (subst seen e s)
+    first x (inr x5) s = elim x5 [ ]
 
 -- Where the numbers of the nodes are all different, no part of a route has a node twice.
 pub parts_once : (ss : Stmts) → Once (nodes_of_all ss) → (qs : List ℕ) → AllOnce (parts (execs ss qs).nodes)
