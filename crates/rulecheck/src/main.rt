@@ -6,9 +6,10 @@ ghost use Rattle.line_input.specs.Format.{front};
 ghost use Rattle.line_answers.specs.Answer.{findings_room, text_room};
 ghost use Rattle.rulecheck.specs.Response.{check_text, response};
 
-use libc::{STDIN_FILENO, STDOUT_FILENO};
 use line_answers::{FINDINGS_ROOM, TEXT_ROOM};
 use line_input::{ENOUGH, Input};
+use std::io;
+use std::io::{Read, Write};
 
 // The option on async and generator bodies, which `rulecheck` has off.
 const ASYNC_BODIES_OFF: u32 = 0;
@@ -92,18 +93,22 @@ fn respond(input: &[u8], out: &mut [u8]) -> usize
     )
 }
 
-// Reads, and prints what there is to print for what was read. No contract can say what was read, nor what is written; that nothing which
-// follows the first `ENOUGH` bytes matters is `response_whole`.
-fn run(input: &mut [u8], out: &mut [u8])
+// Reads, and prints what there is to print for what was read. That nothing which follows the first `ENOUGH` bytes matters is `response_whole`.
+fn run<I: Read, O: Write>(
+    reader: &mut I,
+    writer: &mut O,
+    input: &mut [u8],
+    out: &mut [u8],
+) -> io::Result<()>
     requires { length out.old ≡ text_room }
 {
-    let got = io::read_full(STDIN_FILENO, input);
+    let got = line_stream::read_full(reader, input)?;
     let end = respond(line_print::front(input, got), out);
-    io::write_all(STDOUT_FILENO, line_print::front(out, end));
+    writer.write_all(line_print::front(out, end))
 }
 
-fn main() {
+fn main(rt: HostRuntime) -> io::Result<()> {
     let mut input = [0u8; ENOUGH];
     let mut out = [0u8; TEXT_ROOM];
-    run(&mut input, &mut out);
+    run(&mut rt.stdin(), &mut rt.stdout(), &mut input, &mut out)
 }

@@ -8,10 +8,11 @@ ghost use Rattle.check_dispatch.specs.Rule.{rule};
 ghost use Rattle.call_routes.specs.Calls.{route_answer, route_slice};
 ghost use Rattle.ruleroute.specs.Answer.{entry_line, last_line, answers_room, code_room, routed_of, entries_of};
 
-use libc::{STDIN_FILENO, STDOUT_FILENO};
 use line_input::{ENOUGH, Route};
 use refusal_verdict::refusals;
 use route_viewer::Routed;
+use std::io;
+use std::io::{Read, Write};
 
 // The option on async and generator bodies, which `ruleroute` has off.
 const ASYNC_BODIES_OFF: u32 = 0;
@@ -148,53 +149,77 @@ fn respond(input: &[u8], out: &mut [u32]) -> Routed
 }
 
 // Prints the line of an entry by way of `text`.
-fn print_entry(node: u32, text: &mut [u8])
+fn print_entry<O: Write>(writer: &mut O, node: u32, text: &mut [u8]) -> io::Result<()>
     requires { length text.old ≡ 256 }
 {
     let end = entry_line(node, text);
-    io::write_all(STDOUT_FILENO, line_print::front(text, end));
+    writer.write_all(line_print::front(text, end))
 }
 
-fn print_entries(entries: &[u32], text: &mut [u8])
+fn print_entries<O: Write>(writer: &mut O, entries: &[u32], text: &mut [u8]) -> io::Result<()>
     requires { length text.old ≡ 256 }
 {
     let mut i: usize = 0;
     while i < entries.len() {
-        print_entry(entries[i], text);
+        print_entry(writer, entries[i], text)?;
         i += 1;
     }
+    Ok(())
 }
 
 // Prints the entries of a route, which stand at the front of `out`.
-fn print_route(answer: Routed, out: &[u32], text: &mut [u8])
+fn print_route<O: Write>(
+    writer: &mut O,
+    answer: Routed,
+    out: &[u32],
+    text: &mut [u8],
+) -> io::Result<()>
     requires { length text.old ≡ 256 }
 {
     if let Routed::Route(_, entries, _) = answer {
-        print_entries(line_print::front_numbers(out, entries), text);
+        return print_entries(writer, line_print::front_numbers(out, entries), text);
     }
+    Ok(())
 }
 
-// Prints an answer. No contract can say what is written; what is written are the lines of the functions above.
-fn print_routed(answer: Routed, out: &[u32], text: &mut [u8])
+// Prints an answer: the lines of the functions above.
+fn print_routed<O: Write>(
+    writer: &mut O,
+    answer: Routed,
+    out: &[u32],
+    text: &mut [u8],
+) -> io::Result<()>
     requires { length text.old ≡ 256 }
 {
-    print_route(answer, out, text);
+    print_route(writer, answer, out, text)?;
     let end = last_line(answer, text);
-    io::write_all(STDOUT_FILENO, line_print::front(text, end));
+    writer.write_all(line_print::front(text, end))
 }
 
 // Reads, and makes the route of what was read. That nothing which follows the first `ENOUGH` bytes matters is `routed_whole`.
-fn run(input: &mut [u8], out: &mut [u32], text: &mut [u8])
+fn run<I: Read, O: Write>(
+    reader: &mut I,
+    writer: &mut O,
+    input: &mut [u8],
+    out: &mut [u32],
+    text: &mut [u8],
+) -> io::Result<()>
     requires { length text.old ≡ 256 }
 {
-    let got = io::read_full(STDIN_FILENO, input);
+    let got = line_stream::read_full(reader, input)?;
     let answer = respond(line_print::front(input, got), out);
-    print_routed(answer, out, text);
+    print_routed(writer, answer, out, text)
 }
 
-fn main() {
+fn main(rt: HostRuntime) -> io::Result<()> {
     let mut input = [0u8; ENOUGH];
     let mut out = [0u32; ROUTE];
     let mut text = [0u8; LINE];
-    run(&mut input, &mut out, &mut text);
+    run(
+        &mut rt.stdin(),
+        &mut rt.stdout(),
+        &mut input,
+        &mut out,
+        &mut text,
+    )
 }
