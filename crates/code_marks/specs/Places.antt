@@ -5,7 +5,7 @@ use mathlib.Core.List.{List, [], ◌∷◌, ◌++◌}
 use Rattle.route_completion.specs.Tree.{Stmt, Stmts, Cases, leaf, if1, if2, if3, withs, block, label, loop, switch, try_c, try_f, nil, cons, none, case}
 use Rattle.route_completion.specs.Sem.{Comp, no_break, no_label}
 use Rattle.code_flat.specs.Opcodes as op
-use Rattle.code_flat.specs.Code.{Stat, at, next, in_try, in_loop, first, through, size, sizes, size_cases, place, code, codes, code_cases}
+use Rattle.code_flat.specs.Code.{Stat, at, next, in_try, in_loop, first, through, size, sizes, size_cases, code, codes, code_cases}
 use Rattle.code_flat.specs.Size.{code_length, codes_length}
 use Rattle.code_flat.specs.Correct.{Has, has_left, has_right}
 use Rattle.code_marks.specs.Begins.{width, offset, Begins}
