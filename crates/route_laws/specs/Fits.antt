@@ -11,11 +11,13 @@ use Rattle.route_laws.specs.Inside.{In}
 without : (x : ℕ) (N : List ℕ) → Mem x N → List ℕ
 without x (y ∷ N) (inl e) = N
 without x (y ∷ N) (inr m) = y ∷ without x N m
+without x [] x'' = elim x'' [ ]
 
 without_length : (x : ℕ) (N : List ℕ) (m : Mem x N) → length N ≡ suc (length (without x N m))
 unfolding without
 without_length x (y ∷ N) (inl e) = refl
 without_length x (y ∷ N) (inr m) = ap suc (without_length x N m)
+without_length x [] m = elim m [ ]
 
 without_mem : (x y : ℕ) (N : List ℕ) (m : Mem x N) → (y ≡ x → ⊥) → Mem y N → Mem y (without x N m)
 unfolding without
@@ -23,6 +25,7 @@ without_mem x y (z ∷ N) (inl e) d (inl f) = absurd (d (f ∙ sym e))
 without_mem x y (z ∷ N) (inl e) d (inr v) = v
 without_mem x y (z ∷ N) (inr m) d (inl f) = inl f
 without_mem x y (z ∷ N) (inr m) d (inr v) = inr (without_mem x y N m d v)
+without_mem x y [] m d _ = elim m [ ]
 
 -- The pigeonhole law.
 pub once_fits : (p N : List ℕ) → Once p → ((x : ℕ) → Mem x p → Mem x N) → length p ≤ length N
@@ -55,6 +58,7 @@ parts_in N (asked n ∷ es) h = (one, parts_in N es h.1)
   where
     one : (x : ℕ) → Mem x (n ∷ []) → Mem x N
     one x (inl e) = subst (λ z. Mem z N) (sym e) h.0
+    one x (inr x4) = elim x4 [ ]
 
 abbrev sum : List (List ℕ) → ℕ
 sum [] = 0
