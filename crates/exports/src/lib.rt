@@ -1,4 +1,4 @@
-// The calls for programs in C and Rust: numbers and slices in, document 01's numbers out.
+// The calls for programs in C and Rust: numbers and slices in, document 01's numbers out. `exports_c` gives them C names.
 #![tactic(auto)]
 
 ghost use Rattle.std.specs.Prelude.{◌≡◌, length};
@@ -97,8 +97,7 @@ fn check_numbers(answer: Checked) -> CheckAnswer
 }
 
 // Checks the tables of a rule.
-#[unsafe(no_mangle)]
-pub extern "C" fn velkunshe_check(
+pub fn velkunshe_check(
     source_type: u32,
     async_bodies: u32,
     nodes: &[u32],
@@ -147,8 +146,7 @@ fn code_numbers(answer: Coded) -> CodeAnswer
 }
 
 // Makes the flat code of a unit.
-#[unsafe(no_mangle)]
-pub extern "C" fn velkunshe_code(
+pub fn velkunshe_code(
     source_type: u32,
     async_bodies: u32,
     nodes: &[u32],
@@ -213,8 +211,7 @@ fn route_numbers(answer: Routed) -> RouteAnswer
 }
 
 // Makes the flat code of a unit, runs it over the answers, and shows the route.
-#[unsafe(no_mangle)]
-pub extern "C" fn velkunshe_route(
+pub fn velkunshe_route(
     source_type: u32,
     async_bodies: u32,
     nodes: &[u32],
@@ -270,8 +267,7 @@ fn shared_numbers(answer: Beginning) -> SharedAnswer
 }
 
 // Makes the flat code of a unit, and tells how much the routes for two lists of answers share.
-#[unsafe(no_mangle)]
-pub extern "C" fn velkunshe_shared(
+pub fn velkunshe_shared(
     source_type: u32,
     async_bodies: u32,
     nodes: &[u32],
@@ -301,8 +297,7 @@ pub extern "C" fn velkunshe_shared(
 }
 
 // The second engine: walks the statements of a unit over the answers, and shows the route. No code is made.
-#[unsafe(no_mangle)]
-pub extern "C" fn velkunshe_walk(
+pub fn velkunshe_walk(
     source_type: u32,
     async_bodies: u32,
     nodes: &[u32],
@@ -355,8 +350,7 @@ fn rename_numbers(answer: Relabelled) -> RenameAnswer
 }
 
 // Writes the tables of a rule with its labels renamed to short names.
-#[unsafe(no_mangle)]
-pub extern "C" fn velkunshe_rename(
+pub fn velkunshe_rename(
     source_type: u32,
     nodes: &[u32],
     scopes: &[u32],
@@ -381,8 +375,7 @@ pub extern "C" fn velkunshe_rename(
 }
 
 // From the start, stopped under `mark` behind `stop` answers.
-#[unsafe(no_mangle)]
-pub extern "C" fn velkunshe_route_stop(
+pub fn velkunshe_route_stop(
     source_type: u32,
     async_bodies: u32,
     nodes: &[u32],
@@ -420,8 +413,7 @@ pub extern "C" fn velkunshe_route_stop(
 }
 
 // Taken up at `mark`, and not stopped again.
-#[unsafe(no_mangle)]
-pub extern "C" fn velkunshe_route_resume(
+pub fn velkunshe_route_resume(
     source_type: u32,
     async_bodies: u32,
     nodes: &[u32],
@@ -457,8 +449,7 @@ pub extern "C" fn velkunshe_route_resume(
 }
 
 // Taken up at `from`, and stopped again under `to` behind `stop` answers.
-#[unsafe(no_mangle)]
-pub extern "C" fn velkunshe_route_resume_stop(
+pub fn velkunshe_route_resume_stop(
     source_type: u32,
     async_bodies: u32,
     nodes: &[u32],
