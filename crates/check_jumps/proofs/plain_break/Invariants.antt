@@ -1,0 +1,11 @@
+use mathlib.Core.Path.{◌≡◌}
+use Prim.Native.Nat.{◌<◌}
+use Rattle.table_records.specs.Table.{count}
+use Rattle.check_jumps.specs.Jumps.{walk_up, plain_break_at}
+use Rattle.check_jumps.proofs.plain_break.Given as goal
+
+abbrev pub invariant-loop-at : goal.invariant-loop-at
+invariant-loop-at l = (l.at.0 < count l.nodes) × (walk_up l.nodes (plain_break_at l.nodes l.n.0) l.at.0 ≡ walk_up l.nodes (plain_break_at l.nodes l.n.0) l.initial.at.0)
+
+abbrev pub decreases-loop-at : goal.decreases-loop-at
+decreases-loop-at l = l.at.0

@@ -1,0 +1,38 @@
+use native.Mathlib.Omega.{arith}
+use mathlib.Core.Path.{◌≡◌, sym, ◌∙◌}
+use Rattle.check_jumps.specs.Jumps.{plain_continue_at}
+use Rattle.check_jumps.specs.JumpsLaws.{walk_up_lem, walk_root}
+use Rattle.check_jumps.proofs.plain_continue.Goals as goal
+
+pub loop-at-preserved : goal.loop-at-preserved
+unfolding plain_continue_at
+loop-at-preserved c =
+    let a = c.args in
+    let o = c.loop-at in (
+      omega arith,
+      sym (walk_up_lem a.nodes.now (plain_continue_at a.nodes.now a.n.0) c.requires.tree o.at.0 c.up-at.result.0 (omega arith) (omega arith) c.up-at.ensures.result_value
+          ∙ rw (← c.kind-kind.ensures, ← c.is_unit.ensures, c.if-is_unit.false, ← c.is_iteration_statement.ensures, c.if-is_iteration_statement.false)) ∙ o.invariant.1,
+    )
+
+pub returns-then-at-eq0 : goal.returns-then-at-eq0
+returns-then-at-eq0 c =
+    let a = c.args in
+    let o = c.loop-at in
+    let z : o.at.0 ≡ 0 = c.if-at-eq0.true in
+    sym (sym o.invariant.1 ∙ cc (walk_root a.nodes.now (plain_continue_at a.nodes.now a.n.0), z))
+
+pub returns-then-is_unit : goal.returns-then-is_unit
+unfolding plain_continue_at
+returns-then-is_unit c =
+    let a = c.args in
+    let o = c.loop-at in
+    c.error_at.ensures ∙ sym (sym o.invariant.1 ∙ walk_up_lem a.nodes.now (plain_continue_at a.nodes.now a.n.0) c.requires.tree o.at.0 c.up-at.result.0 (omega arith) (omega arith) c.up-at.ensures.result_value
+    ∙ rw (← c.kind-kind.ensures, ← c.is_unit.ensures, c.if-is_unit.true))
+
+pub returns-then-is_iteration_statement : goal.returns-then-is_iteration_statement
+unfolding plain_continue_at
+returns-then-is_iteration_statement c =
+    let a = c.args in
+    let o = c.loop-at in
+    sym (sym o.invariant.1 ∙ walk_up_lem a.nodes.now (plain_continue_at a.nodes.now a.n.0) c.requires.tree o.at.0 c.up-at.result.0 (omega arith) (omega arith) c.up-at.ensures.result_value
+    ∙ rw (← c.kind-kind.ensures, ← c.is_unit.ensures, c.if-is_unit.false, ← c.is_iteration_statement.ensures, c.if-is_iteration_statement.true))
