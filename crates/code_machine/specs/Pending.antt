@@ -1,6 +1,6 @@
 -- The pending ends as an array of numbers.
-use Rattle.std.specs.Prelude.{ℕ, zero, suc, ◌/◌, ◌%◌, ◌≤◌, ◌<◌, List, [], ◌∷◌, get_or}
-use Rattle.code_flat.specs.Machine.{room, Frame, open', pend, Pos, pos, unwind}
+use Rattle.std.specs.Prelude.{ℕ, zero, suc, ◌/◌, ◌%◌, ◌≤◌, List, [], ◌∷◌, get_or}
+use Rattle.code_flat.specs.Machine.{Frame, open', pend, Pos, pos, unwind}
 use Rattle.code_machine.specs.declared.Way.{Way}
 use Rattle.code_machine.specs.declared.Passing.{Passing}
 use Rattle.code_machine.specs.declared.Passing.TheVariants.{Here, Into, Below}

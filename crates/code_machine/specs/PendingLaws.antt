@@ -1,9 +1,9 @@
 -- Laws of the pending ends as an array.
-use Rattle.std.specs.Prelude.{ℕ, zero, suc, ◌+◌, ◌-◌, ◌*◌, ◌/◌, ◌%◌, ◌≤◌, ◌<◌, ◌≡◌, refl, Bool, true, false, List, [], ◌∷◌, ◌≢◌, length, get_or, set, ltb}
+use Rattle.std.specs.Prelude.{ℕ, zero, suc, ◌+◌, ◌-◌, ◌*◌, ◌/◌, ◌%◌, ◌≤◌, ◌<◌, ◌≡◌, refl, Bool, true, false, List, ◌∷◌, ◌≢◌, length, get_or, set, ltb}
 use Rattle.std.proofs.Common.{sym, ◌∙◌, get_or-set_same, get_or-set_other, lt-ltb, le-ltb, arith}
 use Rattle.std.proofs.Math.Path.{ap}
 use Rattle.route_completion.specs.Sem.{pick}
-use Rattle.code_flat.specs.Machine.{room, Frame, open', pend, Pos, pos, is_zero, unwind}
+use Rattle.code_flat.specs.Machine.{Frame, open', pend, Pos, pos, is_zero, unwind}
 use Rattle.code_machine.specs.Pending.{half, frame_by, frame_of, stack, comes}
 use Rattle.code_machine.specs.declared.Passing.{Passing}
 use Rattle.code_machine.specs.declared.Way.{Way}

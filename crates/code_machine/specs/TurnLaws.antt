@@ -1,6 +1,6 @@
 -- Laws of one instruction of the machine, by its kind.
 use Prim.Native.Nat.{ℕ, zero, suc, ◌+◌, ◌-◌, ◌≤◌, ◌<◌}
-use Rattle.std.specs.Prelude.{◌≡◌, refl, ◌≢◌, true, false, length, drop, set, eqb, ltb}
+use Rattle.std.specs.Prelude.{◌≡◌, refl, ◌≢◌, true, false, length, drop, set, ltb}
 use Rattle.std.proofs.Math.Path.{sym, ap}
 use Rattle.std.proofs.Common.{◌∙◌, drop_of_length-le, drop-cons, ne_eqb, lt-ltb, le-ltb}
 use mathlib.Core.List.{List, [], ◌∷◌}
@@ -9,7 +9,7 @@ use native.Mathlib.Omega.{arith}
 use Rattle.route_completion.specs.Sem.{plain, asked, pick, is_yes}
 use Rattle.route_completion.specs.Route.{asks}
 use Rattle.code_flat.specs.Opcodes as op
-use Rattle.code_flat.specs.Machine.{room, res, pre, Instr, LIST, LEAVE, ASK, SELECT, OPEN, END, CASE, decode, fetch, open', Frame, pos, Pos, is_zero, unwind, is_case, chase, end_as, measure, run}
+use Rattle.code_flat.specs.Machine.{room, res, pre, Instr, ASK, SELECT, decode, fetch, open', pos, is_case, chase, measure}
 use Rattle.code_flat.specs.Runs.{past}
 use Rattle.code_marks.specs.Stop.{Stop, over, after, stops}
 use Rattle.code_marks.specs.StopLaws.{finished, finished_after, stops_law}
