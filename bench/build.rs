@@ -1,4 +1,4 @@
-//! Where `rt staticlib bench_walk` writes the archive that src/bin/walk.rs links, beside the library's.
+//! Where `tools/setup bench_walk` puts the archive that src/bin/walk.rs links, beside the library's.
 
 fn main() {
     println!("cargo:rerun-if-changed=../target/staticlib/libbench_walk.a");

@@ -1,4 +1,4 @@
-/* Velkunshe: early errors of JavaScript rules, and the routes through them. Link libexports.a (`rt staticlib exports`), x86-64 Linux.
+/* Velkunshe: early errors of JavaScript rules, and the routes through them. Link libexports.a (`tools/setup exports`), x86-64 Linux.
  *
  * A rule comes as two tables and two texts:
  *   source_type  0 script, 1 module, 2 TypeScript module without ambient code: class elements of any name are compared, a static and an

@@ -3,8 +3,7 @@
 # shellcheck source=tests/lib.bash
 source "$(dirname "$0")/lib.bash" || exit 1
 
-needs cargo cc
-static_library || give_up
+needs cargo cc exports
 
 work=$(mktemp -d)
 if cc -std=c99 -Wall -Wextra -Werror -pedantic -O2 -Iinclude bindings/c/example.c target/staticlib/libexports.a -o "$work/example" &&

@@ -40,9 +40,7 @@ appended() { { tools/treemaker rules/while-switch.js && echo U,0 && echo A,1,0; 
 # beside ANSWERS..: rulecalls on the lines of a rule with a line A for each
 beside() { { tools/treemaker rules/while-switch.js && echo U,0 && printf 'A,%s\n' "$@"; } | target/bin/rulecalls shared; }
 
-needs rulecheck ruleroute node cargo
-static_library || give_up
-needs rulecalls
+needs rulecheck ruleroute node cargo rulecalls
 
 check "the rule that comes with the repository" says 'F,22,4,0,1,14,15,0\nE,1' ./check-rule --lines rules/block-label.js
 check "a rule without errors" says 'E,0' ./check-rule --lines rules/office-hours.js

@@ -30,11 +30,3 @@ give_up() {
 
 # needs NAME..: what tools/setup knows
 needs() { tools/setup "$@" || give_up; }
-
-# target/staticlib/libexports.a, proved and made; one that is newer than every file of the crates is left as it is
-static_library() {
-    local archive=target/staticlib/libexports.a
-    [ ! -e $archive ] || [ -n "$(find crates crates.txt -newer $archive -print -quit)" ] || return 0
-    mkdir -p target
-    rt staticlib exports >target/staticlib.log 2>&1 || { tail -n 20 target/staticlib.log; return 1; }
-}

@@ -2,8 +2,7 @@
 # The machine code, which the proofs don't reach: no function loses a number where it makes room for a large array (tools/stack-probes), and the benchmark of the walk, which links an archive of its own, runs.
 # shellcheck source=tests/lib.bash
 source "$(dirname "$0")/lib.bash" || exit 1
-needs node cargo cc objdump rulecheck ruleroute
-static_library || give_up
+needs node cargo cc objdump rulecheck ruleroute exports bench_walk
 
 work=$(mktemp -d)
 

@@ -1,4 +1,4 @@
-//! Links the proved static library: the archive that VELKUNSHE_LIB names, or what `rt staticlib exports` writes in this repository.
+//! Links the proved static library: the archive that VELKUNSHE_LIB names, or what `tools/setup exports` writes in this repository.
 
 use std::env;
 use std::path::{Path, PathBuf};
@@ -10,7 +10,7 @@ fn main() {
     let archive = env::var_os("VELKUNSHE_LIB").map_or(own, PathBuf::from);
     println!("cargo:rerun-if-changed={}", archive.display());
     if !archive.is_file() {
-        panic!("no {}: run `rt staticlib exports` at the repository's root, or set VELKUNSHE_LIB", archive.display());
+        panic!("no {}: run `tools/setup exports` at the repository's root, or set VELKUNSHE_LIB", archive.display());
     }
     let name = archive.file_stem().and_then(|n| n.to_str()).and_then(|n| n.strip_prefix("lib")).expect("libNAME.a");
     println!("cargo:rustc-link-search=native={}", archive.parent().unwrap_or(Path::new(".")).display());

@@ -8,7 +8,7 @@
 //! is the one that is proved; nothing here asks for `unsafe`.
 //!
 //! The library is linked as `build.rs` says: from `VELKUNSHE_LIB`, the path of an archive, or from this repository's
-//! `target/staticlib/libexports.a`, which `rt staticlib exports` writes. x86-64 Linux only.
+//! `target/staticlib/libexports.a`, which `tools/setup exports` writes. x86-64 Linux only.
 //!
 //! # Check a rule
 //!
