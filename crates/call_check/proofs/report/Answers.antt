@@ -1,0 +1,24 @@
+use Rattle.call_check.specs.declared.Checked.TheVariants.{Findings, Short}
+use Rattle.call_check.specs.CheckLaws.{answer_short, slice_short, answer_room, slice_room}
+use Rattle.check_dispatch.specs.Rule.{rule}
+use Rattle.check_dispatch.specs.Reported.{reported}
+use lib.ListN.{length}
+use native.Mathlib.Omega.{arith}
+use mathlib.Core.Path.{◌≡◌, ap, sym, ◌∙◌}
+use Prim.Native.Nat.{ℕ, ◌*◌, ◌/◌, ◌≤◌, ◌<◌}
+use Rattle.call_check.proofs.report.Goals as goal
+
+pub returns-then-findings-needed : goal.returns-then-findings-needed
+returns-then-findings-needed c = let a = c.args in
+    let f = reported (rule a.source-type a.async_bodies_lem a.nodes.now a.scopes.now a.source.now a.names.now) in
+    let q : c.check_tree-needed.result ≡ 7 * length f = omega (arith, c.check_tree-needed.ensures.place) in
+    let h : length a.findings.now < 7 * length f = omega (arith, c.if-findings-needed.true, q) in
+    record { value = ap (λ (n : ℕ). Short n) q ∙ sym (answer_short f a.findings.now h); findings_after = sym (slice_short f a.findings.now h) }
+
+pub returns : goal.returns
+returns c = let a = c.args in
+    let f = reported (rule a.source-type a.async_bodies_lem a.nodes.now a.scopes.now a.source.now a.names.now) in
+    let q : c.check_tree-needed.result ≡ 7 * length f = omega (arith, c.check_tree-needed.ensures.place) in
+    let h : 7 * length f ≤ length a.findings.now = omega (arith, c.if-findings-needed.false, q) in
+    let d : c.check_tree-written.result / 7 ≡ length f = omega (arith, c.check_tree-written.ensures.place) in
+    record { value = ap (λ (n : ℕ). Findings n) d ∙ sym (answer_room f a.findings.now h); findings_after = c.check_tree-written.ensures.slice ∙ sym (slice_room f a.findings.now h) }

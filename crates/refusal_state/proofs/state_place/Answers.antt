@@ -1,0 +1,16 @@
+use mathlib.Core.List.{List}
+use Rattle.refusal_state.specs.TargetsLaws.{place_none, place_some}
+use Rattle.refusal_verdict.specs.declared.Place.TheVariants.{Here}
+use lib.ListN.{get_or}
+use Prim.Native.Nat.{ℕ}
+use mathlib.Core.Path.{refl, ap, sym, ◌∙◌}
+use native.Mathlib.Omega.{arith}
+use Rattle.refusal_state.proofs.state_place.Goals as goal
+
+pub returns-then-written-eq0 : goal.returns-then-written-eq0
+returns-then-written-eq0 c = let a = c.args in
+    sym (place_none a.source-type a.nodes.now a.scopes.now a.source.now a.names.now a.async_bodies_lem c.requires.input.tree (omega (arith, c.check_tree-written.ensures.place, c.if-written-eq0.true)))
+
+pub returns : goal.returns
+returns c = let a = c.args in
+    ap (λ (l : List ℕ). Here (get_or l 1 0)) c.check_tree-written.ensures.slice ∙ sym (place_some a.source-type a.nodes.now a.scopes.now a.source.now a.names.now a.async_bodies_lem _ refl (λ z. c.if-written-eq0.false (omega (arith, c.check_tree-written.ensures.place, z))))
