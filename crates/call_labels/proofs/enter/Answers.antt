@@ -18,7 +18,7 @@ returns-then-not-is_label c =
     let names = a.names.now in
     let f = c.requires.firsts in
     let h = c.requires.i_bound in
-    let w = other_fit ns names a.i (sym c.is_label.ensures ∙ not-true c.is_label.result c.if-not-is_label.true) in
+    let w = other_fit ns names a.i (sym c.is_label.ensures ∙ c.if-not-is_label.true) in
     (w.0, subst (Firsts ns names a.kept.now a.size) (sym w.1) f)
 
 pub returns-then-is_reserved : goal.returns-then-is_reserved
@@ -28,7 +28,7 @@ returns-then-is_reserved c =
     let names = a.names.now in
     let f = c.requires.firsts in
     let h = c.requires.i_bound in
-    let e = sym c.is_label.ensures ∙ not-false c.is_label.result c.if-not-is_label.false in
+    let e = sym c.is_label.ensures ∙ c.if-not-is_label.false in
     let q = sym c.is_reserved.ensures ∙ c.if-is_reserved.true in
     (refl, reserved_unfit ns names a.i e q)
 
@@ -39,7 +39,7 @@ returns-then-name_len-eq0 c =
     let names = a.names.now in
     let f = c.requires.firsts in
     let h = c.requires.i_bound in
-    let e = sym c.is_label.ensures ∙ not-false c.is_label.result c.if-not-is_label.false in
+    let e = sym c.is_label.ensures ∙ c.if-not-is_label.false in
     let q = sym c.is_reserved.ensures ∙ c.if-is_reserved.false in
     let z = name_length ns names c.requires.named a.i h ∙ sym c.name_len.ensures ∙ c.if-name_len-eq0.true in
     let w = nameless_fit ns names a.i e q z in
@@ -61,7 +61,7 @@ returns-then-place_in-size c =
     let names = a.names.now in
     let f = c.requires.firsts in
     let h = c.requires.i_bound in
-    let e = sym c.is_label.ensures ∙ not-false c.is_label.result c.if-not-is_label.false in
+    let e = sym c.is_label.ensures ∙ c.if-not-is_label.false in
     let q = sym c.is_reserved.ensures ∙ c.if-is_reserved.false in
     let p = c.place_in.ensures ∙ ap (λ s. place_in s (name_of ns names a.i)) f.named in
     let l = firsts_length ns names a.kept.now a.size (seen_before ns names a.i) f in
@@ -75,7 +75,7 @@ returns-then-size-eq-MOST c =
     let names = a.names.now in
     let f = c.requires.firsts in
     let h = c.requires.i_bound in
-    let e = sym c.is_label.ensures ∙ not-false c.is_label.result c.if-not-is_label.false in
+    let e = sym c.is_label.ensures ∙ c.if-not-is_label.false in
     let q = sym c.is_reserved.ensures ∙ c.if-is_reserved.false in
     let n : length (name_of ns names a.i) ≡ 0 → ⊥ = λ z. c.if-name_len-eq0.false (c.name_len.ensures ∙ sym (name_length ns names c.requires.named a.i h) ∙ z) in
     let p = c.place_in.ensures ∙ ap (λ s. place_in s (name_of ns names a.i)) f.named in
@@ -98,7 +98,7 @@ returns c =
     let names = a.names.now in
     let f = c.requires.firsts in
     let h = c.requires.i_bound in
-    let e = sym c.is_label.ensures ∙ not-false c.is_label.result c.if-not-is_label.false in
+    let e = sym c.is_label.ensures ∙ c.if-not-is_label.false in
     let q = sym c.is_reserved.ensures ∙ c.if-is_reserved.false in
     let n : length (name_of ns names a.i) ≡ 0 → ⊥ = λ z. c.if-name_len-eq0.false (c.name_len.ensures ∙ sym (name_length ns names c.requires.named a.i h) ∙ z) in
     let p = c.place_in.ensures ∙ ap (λ s. place_in s (name_of ns names a.i)) f.named in

@@ -29,7 +29,7 @@ returns-then-not-is_label c =
     let r = c.requires.ready in
     let h = c.requires.n_bound in
     let x = name_of ns names a.n.0 in
-    let e = sym c.is_label.ensures ∙ not-true c.is_label.result c.if-not-is_label.true in
+    let e = sym c.is_label.ensures ∙ c.if-not-is_label.true in
     (c.name_len-len.ensures ∙ sym (name_length ns names r.within a.n.0 h) ∙ sym (ap length (other_new ns names a.n.0 e)), omega (arith, c.name_len-len.ensures, r.within.inside a.n.0 h, r.small))
 
 pub place_in-requires : goal.place_in-requires
@@ -50,7 +50,7 @@ returns c =
     let r = c.requires.ready in
     let h = c.requires.n_bound in
     let x = name_of ns names a.n.0 in
-    let e = sym c.is_label.ensures ∙ not-false c.is_label.result c.if-not-is_label.false in
+    let e = sym c.is_label.ensures ∙ c.if-not-is_label.false in
     let n : length x ≡ 0 → ⊥ = λ z. c.if-len-eq0.false (c.name_len-len.ensures ∙ sym (name_length ns names r.within a.n.0 h) ∙ z) in
     let p = c.place_in.ensures ∙ ap (λ s. place_in s x) r.firsts.named in
     (c.short_length.ensures ∙ ap (λ k. length (short_name k)) p ∙ sym (ap length (short_new ns names a.n.0 e n)), omega (arith, c.short_length.ensures, short_most c.place_in.result))

@@ -41,7 +41,7 @@ copy-requires c =
     let r = c.requires.ready in
     let h = c.requires.n_bound in
     let x = name_of ns names a.n.0 in
-    let e = sym c.is_label.ensures ∙ not-true c.is_label.result c.if-not-is_label.true in
+    let e = sym c.is_label.ensures ∙ c.if-not-is_label.true in
     omega (arith, c.requires.n_in_bounds, ap length c.name.ensures, ap length (other_new ns names a.n.0 e))
 
 pub returns-then-not-is_label : goal.returns-then-not-is_label
@@ -52,7 +52,7 @@ returns-then-not-is_label c =
     let r = c.requires.ready in
     let h = c.requires.n_bound in
     let x = name_of ns names a.n.0 in
-    let e = sym c.is_label.ensures ∙ not-true c.is_label.result c.if-not-is_label.true in
+    let e = sym c.is_label.ensures ∙ c.if-not-is_label.true in
     c.copy.ensures ∙ ap (put a.out.now a.w) (c.name.ensures ∙ sym (other_new ns names a.n.0 e))
 
 pub place_in-requires : goal.place_in-requires
@@ -73,7 +73,7 @@ put_short-requires c =
     let r = c.requires.ready in
     let h = c.requires.n_bound in
     let x = name_of ns names a.n.0 in
-    let e = sym c.is_label.ensures ∙ not-false c.is_label.result c.if-not-is_label.false in
+    let e = sym c.is_label.ensures ∙ c.if-not-is_label.false in
     let n : length x ≡ 0 → ⊥ = λ z. c.if-name_len-eq0.false (c.name_len.ensures ∙ sym (name_length ns names r.within a.n.0 h) ∙ z) in
     let p = c.place_in.ensures ∙ ap (λ s. place_in s x) r.firsts.named in
     let b = label_below ns names a.n.0 h e n in
@@ -89,7 +89,7 @@ returns c =
     let r = c.requires.ready in
     let h = c.requires.n_bound in
     let x = name_of ns names a.n.0 in
-    let e = sym c.is_label.ensures ∙ not-false c.is_label.result c.if-not-is_label.false in
+    let e = sym c.is_label.ensures ∙ c.if-not-is_label.false in
     let n : length x ≡ 0 → ⊥ = λ z. c.if-name_len-eq0.false (c.name_len.ensures ∙ sym (name_length ns names r.within a.n.0 h) ∙ z) in
     let p = c.place_in.ensures ∙ ap (λ s. place_in s x) r.firsts.named in
     c.put_short.ensures ∙ ap (put a.out.now a.w) (ap short_name p ∙ sym (short_new ns names a.n.0 e n))

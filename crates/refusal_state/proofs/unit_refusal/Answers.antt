@@ -7,11 +7,11 @@ use Rattle.refusal_state.proofs.unit_refusal.Goals as goal
 pub returns-then-not-names_unit : goal.returns-then-not-names_unit
 unfolding unit_refusal
 returns-then-not-names_unit c = let a = c.args in
-    let h : names_unit a.nodes.now a.u ≡ false = sym c.names_unit.ensures ∙ not-true c.names_unit.result c.if-not-names_unit.true in
+    let h : names_unit a.nodes.now a.u ≡ false = sym c.names_unit.ensures ∙ c.if-not-names_unit.true in
     rw h
 
 pub returns : goal.returns
 unfolding unit_refusal
 returns c = let a = c.args in
-    let h : names_unit a.nodes.now a.u ≡ true = sym c.names_unit.ensures ∙ not-false c.names_unit.result c.if-not-names_unit.false in
+    let h : names_unit a.nodes.now a.u ≡ true = sym c.names_unit.ensures ∙ c.if-not-names_unit.false in
     rw h
