@@ -2,20 +2,19 @@
 use Prim.Native.Nat.{ℕ, zero, suc, ◌+◌, ◌*◌, ◌-◌, ◌/◌, ◌≤◌, ◌<◌}
 use Rattle.std.specs.Prelude.{◌≡◌, ◌≢◌, Bool, ◌&&◌, ◌||◌, List, [], ◌∷◌, drop, set, replicate, eqb}
 use Rattle.std.proofs.Math.Path.{refl, ap}
-use Rattle.std.proofs.Common.{sym, ◌∙◌, subst, true≢false, length-drop, drop_of_length-le, get_or-drop, drop-drop, get_or-set_same, get_or-set_other, add-mul, div-mul-le_self}
+use Rattle.std.proofs.Common.{sym, ◌∙◌, subst, length-drop, drop_of_length-le, get_or-drop, drop-drop, get_or-set_same, get_or-set_other, add-mul, div-mul-le_self}
 use Rattle.std.proofs.Math.Bool.{true, false, not}
 use Rattle.std.proofs.Math.ListN.{length, get_or}
 use Rattle.std.proofs.Math.Seq.{set_out}
 use Rattle.std.proofs.Math.Nat.{lt-div-mul-add}
 use Rattle.std.proofs.Math.Dec.{leb}
-use borrow.Author.Tests.{eq-eqb, ne_eqb, le-leb, lt-leb, leb-true, leb-false}
+use borrow.Author.Tests.{eq-eqb, ne_eqb, le-leb, lt-leb, leb-true}
 use native.Mathlib.Omega.{arith}
 use Rattle.std.proofs.Math.Decide.{dec_lt}
 use Rattle.route_completion.specs.Sem.{pick}
 use Rattle.code_flat.specs.Opcodes as op
 use Rattle.code_flat.specs.Machine.{Instr, NONE, LIST, LEAVE, ASK, SELECT, OPEN, END, CASE, decode, fetch}
 use Rattle.code_flat.specs.Runs.{is_none, past}
-use Rattle.code_valid.specs.declared.Verdict.{Verdict}
 use Rattle.code_valid.specs.declared.Verdict.TheVariants.{Good as good, BadAt as badAt}
 use Rattle.code_valid.specs.Instrs.{len, parse, begins, names, runs_on}
 use Rattle.code_valid.specs.Valid.{all_begin, is_last, sound, first_bad, judge, check}
