@@ -1,0 +1,4 @@
+use Rattle.check_class_table.proofs.is_static.Goals as goal
+
+pub returns : goal.returns
+returns c = cc
