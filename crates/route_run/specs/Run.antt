@@ -1,6 +1,6 @@
 -- The call of document 02, 10/13, "that runs a lent code slice": "It gives 18, then 12." The run is the machine's (code_flat, Machine.antt), which "ends
 -- with 5 where more instructions pass without an answer than the slice has numbers, or where pending ends run below none or above 512".
-use Rattle.std.specs.Prelude.{ℕ, List, length}
+use Rattle.std.specs.Prelude.{ℕ, List}
 use Rattle.code_flat.specs.Machine.{code_route}
 use Rattle.code_valid.specs.declared.Verdict.{Verdict}
 use Rattle.code_valid.specs.declared.Verdict.TheVariants.{Good, BadAt}
