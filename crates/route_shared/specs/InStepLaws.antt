@@ -1,10 +1,10 @@
 -- What the loop over the entries of two runs keeps: so many entries are shared, and the rest of both runs is still to come.
-use Rattle.std.specs.Prelude.{ℕ, suc, ◌+◌, ◌≡◌, refl, ◌≢◌, List, [], ◌∷◌, ◌++◌, map, eqb}
+use Rattle.std.specs.Prelude.{ℕ, suc, ◌+◌, ◌≡◌, refl, ◌≢◌, List, [], ◌∷◌, ◌++◌, map}
 use Rattle.std.proofs.Common.{sym, ◌∙◌, ap, eq-eqb, ne_eqb, arith}
 use Rattle.std.proofs.lemmas.List.{map-append}
 use Rattle.route_completion.specs.Sem.{pick}
 use Rattle.route_completion.specs.Route.{node_of}
-use Rattle.route_list.specs.Listing.{most, saturated, next}
+use Rattle.route_list.specs.Listing.{saturated, next}
 use Rattle.route_laws.specs.Shared.{shared}
 use Rattle.code_flat.specs.Machine.{code_route}
 use Rattle.code_machine.specs.Pending.{stack}
