@@ -604,104 +604,30 @@ fn sizes(rt: &impl Print) -> io::Result<()> {
     cut(rt, "source type 3", 3, &zeros, 10, &zeros, 3, b"", 0, 0)
 }
 
+// n numbers as nodes and s as scopes, all 0, a bytes of source and b of names.
+fn sized(
+    rt: &impl Print,
+    label: &str,
+    zeros: &[u32],
+    letters: &[u8],
+    n: usize,
+    s: usize,
+    a: usize,
+    b: usize,
+) -> io::Result<()> {
+    cut(rt, label, 0, zeros, n, zeros, s, letters, a, b)
+}
+
 // 1. .. more than 65,535 records (so many Programs are refused for another reason); source or names above 1,048,576 bytes.
 fn most(rt: &impl Print, zeros: &[u32], letters: &[u8]) -> io::Result<()> {
-    cut(
-        rt,
-        "65,535 nodes",
-        0,
-        zeros,
-        655350,
-        zeros,
-        3,
-        letters,
-        0,
-        0,
-    )?;
-    cut(
-        rt,
-        "65,536 nodes",
-        0,
-        zeros,
-        655360,
-        zeros,
-        3,
-        letters,
-        0,
-        0,
-    )?;
-    cut(
-        rt,
-        "65,535 scopes",
-        0,
-        zeros,
-        10,
-        zeros,
-        196605,
-        letters,
-        0,
-        0,
-    )?;
-    cut(
-        rt,
-        "65,536 scopes",
-        0,
-        zeros,
-        10,
-        zeros,
-        196608,
-        letters,
-        0,
-        0,
-    )?;
-    cut(
-        rt,
-        "most source",
-        0,
-        zeros,
-        10,
-        zeros,
-        3,
-        letters,
-        1048576,
-        0,
-    )?;
-    cut(
-        rt,
-        "more source",
-        0,
-        zeros,
-        10,
-        zeros,
-        3,
-        letters,
-        1048577,
-        0,
-    )?;
-    cut(
-        rt,
-        "most names",
-        0,
-        zeros,
-        10,
-        zeros,
-        3,
-        letters,
-        0,
-        1048576,
-    )?;
-    cut(
-        rt,
-        "more names",
-        0,
-        zeros,
-        10,
-        zeros,
-        3,
-        letters,
-        0,
-        1048577,
-    )
+    sized(rt, "65,535 nodes", zeros, letters, 655350, 3, 0, 0)?;
+    sized(rt, "65,536 nodes", zeros, letters, 655360, 3, 0, 0)?;
+    sized(rt, "65,535 scopes", zeros, letters, 10, 196605, 0, 0)?;
+    sized(rt, "65,536 scopes", zeros, letters, 10, 196608, 0, 0)?;
+    sized(rt, "most source", zeros, letters, 10, 3, 1048576, 0)?;
+    sized(rt, "more source", zeros, letters, 10, 3, 1048577, 0)?;
+    sized(rt, "most names", zeros, letters, 10, 3, 0, 1048576)?;
+    sized(rt, "more names", zeros, letters, 10, 3, 0, 1048577)
 }
 
 fn large(rt: &impl Print) -> io::Result<()> {
