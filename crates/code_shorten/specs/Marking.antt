@@ -2,9 +2,9 @@
 use Rattle.std.specs.Prelude.{ℕ, ◌+◌, ◌-◌, ◌≡◌, Bool, true, false, ◌&&◌, ◌||◌, List, [], ◌∷◌, length, get_or, set, ltb}
 use Rattle.route_completion.specs.Sem.{pick, elem}
 use Rattle.code_flat.specs.Machine.{Instr, decode}
-use Rattle.code_valid.specs.Instrs.{flat, find, leads}
+use Rattle.code_valid.specs.Instrs.{flat, leads}
 use Rattle.code_shorten.specs.Short.{reached}
-use Rattle.code_shorten.specs.Sound.{Begin, All}
+use Rattle.code_shorten.specs.Sound.{Begin}
 use Rattle.code_shorten.specs.Closes.{In, Closed}
 
 abbrev pub raise : ℕ

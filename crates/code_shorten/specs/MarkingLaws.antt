@@ -8,20 +8,20 @@ use mathlib.Core.List.{List, [], ◌∷◌}
 use Rattle.std.proofs.Math.ListN.{get_or}
 use Rattle.std.proofs.Math.Seq.{set_out}
 use Rattle.std.proofs.Math.Dec.{ltb}
-use borrow.Author.Tests.{eq-eqb, ne_eqb, lt-ltb, le-ltb, ltb-true, ltb-false}
+use borrow.Author.Tests.{eq-eqb, ne_eqb, lt-ltb, le-ltb}
 use native.Mathlib.Omega.{arith}
 use Rattle.std.proofs.Math.Decide.{dec_lt}
 use Rattle.route_completion.specs.Sem.{pick, elem}
 use Rattle.code_flat.specs.Opcodes as op
 use Rattle.code_flat.specs.Machine.{Instr, NONE, LIST, LEAVE, ASK, SELECT, OPEN, END, CASE, decode, fetch}
 use Rattle.code_flat.specs.Runs.{is_none, inside}
-use Rattle.code_valid.specs.Instrs.{len, flat, find, names, runs_on, leads}
+use Rattle.code_valid.specs.Instrs.{len, flat, find, leads}
 use Rattle.code_valid.specs.ReadingLaws.{decode_none}
 use Rattle.code_shorten.specs.Short.{reached}
 use Rattle.code_shorten.specs.Longer.{total, flat_length}
 use Rattle.code_shorten.specs.Reads.{fetched}
 use Rattle.code_shorten.specs.Sound.{Some, Begin, All, Sound, dec_eq, len_pos, find_here, find_there, find_low, none_in}
-use Rattle.code_shorten.specs.Closes.{In, Closed}
+use Rattle.code_shorten.specs.Closes.{In}
 use Rattle.code_shorten.specs.Reaches.{reached_zero, reached_closed, leads_begin}
 use Rattle.code_shorten.specs.Marking.{raise, marked_at, new_at, marks_at, news_at, plain, leads_at, low, bit, Inked, Grown, Rounded, Reached, Started}
 

@@ -7,9 +7,8 @@ use Rattle.std.proofs.Math.Bool.{true, false}
 use mathlib.Core.List.{List, [], ◌∷◌, ◌++◌, map, append_assoc, append-nil, map-append}
 use Rattle.std.proofs.Math.Seq.{append_snoc}
 use Rattle.std.proofs.lemmas.List.{set_at, get_or_at}
-use borrow.Author.Tests.{eq-eqb, ne_eqb, eqb-true}
+use borrow.Author.Tests.{eq-eqb, ne_eqb}
 use native.Mathlib.Omega.{arith}
-use Rattle.std.proofs.Math.Decide.{dec_lt}
 use Rattle.route_completion.specs.Sem.{pick}
 use Rattle.code_flat.specs.Opcodes as op
 use Rattle.code_flat.specs.Machine.{Instr, NONE, LIST, LEAVE, ASK, SELECT, OPEN, END, CASE, decode, fetch, is_zero}
@@ -17,15 +16,15 @@ use Rattle.code_flat.specs.Runs.{is_none}
 use Rattle.code_valid.specs.Instrs.{len, words, flat, parse, find, names}
 use Rattle.code_valid.specs.Valid.{Valid}
 use Rattle.code_valid.specs.Reading.{standing}
-use Rattle.code_valid.specs.ReadingLaws.{whole, none_len}
+use Rattle.code_valid.specs.ReadingLaws.{whole}
 use Rattle.code_shorten.specs.declared.Aim.{Aim}
 use Rattle.code_shorten.specs.declared.Aim.TheVariants.{Nowhere as none, To as to}
 use Rattle.code_shorten.specs.Short.{aim_of, hop, further, last, aimed, thread, threaded}
-use Rattle.code_shorten.specs.Longer.{words_length, thread_length, total, flat_length, map_length}
+use Rattle.code_shorten.specs.Longer.{thread_length, total, flat_length, map_length}
 use Rattle.code_shorten.specs.Reads.{fetched}
 use Rattle.code_shorten.specs.Sound.{Some, Begin, All, Sound, len_pos, flat_parse, valid_sound}
-use Rattle.code_shorten.specs.Threads.{thread_none, threaded_find, threaded_sound, aim_some, aim_all}
-use Rattle.code_shorten.specs.Rings.{ring, enough, last_up}
+use Rattle.code_shorten.specs.Threads.{thread_none, threaded_find, threaded_sound, aim_all}
+use Rattle.code_shorten.specs.Rings.{ring, last_up}
 use Rattle.code_shorten.specs.Makes.{flat_join}
 use Rattle.code_shorten.specs.Place.{Mixed, last_now}
 use Rattle.code_shorten.specs.Threading.{hop_at, last_at, written, sent, threaded_at, Threading}
