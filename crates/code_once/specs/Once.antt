@@ -11,7 +11,7 @@ use Rattle.table_records.specs.Kinds as k
 use Rattle.table_records.specs.Roles as role
 use Rattle.table_records.specs.declared.Found.{Found}
 use Rattle.table_records.specs.declared.Found.TheVariants.{At, Nothing}
-use Rattle.route_completion.specs.Tree.{Stmt, Stmts, block, if2, if3, try_c, try_f, nil, cons}
+use Rattle.route_completion.specs.Tree.{Stmt, Stmts, if2, if3, try_c, try_f, nil, cons}
 use Rattle.route_completion.specs.Route.{Mem, Once, nodes_of, nodes_of_all, nodes_of_cases}
 use Rattle.code_tree.specs.Parts.{entered_by, up_of, shape_at, order}
 use Rattle.code_tree.specs.Statements.{list_of, one_of, if_of, try_of, class_of, cases_of, build, stmt_at, body_of, holder_of, unit_by, unit_of}
