@@ -1,0 +1,47 @@
+-- `lines::read_head` meets its contract.
+use Rattle.line_input.specs.InputLaws.{head_array, head_numbers, head_nodes, head_scopes, head_is_lem}
+use Rattle.line_forms.specs.FormLaws.{numbers_told}
+use Rattle.line_forms.specs.Forms.{is_numbers, nodes_in, scopes_in, kind_in}
+use lib.ListN.{get_or}
+use native.Mathlib.Omega.{arith}
+use mathlib.Core.List.{List}
+use mathlib.Core.Bool.{true}
+use mathlib.Core.Path.{◌≡◌, ◌∙◌, ap, sym, refl}
+use Prim.Native.Nat.{ℕ}
+use Rattle.line_input.proofs.read_head.Goals as goal
+
+pub returns-then-not-is_numbers : goal.returns-then-not-is_numbers
+returns-then-not-is_numbers c = sym (head_numbers c.args.nodes c.args.scopes c.args.l.now (cc (c.if-not-is_numbers.true)))
+
+pub write_numbers-requires : goal.write_numbers-requires
+write_numbers-requires c =
+    let t = numbers_told 74 3 c.args.l.now (cc (c.if-not-is_numbers.false)) in
+    let n = t.0 in
+    rw c.onward.ensures (omega arith, omega arith, t.1)
+
+pub returns-then-not-fits : goal.returns-then-not-fits
+returns-then-not-fits c =
+    let l = c.args.l.now in
+    let s : is_numbers 74 3 l ≡ true = cc (c.if-not-is_numbers.false) in
+    let v = head_array l s _ _ _ refl c.onward.ensures c.write_numbers.ensures in
+    let n : c.wide-n.result ≡ nodes_in l = c.wide-n.ensures ∙ ap (λ (x : List ℕ). get_or x 1 0) v in
+    sym (head_nodes c.args.nodes c.args.scopes l (cc (c.if-not-fits.true)))
+
+pub returns-then-not-fits-2 : goal.returns-then-not-fits-2
+returns-then-not-fits-2 c =
+    let l = c.args.l.now in
+    let s : is_numbers 74 3 l ≡ true = cc (c.if-not-is_numbers.false) in
+    let v = head_array l s _ _ _ refl c.onward.ensures c.write_numbers.ensures in
+    let n : c.wide-n.result ≡ nodes_in l = c.wide-n.ensures ∙ ap (λ (x : List ℕ). get_or x 1 0) v in
+    let m : c.wide-s.result ≡ scopes_in l = c.wide-s.ensures ∙ ap (λ (x : List ℕ). get_or x 2 0) v in
+    sym (head_scopes c.args.nodes c.args.scopes l s (cc (c.if-not-fits.false)) (cc (c.if-not-fits-2.true)))
+
+pub returns : goal.returns
+returns c =
+    let l = c.args.l.now in
+    let s : is_numbers 74 3 l ≡ true = cc (c.if-not-is_numbers.false) in
+    let v = head_array l s _ _ _ refl c.onward.ensures c.write_numbers.ensures in
+    let k : get_or c.write_numbers.new.out 0 0 ≡ kind_in l = ap (λ (x : List ℕ). get_or x 0 0) v in
+    let n : c.wide-n.result ≡ nodes_in l = c.wide-n.ensures ∙ ap (λ (x : List ℕ). get_or x 1 0) v in
+    let m : c.wide-s.result ≡ scopes_in l = c.wide-s.ensures ∙ ap (λ (x : List ℕ). get_or x 2 0) v in
+    cc (head_is_lem c.args.nodes c.args.scopes l s (cc (c.if-not-fits.false)) (cc (c.if-not-fits-2.false)))
