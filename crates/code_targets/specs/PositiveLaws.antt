@@ -1,13 +1,13 @@
 -- Every statement has words, so that no jump goes to the first word of the code: a target at place 0 is always what is pending.
 use Rattle.std.specs.Prelude.{ℕ, zero, suc, ◌+◌, ◌≤◌, ◌<◌, ◌≡◌, refl, ◌⊎◌, List, [], ◌∷◌, Bool, true, false, cond, ◌&&◌, ◌||◌, eqb}
 use Rattle.std.proofs.Math.Path.{ap}
-use Rattle.std.proofs.Common.{sym, ◌∙◌, subst, inl, inr, eq-or-lt_of_le, eq-eqb, ne_eqb, eqb-true}
+use Rattle.std.proofs.Common.{sym, ◌∙◌, subst, inl, inr, eq-or-lt_of_le}
 use native.Mathlib.Omega.{arith}
 use Rattle.base_common.specs.Bools.{never}
 use Rattle.table_records.specs.Table.{count, role_of}
 use Rattle.table_records.specs.Roles as role
-use Rattle.route_completion.specs.Tree.{Lab, near, named}
-use Rattle.route_completion.specs.Sem.{Comp, normal, breaks, continues, returns, throws, spent, pick, elem, is_spent, no_break, no_label, loop_continues}
+use Rattle.route_completion.specs.Tree.{near, named}
+use Rattle.route_completion.specs.Sem.{Comp, normal, breaks, continues, returns, throws, spent, pick, is_spent, no_break, no_label, loop_continues}
 use Rattle.code_flat.specs.Code.{Stat, at, place_of, depth_of, next, in_try, in_loop, top}
 use Rattle.code_tree.specs.Labels.{id_at}
 use Rattle.code_tree.specs.Parts.{up_of, shape_at, order}
@@ -15,10 +15,10 @@ use Rattle.code_tree.specs.PartsLaws.{All, Part, order_all_lem}
 use Rattle.code_tree.specs.declared.Shape.{Shape}
 use Rattle.code_tree.specs.declared.Shape.TheVariants.{Leaf, Class, If, With, Block, Label, Loop, Switch, Case, Try, Catch}
 use Rattle.code_layout.specs.Widths.{has_role, is_try, sum, in_unit, own_width, own_width_by, width_at, number_by}
-use Rattle.code_layout.specs.Context.{ifz, behind, before, Context, part_context, context_at, offset_at}
+use Rattle.code_layout.specs.Context.{ifz, behind, before, Context, part_context, context_at}
 use Rattle.code_layout.specs.Shaped.{is_one, Good, Held, Two, Three}
 use Rattle.code_layout.specs.Sums.{In, in_order}
-use Rattle.code_layout.specs.LayoutLaws.{width_is_lem, own_width_on, own_width_root, context_root, context_up, in_part, in_above}
+use Rattle.code_layout.specs.LayoutLaws.{width_is_lem, own_width_on, context_root, context_up, in_part, in_above}
 use Rattle.code_layout.specs.Stands.{in_from}
 use Rattle.code_targets.specs.Targets.{target}
 

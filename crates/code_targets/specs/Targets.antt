@@ -1,7 +1,6 @@
 -- Where each completion of a node leads, and what says so, one step up. Document 01: "A break leaves the nearest loop or Switch, with a label the nearest Labeled of that name. A continue
 -- goes to the next answer of the nearest loop, with a label of the one that the nearest Labeled so named holds, only Labeled between."
 use Rattle.std.specs.Prelude.{ℕ, zero, suc, ◌+◌, List, Bool, true, false, ◌&&◌, eqb}
-use Rattle.table_records.specs.Table.{role_of}
 use Rattle.table_records.specs.Roles as role
 use Rattle.route_completion.specs.Sem.{Comp}
 use Rattle.code_flat.specs.Code.{Stat, at}

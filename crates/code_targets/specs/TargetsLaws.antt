@@ -1,8 +1,8 @@
 -- One law for each step up.
 use Prim.Native.Nat.{ℕ, zero, suc, ◌+◌, ◌<◌}
-use Rattle.std.specs.Prelude.{◌≡◌, List, [], ◌∷◌, Bool, ◌&&◌, ◌||◌}
+use Rattle.std.specs.Prelude.{◌≡◌, List, Bool, ◌&&◌, ◌||◌}
 use Rattle.std.proofs.Math.Path.{refl, ap}
-use Rattle.std.proofs.Common.{sym, ◌∙◌, subst, arith, eqb-true}
+use Rattle.std.proofs.Common.{sym, ◌∙◌, subst, eqb-true}
 use Rattle.std.proofs.Math.Bool.{true, false, cond}
 use Rattle.std.proofs.Math.Dec.{eqb}
 use Rattle.base_common.specs.Bools.{never}
