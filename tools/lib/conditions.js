@@ -9,7 +9,7 @@ const makesScope = (k) => within(k, K.Function, K.StaticBlock) || k === K.Block 
 const mayMakeScope = (k) => within(k, K.With, K.Switch) || k === K.CatchClause || k === K.Class;
 const isElement = (k) => within(k, K.MethodDefinition, K.AccessorProperty) || k === K.StaticBlock;
 
-// scopesFollow (crates/ecma_base/specs/Scopes.antt)
+// scopes_follow (crates/ecma_base/specs/Scopes.antt)
 function scopesFollow({ nodes, scopes }) {
   const kind = (i) => nodes[i].kind;
   const up = (i) => nodes[i].parent;
@@ -57,7 +57,7 @@ kids.of = new WeakMap();
 const part = (tree, i, role) => kids(tree)[i].find((c) => tree.nodes[c].role === role);
 const initializer = (tree, i, j) => isField(tree.nodes[i]) && part(tree, i, R.value) === j;
 
-// the nearest node above at which an edge begins a unit (unitOf, crates/ecma_trees/specs/Trail.antt)
+// the nearest node above at which an edge begins a unit (unit_of, crates/ecma_trees/specs/Trail.antt)
 function unitOf({ nodes }, edge, n) {
   for (let j = n; j !== 0; j = nodes[j].parent) if (edge(nodes[j].parent, j)) return nodes[j].parent;
   return 0;
@@ -70,7 +70,7 @@ function telling({ nodes, made }) {
   return { async: (i) => told.get(i).async === true, generator: (i) => told.get(i).generator === true };
 }
 
-// directivePlaced: a directive stands under the program or a function's body
+// directive_placed: a directive stands under the program or a function's body
 const directivePlaced = everywhere((n, i, { nodes }) => n.kind !== K.Directive || [K.Program, K.FunctionBody].includes(nodes[n.parent].kind));
 
 // BaseTold: of a number that begins with 0 and a digit the base is that of its text
@@ -80,7 +80,7 @@ const baseTold = everywhere((n, i, tree) => {
   return n.extra === (/^0[0-7]+$/.test(text) ? 3 : n.extra === 1 ? 1 : 0);
 });
 
-// EscapesTold .plain: a string whose text is two bytes longer than its value has no escape with a digit
+// EscapesTold.plain: a string whose text is two bytes longer than its value has no escape with a digit
 const DIGIT_ESCAPE = /^(?:[^\\]|\\[^0-9]|\\0(?!\d))*\\\d/s;
 const escapesTold = everywhere((n, i, tree) => n.kind !== K.StringLiteral || n.end - n.start !== n.extra + 2 || !DIGIT_ESCAPE.test(textOf(n, tree)));
 
@@ -95,7 +95,7 @@ const privatesEntered = everywhere((n, i, tree) => {
   return n.kind !== K.MethodDefinition || (n.extra !== 0 && kids(tree)[part(tree, i, R.value)].some((c) => tree.nodes[c].kind === K.FunctionBody));
 });
 
-// writtenKey: a number, a string, or a node of no other kind that holds nothing
+// written_key: a number, a string, or a node of no other kind that holds nothing
 const writtenKey = (tree, key) => key !== undefined && ([K.NumericLiteral, K.StringLiteral].includes(tree.nodes[key].kind)
   || (tree.nodes[key].kind === K.Other && kids(tree)[key].length === 0));
 
@@ -107,21 +107,21 @@ const keysPlain = everywhere((n, i, tree) => {
   return key === undefined || tree.nodes[key].kind === K.IdentifierReference || nameOf(tree.nodes[key]) !== '__proto__' || writtenKey(tree, key);
 });
 
-// calledConstructor: not static, and with a key that is not private and is written `constructor`
+// called_constructor: not static, and with a key that is not private and is written `constructor`
 const calledConstructor = (tree, i) => {
   const key = part(tree, i, R.key);
   return (tree.nodes[i].flags & (F.static | F.privateKey)) === 0 && writtenKey(tree, key) && nameOf(tree.nodes[key]) === 'constructor';
 };
 
-// NameTold .reserved: no word that is reserved everywhere is a name
+// NameTold.reserved: no word that is reserved everywhere is a name
 const RESERVED = new Set(`break case catch class const continue debugger default delete do else enum export extends false finally for function if
   import in instanceof new null return super switch this throw true try typeof var void while with`.split(/\s+/));
 const notReserved = everywhere((n) => !isName(n) || !RESERVED.has(nameOf(n)));
 
-// ConstructorsNamed .called: what the table calls a constructor is called so
+// ConstructorsNamed.called: what the table calls a constructor is called so
 const constructorsCalled = everywhere((n, i, tree) => n.kind !== K.MethodDefinition || n.extra !== 0 || calledConstructor(tree, i));
 
-// LetTold .declared: a sloppy `let` that the Rust takes for bound by a let or const stands in no Initializer and no PropertyName of it
+// LetTold.declared: a sloppy `let` that the Rust takes for bound by a let or const stands in no Initializer and no PropertyName of it
 const letDeclared = everywhere((n, i, tree) => {
   if (n.kind !== K.BindingIdentifier || nameOf(n) !== 'let' || isStrict(n, tree)) return true;
   const { nodes } = tree;
@@ -132,7 +132,7 @@ const letDeclared = everywhere((n, i, tree) => {
   return unitOf(tree, (a, b) => edge(a) || nodes[b].role === R.key || (nodes[b].role === R.value && !keyed(a)), i) === u;
 });
 
-// BlockTold .field: no Initializer of a field stands between a static block, by the scopes, and an `await`
+// BlockTold.field: no Initializer of a field stands between a static block, by the scopes, and an `await`
 const isAwait = (n) => n.kind === K.Await || (n.kind === K.ForOf && (n.flags & F.forAwait) !== 0) || (n.kind === K.VariableDeclaration && n.extra === 4);
 function scopedInBlock(n, { scopes }) {
   for (let s = n.scope; ; s = scopes[s].parent) {
@@ -182,7 +182,7 @@ function givers(tree, n) {
   return [...out, 0];
 }
 
-// NameTold .yield, .await
+// NameTold.yield, .await
 const nameTold = everywhere((n, i, tree) => {
   if (!isName(n)) return true;
   const { nodes } = tree;
@@ -193,7 +193,7 @@ const nameTold = everywhere((n, i, tree) => {
   return !by.some((u) => within(nodes[u].kind, K.Function, K.Arrow) && told.async(u)) && (!by.some((u) => nodes[u].kind === K.StaticBlock) || inBlockScope(n, tree));
 });
 
-// LetTold .sloppy
+// LetTold.sloppy
 const letSloppy = everywhere((n, i, tree) => {
   if (n.kind !== K.BindingIdentifier || nameOf(n) !== 'let' || !isStrict(n, tree)) return true;
   const { nodes } = tree;
@@ -210,14 +210,14 @@ const argumentsTold = everywhere((n, i, tree) => {
   return !(u.kind === K.StaticBlock || isField(u)) || (u.kind !== K.AccessorProperty && !(isStrict(n, tree) && n.flags & F.written));
 });
 
-// EscapesTold .one: no string of strict code has an octal escape and \8 or \9
+// EscapesTold.one: no string of strict code has an octal escape and \8 or \9
 const escapesOne = everywhere((n, i, tree) => {
   if (n.kind !== K.StringLiteral || !isStrict(n, tree)) return true;
   const all = textOf(n, tree).match(/\\(?:\d+|[^])/g) || [];
   return !(all.some((e) => /^\\[89]/.test(e)) && all.some((e) => /^\\(?:[1-7]|0\d)/.test(e)));
 });
 
-// UsingTold .other, .clause
+// UsingTold.other, .clause
 const usingTold = everywhere((n, i, { nodes }) => {
   if (n.kind !== K.VariableDeclaration || n.extra < 3) return true;
   const up = [];
@@ -264,7 +264,7 @@ const onceOrTwice = everywhere((n, i, tree) => {
   return [...count.values()].every((c) => c < 3);
 });
 
-// ConstructorsNamed .alone, MethodNamed, ConstructorOrdinary: what is called "constructor" is one, has a body, and is neither async nor a generator; OneInClass: no class has two
+// ConstructorsNamed.alone, MethodNamed, ConstructorOrdinary: what is called "constructor" is one, has a body, and is neither async nor a generator; OneInClass: no class has two
 const constructorsAlone = everywhere((n, i, tree) => {
   if (!isDefinition(n) || !calledConstructor(tree, i)) return true;
   if (n.kind !== K.MethodDefinition || n.extra !== 0) return false;
