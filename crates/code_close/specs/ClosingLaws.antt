@@ -1,8 +1,8 @@
 -- Laws of closing up: where an instruction comes to stand, and its numbers there.
 use Prim.Native.Nat.{ℕ, zero, suc, ◌+◌, ◌-◌, ◌≤◌, ◌<◌}
-use Rattle.std.specs.Prelude.{◌≡◌, ◌≢◌, ◌⊎◌, Bool, ◌||◌, length, drop, eqb, ltb}
+use Rattle.std.specs.Prelude.{◌≡◌, ◌≢◌, Bool, length, drop, eqb, ltb}
 use Rattle.std.proofs.Math.Path.{refl, sym, ap, subst}
-use Rattle.std.proofs.Common.{◌∙◌, inl, inr, true≢false, length-append, length-drop, get_or-drop, get_or-append-add, ext_get_or, eq-eqb, ne_eqb, lt-ltb, le-ltb, eqb-true}
+use Rattle.std.proofs.Common.{◌∙◌, inl, inr, true≢false, length-append, length-drop, get_or-drop, get_or-append-add, ext_get_or, ne_eqb, lt-ltb, le-ltb, eqb-true}
 use Rattle.std.proofs.Math.Bool.{true, false}
 use mathlib.Core.List.{List, [], ◌∷◌, ◌++◌}
 use Rattle.std.proofs.Math.ListN.{get_or, get_or-append}
@@ -10,7 +10,7 @@ use native.Mathlib.Omega.{arith}
 use Rattle.std.proofs.Math.Decide.{dec_lt}
 use Rattle.route_completion.specs.Sem.{pick, elem}
 use Rattle.code_flat.specs.Opcodes as op
-use Rattle.code_flat.specs.Machine.{Instr, NONE, LIST, LEAVE, ASK, SELECT, OPEN, END, CASE, decode, fetch}
+use Rattle.code_flat.specs.Machine.{Instr, LIST, LEAVE, ASK, SELECT, OPEN, END, CASE, decode, fetch}
 use Rattle.code_flat.specs.Runs.{is_none}
 use Rattle.code_flat.specs.Correct.{Has, has_left, has_right, has_self}
 use Rattle.code_valid.specs.Instrs.{len, words, flat, find, names}
@@ -21,7 +21,7 @@ use Rattle.code_shorten.specs.Reads.{fetched}
 use Rattle.code_shorten.specs.Sound.{Some, Begin, All, Sound, dec_eq, len_pos, find_here, find_there, find_low, none_in}
 use Rattle.code_shorten.specs.Closes.{In, moved_here, moved_there, kept_find, relocate_none}
 use Rattle.code_shorten.specs.Marking.{raise, plain, Inked}
-use Rattle.code_shorten.specs.MarkingLaws.{place_in, size_is}
+use Rattle.code_shorten.specs.MarkingLaws.{size_is}
 use Rattle.code_put.specs.Put.{Put}
 use Rattle.code_close.specs.Closing.{names_first, names_second, names_third, Moving, Closing}
 

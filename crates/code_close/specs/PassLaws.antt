@@ -14,7 +14,7 @@ use Rattle.code_shorten.specs.Threads.{threaded_sound}
 use Rattle.code_shorten.specs.Closes.{In}
 use Rattle.code_shorten.specs.Stands.{least}
 use Rattle.code_shorten.specs.Laws.{close_up_by}
-use Rattle.code_shorten.specs.Marking.{Inked, Reached}
+use Rattle.code_shorten.specs.Marking.{Reached}
 
 -- What is marked has the places of what is reached.
 same_set : (is : List Instr) → Sound is → (M : List ℕ) (r : Reached is M) (o : ℕ) → elem o r.set ≡ elem o (reached is)
