@@ -1,0 +1,15 @@
+use mathlib.Core.Path.{◌≡◌}
+use mathlib.Core.Bool.{true}
+use Rattle.table_records.specs.Table.{count}
+use Rattle.route_completion.specs.Sem.{elem}
+use Rattle.code_tree.specs.Labels.{name_id}
+use Rattle.code_targets.specs.Targets.{labels_at}
+use Rattle.code_layout.specs.Widths.{in_unit}
+use Prim.Native.Nat.{◌<◌}
+use Rattle.code_branch.proofs.has_label_above.Given as goal
+
+abbrev pub invariant-loop-at : goal.invariant-loop-at
+invariant-loop-at l = (l.at < count l.nodes) × (in_unit l.nodes l.b.0 l.at ≡ true) × (elem (name_id l.nodes l.names l.l.0) (labels_at l.nodes l.names l.b.0 l.at) ≡ elem (name_id l.nodes l.names l.l.0) (labels_at l.nodes l.names l.b.0 l.initial.at))
+
+abbrev pub decreases-loop-at : goal.decreases-loop-at
+decreases-loop-at l = l.at
