@@ -1,6 +1,6 @@
 -- One scan over the code finds whether an instruction begins at a place.
 use Prim.Native.Nat.{ℕ, zero, suc, ◌+◌, ◌≤◌, ◌<◌}
-use Rattle.std.specs.Prelude.{◌≡◌, Bool, ◌&&◌, ◌||◌, ◌↔◌, List, get_or, ltb}
+use Rattle.std.specs.Prelude.{◌≡◌, Bool, ◌||◌, ◌↔◌, List, get_or, ltb}
 use Rattle.std.proofs.Math.Path.{refl}
 use Rattle.std.proofs.Common.{sym, ◌∙◌, ap, true≢false, arith}
 use Rattle.std.proofs.Math.Bool.{true, false}

@@ -1,14 +1,12 @@
 -- Laws of the array of marks: how it is read and written, and that what was written is read.
-use Rattle.std.specs.Prelude.{ℕ, zero, suc, ◌+◌, ◌-◌, ◌*◌, ◌/◌, ◌%◌, ◌≤◌, ◌<◌, ◌≡◌, refl, List, [], ◌∷◌, ◌++◌, true, ltb, leb, length, get_or, set}
-use Rattle.std.proofs.Common.{sym, ◌∙◌, ap, append_assoc, append-nil, arith, add-one, add-zero, true≢false, ltb-true, leb-true, length-append, length-set, get_or-set_same, get_or-set_other, get_or-append-add}
-use Rattle.std.proofs.Math.ListN.{get_or-append}
+use Rattle.std.specs.Prelude.{ℕ, zero, suc, ◌+◌, ◌*◌, ◌/◌, ◌%◌, ◌≤◌, ◌<◌, ◌≡◌, refl, List, [], ◌∷◌, ◌++◌, true, ltb, leb, length, get_or, set}
+use Rattle.std.proofs.Common.{sym, ◌∙◌, ap, arith, add-one, add-zero, ltb-true, leb-true, length-append}
 use Rattle.std.proofs.lemmas.List.Edits.{sets}
-use Rattle.std.proofs.lemmas.List.{get_or_at}
 use Rattle.base_common.specs.UptoLaws.{and_left_lem, and_right_lem}
-use Rattle.code_flat.specs.Machine.{Frame, open', pend, Pos, pos}
+use Rattle.code_flat.specs.Machine.{Frame, open', pend, pos}
 use Rattle.code_machine.specs.Pending.{half, frame_by, frame_of, stack}
 use Rattle.code_machine.specs.PendingLaws.{stack_push, stack_top, stack_length}
-use Rattle.route_marks.specs.Marks.{marks, part_at, first_of, is_set, place_of, ends_at, mark_at, end_numbers, ends_numbers, mark_numbers, set_mark}
+use Rattle.route_marks.specs.Marks.{marks, part_at, first_of, is_set, ends_at, end_numbers, ends_numbers, set_mark}
 
 -- A pair read.
 pub pair_frame : (t d : ℕ) → t < half → frame_of (d * half + t) ≡ frame_by d t

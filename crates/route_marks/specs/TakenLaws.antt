@@ -3,7 +3,7 @@ use Rattle.std.specs.Prelude.{ℕ, ◌+◌, ◌≤◌, ◌<◌, ◌≡◌, refl,
 use Rattle.std.proofs.Common.{sym, ◌∙◌, ap, subst, inl, inr, arith, le-leb}
 use Rattle.std.proofs.lemmas.Bool.{lt-leb}
 use Rattle.route_list.specs.Listing.{most, saturated}
-use Rattle.code_flat.specs.Machine.{room, Res, Pos, pos}
+use Rattle.code_flat.specs.Machine.{room, Res, Pos}
 use Rattle.code_flat.specs.Runs.{Ends, run_ends}
 use Rattle.code_marks.specs.Stop.{Stop, held, over, stopped, taken_up}
 use Rattle.code_marks.specs.StopLaws.{finished, stopped_law, never_stopped}
