@@ -17,12 +17,12 @@ enum_told c = search rules
 labels-requires : tie.Need-labels-requires
 labels-requires c κs =
     let a = c.before.before.before.before.before.before.before.before.before.before.before.args in
-    sized a.source-type a.nodes.now a.scopes.now a.source.now a.names.now (sym c.before.before.before.before.refusal.ensures ∙ c.before.before.enum_told.given.1)
+    sized a.source_type a.nodes.now a.scopes.now a.source.now a.names.now (sym c.before.before.before.before.refusal.ensures ∙ c.before.before.enum_told.given.1)
 
 returns : tie.Need-returns
 returns c =
     let a = c.before.before.before.before.before.before.before.before.before.before.args in
-    let q = input_refused a.source-type a.nodes.now a.scopes.now a.source.now a.names.now a.renamed-nodes.now a.renamed-names.now _ _ (sym c.before.before.before.refusal.ensures ∙ c.before.verdict.given.1) in
+    let q = input_refused a.source_type a.nodes.now a.scopes.now a.source.now a.names.now a.renamed-nodes.now a.renamed-names.now _ _ (sym c.before.before.before.refusal.ensures ∙ c.before.verdict.given.1) in
     (sym (ap (λ (r : Renaming). r.answer) q), (sym (ap (λ (r : Renaming). r.nodes) q), sym (ap (λ (r : Renaming). r.names) q)))
 
 same_length : tie.Need-same-length
@@ -34,7 +34,7 @@ same-length-2 c = search rules
 returns-2 : tie.Need-returns-2
 returns-2 c =
     let a = c.before.before.before.before.before.before.before.before.before.before.before.before.before.before.before.before.args in
-    let q = input_passed a.source-type a.nodes.now a.scopes.now a.source.now a.names.now a.renamed-nodes.now a.renamed-names.now (sym c.before.before.before.before.before.before.before.before.before.refusal.ensures ∙ c.before.before.before.before.before.before.before.enum_told.given.1) in
+    let q = input_passed a.source_type a.nodes.now a.scopes.now a.source.now a.names.now a.renamed-nodes.now a.renamed-names.now (sym c.before.before.before.before.before.before.before.before.before.refusal.ensures ∙ c.before.before.before.before.before.before.before.enum_told.given.1) in
     let w = c.before.before.before.before.labels.ensures in
     (w.0 ∙ sym (ap (λ (r : Renaming). r.answer) q), (w.1.0 ∙ sym (ap (λ (r : Renaming). r.nodes) q), w.1.1 ∙ sym (ap (λ (r : Renaming). r.names) q)))
 

@@ -1,5 +1,6 @@
 use Rattle.refusal_fields.specs.Fields.{most_extra}
-use borrow.Author.Tests.{ne_eqb}
+use Rattle.std.proofs.Common.{arith}
+use Rattle.std.proofs.lemmas.Bool.Decides.{nat_tests}
 use Rattle.refusal_fields.proofs.most_extra.Goals as goal
 
 pub returns-in-24 : goal.returns-in-24
@@ -24,4 +25,4 @@ returns-in-55 c = rw c.in-55.is
 
 pub returns-in_default : goal.returns-in_default
 unfolding most_extra
-returns-in_default c = rw (ne_eqb _ _ c.in_default.not-24, ne_eqb _ _ c.in_default.not-28, ne_eqb _ _ c.in_default.not-35, ne_eqb _ _ c.in_default.not-44, ne_eqb _ _ c.in_default.not-55)
+returns-in_default c = grind (arith, nat_tests)

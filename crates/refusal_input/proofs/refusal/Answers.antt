@@ -11,7 +11,7 @@ returns-then-wrong_sizes c = rw (sym c.wrong_sizes.ensures ∙ c.if-wrong_sizes.
 
 pub unlisted-requires : goal.unlisted-requires
 unlisted-requires c = let x = c.args in
-    let s = (sizes_of x.source-type x.nodes.now x.scopes.now x.source.now x.names.now (sym c.wrong_sizes.ensures ∙ c.if-wrong_sizes.false)) in
+    let s = (sizes_of x.source_type x.nodes.now x.scopes.now x.source.now x.names.now (sym c.wrong_sizes.ensures ∙ c.if-wrong_sizes.false)) in
     s.nodes
 
 pub returns-in-Here : goal.returns-in-Here
@@ -20,7 +20,7 @@ returns-in-Here c = rw (sym c.wrong_sizes.ensures ∙ c.if-wrong_sizes.false, sy
 
 pub misplaced-requires : goal.misplaced-requires
 misplaced-requires c = let x = c.args in
-    let s = (sizes_of x.source-type x.nodes.now x.scopes.now x.source.now x.names.now (sym c.wrong_sizes.ensures ∙ c.if-wrong_sizes.false)) in
+    let s = (sizes_of x.source_type x.nodes.now x.scopes.now x.source.now x.names.now (sym c.wrong_sizes.ensures ∙ c.if-wrong_sizes.false)) in
     s.nodes
 
 pub returns-in-Here-misplaced : goal.returns-in-Here-misplaced
@@ -29,7 +29,7 @@ returns-in-Here-misplaced c = rw (sym c.wrong_sizes.ensures ∙ c.if-wrong_sizes
 
 pub stray-requires : goal.stray-requires
 stray-requires c = let x = c.args in
-    let s = (sizes_of x.source-type x.nodes.now x.scopes.now x.source.now x.names.now (sym c.wrong_sizes.ensures ∙ c.if-wrong_sizes.false)) in
+    let s = (sizes_of x.source_type x.nodes.now x.scopes.now x.source.now x.names.now (sym c.wrong_sizes.ensures ∙ c.if-wrong_sizes.false)) in
     s.nodes
 
 pub returns-in-Here-stray : goal.returns-in-Here-stray
@@ -38,7 +38,7 @@ returns-in-Here-stray c = rw (sym c.wrong_sizes.ensures ∙ c.if-wrong_sizes.fal
 
 pub broken-requires : goal.broken-requires
 broken-requires c = let x = c.args in
-    let s = (sizes_of x.source-type x.nodes.now x.scopes.now x.source.now x.names.now (sym c.wrong_sizes.ensures ∙ c.if-wrong_sizes.false)) in
+    let s = (sizes_of x.source_type x.nodes.now x.scopes.now x.source.now x.names.now (sym c.wrong_sizes.ensures ∙ c.if-wrong_sizes.false)) in
     s.scopes
 
 pub returns-in-Here-broken : goal.returns-in-Here-broken
@@ -47,7 +47,7 @@ returns-in-Here-broken c = rw (sym c.wrong_sizes.ensures ∙ c.if-wrong_sizes.fa
 
 pub misscoped-requires : goal.misscoped-requires
 misscoped-requires c = let x = c.args in
-    let s = (sizes_of x.source-type x.nodes.now x.scopes.now x.source.now x.names.now (sym c.wrong_sizes.ensures ∙ c.if-wrong_sizes.false)) in
+    let s = (sizes_of x.source_type x.nodes.now x.scopes.now x.source.now x.names.now (sym c.wrong_sizes.ensures ∙ c.if-wrong_sizes.false)) in
     record { tree = tree_of x.nodes.now s.nodes (sym c.misplaced.ensures ∙ c.in_default-misplaced.is); chained = chained_of x.scopes.now s.scopes (sym c.broken.ensures ∙ c.in_default-broken.is) }
 
 pub returns-in-Here-misscoped : goal.returns-in-Here-misscoped
@@ -56,7 +56,7 @@ returns-in-Here-misscoped c = rw (sym c.wrong_sizes.ensures ∙ c.if-wrong_sizes
 
 pub shape_refusal-requires : goal.shape_refusal-requires
 shape_refusal-requires c = let x = c.args in
-    let s = (sizes_of x.source-type x.nodes.now x.scopes.now x.source.now x.names.now (sym c.wrong_sizes.ensures ∙ c.if-wrong_sizes.false)) in
+    let s = (sizes_of x.source_type x.nodes.now x.scopes.now x.source.now x.names.now (sym c.wrong_sizes.ensures ∙ c.if-wrong_sizes.false)) in
     let h = chained_of x.scopes.now s.scopes (sym c.broken.ensures ∙ c.in_default-broken.is) in
     record { tree = tree_of x.nodes.now s.nodes (sym c.misplaced.ensures ∙ c.in_default-misplaced.is); chained = h; scoped = scoped_of x.nodes.now x.scopes.now h (sym c.misscoped.ensures ∙ c.in_default-misscoped.is) }
 
