@@ -6,7 +6,6 @@ use mathlib.Core.List.{List, [], ◌∷◌, ◌++◌, foldl, flat_map}
 use Rattle.std.proofs.Math.Bool.{true, false, cond, xor}
 use Rattle.std.proofs.Math.Dec.{eqb}
 use Rattle.base_common.specs.Upto.{upto, any}
-use Rattle.table_source.specs.SourceType.{is_typescript}
 use Rattle.table_source.specs.SourceTypeLaws.{no_typescript}
 use Rattle.table_records.specs.Table.{kind_of, extra_of, count}
 use Rattle.table_records.specs.Kinds as k
@@ -15,7 +14,6 @@ use Rattle.table_records.specs.declared.Found.TheVariants.{At, Nothing}
 use Rattle.table_names.specs.Name.{same, name_of}
 use Rattle.table_children.specs.Children.{keep, children, class_body_of}
 use Rattle.check_diagnostics.specs.declared.Finding.{Finding}
-use Rattle.check_diagnostics.specs.declared.Raised.TheVariants.{Clear}
 use Rattle.check_diagnostics.specs.Finding.{listed}
 use Rattle.check_diagnostics.specs.Gather.{flat_keep, flat_same_lem}
 use Rattle.check_statements.specs.Statements.{check_with_statement}
@@ -24,9 +22,9 @@ use Rattle.check_class_table.specs.declared.Current.TheVariants.{Class, Outside}
 use Rattle.check_class_table.specs.Classes.{current_class, outer_classes, classes_of}
 use Rattle.check_class_table.specs.Elements.{element_name, is_static, is_private, is_getter, is_setter, is_definition, fixed_name, enters, elements, privates, is_compared, compared, has_private, is_declared}
 use Rattle.check_class_table.specs.ElementsLaws.{keep_same, any_same}
-use Rattle.check_classes.specs.ClassChecks.{references, constructors, undeclared_at, undeclared_in, undeclared_by, private_undeclared, constructor_span, first_pair, second_by, second_constructor, check_class}
+use Rattle.check_classes.specs.ClassChecks.{references, constructors, undeclared_at, undeclared_in, undeclared_by, private_undeclared, constructor_span, first_pair, second_by, check_class}
 use Rattle.check_duplicates.specs.declared.Place.{Place}
-use Rattle.check_duplicates.specs.Duplicates.{nowhere, here, step, last_of, or_else, side_of, is_earlier, previous_on, previous_of, is_pair, clashes, clash_code, redeclaration, duplicate_by, duplicate_at, duplicates_in, duplicate_elements}
+use Rattle.check_duplicates.specs.Duplicates.{nowhere, here, step, last_of, side_of, is_earlier, previous_on, previous_of, is_pair, clashes, clash_code, redeclaration, duplicate_by, duplicate_at, duplicates_in, duplicate_elements}
 use Rattle.check_duplicates.specs.DuplicatesLaws.{last_keep}
 use Rattle.check_dispatch.specs.Findings.{findings_at, findings_of}
 use Rattle.check_dispatch.specs.Former as former

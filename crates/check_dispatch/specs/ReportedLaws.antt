@@ -1,7 +1,7 @@
 -- "With the option off, findings equal the Rust's as before": of all tables.
 use Rattle.std.specs.Prelude.{ℕ, ◌≡◌, refl}
 use Rattle.std.proofs.Math.Path.{ap}
-use Rattle.std.proofs.Common.{◌∙◌, arith}
+use Rattle.std.proofs.Common.{arith}
 use mathlib.Core.List.{List, [], ◌∷◌, ◌++◌, flat_map}
 use Rattle.base_common.specs.Upto.{upto}
 use Rattle.table_records.specs.Table.{count}

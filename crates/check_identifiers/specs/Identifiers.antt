@@ -1,5 +1,5 @@
 -- Names that a place may not have, and directives that a function may not have.
-use Rattle.std.specs.Prelude.{ℕ, Bool, false, cond, not, ◌&&◌, ◌||◌, eqb}
+use Rattle.std.specs.Prelude.{ℕ, Bool, cond, not, ◌&&◌, ◌||◌, eqb}
 use mathlib.Core.List.{List, [], ◌∷◌, foldr}
 use Rattle.base_common.specs.Upto.{any}
 use Rattle.base_common.specs.Tests.{within}

@@ -17,7 +17,7 @@ use Rattle.check_diagnostics.specs.Codes as code
 use Rattle.check_diagnostics.specs.Contexts as context
 use Rattle.check_diagnostics.specs.Finding.{error_span, error_at}
 use Rattle.check_diagnostics.specs.declared.Raised.{Raised}
-use Rattle.check_diagnostics.specs.declared.Raised.TheVariants.{Error, Clear}
+use Rattle.check_diagnostics.specs.declared.Raised.TheVariants.{Clear}
 
 -- a check of what was found; where nothing was found, nothing is raised
 abbrev pub check_found : Found → (ℕ → Raised) → Raised

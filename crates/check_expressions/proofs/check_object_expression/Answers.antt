@@ -14,7 +14,7 @@ use Rattle.table_children.specs.Children.{below}
 use Rattle.table_children.specs.ChildrenLaws.{found_child}
 use Rattle.check_diagnostics.specs.Gather.{piece_place, piece_sink, listed_one}
 use Rattle.check_expressions.specs.Expressions.{check_object_expression}
-use Rattle.check_expressions.specs.ExpressionLaws.{repeats_from, keys_from, keys_start, repeated, later_below, object_turn, object_end}
+use Rattle.check_expressions.specs.ExpressionLaws.{repeats_from, keys_from, keys_start, later_below, object_turn, object_end}
 use borrow.Author.Rules.{rules}
 use Rattle.check_expressions.proofs.check_object_expression.Goals as goal
 
