@@ -1,7 +1,8 @@
 // rulecheck: reads the lines of a rule's tables from standard input, checks them, and prints the findings or the refusal.
 #![tactic(auto)]
 
-ghost use Rattle.std.specs.Prelude.{◌≡◌, length, take};
+ghost use Rattle.std.specs.Prelude.{◌≡◌, IfSome, OnOk, length, take};
+ghost use Rattle.std.specs.Io.KnownBytes.{Appends};
 ghost use Rattle.line_input.specs.Format.{front};
 ghost use Rattle.line_answers.specs.Answer.{findings_room, text_room};
 ghost use Rattle.rulecheck.specs.Response.{check_text, response};
@@ -93,14 +94,15 @@ fn respond(input: &[u8], out: &mut [u8]) -> usize
     )
 }
 
-// Reads, and prints what there is to print for what was read. That nothing which follows the first `ENOUGH` bytes matters is `response_whole`.
+// Reads, and prints what there is to print for what was read: where the reader's and the writer's bytes are known, the response to all
+// that the reader has, also where that is more than `ENOUGH` bytes.
 fn run<I: Read, O: Write>(
     reader: &mut I,
     writer: &mut O,
-    input: &mut [u8],
-    out: &mut [u8],
+    input: &mut [u8; ENOUGH],
+    out: &mut [u8; TEXT_ROOM],
 ) -> io::Result<()>
-    requires { length out.old ≡ text_room }
+    ensures { OnOk result (IfSome (I.remaining reader.old) (λ bytes. Appends (O.contents writer.old) (O.contents writer.new) (response bytes))) }
 {
     let got = line_stream::read_full(reader, input)?;
     let end = respond(line_print::front(input, got), out);
