@@ -2,7 +2,7 @@
 use Rattle.std.specs.Prelude.{ℕ, ◌+◌, ◌-◌, ◌<◌, ◌≡◌, Bool, cond, ◌&&◌, ◌||◌, length}
 use Rattle.std.proofs.Math.Path.{refl, ap, sym}
 use Rattle.std.proofs.Common.{subst, ◌∙◌, arith, lt-ltb, le-ltb}
-use mathlib.Core.List.{List, [], ◌∷◌, ◌++◌, foldl, flat_map}
+use mathlib.Core.List.{List, [], ◌∷◌, foldl, flat_map}
 use Rattle.std.proofs.Math.Bool.{true, false, not}
 use Rattle.std.proofs.Math.Dec.{eqb, ltb}
 use Rattle.base_common.specs.Upto.{upto, any}
@@ -12,11 +12,10 @@ use Rattle.table_names.specs.Name.{same}
 use Rattle.table_children.specs.Children.{keep}
 use Rattle.table_children.specs.ChildrenLaws.{keep_keep}
 use Rattle.table_lists.specs.ListLaws.{keep_alike, any_alike, keep_second, Rising, keep_rising, upto_rising}
-use Rattle.check_diagnostics.specs.declared.Finding.{Finding}
 use Rattle.check_diagnostics.specs.declared.Raised.TheVariants.{Clear}
 use Rattle.check_diagnostics.specs.Finding.{listed}
 use Rattle.check_diagnostics.specs.Gather.{flat_same_lem}
-use Rattle.check_class_table.specs.Elements.{element_name, is_private, is_setter, is_keyed, elements, compared}
+use Rattle.check_class_table.specs.Elements.{element_name, is_private, is_setter, elements, compared}
 use Rattle.check_class_table.specs.ElementsLaws.{keep_same, any_same, elements_scan}
 use Rattle.check_duplicates.specs.declared.Place.{Place}
 use Rattle.check_duplicates.specs.Duplicates.{nowhere, here, step, last_of, side_of, is_earlier, previous_on, or_else, previous_of, clashes, redeclaration, duplicate_by, duplicates_in, duplicate_elements}
