@@ -1,14 +1,12 @@
 -- Walks one behind the other, walks that take an answer, and what a whole walk has listed.
-use Rattle.std.specs.Prelude.{ℕ, suc, ◌+◌, ◌≤◌, ◌<◌, ◌≡◌, refl, List, [], ◌∷◌, ◌++◌, map, Bool, true, false, cond, length, set, get_or, eqb}
+use Rattle.std.specs.Prelude.{ℕ, suc, ◌+◌, ◌≤◌, ◌<◌, ◌≡◌, refl, List, [], ◌∷◌, ◌++◌, map, Bool, true, false, length, set, get_or, eqb}
 use Rattle.std.proofs.Math.Path.{ap}
-use Rattle.std.proofs.Common.{sym, ◌∙◌, subst, append-nil, append_assoc, drop_of_length-le, drop-cons, arith}
+use Rattle.std.proofs.Common.{sym, ◌∙◌, subst, append-nil, drop_of_length-le, drop-cons, arith}
 use Rattle.std.proofs.Math.ListN.{drop}
 use Rattle.std.proofs.Math.Seq.{append_snoc}
-use Rattle.route_completion.specs.Sem.{Entry, plain, asked, Comp, normal, spent, Out, out, more, ask, go_on, pick, is_normal, is_spent, finally, finally_if, no_break, no_label, unbreak, unlabel, exec, execs}
+use Rattle.route_completion.specs.Sem.{Entry, plain, asked, Comp, normal, spent, Out, out, more, ask, go_on, pick, is_normal, is_spent, finally, finally_if, no_label, exec, execs}
 use Rattle.route_completion.specs.Tree.{Stmts, nil}
 use Rattle.code_tree.specs.Labels.{name_id}
-use Rattle.table_records.specs.declared.Found.{Found}
-use Rattle.table_records.specs.Table.{count}
 use Rattle.table_records.specs.declared.NodeId.{NodeId}
 use Rattle.route_completion.specs.Route.{node_of, asks, end_of, route}
 use Rattle.route_completion.specs.Taken.{asks_append}

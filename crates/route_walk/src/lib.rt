@@ -411,7 +411,7 @@ fn left_label(nodes: &[u32], names: &[u8], p: NodeId, run: Run) -> Run
 }
 
 // What the node n holds, where that is one statement.
-#[cycle(walk_caught_walk_if_walk_loop_walk_node_walk_one_walk_parts_walk_switch_walk_try_walk_turns)]
+#[cycle(walk)]
 fn walk_one(
     nodes: &[u32],
     names: &[u8],
@@ -436,7 +436,7 @@ fn walk_one(
 }
 
 // 14.2.2, StatementList: the parts of n from a node on, one behind the other.
-#[cycle(walk_caught_walk_if_walk_loop_walk_node_walk_one_walk_parts_walk_switch_walk_try_walk_turns)]
+#[cycle(walk)]
 fn walk_parts(
     nodes: &[u32],
     names: &[u8],
@@ -474,7 +474,7 @@ fn walk_parts(
 }
 
 // 14.6.2, the If n.
-#[cycle(walk_caught_walk_if_walk_loop_walk_node_walk_one_walk_parts_walk_switch_walk_try_walk_turns)]
+#[cycle(walk)]
 fn walk_if(
     nodes: &[u32],
     names: &[u8],
@@ -487,7 +487,7 @@ fn walk_if(
     requires n_bound { n.0 < count nodes.now }
     requires n_value { labels_of nodes.now names.now n.0 ≡ [] }
     requires taken_in_bounds { start.taken ≤ length answers.now }
-    ensures* { λ r. ⌜ Walked nodes.now names.now answers.now out.old start (ask n.0 (drop start.taken answers.now) (λ a r. ran_of (statement nodes.now names.now) (branch_of nodes.now (parts nodes.now n.0 (n.0 + 1)) a) r)) out.new r ⌝ }
+    ensures { Walked nodes.now names.now answers.now out.old start (ask n.0 (drop start.taken answers.now) (λ a r. ran_of (statement nodes.now names.now) (branch_of nodes.now (parts nodes.now n.0 (n.0 + 1)) a) r)) out.new result }
 {
     let at = start.taken;
     if answers.len() <= at {
@@ -506,7 +506,7 @@ fn walk_if(
 }
 
 // 14.7.3.2, the turns of the loop n, from its next answer on.
-#[cycle(walk_caught_walk_if_walk_loop_walk_node_walk_one_walk_parts_walk_switch_walk_try_walk_turns)]
+#[cycle(walk)]
 fn walk_turns(
     nodes: &[u32],
     names: &[u8],
@@ -520,7 +520,7 @@ fn walk_turns(
     requires n_bound { n.0 < count nodes.now }
     requires n_value { labels_of nodes.now names.now n.0 ≡ [] }
     requires taken_in_bounds { start.taken ≤ length answers.now }
-    ensures* { λ r. ⌜ Walked nodes.now names.now answers.now out.old start (rounds n.0 (test_at nodes.now n.0) (labels_of nodes.now names.now (up_of nodes.now n.0)) (λ r. exec (one_of (statement nodes.now names.now) (parts nodes.now n.0 (n.0 + 1))) [] r) (drop start.taken answers.now)) out.new r ⌝ }
+    ensures { Walked nodes.now names.now answers.now out.old start (rounds n.0 (test_at nodes.now n.0) (labels_of nodes.now names.now (up_of nodes.now n.0)) (λ r. exec (one_of (statement nodes.now names.now) (parts nodes.now n.0 (n.0 + 1))) [] r) (drop start.taken answers.now)) out.new result }
 {
     let heeds = code_shapes::has_test(nodes, n);
     let mut run = start;
@@ -546,7 +546,7 @@ fn walk_turns(
 }
 
 // 14.7.1.2, the loop n: a DoWhile runs its body before the first answer.
-#[cycle(walk_caught_walk_if_walk_loop_walk_node_walk_one_walk_parts_walk_switch_walk_try_walk_turns)]
+#[cycle(walk)]
 fn walk_loop(
     nodes: &[u32],
     names: &[u8],
@@ -560,7 +560,7 @@ fn walk_loop(
     requires n_bound { n.0 < count nodes.now }
     requires n_value { labels_of nodes.now names.now n.0 ≡ [] }
     requires taken_in_bounds { start.taken ≤ length answers.now }
-    ensures* { λ r. ⌜ Walked nodes.now names.now answers.now out.old start (unbreak (loops (before_at nodes.now n.0) n.0 (test_at nodes.now n.0) (labels_of nodes.now names.now (up_of nodes.now n.0)) (λ r. exec (one_of (statement nodes.now names.now) (parts nodes.now n.0 (n.0 + 1))) [] r) (drop start.taken answers.now))) out.new r ⌝ }
+    ensures { Walked nodes.now names.now answers.now out.old start (unbreak (loops (before_at nodes.now n.0) n.0 (test_at nodes.now n.0) (labels_of nodes.now names.now (up_of nodes.now n.0)) (λ r. exec (one_of (statement nodes.now names.now) (parts nodes.now n.0 (n.0 + 1))) [] r) (drop start.taken answers.now))) out.new result }
 {
     if code_shapes::is_before(nodes, n) {
         let done = walk_turns(nodes, names, answers, out, n, start);
@@ -576,7 +576,7 @@ fn walk_loop(
 }
 
 // 14.12.2, the switch n: from the case that the answer picks, "later cases follow".
-#[cycle(walk_caught_walk_if_walk_loop_walk_node_walk_one_walk_parts_walk_switch_walk_try_walk_turns)]
+#[cycle(walk)]
 fn walk_switch(
     nodes: &[u32],
     names: &[u8],
@@ -589,7 +589,7 @@ fn walk_switch(
     requires n_bound { n.0 < count nodes.now }
     requires n_value { labels_of nodes.now names.now n.0 ≡ [] }
     requires taken_in_bounds { start.taken ≤ length answers.now }
-    ensures* { λ r. ⌜ Walked nodes.now names.now answers.now out.old start (ask n.0 (drop start.taken answers.now) (λ a r. unbreak (execs (list_of (statement nodes.now names.now) (cases_from nodes.now (parts nodes.now n.0 (n.0 + 1)) a)) r))) out.new r ⌝ }
+    ensures { Walked nodes.now names.now answers.now out.old start (ask n.0 (drop start.taken answers.now) (λ a r. unbreak (execs (list_of (statement nodes.now names.now) (cases_from nodes.now (parts nodes.now n.0 (n.0 + 1)) a)) r))) out.new result }
 {
     let at = start.taken;
     if answers.len() <= at {
@@ -609,7 +609,7 @@ fn walk_switch(
 }
 
 // 14.15.3, the Block of the Try n, and its catch where that throws.
-#[cycle(walk_caught_walk_if_walk_loop_walk_node_walk_one_walk_parts_walk_switch_walk_try_walk_turns)]
+#[cycle(walk)]
 fn walk_caught(
     nodes: &[u32],
     names: &[u8],
@@ -644,7 +644,7 @@ fn walk_caught(
 }
 
 // 14.15.3, the Try n: its finally runs on each way out, but where the answers are spent.
-#[cycle(walk_caught_walk_if_walk_loop_walk_node_walk_one_walk_parts_walk_switch_walk_try_walk_turns)]
+#[cycle(walk)]
 fn walk_try(
     nodes: &[u32],
     names: &[u8],
@@ -680,7 +680,7 @@ fn walk_try(
 }
 
 // One statement, by its shape.
-#[cycle(walk_caught_walk_if_walk_loop_walk_node_walk_one_walk_parts_walk_switch_walk_try_walk_turns)]
+#[cycle(walk)]
 fn walk_node(
     nodes: &[u32],
     names: &[u8],

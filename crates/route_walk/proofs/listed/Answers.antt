@@ -1,0 +1,7 @@
+use mathlib.Core.Path.{refl}
+use Rattle.route_completion.specs.Sem.{normal}
+use Rattle.route_walk.specs.WalkLaws.{lists}
+use Rattle.route_walk.proofs.listed.Goals as goal
+
+pub returns : goal.returns
+returns c = let a = c.args in λ ns names qs h. lists ns names qs a.out.now a.start _ a.n.0 normal _ c.add.ensures.written c.add.ensures.counted refl h refl tt
