@@ -15,13 +15,13 @@ report-requires c = let a = c.args in
 pub returns-in-Refused : goal.returns-in-Refused
 unfolding check_answer check_slice
 returns-in-Refused c = let a = c.args in
-    let f = reported (rule a.source_type a.async_bodies_lem a.nodes.now a.scopes.now a.source.now a.names.now) in
+    let f = reported (rule a.source_type a.async_bodies a.nodes.now a.scopes.now a.source.now a.names.now) in
     let e = sym c.refusal-verdict.ensures ∙ c.in-Refused.is in
     record { value = sym (ap (λ (v : Verdict). answer_by v (report_answer f (length a.findings.now))) e); findings_after = sym (ap (λ (v : Verdict). slice_by v a.findings.now (report_slice f a.findings.now)) e) }
 
 pub returns-in-Passed : goal.returns-in-Passed
 unfolding check_answer check_slice
 returns-in-Passed c = let a = c.args in
-    let f = reported (rule a.source_type a.async_bodies_lem a.nodes.now a.scopes.now a.source.now a.names.now) in
+    let f = reported (rule a.source_type a.async_bodies a.nodes.now a.scopes.now a.source.now a.names.now) in
     let e = sym c.refusal-verdict.ensures ∙ c.in-Passed.is in
     record { value = c.report.ensures.value ∙ sym (ap (λ (v : Verdict). answer_by v (report_answer f (length a.findings.now))) e); findings_after = c.report.ensures.findings_after ∙ sym (ap (λ (v : Verdict). slice_by v a.findings.now (report_slice f a.findings.now)) e) }

@@ -10,14 +10,14 @@ use Rattle.call_check.proofs.report.Goals as goal
 
 pub returns-then-findings-needed : goal.returns-then-findings-needed
 returns-then-findings-needed c = let a = c.args in
-    let f = reported (rule a.source_type a.async_bodies_lem a.nodes.now a.scopes.now a.source.now a.names.now) in
+    let f = reported (rule a.source_type a.async_bodies a.nodes.now a.scopes.now a.source.now a.names.now) in
     let q : c.check_tree-needed.result ≡ 7 * length f = omega (arith, c.check_tree-needed.ensures.place) in
     let h : length a.findings.now < 7 * length f = omega (arith, c.if-findings-needed.true, q) in
     record { value = ap (λ (n : ℕ). Short n) q ∙ sym (answer_short f a.findings.now h); findings_after = sym (slice_short f a.findings.now h) }
 
 pub returns : goal.returns
 returns c = let a = c.args in
-    let f = reported (rule a.source_type a.async_bodies_lem a.nodes.now a.scopes.now a.source.now a.names.now) in
+    let f = reported (rule a.source_type a.async_bodies a.nodes.now a.scopes.now a.source.now a.names.now) in
     let q : c.check_tree-needed.result ≡ 7 * length f = omega (arith, c.check_tree-needed.ensures.place) in
     let h : 7 * length f ≤ length a.findings.now = omega (arith, c.if-findings-needed.false, q) in
     let d : c.check_tree-written.result / 7 ≡ length f = omega (arith, c.check_tree-written.ensures.place) in

@@ -25,7 +25,7 @@ same-length-2 : tie.Need-same-length-2
 same-length-2 c = search rules
 
 returns : tie.Need-returns
-returns c = let a = c.before.before.before.before.before.before.before.before.before.before.before.before.before.before.before.args in let M = a.marks.now in let m = a.mark in let q = a.answers.now in let o = a.out.now in let k = a.code.now in let u = a.unit in let r = rule a.source_type a.async_bodies_lem a.nodes.now a.scopes.now a.source.now a.names.now in (c.before.before.before.before.marked.ensures.0 ∙ (λ i. mark_answer r u (sixteen_same M m i) (place_refusal M (code_of r u) m) (resumed_is M (code_of r u) q m (length q + 1) refl i) (length k) (length o)), (c.before.before.before.before.marked.ensures.1.0 ∙ (λ i. mark_code r u (sixteen_same M m i) k), (c.before.before.before.before.marked.ensures.1.1.0 ∙ (λ i. mark_slice r u (sixteen_same M m i) (place_refusal M (code_of r u) m) (resumed_is M (code_of r u) q m (length q + 1) refl i) (length k) o), c.before.before.before.before.marked.ensures.1.1.1 ∙ (λ i. marks_left r u (sixteen_same M m i) (place_refusal M (code_of r u) m) (resumed_is M (code_of r u) q m (length q + 1) refl i) (length k) (length o) M m) ∙ never_set r u (from_refusal M m) (place_refusal M (code_of r u) m) (taken_up room (code_of r u) (mark_at M m) q) (length k) (length o) M m)))
+returns c = let a = c.before.before.before.before.before.before.before.before.before.before.before.before.before.before.before.args in let M = a.marks.now in let m = a.mark in let q = a.answers.now in let o = a.out.now in let k = a.code.now in let u = a.unit in let r = rule a.source_type a.async_bodies a.nodes.now a.scopes.now a.source.now a.names.now in (c.before.before.before.before.marked.ensures.0 ∙ (λ i. mark_answer r u (sixteen_same M m i) (place_refusal M (code_of r u) m) (resumed_is M (code_of r u) q m (length q + 1) refl i) (length k) (length o)), (c.before.before.before.before.marked.ensures.1.0 ∙ (λ i. mark_code r u (sixteen_same M m i) k), (c.before.before.before.before.marked.ensures.1.1.0 ∙ (λ i. mark_slice r u (sixteen_same M m i) (place_refusal M (code_of r u) m) (resumed_is M (code_of r u) q m (length q + 1) refl i) (length k) o), c.before.before.before.before.marked.ensures.1.1.1 ∙ (λ i. marks_left r u (sixteen_same M m i) (place_refusal M (code_of r u) m) (resumed_is M (code_of r u) q m (length q + 1) refl i) (length k) (length o) M m) ∙ never_set r u (from_refusal M m) (place_refusal M (code_of r u) m) (taken_up room (code_of r u) (mark_at M m) q) (length k) (length o) M m)))
 
 pub route-resume-spec : {M : Type 1} → statement M
 route-resume-spec =

@@ -26,7 +26,7 @@ enum_told c = search rules
 
 code-unit-requires : tie.Need-code-unit-requires
 code-unit-requires c κs = let a = c.before.before.before.before.before.before.before.before.before.args in
-    ready a.source_type a.async_bodies_lem a.nodes.now a.scopes.now a.source.now a.names.now a.unit (sym c.before.before.before.refusal.ensures ∙ c.before.enum_told.given.1)
+    ready a.source_type a.async_bodies a.nodes.now a.scopes.now a.source.now a.names.now a.unit (sym c.before.before.before.refusal.ensures ∙ c.before.enum_told.given.1)
 
 answered-requires : tie.Need-answered-requires
 answered-requires c κs = search rules
@@ -38,7 +38,7 @@ returns c = let a = c.before.before.before.before.before.before.before.before.be
     let nm = a.names.now in
     let u = a.unit in
     let k = a.code.now in
-    let r = rule a.source_type a.async_bodies_lem ns a.scopes.now a.source.now nm in
+    let r = rule a.source_type a.async_bodies ns a.scopes.now a.source.now nm in
     let e = sym c.before.before.before.refusal.ensures ∙ c.before.number.given.1 in
     (sym (ap (λ (v : Verdict). unless v coded.Refused (if_room r u (length k) (coded.Code (length (unit (unit_of ns nm u)))) (coded.Short (code_length ns u)))) e), sym (ap (λ (v : Verdict). unless v (λ number place. k) (if_room r u (length k) (over (unit (unit_of ns nm u)) k) k)) e))
 
@@ -52,10 +52,10 @@ returns-2 c = let a = c.before.before.before.before.before.before.before.before.
     let nm = a.names.now in
     let u = a.unit in
     let k = a.code.now in
-    let r = rule a.source_type a.async_bodies_lem ns a.scopes.now a.source.now nm in
+    let r = rule a.source_type a.async_bodies ns a.scopes.now a.source.now nm in
     let C = unit (unit_of ns nm u) in
     let e = sym c.before.before.before.before.before.before.before.refusal.ensures ∙ c.before.before.before.before.before.enum_told.given.1 in
-    let q = exact a.source_type a.async_bodies_lem ns a.scopes.now a.source.now nm u e in
+    let q = exact a.source_type a.async_bodies ns a.scopes.now a.source.now nm u e in
     (c.answered.ensures ∙ ap coded_by c.before.before.before.code_unit.ensures.0 ∙ coded_by_lem C (length k) ∙ by_room (code_refusal r u) e (length C) (code_length ns u) (length k) q coded.Refused (coded.Code (length C)) coded.Short, c.before.before.before.code_unit.ensures.1 ∙ by_room (code_refusal r u) e (length C) (code_length ns u) (length k) q (λ number place. k) (over C k) (λ n. k))
 
 pub code-spec : {M : Type 1} → statement M

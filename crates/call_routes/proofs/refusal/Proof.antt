@@ -25,12 +25,12 @@ state-refusal-requires c κs = let a = c.before.before.before.before.before.befo
 returns : tie.Need-returns
 unfolding code_refusal
 returns c = let a = c.before.before.before.before.before.before.before.args in
-    c.enum_told.given.1 ∙ ap (λ (v : Verdict). refused_or v (state_answer (rule a.source_type a.async_bodies_lem a.nodes.now a.scopes.now a.source.now a.names.now) a.unit)) (sym c.enum_told.given.1 ∙ c.before.before.refusal.ensures)
+    c.enum_told.given.1 ∙ ap (λ (v : Verdict). refused_or v (state_answer (rule a.source_type a.async_bodies a.nodes.now a.scopes.now a.source.now a.names.now) a.unit)) (sym c.enum_told.given.1 ∙ c.before.before.refusal.ensures)
 
 returns-2 : tie.Need-returns-2
 unfolding code_refusal
 returns-2 c = let a = c.before.before.before.before.before.before.before.before.args in
-    c.state-refusal.ensures ∙ ap (λ (v : Verdict). refused_or v (state_answer (rule a.source_type a.async_bodies_lem a.nodes.now a.scopes.now a.source.now a.names.now) a.unit)) (sym c.before.enum-told2.given.1 ∙ c.before.before.before.refusal.ensures)
+    c.state-refusal.ensures ∙ ap (λ (v : Verdict). refused_or v (state_answer (rule a.source_type a.async_bodies a.nodes.now a.scopes.now a.source.now a.names.now) a.unit)) (sym c.before.enum-told2.given.1 ∙ c.before.before.before.refusal.ensures)
 
 pub refusal-spec : {M : Type 1} → statement M
 refusal-spec =

@@ -28,7 +28,7 @@ enum_told c = search rules
 
 made-requires : tie.Need-made-requires
 made-requires c κs = let a = c.before.before.before.before.before.before.before.before.before.before.before.before.args in
-    ready a.source_type a.async_bodies_lem a.nodes.now a.scopes.now a.source.now a.names.now a.unit (sym c.before.before.before.before.refusal.ensures ∙ c.before.before.enum_told.given.1)
+    ready a.source_type a.async_bodies a.nodes.now a.scopes.now a.source.now a.names.now a.unit (sym c.before.before.before.before.refusal.ensures ∙ c.before.before.enum_told.given.1)
 
 returns : tie.Need-returns
 unfolding route_answer code_slice route_slice
@@ -39,7 +39,7 @@ returns c = let a = c.before.before.before.before.before.before.before.before.be
     let k = a.code.now in
     let q = a.answers.now in
     let o = a.out.now in
-    let r = rule a.source_type a.async_bodies_lem ns a.scopes.now a.source.now nm in
+    let r = rule a.source_type a.async_bodies ns a.scopes.now a.source.now nm in
     let e = sym c.before.before.before.refusal.ensures ∙ c.before.number.given.1 in
     (sym (ap (λ (v : Verdict). unless v routed.Refused (if_room r u (length k) (shown_answer (route (unit_of ns nm u) q) (length o)) (routed.CodeShort (code_length ns u)))) e), (sym (ap (λ (v : Verdict). unless v (λ number place. k) (if_room r u (length k) (over (unit (unit_of ns nm u)) k) k)) e), sym (ap (λ (v : Verdict). unless v (λ number place. o) (if_room r u (length k) (shown_slice (route (unit_of ns nm u) q) o) o)) e)))
 
@@ -58,10 +58,10 @@ returns-2 c = let a = c.before.before.before.before.before.before.before.before.
     let k = a.code.now in
     let q = a.answers.now in
     let o = a.out.now in
-    let r = rule a.source_type a.async_bodies_lem ns a.scopes.now a.source.now nm in
+    let r = rule a.source_type a.async_bodies ns a.scopes.now a.source.now nm in
     let C = unit (unit_of ns nm u) in
     let e = sym c.before.before.before.before.before.before.before.before.before.refusal.ensures ∙ c.before.before.before.before.before.before.before.enum_told.given.1 in
-    let x = exact a.source_type a.async_bodies_lem ns a.scopes.now a.source.now nm u e in
+    let x = exact a.source_type a.async_bodies ns a.scopes.now a.source.now nm u e in
     (c.before.before.before.before.made.ensures.0 ∙ by_room (code_refusal r u) e (length C) (code_length ns u) (length k) x routed.Refused (shown_answer (route (unit_of ns nm u) q) (length o)) routed.CodeShort, (c.before.before.before.before.made.ensures.1.0 ∙ by_room (code_refusal r u) e (length C) (code_length ns u) (length k) x (λ number place. k) (over C k) (λ n. k), c.before.before.before.before.made.ensures.1.1 ∙ by_room (code_refusal r u) e (length C) (code_length ns u) (length k) x (λ number place. o) (shown_slice (route (unit_of ns nm u) q) o) (λ n. o)))
 
 pub route-spec : {M : Type 1} → statement M

@@ -19,7 +19,7 @@ enum-known-n c = search rules
 shared-front-requires : tie.Need-shared-front-requires
 shared-front-requires c κs = let a = c.before.before.before.before.before.before.before.before.before.before.before.before.before.before.before.args in
     let k = a.code.now in
-    let r = rule a.source_type a.async_bodies_lem a.nodes.now a.scopes.now a.source.now a.names.now in
+    let r = rule a.source_type a.async_bodies a.nodes.now a.scopes.now a.source.now a.names.now in
     let e = sym c.before.before.n.given.1 ∙ c.before.before.before.before.before.before.code.ensures.0 in
     let i = inside r a.unit c.before.before.n.given.0.0 k e in
     let q = ap length c.before.before.before.before.before.before.code.ensures.1 in
@@ -37,7 +37,7 @@ same_length c = search rules
 returns : tie.Need-returns
 returns c = let a = c.before.before.before.before.before.before.before.before.before.before.before.before.before.before.before.before.args in
     let k = a.code.now in
-    let r = rule a.source_type a.async_bodies_lem a.nodes.now a.scopes.now a.source.now a.names.now in
+    let r = rule a.source_type a.async_bodies a.nodes.now a.scopes.now a.source.now a.names.now in
     let n = c.before.before.before.n.given.0.0 in
     let e = sym c.before.before.before.n.given.1 ∙ c.before.before.before.before.before.before.before.code.ensures.0 in
     let y = c.shared-front.ensures ∙ ap (λ s. shared_entries (take n s) a.first.now a.second.now) c.before.before.before.before.before.before.before.code.ensures.1 ∙ shares r a.unit n k e a.first.now a.second.now in
@@ -49,7 +49,7 @@ same-length-2 c = search rules
 returns-2 : tie.Need-returns-2
 returns-2 c = let a = c.before.before.before.before.before.before.before.before.before.before.before.before.before.before.args in
     let k = a.code.now in
-    let r = rule a.source_type a.async_bodies_lem a.nodes.now a.scopes.now a.source.now a.names.now in
+    let r = rule a.source_type a.async_bodies a.nodes.now a.scopes.now a.source.now a.names.now in
     let e = sym c.before.number.given.1 ∙ c.before.before.before.before.before.code.ensures.0 in
     (ap (shared_by (shared_length r a.unit a.first.now a.second.now)) e ∙ shared_by_lem r a.unit a.first.now a.second.now (length k), c.before.before.before.before.before.code.ensures.1)
 
@@ -59,7 +59,7 @@ same-length-3 c = search rules
 returns-3 : tie.Need-returns-3
 returns-3 c = let a = c.before.before.before.before.before.before.before.before.before.before.before.before.before.before.args in
     let k = a.code.now in
-    let r = rule a.source_type a.async_bodies_lem a.nodes.now a.scopes.now a.source.now a.names.now in
+    let r = rule a.source_type a.async_bodies a.nodes.now a.scopes.now a.source.now a.names.now in
     let e = sym c.before.needed.given.1 ∙ c.before.before.before.before.before.code.ensures.0 in
     (ap (shared_by (shared_length r a.unit a.first.now a.second.now)) e ∙ shared_by_lem r a.unit a.first.now a.second.now (length k), c.before.before.before.before.before.code.ensures.1)
 

@@ -24,7 +24,7 @@ enum_told c = search rules
 
 shown-requires : tie.Need-shown-requires
 shown-requires c κs = let a = c.before.before.before.before.before.before.before.before.before.before.args in
-    enterable a.source_type a.async_bodies_lem a.nodes.now a.scopes.now a.source.now a.names.now a.unit (sym c.before.before.before.refusal.ensures ∙ c.before.enum_told.given.1)
+    enterable a.source_type a.async_bodies a.nodes.now a.scopes.now a.source.now a.names.now a.unit (sym c.before.before.before.refusal.ensures ∙ c.before.enum_told.given.1)
 
 returns : tie.Need-returns
 unfolding walk_answer walk_slice
