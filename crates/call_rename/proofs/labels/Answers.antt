@@ -19,7 +19,7 @@ returns-in-Unfit c =
     let a = c.args in
     let ns = a.nodes.now in
     let names = a.names.now in
-    let q = labelled_unfit ns names a.renamed-nodes.now a.renamed-names.now _ (listed_unfit ns names _ _ _ c.first_labels-found.ensures c.in-Unfit.is) in
+    let q = labelled_unfit ns names a.renamed_nodes.now a.renamed_names.now _ (listed_unfit ns names _ _ _ c.first_labels-found.ensures c.in-Unfit.is) in
     record { value = sym (ap (λ (r : Renaming). r.answer) q); renamed_nodes_after = sym (ap (λ (r : Renaming). r.nodes) q); renamed_names_after = sym (ap (λ (r : Renaming). r.names) q) }
 
 pub returns-in-Few : goal.returns-in-Few
@@ -27,6 +27,6 @@ returns-in-Few c =
     let a = c.args in
     let ns = a.nodes.now in
     let names = a.names.now in
-    let q = labelled_fit ns names a.renamed-nodes.now a.renamed-names.now (listed_few ns names _ _ _ c.first_labels-found.ensures c.in-Few.is).0 in
+    let q = labelled_fit ns names a.renamed_nodes.now a.renamed_names.now (listed_few ns names _ _ _ c.first_labels-found.ensures c.in-Few.is).0 in
     let w = c.write_all.ensures in
     record { value = w.0 ∙ sym (ap (λ (r : Renaming). r.answer) q); renamed_nodes_after = w.1.0 ∙ sym (ap (λ (r : Renaming). r.nodes) q); renamed_names_after = w.1.1 ∙ sym (ap (λ (r : Renaming). r.names) q) }

@@ -12,7 +12,7 @@ returns-then-renamed_nodes-nodes c =
     let a = c.args in
     let ns = a.nodes.now in
     let names = a.names.now in
-    let q = short_nodes ns names a.renamed-nodes.now a.renamed-names.now (omega (arith, c.if-renamed_nodes-nodes.true, records_length ns names, c.requires.whole)) in
+    let q = short_nodes ns names a.renamed_nodes.now a.renamed_names.now (omega (arith, c.if-renamed_nodes-nodes.true, records_length ns names, c.requires.whole)) in
     record { value = ap (λ (n : ℕ). Short n) c.names_length-needed.ensures ∙ sym (ap (λ (r : Renaming). r.answer) q); renamed_nodes_after = sym (ap (λ (r : Renaming). r.nodes) q); renamed_names_after = sym (ap (λ (r : Renaming). r.names) q) }
 
 pub returns-then-renamed_names-needed : goal.returns-then-renamed_names-needed
@@ -20,7 +20,7 @@ returns-then-renamed_names-needed c =
     let a = c.args in
     let ns = a.nodes.now in
     let names = a.names.now in
-    let q = short_names_lem ns names a.renamed-nodes.now a.renamed-names.now (omega (arith, c.if-renamed_names-needed.true, c.names_length-needed.ensures)) in
+    let q = short_names_lem ns names a.renamed_nodes.now a.renamed_names.now (omega (arith, c.if-renamed_names-needed.true, c.names_length-needed.ensures)) in
     record { value = ap (λ (n : ℕ). Short n) c.names_length-needed.ensures ∙ sym (ap (λ (r : Renaming). r.answer) q); renamed_nodes_after = sym (ap (λ (r : Renaming). r.nodes) q); renamed_names_after = sym (ap (λ (r : Renaming). r.names) q) }
 
 pub returns-then-needed-gt-MOST_BYTES : goal.returns-then-needed-gt-MOST_BYTES
@@ -28,7 +28,7 @@ returns-then-needed-gt-MOST_BYTES c =
     let a = c.args in
     let ns = a.nodes.now in
     let names = a.names.now in
-    let q = long_names ns names a.renamed-nodes.now a.renamed-names.now (omega (arith, c.if-needed-gt-MOST_BYTES.true, c.names_length-needed.ensures)) in
+    let q = long_names ns names a.renamed_nodes.now a.renamed_names.now (omega (arith, c.if-needed-gt-MOST_BYTES.true, c.names_length-needed.ensures)) in
     record { value = ap (λ (n : ℕ). Short n) c.names_length-needed.ensures ∙ sym (ap (λ (r : Renaming). r.answer) q); renamed_nodes_after = sym (ap (λ (r : Renaming). r.nodes) q); renamed_names_after = sym (ap (λ (r : Renaming). r.names) q) }
 
 pub write-requires : goal.write-requires
@@ -45,6 +45,6 @@ returns c =
     let ns = a.nodes.now in
     let names = a.names.now in
     let k = c.names_length-needed.ensures in
-    let q = room ns names a.renamed-nodes.now a.renamed-names.now (omega (arith, c.if-renamed_nodes-nodes.false, records_length ns names, c.requires.whole)) (omega (arith, c.if-renamed_names-needed.false, k)) (omega (arith, c.if-needed-gt-MOST_BYTES.false, k)) in
+    let q = room ns names a.renamed_nodes.now a.renamed_names.now (omega (arith, c.if-renamed_nodes-nodes.false, records_length ns names, c.requires.whole)) (omega (arith, c.if-renamed_names-needed.false, k)) (omega (arith, c.if-needed-gt-MOST_BYTES.false, k)) in
     let w = c.write.ensures in
     record { value = ap (λ (n : ℕ). Names n) k ∙ sym (ap (λ (r : Renaming). r.answer) q); renamed_nodes_after = w.0 ∙ sym (ap (λ (r : Renaming). r.nodes) q); renamed_names_after = w.1 ∙ sym (ap (λ (r : Renaming). r.names) q) }
