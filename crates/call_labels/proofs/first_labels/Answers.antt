@@ -29,7 +29,7 @@ enter-entered-requires c =
     record { named = c.requires.named; firsts = v.2; i_bound = omega (arith, v.1) }
 
 pub shape_of-kept-in-Unfit : goal.shape_of-kept-in-Unfit
-shape_of-kept-in-Unfit c = c.enter-entered.auto.1.1.0 ∙ c.loop-i.invariant.4
+shape_of-kept-in-Unfit c = c.enter-entered.auto.kept ∙ c.loop-i.invariant.4
 
 pub returns-in-Unfit : goal.returns-in-Unfit
 returns-in-Unfit c =
@@ -48,7 +48,7 @@ loop-i-preserved c =
     let v = c.loop-i.invariant in
     let i = c.loop-i.i in
     let e = entered_few ns names i _ _ _ c.enter-entered.ensures c.in-Few.is in
-    (omega arith, v.1, e.1, sym (first_on (unfit_at ns names) i (table.count ns) (omega (arith, v.1)) e.0) ∙ v.3, c.enter-entered.auto.1.1.0 ∙ v.4)
+    (omega arith, v.1, e.1, sym (first_on (unfit_at ns names) i (table.count ns) (omega (arith, v.1)) e.0) ∙ v.3, c.enter-entered.auto.kept ∙ v.4)
 
 pub shape_of-kept : goal.shape_of-kept
 shape_of-kept c = c.loop-i.invariant.4
@@ -61,4 +61,4 @@ returns c =
     let v = c.loop-i.invariant in
     let i = c.loop-i.i in
     let q : i ≡ table.count ns = omega (arith, v.0, v.1) in
-    (sym v.3 ∙ first_end (unfit_at ns names) i (table.count ns) (omega arith), subst (λ (k : ℕ). Firsts ns names c.loop-i.auto c.loop-i.size (seen_before ns names k)) q v.2)
+    (sym v.3 ∙ first_end (unfit_at ns names) i (table.count ns) (omega arith), subst (λ (k : ℕ). Firsts ns names c.loop-i.kept c.loop-i.size (seen_before ns names k)) q v.2)
