@@ -1,5 +1,5 @@
 -- Where a part ends within its holder.
-use Prim.Native.Nat.{ℕ, zero, suc, ◌+◌, ◌-◌, ◌≤◌, ◌<◌}
+use Prim.Native.Nat.{ℕ, zero, suc, ◌+◌, ◌≤◌, ◌<◌}
 use Rattle.std.specs.Prelude.{◌≡◌, ◌⊎◌, Bool, ◌&&◌, ◌||◌, eqb}
 use Rattle.std.proofs.Math.Path.{refl, ap, sym, subst}
 use Rattle.std.proofs.Common.{◌∙◌, inl, inr, eq-or-lt_of_le}
@@ -13,19 +13,17 @@ use Rattle.base_common.specs.UptoLaws.{and_left_lem, and_right_lem}
 use Rattle.table_records.specs.Table.{kind_of, parent_of, role_of, count}
 use Rattle.table_records.specs.Kinds as k
 use Rattle.table_records.specs.Roles as role
-use Rattle.table_records.specs.declared.NodeId.{NodeId}
 use Rattle.table_records.specs.declared.Found.{Found}
 use Rattle.table_records.specs.declared.Found.TheVariants.{At, Nothing}
-use Rattle.table_children.specs.Children.{first_node, is_child, next_child, first_child}
-use Rattle.table_children.specs.ChildrenLaws.{node_on, node_stop, Child, found_child}
+use Rattle.table_children.specs.Children.{first_node, is_child, first_child}
+use Rattle.table_children.specs.ChildrenLaws.{node_on, node_stop, found_child}
 use Rattle.code_tree.specs.Parts.{up_of, shape_at, is_part, part_by, parts, order_by, order, entered_by}
 use Rattle.code_tree.specs.PartsLaws.{All, Part, parts_end, parts_turn, parts_all, order_all_lem}
 use Rattle.code_tree.specs.declared.Shape.{Shape}
 use Rattle.code_tree.specs.declared.Shape.TheVariants.{Leaf, Class, If, With, Block, Label, Loop, Switch, Case, Try, Catch}
-use Rattle.code_layout.specs.Widths.{sum, has_role, is_try, in_unit, own_width, own_width_by, width_at}
+use Rattle.code_layout.specs.Widths.{sum, has_role, is_try, own_width, own_width_by, width_at}
 use Rattle.code_layout.specs.Context.{head0, behind, offset_at}
-use Rattle.code_layout.specs.Exact.{open_at}
-use Rattle.code_layout.specs.Shaped.{Good, Held, Two, Three}
+use Rattle.code_layout.specs.Shaped.{Good, Two, Three}
 use Rattle.code_layout.specs.Sums.{In, Row, in_order}
 use Rattle.code_layout.specs.LayoutLaws.{width_is_lem, own_width_on}
 use Rattle.code_layout.specs.ExactLaws.{plain_sum}
@@ -34,7 +32,7 @@ use Rattle.code_targets.specs.Targets.{some}
 use Rattle.code_targets.specs.PositiveLaws.{part_some}
 use Rattle.code_widths.specs.Widths.{counted}
 use Rattle.code_widths.specs.WidthsLaws.{sum_part, sum_other}
-use Rattle.code_contexts.specs.Contexts.{TryParts, Ready}
+use Rattle.code_contexts.specs.Contexts.{Ready}
 
 -- The parts of anything but a Try stand in node order.
 plain_order : (ns : List ℕ) (s : Shape) (ps : List ℕ) → is_try s ≡ false → order_by ns s ps ≡ ps

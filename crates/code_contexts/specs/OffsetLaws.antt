@@ -1,5 +1,5 @@
 -- The offset of a part in numbers: from its holder's offset, and the widths.
-use Rattle.std.specs.Prelude.{ℕ, ◌+◌, ◌-◌, ◌≤◌, ◌<◌, ◌≡◌, refl, List, true, false, get_or}
+use Rattle.std.specs.Prelude.{ℕ, ◌+◌, ◌-◌, ◌≤◌, ◌<◌, ◌≡◌, List, true, false, get_or}
 use Rattle.std.proofs.Common.{ap, sym, ◌∙◌, subst, arith}
 use Rattle.table_records.specs.Table.{role_of, count}
 use Rattle.code_tree.specs.Parts.{up_of, shape_at, parts}

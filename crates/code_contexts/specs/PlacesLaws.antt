@@ -1,5 +1,5 @@
 -- One law for each turn of the loop.
-use Rattle.std.specs.Prelude.{ℕ, zero, suc, ◌+◌, ◌≤◌, ◌<◌, ◌≡◌, refl, ◌⊎◌, List, [], ◌∷◌, Bool, true, false, not, ◌&&◌, eqb, leb, get_or, length, set}
+use Rattle.std.specs.Prelude.{ℕ, zero, suc, ◌+◌, ◌≤◌, ◌<◌, ◌≡◌, refl, ◌⊎◌, List, [], ◌∷◌, Bool, true, false, not, ◌&&◌, eqb, get_or, length, set}
 use Rattle.std.proofs.Common.{ap, ◌∙◌, subst, inl, inr, get_or-set_same, get_or-set_other, eq-or-lt_of_le, arith, le-leb}
 use Rattle.std.proofs.Math.Path.{sym}
 use Rattle.std.proofs.Math.Bool.{cond}
@@ -16,16 +16,16 @@ use Rattle.code_tree.specs.declared.Shape.{Shape}
 use Rattle.code_tree.specs.declared.Shape.TheVariants.{Leaf, Class, If, With, Block, Label, Loop, Switch, Case, Try, Catch}
 use Rattle.code_layout.specs.Widths.{sum, has_role, is_try, in_unit, own_width, width_at}
 use Rattle.code_layout.specs.Context.{behind, offset_at}
-use Rattle.code_layout.specs.Shaped.{Good, Held, Two, Three}
+use Rattle.code_layout.specs.Shaped.{Two, Three}
 use Rattle.code_layout.specs.Sums.{In, in_order}
 use Rattle.code_layout.specs.LayoutLaws.{in_root, in_part, in_above, in_down}
 use Rattle.code_layout.specs.Stands.{in_from, placed}
 use Rattle.code_layout.specs.Made.{offset_root}
-use Rattle.code_targets.specs.Targets.{some, goes_on_by, next_by, target, depth_at}
+use Rattle.code_targets.specs.Targets.{some, goes_on_by, next_by, depth_at}
 use Rattle.code_targets.specs.TargetsLaws.{target_root, depth_root, depth_up, next_self, next_up}
 use Rattle.code_widths.specs.Widths.{Units, counted}
-use Rattle.code_contexts.specs.Contexts.{TryParts, Ready, goes_by, next_of, Follow, Places}
-use Rattle.code_contexts.specs.EndLaws.{end_part, behind_some, is_at, child_part, part_child, try_own, try_places}
+use Rattle.code_contexts.specs.Contexts.{Ready, goes_by, next_of, Follow, Places}
+use Rattle.code_contexts.specs.EndLaws.{end_part, behind_some, is_at, part_child, try_places}
 
 goes_is : (s : Shape) (m r : ℕ) → goes_on_by s m r ≡ goes_by s (some m) r
 goes_is Leaf m r = refl

@@ -1,5 +1,5 @@
 -- What the arrays of the code maker hold: which nodes are the unit's, how wide each is, and how many words stand behind it in its holder.
-use Rattle.std.specs.Prelude.{ℕ, ◌+◌, ◌≤◌, ◌<◌, ◌≡◌, List, true, cond, get_or, length}
+use Rattle.std.specs.Prelude.{ℕ, ◌+◌, ◌≤◌, ◌<◌, ◌≡◌, List, true, cond, get_or}
 use Rattle.table_records.specs.Table.{count}
 use Rattle.code_tree.specs.Parts.{up_of, parts}
 use Rattle.code_layout.specs.Widths.{sum, in_unit, width_at}

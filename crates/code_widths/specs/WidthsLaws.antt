@@ -1,12 +1,12 @@
 -- One law for each turn of the loops; and how wide a node of the unit is at most.
 use Prim.Native.Nat.{ℕ, zero, suc, ◌+◌, ◌-◌, ◌*◌, ◌≤◌, ◌<◌}
-use Rattle.std.specs.Prelude.{◌≡◌, refl, ◌⊎◌, List, [], ◌∷◌, Bool, ◌&&◌, eqb, get_or, length, set}
+use Rattle.std.specs.Prelude.{◌≡◌, refl, ◌⊎◌, List, ◌∷◌, Bool, ◌&&◌, eqb, get_or, length, set}
 use Rattle.std.proofs.Math.Path.{ap, subst}
 use Rattle.std.proofs.Common.{sym, ◌∙◌, inl, inr, length-set, get_or-set_same, get_or-set_other, eq-or-lt_of_le}
 use Rattle.std.proofs.Math.Bool.{true, false, cond}
 use Rattle.std.proofs.Math.Decide.{dec_lt}
 use native.Mathlib.Omega.{arith}
-use borrow.Author.Tests.{eq-eqb, ne_eqb, eqb-true}
+use borrow.Author.Tests.{eq-eqb, eqb-true}
 use Rattle.base_common.specs.Upto.{upto}
 use Rattle.base_common.specs.UptoLaws.{upto_nil, upto_cons}
 use Rattle.base_common.specs.Bools.{never}
@@ -16,7 +16,7 @@ use Rattle.code_tree.specs.Parts.{up_of, shape_at, is_part, parts, order_by, ord
 use Rattle.code_tree.specs.PartsLaws.{Part, parts_end, parts_turn, parts_all}
 use Rattle.code_tree.specs.declared.Shape.{Shape}
 use Rattle.code_tree.specs.declared.Shape.TheVariants.{Leaf, Class, If, With, Block, Label, Loop, Switch, Case, Try, Catch}
-use Rattle.code_layout.specs.Widths.{sum, in_unit, own_width, width_at, number_by, is_try, open_words}
+use Rattle.code_layout.specs.Widths.{sum, in_unit, width_at, number_by, is_try, open_words}
 use Rattle.code_layout.specs.Context.{offset_at}
 use Rattle.code_layout.specs.Exact.{open_at, number_at}
 use Rattle.code_layout.specs.Shaped.{Good, Held}

@@ -1,13 +1,12 @@
 -- What each statement of the tables does, by its shape.
-use Prim.Native.Nat.{ℕ, zero, suc, ◌+◌, ◌≤◌, ◌<◌}
+use Prim.Native.Nat.{ℕ, zero, suc, ◌+◌, ◌<◌}
 use Rattle.std.proofs.Math.Path.{◌≡◌, refl, ap}
-use Rattle.std.proofs.Common.{sym, ◌∙◌, subst, inl, inr, eq-eqb, ne_eqb, eqb-true, lt-ltb, le-ltb}
-use Rattle.std.specs.Prelude.{◌⊎◌, Bool, ◌&&◌, ◌||◌, eqb, ltb, length}
+use Rattle.std.proofs.Common.{sym, ◌∙◌, inl, inr, eq-eqb, ne_eqb, eqb-true}
+use Rattle.std.specs.Prelude.{◌⊎◌, Bool, ◌||◌, eqb, ltb, length}
 use mathlib.Core.List.{List, [], ◌∷◌, ◌++◌, foldr, append-nil}
 use Rattle.std.proofs.Math.Bool.{true, false, cond}
 use Rattle.std.proofs.Math.ListN.{drop}
 use native.Mathlib.Omega.{arith}
-use Rattle.std.proofs.lemmas.Bool.{eqb-false}
 use Rattle.base_walk.specs.Above.{above}
 use Rattle.base_walk.specs.AboveLaws.{above_up}
 use Rattle.table_records.specs.Table.{count, role_of, kind_of}
@@ -17,17 +16,17 @@ use Rattle.table_children.specs.Children.{label_of}
 use Rattle.table_records.specs.declared.Found.{Found}
 use Rattle.table_records.specs.declared.Found.TheVariants.{At, Nothing}
 use Rattle.table_children.specs.Children.{keep}
-use Rattle.route_completion.specs.Tree.{Stmt, Stmts, Cases, if1, if2, if3, block, cons, nil, try_c, try_f}
-use Rattle.route_completion.specs.Sem.{Out, out, elem, breaks, continues, returns, throws, plain, more, normal, ask, pick, is_yes, unbreak, unlabel, loops, comp_of, catching, finally, and_then, exec, execs, exec_from, entry, default_at as defaultPlace, count as countCases}
-use Rattle.code_tree.specs.Labels.{lab_by, lab_at, id_at}
-use Rattle.code_tree.specs.Parts.{up_of, shape_at, shape_by, is_part, parts, with_role, order_by, order}
-use Rattle.code_tree.specs.PartsLaws.{All, Part, parts_turn, parts_all}
+use Rattle.route_completion.specs.Tree.{Stmt, if2, if3, nil, try_c, try_f}
+use Rattle.route_completion.specs.Sem.{out, elem, breaks, continues, returns, throws, plain, more, normal, ask, pick, is_yes, unbreak, unlabel, loops, comp_of, and_then, exec, execs, exec_from, entry, default_at as defaultPlace, count as countCases}
+use Rattle.code_tree.specs.Labels.{lab_by, id_at}
+use Rattle.code_tree.specs.Parts.{up_of, shape_at, shape_by, parts, with_role, order_by, order}
+use Rattle.code_tree.specs.PartsLaws.{All, Part, parts_all}
 use Rattle.code_tree.specs.BoundLaws.{fuel_enough}
 use Rattle.code_tree.specs.ClassLaws.{class_runs}
-use Rattle.code_tree.specs.Statements.{leaf_at, before_at, test_at, default_at, list_of, one_of, if_of, try_of, class_of, cases_of, build, stmt_at, body_of, holder_of, unit_by, unit_of}
+use Rattle.code_tree.specs.Statements.{leaf_at, before_at, test_at, default_at, list_of, one_of, if_of, try_of, cases_of, build, stmt_at, body_of, holder_of, unit_by, unit_of}
 use Rattle.code_tree.specs.declared.Shape.{Shape}
 use Rattle.code_tree.specs.declared.Shape.TheVariants.{Leaf as Single, Class, If, With, Block, Label, Loop, Switch, Case, Try, Catch}
-use Rattle.code_layout.specs.Shaped.{is_one, is_case, is_switch, One, Two, Three, Good}
+use Rattle.code_layout.specs.Shaped.{is_case, is_switch, One, Two, Three, Good}
 use Rattle.route_steps.specs.Statement.{is_labeled, labels_of, statement}
 use Rattle.route_steps.specs.Steps.{head_of, branch_of, from_default, cases_from, role_in, ran_of, caught_by, finally_by}
 

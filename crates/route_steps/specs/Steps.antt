@@ -1,5 +1,5 @@
 -- Which part a statement goes on with.
-use Rattle.std.specs.Prelude.{ℕ, zero, suc, ◌+◌, ◌≡◌, List, [], ◌∷◌, Bool, true, false, cond, eqb, ltb, length, drop}
+use Rattle.std.specs.Prelude.{ℕ, ◌+◌, ◌≡◌, List, [], ◌∷◌, cond, eqb, ltb, length, drop}
 use Rattle.table_records.specs.Table.{role_of}
 use Rattle.table_records.specs.Roles as role
 use Rattle.table_records.specs.declared.Found.{Found}

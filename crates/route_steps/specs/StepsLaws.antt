@@ -1,8 +1,8 @@
 -- Laws of the searches for a part.
-use Rattle.std.specs.Prelude.{ℕ, zero, suc, ◌+◌, ◌≤◌, ◌<◌, ◌≡◌, Bool, true, false, ◌&&◌, ◌||◌, eqb, ltb, length, drop}
+use Rattle.std.specs.Prelude.{ℕ, zero, suc, ◌+◌, ◌≤◌, ◌<◌, ◌≡◌, Bool, true, false, ◌&&◌, eqb, length, drop}
 use Rattle.std.proofs.Math.Path.{refl, ap, sym}
 use Rattle.std.proofs.Common.{◌∙◌, subst, arith, eq-eqb, ne_eqb, eqb-true, lt-ltb, le-ltb}
-use mathlib.Core.List.{List, [], ◌∷◌, foldr}
+use mathlib.Core.List.{List, [], ◌∷◌}
 use Rattle.std.proofs.Math.Bool.{cond}
 use Rattle.std.proofs.Math.Decide.{dec_lt}
 use Rattle.base_common.specs.UptoLaws.{and_left_lem, and_right_lem}
@@ -15,7 +15,7 @@ use Rattle.route_completion.specs.Sem.{is_yes, pick}
 use Rattle.code_tree.specs.Parts.{up_of, is_part, parts, with_role}
 use Rattle.code_tree.specs.PartsLaws.{All, Part, parts_turn, parts_end}
 use Rattle.code_tree.specs.Statements.{default_at}
-use Rattle.route_steps.specs.Steps.{First, part_of, head_of, branch_of, from_default, cases_from, role_in}
+use Rattle.route_steps.specs.Steps.{head_of, branch_of, from_default, cases_from, role_in}
 
 module _ (ns : List ℕ) (p : ℕ) where
   module _ (i : ℕ) (h : i < count ns) (u : ℕ) (q : Bool) (a : u ≡ up_of ns i) (b : q ≡ is_part ns i) (ps : List ℕ) (e : parts ns p i ≡ ps) where

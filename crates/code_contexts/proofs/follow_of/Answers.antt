@@ -6,7 +6,7 @@ use Rattle.code_layout.specs.Widths.{sum}
 use Rattle.code_tree.specs.Parts.{up_of, shape_at, parts}
 use native.Mathlib.Omega.{arith}
 use lib.Dec.{eqb}
-use mathlib.Core.Bool.{true, false, not}
+use mathlib.Core.Bool.{not}
 use mathlib.Core.Path.{◌≡◌, sym, ◌∙◌, ap, subst}
 use Rattle.code_contexts.proofs.follow_of.Goals as goal
 

@@ -2,7 +2,6 @@ use Rattle.code_contexts.specs.PlacesLaws.{try_is}
 use Rattle.code_layout.specs.Widths.{is_try, has_role}
 use Rattle.code_tree.specs.Parts.{shape_at, order}
 use Rattle.table_records.specs.Roles as role
-use borrow.Author.Tests.{not-true, not-false}
 use Prim.Native.Nat.{suc, ◌+◌}
 use native.Mathlib.Omega.{arith}
 use mathlib.Core.Bool.{cond, ◌&&◌}

@@ -7,7 +7,6 @@ use Rattle.table_records.specs.Table.{role_of}
 use Rattle.base_common.specs.Bools.{never}
 use lib.ListN.{get_or}
 use native.Mathlib.Omega.{arith}
-use mathlib.Core.Bool.{true, false}
 use mathlib.Core.Logic.{inl}
 use mathlib.Core.Path.{◌≡◌, refl, sym, ◌∙◌, ap}
 use Rattle.code_contexts.proofs.offset_in_try.Goals as goal

@@ -1,5 +1,5 @@
 use Rattle.code_tree.specs.UpLaws.{step_up, up_step}
-use Rattle.code_tree.specs.Parts.{up_of, entered_by}
+use Rattle.code_tree.specs.Parts.{up_of}
 use Prim.Native.Nat.{◌<◌}
 use native.Mathlib.Omega.{arith}
 use mathlib.Core.Path.{◌≡◌, subst, sym}

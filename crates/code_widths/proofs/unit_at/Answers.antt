@@ -2,9 +2,8 @@ use Rattle.code_widths.specs.WidthsLaws.{unit_low, unit_root_lem, unit_no, unit_
 use Rattle.code_layout.specs.Widths.{in_unit}
 use Rattle.code_tree.specs.Parts.{up_of, is_part}
 use lib.ListN.{get_or}
-use borrow.Author.Tests.{not-true, not-false}
 use native.Mathlib.Omega.{arith}
-use mathlib.Core.Bool.{true, false, cond}
+use mathlib.Core.Bool.{true, cond}
 use mathlib.Core.Path.{◌≡◌, sym, ◌∙◌, ap}
 use Rattle.code_widths.proofs.unit_at.Goals as goal
 
