@@ -29,4 +29,4 @@ returns-in-Few c =
     let names = a.names.now in
     let q = labelled_fit ns names a.renamed_nodes.now a.renamed_names.now (listed_few ns names _ _ _ c.first_labels-found.ensures c.in-Few.is).0 in
     let w = c.write_all.ensures in
-    record { value = w.0 ∙ sym (ap (λ (r : Renaming). r.answer) q); renamed_nodes_after = w.1.0 ∙ sym (ap (λ (r : Renaming). r.nodes) q); renamed_names_after = w.1.1 ∙ sym (ap (λ (r : Renaming). r.names) q) }
+    record { value = w.value ∙ sym (ap (λ (r : Renaming). r.answer) q); renamed_nodes_after = w.renamed_nodes_after ∙ sym (ap (λ (r : Renaming). r.nodes) q); renamed_names_after = w.renamed_names_after ∙ sym (ap (λ (r : Renaming). r.names) q) }

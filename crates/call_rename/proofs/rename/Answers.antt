@@ -19,4 +19,4 @@ returns-in-Passed c =
     let a = c.args in
     let q = input_passed a.source_type a.nodes.now a.scopes.now a.source.now a.names.now a.renamed_nodes.now a.renamed_names.now (sym c.refusal-verdict.ensures ∙ c.in-Passed.is) in
     let w = c.labels.ensures in
-    record { value = w.0 ∙ sym (ap (λ (r : Renaming). r.answer) q); renamed_nodes_after = w.1.0 ∙ sym (ap (λ (r : Renaming). r.nodes) q); renamed_names_after = w.1.1 ∙ sym (ap (λ (r : Renaming). r.names) q) }
+    record { value = w.value ∙ sym (ap (λ (r : Renaming). r.answer) q); renamed_nodes_after = w.renamed_nodes_after ∙ sym (ap (λ (r : Renaming). r.nodes) q); renamed_names_after = w.renamed_names_after ∙ sym (ap (λ (r : Renaming). r.names) q) }

@@ -47,4 +47,4 @@ returns c =
     let k = c.names_length-needed.ensures in
     let q = room ns names a.renamed_nodes.now a.renamed_names.now (omega (arith, c.if-renamed_nodes-nodes.false, records_length ns names, c.requires.whole)) (omega (arith, c.if-renamed_names-needed.false, k)) (omega (arith, c.if-needed-gt-MOST_BYTES.false, k)) in
     let w = c.write.ensures in
-    record { value = ap (λ (n : ℕ). Names n) k ∙ sym (ap (λ (r : Renaming). r.answer) q); renamed_nodes_after = w.0 ∙ sym (ap (λ (r : Renaming). r.nodes) q); renamed_names_after = w.1 ∙ sym (ap (λ (r : Renaming). r.names) q) }
+    record { value = ap (λ (n : ℕ). Names n) k ∙ sym (ap (λ (r : Renaming). r.answer) q); renamed_nodes_after = w.renamed_nodes_after ∙ sym (ap (λ (r : Renaming). r.nodes) q); renamed_names_after = w.renamed_names_after ∙ sym (ap (λ (r : Renaming). r.names) q) }
