@@ -1,7 +1,7 @@
 -- No code is longer than the most.
 use Prim.Native.Nat.{ℕ, zero, suc, ◌+◌, ◌*◌, ◌-◌, ◌≤◌, ◌<◌}
-use Rattle.std.specs.Prelude.{◌≡◌, refl, Bool, ◌&&◌, eqb}
-use Rattle.std.proofs.Common.{subst, sym, ◌∙◌, arith}
+use Rattle.std.specs.Prelude.{◌≡◌, Bool, ◌&&◌, eqb}
+use Rattle.std.proofs.Common.{arith}
 use mathlib.Core.List.{List, foldr}
 use Rattle.std.proofs.Math.Bool.{true, false, cond}
 use Rattle.std.proofs.Math.Decide.{dec_lt}

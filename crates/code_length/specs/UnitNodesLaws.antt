@@ -1,9 +1,9 @@
 -- Whatever a unit can list is one of its nodes in the table.
 use Prim.Native.Nat.{ℕ, zero, suc, ◌+◌, ◌≤◌, ◌<◌}
-use Rattle.std.specs.Prelude.{◌≡◌, ◌⊎◌, Bool, true, false, cond, eqb}
+use Rattle.std.specs.Prelude.{◌≡◌, Bool, true, false, cond, eqb}
 use Rattle.std.proofs.Math.Path.{refl}
 use Rattle.std.proofs.Common.{sym, subst, ◌∙◌, inl, inr, ⊎_elim, eq-or-lt_of_le, arith}
-use mathlib.Core.List.{List, [], ◌∷◌, foldr}
+use mathlib.Core.List.{List, [], ◌∷◌}
 use Rattle.base_common.specs.Bools.{never}
 use Rattle.base_common.specs.Upto.{upto}
 use Rattle.base_common.specs.UptoLaws.{fold_turn}
