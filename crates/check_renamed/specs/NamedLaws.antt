@@ -22,8 +22,9 @@ use Rattle.check_identifiers.specs.Identifiers.{is_strict_word, check_identifier
 use Rattle.check_expressions.specs.Expressions.{if_proto, proto_key, check_object_expression}
 use Rattle.check_class_table.specs.declared.Current.{Current}
 use Rattle.check_class_table.specs.declared.Current.TheVariants.{Class, Outside}
-use Rattle.check_class_table.specs.Classes.{current_class}
+use Rattle.check_class_table.specs.Classes.{current_class, outer_classes}
 use Rattle.check_class_table.specs.Elements.{name_at, has_name_at, element_name, has_name, fixed_name, enters, is_definition, is_private, is_compared, elements, privates, compared, has_private, is_declared}
+use Rattle.check_class_table.specs.ElementsLaws.{any_same}
 use Rattle.check_duplicates.specs.declared.Place.{Place}
 use Rattle.check_duplicates.specs.Duplicates.{side_of, is_earlier, previous_on, previous_of, clashes, clash_code, redeclaration, duplicate_by, duplicates_in, duplicate_elements}
 use Rattle.check_classes.specs.ClassChecks.{is_reference, is_class, references, undeclared_at, undeclared_in, undeclared_by, constructors, constructor_span, first_pair, second_by, check_class}
@@ -188,9 +189,15 @@ module _ (ns names ms mnames : List ℕ) (r : Alike ns names ms mnames) (w : Nam
   duplicates = simp (duplicates_in_lem, checks, r.fields)
 
   -- PRIVATE NAMES AND CONSTRUCTORS
+  has_private_lem : (c : ℕ) (name : List ℕ) → has_private t ns names c name ≡ has_private t ms mnames c name
+  unfolding has_private
+  has_private_lem c name = simp (element_name_lem ns names ms mnames r, its_privates)
+
   declared : (c : ℕ) (name : List ℕ) → is_declared t ns names c name ≡ is_declared t ms mnames c name
-  unfolding is_declared has_private
-  declared c name = simp (element_name_lem ns names ms mnames r, its_privates, checks, r.fields)
+  unfolding is_declared
+  declared c name =
+      any_same (λ d. has_private t ns names d name) (λ d. has_private t ms mnames d name) (λ d. has_private_lem d name) (c ∷ outer_classes ns c)
+      ∙ simp (checks, r.fields)
 
   undeclared_at_lem : (n c m : ℕ) → name_of ns names m ≡ name_of ms mnames m → undeclared_at t ns names n c m ≡ undeclared_at t ms mnames n c m
   unfolding undeclared_at

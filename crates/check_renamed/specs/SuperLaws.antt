@@ -1,9 +1,16 @@
 -- The search of `super`, which asks for no name.
 use Rattle.std.specs.Prelude.{ℕ, ◌≡◌, Bool}
-use Rattle.std.proofs.Math.Path.{refl}
-use mathlib.Core.List.{List, [], ◌∷◌}
+use Rattle.std.proofs.Common.{◌∙◌}
+use Rattle.std.proofs.Math.Path.{refl, ap, fun_ext}
+use Rattle.std.proofs.Math.Bool.{cond}
+use mathlib.Core.List.{List, [], ◌∷◌, foldr}
+use Rattle.base_common.specs.Tests.{within}
+use Rattle.table_records.specs.Table.{kind_of, parent_of, ancestors}
+use Rattle.table_records.specs.Kinds as k
 use Rattle.table_records.specs.declared.Found.{Found}
 use Rattle.table_records.specs.declared.Found.TheVariants.{At, Nothing}
+use Rattle.check_supers.specs.declared.ElementPart.{ElementPart}
+use Rattle.check_supers.specs.declared.ElementPart.TheVariants.{NoElement}
 use Rattle.check_supers.specs.declared.Reach.{Reach}
 use Rattle.check_supers.specs.declared.Reach.TheVariants.{Legal, Illegal, Underived, Fails}
 use Rattle.check_supers.specs.declared.Step.{Step}
@@ -12,10 +19,22 @@ use Rattle.check_supers.specs.Super.{is_value_of, part_of, place_of, dummy_use, 
 use Rattle.table_renamed.specs.RenamedLaws.{Fields}
 use Rattle.table_renamed.specs.TableLaws.{tables}
 
+-- a step of `place_of`
+step_of : List ℕ → ℕ → ElementPart → ElementPart
+step_of l x r = cond (within (kind_of l (parent_of l x)) k.MethodDefinition k.AccessorProperty) (part_of l (parent_of l x) x) r
+
 module _ (ns ms : List ℕ) (a : Fields ns ms) where
+  part_of_lem : (b n : ℕ) → part_of ns b n ≡ part_of ms b n
+  unfolding part_of is_value_of
+  part_of_lem b n = simp (tables, a)
+
+  same_step : step_of ns ≡ step_of ms
+  unfolding step_of
+  same_step = fun_ext (λ x. fun_ext (λ r. simp (part_of_lem, tables, a)))
+
   place_of_lem : (n : ℕ) → place_of ns n ≡ place_of ms n
-  unfolding place_of part_of is_value_of
-  place_of_lem n = simp (tables, a)
+  unfolding place_of step_of
+  place_of_lem n = ap (λ (f : ℕ → ElementPart → ElementPart). foldr f NoElement (n ∷ ancestors ns n)) same_step ∙ simp (tables, a)
 
   dummy : (n : ℕ) (f : Found) → dummy_use ns n f ≡ dummy_use ms n f
   dummy n (At b) = simp (tables, a)
