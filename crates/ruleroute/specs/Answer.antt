@@ -1,6 +1,6 @@
 -- What `ruleroute` answers for the bytes that it reads, and the lines that it prints of that: a line L for each entry of the route and a line Z with its
 -- end, the number of entries and the answers taken, or only R with number and place.
-use Rattle.std.specs.Prelude.{ℕ, List, [], ◌∷◌}
+use Rattle.std.specs.Prelude.{ℕ, List, [], ◌∷◌, ◌++◌, length, take}
 use Rattle.route_viewer.specs.declared.Routed.{Routed}
 use Rattle.route_viewer.specs.declared.Routed.TheVariants as routed
 use Rattle.check_dispatch.specs.Rule.{rule}
@@ -46,3 +46,22 @@ routed_of b room = routed_by (read_route lent answers_room b).answer (read_input
 
 unfoldable pub entries_of : List ℕ → List ℕ → List ℕ
 entries_of b out = entries_by (read_route lent answers_room b).answer (read_input lent b) (read_route lent answers_room b).answers out
+
+-- what is printed: a line for each entry
+unfoldable pub lines_for : List ℕ → List ℕ
+lines_for [] = []
+lines_for (node ∷ nodes) = entry_line node ++ lines_for nodes
+
+-- how many of the numbers in the slice for the route are entries
+abbrev pub listed : Routed → ℕ
+listed (routed.Route end entries taken) = entries
+listed (routed.Refused number place) = 0
+listed (routed.Short needed) = 0
+listed (routed.CodeShort needed) = 0
+
+-- .. and the last line; of an answer and what the slice holds, and for the bytes b
+abbrev pub text_of : Routed → List ℕ → List ℕ
+text_of answer out = lines_for (take (listed answer) out) ++ last_line answer
+
+abbrev pub printed : List ℕ → List ℕ → List ℕ
+printed b out = text_of (routed_of b (length out)) (entries_of b out)

@@ -1,6 +1,6 @@
 -- The answer as the code comes to it, from the slices that were read.
-use Rattle.std.specs.Prelude.{ℕ, zero, suc, ◌<◌, ◌≡◌, refl, List, [], ◌∷◌, length, get_or, take}
-use Rattle.std.proofs.Common.{ap, ◌∙◌, arith}
+use Rattle.std.specs.Prelude.{ℕ, zero, suc, ◌+◌, ◌<◌, ◌≡◌, refl, List, [], ◌∷◌, ◌++◌, length, get_or, take}
+use Rattle.std.proofs.Common.{ap, ◌∙◌, arith, append_assoc, append-nil}
 use Rattle.std.proofs.Math.Path.{sym, subst}
 use Rattle.route_viewer.specs.declared.Routed.{Routed}
 use Rattle.route_viewer.specs.declared.Routed.TheVariants as routed
@@ -17,7 +17,7 @@ use Rattle.line_input.specs.Sizes.{Sized, lines_told, asked_told, part}
 use Rattle.line_input.specs.Whole.{enough, input_whole, route_whole}
 use Rattle.line_print.specs.Print.{line_of}
 use Rattle.line_answers.specs.Answer.{refusal_text}
-use Rattle.ruleroute.specs.Answer.{last_line, answers_room, code_room, routed_by, entries_by, routed_of, entries_of}
+use Rattle.ruleroute.specs.Answer.{entry_line, last_line, lines_for, answers_room, code_room, routed_by, entries_by, routed_of, entries_of}
 
 -- the numbers of a line
 pub number_one : (a : ℕ) → a < 4294967296 → (i : ℕ) → get_or (a ∷ []) i 0 < 4294967296
@@ -81,3 +81,17 @@ routed_whole b room = rw (route_whole lent answers_room b, input_whole lent b)
 pub entries_whole : (b out : List ℕ) → entries_of (take enough b) out ≡ entries_of b out
 unfolding entries_of
 entries_whole b out = rw (route_whole lent answers_room b, input_whole lent b)
+
+-- the lines of no entry, and of one more
+pub lines_none : lines_for [] ≡ []
+unfolding lines_for
+lines_none = refl
+
+lines_more : (xs : List ℕ) (i : ℕ) → i < length xs → lines_for (take i xs) ++ entry_line (get_or xs i 0) ≡ lines_for (take (suc i) xs)
+unfolding lines_for
+lines_more [] i h = absurd (omega arith)
+lines_more (x ∷ xs) zero h = sym (append-nil (entry_line x))
+lines_more (x ∷ xs) (suc i) h = append_assoc (entry_line x) (lines_for (take i xs)) (entry_line (get_or xs i 0)) ∙ ap (λ l. entry_line x ++ l) (lines_more xs i (omega arith))
+
+pub lines_next : (xs : List ℕ) (i : ℕ) → i < length xs → lines_for (take i xs) ++ entry_line (get_or xs i 0) ≡ lines_for (take (i + 1) xs)
+lines_next xs i h = lines_more xs i h ∙ ap (λ k. lines_for (take k xs)) {x = suc i} {y = i + 1} (omega arith)

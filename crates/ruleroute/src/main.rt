@@ -1,12 +1,13 @@
 // ruleroute: reads the lines of a rule's tables, a unit and answers from standard input, and prints the unit's route or the refusal.
 #![tactic(auto)]
 
-ghost use Rattle.std.specs.Prelude.{◌≡◌, ◌≤◌, [], ◌∷◌, length, take};
+ghost use Rattle.std.specs.Prelude.{◌≡◌, ◌≤◌, [], ◌∷◌, ◌++◌, IfSome, OnOk, length, take};
+ghost use Rattle.std.specs.Io.KnownBytes.{Appends};
 ghost use Rattle.base_common.specs.Wrote.{put};
 ghost use Rattle.line_print.specs.Print.{line_of};
 ghost use Rattle.check_dispatch.specs.Rule.{rule};
 ghost use Rattle.call_routes.specs.Calls.{route_answer, route_slice};
-ghost use Rattle.ruleroute.specs.Answer.{entry_line, last_line, answers_room, code_room, routed_of, entries_of};
+ghost use Rattle.ruleroute.specs.Answer.{entry_line, last_line, answers_room, code_room, routed_of, entries_of, lines_for, listed, text_of, printed};
 
 use line_input::{ENOUGH, Route};
 use refusal_verdict::refusals;
@@ -151,6 +152,7 @@ fn respond(input: &[u8], out: &mut [u32]) -> Routed
 // Prints the line of an entry by way of `text`.
 fn print_entry<O: Write>(writer: &mut O, node: u32, text: &mut [u8]) -> io::Result<()>
     requires { length text.old ≡ 256 }
+    ensures { OnOk result (Appends (O.contents writer.old) (O.contents writer.new) (entry_line node)) }
 {
     let end = entry_line(node, text);
     writer.write_all(line_print::front(text, end))
@@ -158,6 +160,7 @@ fn print_entry<O: Write>(writer: &mut O, node: u32, text: &mut [u8]) -> io::Resu
 
 fn print_entries<O: Write>(writer: &mut O, entries: &[u32], text: &mut [u8]) -> io::Result<()>
     requires { length text.old ≡ 256 }
+    ensures { OnOk result (Appends (O.contents writer.old) (O.contents writer.new) (lines_for entries.now)) }
 {
     let mut i: usize = 0;
     while i < entries.len() {
@@ -165,6 +168,18 @@ fn print_entries<O: Write>(writer: &mut O, entries: &[u32], text: &mut [u8]) -> 
         i += 1;
     }
     Ok(())
+}
+
+// How many entries there are to print.
+fn listed(answer: Routed) -> usize
+    ensures { result ≡ listed answer }
+{
+    match answer {
+        Routed::Route(_, entries, _) => entries,
+        Routed::Refused(_, _) => 0,
+        Routed::Short(_) => 0,
+        Routed::CodeShort(_) => 0,
+    }
 }
 
 // Prints the entries of a route, which stand at the front of `out`.
@@ -175,11 +190,9 @@ fn print_route<O: Write>(
     text: &mut [u8],
 ) -> io::Result<()>
     requires { length text.old ≡ 256 }
+    ensures { OnOk result (Appends (O.contents writer.old) (O.contents writer.new) (lines_for (take (listed answer) out.now))) }
 {
-    if let Routed::Route(_, entries, _) = answer {
-        return print_entries(writer, line_print::front_numbers(out, entries), text);
-    }
-    Ok(())
+    print_entries(writer, line_print::front_numbers(out, listed(answer)), text)
 }
 
 // Prints an answer: the lines of the functions above.
@@ -190,21 +203,23 @@ fn print_routed<O: Write>(
     text: &mut [u8],
 ) -> io::Result<()>
     requires { length text.old ≡ 256 }
+    ensures { OnOk result (Appends (O.contents writer.old) (O.contents writer.new) (text_of answer out.now)) }
 {
     print_route(writer, answer, out, text)?;
     let end = last_line(answer, text);
     writer.write_all(line_print::front(text, end))
 }
 
-// Reads, and makes the route of what was read. That nothing which follows the first `ENOUGH` bytes matters is `routed_whole`.
+// Reads, and prints the route of what was read: where the reader's and the writer's bytes are known, what is printed for all that the
+// reader has, also where that is more than `ENOUGH` bytes.
 fn run<I: Read, O: Write>(
     reader: &mut I,
     writer: &mut O,
-    input: &mut [u8],
-    out: &mut [u32],
-    text: &mut [u8],
+    input: &mut [u8; ENOUGH],
+    out: &mut [u32; ROUTE],
+    text: &mut [u8; LINE],
 ) -> io::Result<()>
-    requires { length text.old ≡ 256 }
+    ensures { OnOk result (IfSome (I.remaining reader.old) (λ bytes. Appends (O.contents writer.old) (O.contents writer.new) (printed bytes out.old))) }
 {
     let got = line_stream::read_full(reader, input)?;
     let answer = respond(line_print::front(input, got), out);

@@ -1,0 +1,14 @@
+use Rattle.std.proofs.Common.{length, ◌-◌, ◌≡◌, ◌≤◌, take}
+use Rattle.std.specs.Io.KnownBytes.{Appends}
+use Rattle.ruleroute.specs.Answer.{lines_for}
+use Rattle.ruleroute.proofs.print_entries.Given as goal
+
+-- the lines of the first entries are written
+abbrev pub invariant-loop-i : goal.invariant-loop-i
+invariant-loop-i g l =
+    (l.i ≤ length l.entries)
+    × (length l.text ≡ 256)
+    × Appends (g.O.Write.contents l.initial.writer) (g.O.Write.contents l.writer) (lines_for (take l.i l.entries))
+
+abbrev pub decreases-loop-i : goal.decreases-loop-i
+decreases-loop-i g l = length l.entries - l.i
