@@ -619,7 +619,7 @@ fn sized(
 }
 
 // 1. .. more than 65,535 records (so many Programs are refused for another reason); source or names above 1,048,576 bytes.
-fn most(rt: &impl Print, zeros: &[u32], letters: &[u8]) -> io::Result<()> {
+fn most(rt: &impl Print, zeros: &[u32; 655360], letters: &[u8; 1048577]) -> io::Result<()> {
     sized(rt, "65,535 nodes", zeros, letters, 655350, 3, 0, 0)?;
     sized(rt, "65,536 nodes", zeros, letters, 655360, 3, 0, 0)?;
     sized(rt, "65,535 scopes", zeros, letters, 10, 196605, 0, 0)?;
