@@ -1,12 +1,16 @@
 -- Document 02, request 12: "the tables stay well-formed".
 -- Refusals 1 to 6 and 13 to 15 ask of a name only that it lies within the bytes.
-use Rattle.std.specs.Prelude.{ℕ, ◌+◌, ◌*◌, ◌≤◌, ◌<◌, ◌≡◌, refl, List, false, ltb, length}
+use Rattle.std.specs.Prelude.{ℕ, ◌+◌, ◌-◌, ◌*◌, ◌≤◌, ◌<◌, ◌≡◌, refl, Bool, List, true, false, cond, ◌&&◌, ◌||◌, eqb, ltb, length}
 use Rattle.std.proofs.Common.{sym, ◌∙◌, ⊎_elim, arith}
-use Rattle.std.proofs.Math.Path.{fun_ext}
+use Rattle.std.proofs.Math.Path.{ap, fun_ext}
+use Rattle.std.proofs.Math.Bool.{not}
+use mathlib.Core.List.{◌∷◌, foldr}
 use borrow.Author.Tests.{le-ltb}
 use Rattle.std.proofs.Math.ListN.{get_or-eq_default}
+use Rattle.base_walk.specs.On.{member}
+use Rattle.base_walk.specs.Above.{above}
 use Rattle.base_walk.specs.PreorderLaws.{lt_or_ge}
-use Rattle.table_records.specs.Table.{count, name_start_of, name_len_of}
+use Rattle.table_records.specs.Table.{count, kind_of, parent_of, name_start_of, name_len_of, ancestors, depth_of, scope_node_of, outer}
 use Rattle.table_records.specs.Facts.{Named}
 use Rattle.table_records.specs.declared.Found.{Found}
 use Rattle.table_records.specs.declared.Found.TheVariants.{At, Nothing}
@@ -23,7 +27,7 @@ use Rattle.refusal_input.specs.Input.{tables_or, shape_refusal, input_refusal}
 use Rattle.refusal_input.specs.InputLaws.{input_well_formed}
 use Rattle.table_renamed.specs.Renamed.{Renamed}
 use Rattle.table_renamed.specs.RenamedLaws.{Fields, everywhere}
-use Rattle.table_renamed.specs.TableLaws.{tables}
+use Rattle.table_renamed.specs.TableLaws.{parent, parents, tables}
 use Rattle.check_renamed.specs.SuperLaws.{reach}
 
 module _ (ns ms : List ℕ) (a : Fields ns ms) where
@@ -31,13 +35,26 @@ module _ (ns ms : List ℕ) (a : Fields ns ms) where
   unfolding unlisted_at
   unlisted t = fun_ext (λ i. simp (tables, a))
 
+  on_walk : (i : ℕ) → member (parent_of ns i) ((i - 1) ∷ ancestors ns (i - 1)) ≡ member (parent_of ms i) ((i - 1) ∷ ancestors ms (i - 1))
+  on_walk i =
+      ap (λ (x : ℕ). member x ((i - 1) ∷ ancestors ns (i - 1))) (parent ns ms a i)
+      ∙ ap (λ (f : ℕ → ℕ). member (parent_of ms i) ((i - 1) ∷ above f (i - 1))) (parents ns ms a)
+
   misplaced : misplaced_at ns ≡ misplaced_at ms
   unfolding misplaced_at
-  misplaced = fun_ext (λ i. simp (tables, a))
+  misplaced =
+      fun_ext
+      (λ i.
+      ap (λ (b : Bool). cond (eqb i 0) (not (eqb (kind_of ns i) 0) || not (eqb (parent_of ns i) 0)) (eqb (kind_of ns i) 0 || (not b || ltb 512 (depth_of ns i)))) (on_walk i)
+      ∙ simp (tables, a))
+
+  chain : (ss : List ℕ) (s i : ℕ) → chain_on ns ss s i ≡ chain_on ms ss s i
+  unfolding chain_on
+  chain ss s i = ap (λ (f : ℕ → ℕ). foldr (λ t r. member (scope_node_of ss t) (i ∷ above f i) && r) true (s ∷ outer ss s)) (parents ns ms a)
 
   misscoped : (ss : List ℕ) → misscoped_at ns ss ≡ misscoped_at ms ss
-  unfolding misscoped_at chain_on
-  misscoped ss = fun_ext (λ i. simp (tables, a))
+  unfolding misscoped_at
+  misscoped ss = fun_ext (λ i. simp (chain, tables, a))
 
   misplaced_child : misplaced_child_at ns ≡ misplaced_child_at ms
   unfolding misplaced_child_at
