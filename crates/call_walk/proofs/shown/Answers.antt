@@ -18,8 +18,7 @@ returns-then-out-counted c = let a = c.args in
 pub returns : goal.returns
 returns c = let a = c.args in
     let w = route (unit_of a.nodes.now a.names.now a.u.0) a.answers.now in
-    let g = c.well_formed.1.1.1.1.0 in
-    let small : length a.out.now < most = omega (arith, g) in
+    let small : length a.out.now < most = omega arith in
     let p = c.walk_unit-counted.ensures.counts in
     let l = c.if-out-counted.false in
     let d = c.walk_unit-walked.ensures in
