@@ -1,0 +1,6 @@
+-- `ruleroute::routed` meets its contract.
+use Rattle.ruleroute.specs.AnswerLaws.{fronted}
+use Rattle.ruleroute.proofs.routed.Goals as goal
+
+pub returns : goal.returns
+returns c = fronted _ _ _ _ _ _ _ _ _ _ _ _ _ _ _ _ _ c.front_numbers.ensures c.front_numbers-2.ensures c.front.ensures c.front-2.ensures c.front_numbers-3.ensures c.requires c.route.ensures.value c.route.ensures.out_after
