@@ -6,12 +6,15 @@ source "$(dirname "$0")/lib.bash" || exit 1
 
 # rt lays out a copy, and nothing of it changes
 laid_out() {
-    local copy status
+    local copy status=1
     copy=$(mktemp -d)
     cp -r --parents crates.txt crates/*/{src,specs,proofs} "$copy" 2>/dev/null
-    find "$copy"/crates -mindepth 1 -maxdepth 1 -print0 | xargs -0 -P "$(nproc)" -I '{}' sh -c 'cd "{}" && rt fmt' >"$copy/said" 2>&1 || cat "$copy/said"
-    ! grep '^rt: formatted' "$copy/said" && diff -rq -x out -x must-fail -x stdin -x stdout crates "$copy/crates"
-    status=$?
+    if find "$copy"/crates -mindepth 1 -maxdepth 1 -print0 | xargs -0 -P "$(nproc)" -I '{}' sh -c 'cd "{}" && rt fmt' >"$copy/said" 2>&1; then
+        ! grep '^rt: formatted' "$copy/said" && diff -rq -x out -x must-fail -x stdin -x stdout crates "$copy/crates"
+        status=$?
+    else
+        tail -n 20 "$copy/said"
+    fi
     rm -rf "$copy"
     return $status
 }
