@@ -25,7 +25,7 @@ const NODES: usize = 1024;
 const UNIT_NUMBER: usize = 8;
 
 const MOST_NUMBER: usize = 10;
-// Room for the code of every unit, so that 11 is never given (`Code-fits`), and for the route.
+// Room for the code of every unit, so that 11 is never given (`code_fits`), and for the route.
 const CODE: usize = UNIT_NUMBER + MOST_NUMBER * (NODES - 1);
 
 const ROUTE: usize = 655360;
