@@ -1,13 +1,6 @@
 pub mod Reserved
 pub mod Short
-pub mod ShortLaws
 pub mod Order
-pub mod OrderLaws
 pub mod Written
 pub mod Unfit
-pub mod UnfitLaws
 pub mod Firsts
-pub mod FirstsLaws
-pub mod WrittenLaws
-pub mod TwiceLaws
-pub mod WriteLaws

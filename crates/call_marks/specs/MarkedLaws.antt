@@ -3,11 +3,11 @@ use Rattle.std.specs.Prelude.{ℕ, ◌≤◌, ◌<◌, ◌≡◌, refl, List, Bo
 use Rattle.std.proofs.Math.Path.{sym}
 use Rattle.std.proofs.Common.{◌∙◌, ap, arith, ltb-true, le-leb}
 use Rattle.std.proofs.lemmas.Bool.{lt-leb}
-use Rattle.base_common.specs.UptoLaws.{and_left_lem}
+use Rattle.base_common.proofs.UptoLaws.{and_left_lem}
 use Rattle.refusal_verdict.specs.Refusals as refusal
 use Rattle.refusal_verdict.specs.declared.Verdict.{Verdict}
 use Rattle.refusal_verdict.specs.declared.Verdict.TheVariants.{Refused, Passed}
-use Rattle.refusal_verdict.specs.VerdictLaws.{no_pass}
+use Rattle.refusal_verdict.proofs.VerdictLaws.{no_pass}
 use Rattle.refusal_state.specs.Targets.{refused_or}
 use Rattle.check_dispatch.specs.Rule.{Rule}
 use Rattle.code_flat.specs.Machine.{Res}
@@ -21,7 +21,7 @@ use Rattle.route_viewer.specs.Shown.{shown_answer, shown_slice}
 use Rattle.route_viewer.specs.declared.Routed.TheVariants as routed
 use Rattle.route_marks.specs.Marks.{marks, first_of, is_set}
 use Rattle.route_marks.specs.Taken.{Ready, stop_of, marks_shown}
-use Rattle.route_marks.specs.TakenLaws.{none_set}
+use Rattle.route_marks.proofs.TakenLaws.{none_set}
 use Rattle.route_marks.specs.declared.Begin.{Begin}
 use Rattle.route_marks.specs.declared.Begin.TheVariants.{Start, Mark}
 use Rattle.call_routes.specs.Calls.{code_refusal, unless, if_room}

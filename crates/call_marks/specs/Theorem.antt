@@ -21,7 +21,7 @@ use Rattle.route_viewer.specs.declared.Routed.TheVariants as routed
 use Rattle.code_flat.specs.Machine.{room, Pos, pos}
 use Rattle.code_flat.specs.Runs.{Ends, run_ends}
 use Rattle.code_tree.specs.Statements.{unit_of}
-use Rattle.code_tree.specs.RoomLaws.{unit_room_lem}
+use Rattle.code_tree.proofs.RoomLaws.{unit_room_lem}
 use Rattle.code_length.specs.Length.{code_length}
 use Rattle.code_marks.specs.Stop.{Stop, held, over, after, stops, stopped, taken_up, Call, goes_on, calls, so_far}
 use Rattle.code_marks.specs.StopLaws.{finished, stopped_law}
@@ -29,7 +29,7 @@ use Rattle.code_marks.specs.Claims.{marked, marked_route, mark_kept}
 use Rattle.code_machine.specs.Halted.{stopped_end, route_to}
 use Rattle.route_marks.specs.Marks.{marks, is_set, place_of, mark_at}
 use Rattle.route_marks.specs.Taken.{stop_of, gone_on, marks_after, marks_shown}
-use Rattle.route_marks.specs.BeginsLaws.{begins_is}
+use Rattle.route_marks.proofs.BeginsLaws.{begins_is}
 use Rattle.route_marks.specs.declared.Begin.{Begin}
 use Rattle.route_marks.specs.declared.Begin.TheVariants.{Start, Mark}
 use Rattle.call_routes.specs.Calls.{code_refusal, unless}

@@ -1,4 +1,2 @@
 pub mod Rename
 pub mod Sized
-pub mod RenameLaws
-pub mod TwiceLaws

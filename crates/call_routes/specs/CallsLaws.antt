@@ -6,7 +6,7 @@ use Rattle.std.proofs.Math.Bool.{true, false, cond}
 use borrow.Author.Tests.{leb-true, leb-false, le-leb, lt-leb}
 use Rattle.std.proofs.Math.Dec.{leb}
 use Rattle.std.proofs.Math.ListN.{length}
-use Rattle.base_common.specs.UptoLaws.{and_right_lem}
+use Rattle.base_common.proofs.UptoLaws.{and_right_lem}
 use Rattle.table_records.specs.Table.{kind_of, count}
 use Rattle.table_records.specs.Kinds as k
 use Rattle.table_records.specs.Facts.{Tree}
@@ -14,7 +14,7 @@ use Rattle.refusal_verdict.specs.declared.Verdict.{Verdict}
 use Rattle.refusal_verdict.specs.declared.Verdict.TheVariants.{Refused, Passed}
 use Rattle.refusal_input.specs.WellFormed.{WellFormed}
 use Rattle.refusal_input.specs.Input.{input_refusal}
-use Rattle.refusal_input.specs.InputLaws.{input_well_formed}
+use Rattle.refusal_input.proofs.InputLaws.{input_well_formed}
 use Rattle.route_completion.specs.Tree.{Stmts}
 use Rattle.route_completion.specs.Route.{route}
 use Rattle.code_flat.specs.Code.{unit}
@@ -22,10 +22,10 @@ use Rattle.code_flat.specs.Machine.{code_route}
 use Rattle.code_flat.specs.Claims.{claims}
 use Rattle.route_list.specs.Over.{over}
 use Rattle.code_tree.specs.Statements.{unit_of}
-use Rattle.code_tree.specs.RoomLaws.{unit_room_lem}
+use Rattle.code_tree.proofs.RoomLaws.{unit_room_lem}
 use Rattle.code_wellformed.specs.Holder.{holder_ready}
 use Rattle.code_length.specs.Length.{code_length}
-use Rattle.code_length.specs.LengthLaws.{code_length_lem}
+use Rattle.code_length.proofs.LengthLaws.{code_length_lem}
 use Rattle.code_assemble.specs.declared.Assembled.TheVariants.{Code, Short}
 use Rattle.code_assemble.specs.Assembled.{assembled, assembled_slice}
 use Rattle.code_assemble.specs.Ready.{Ready}
@@ -34,7 +34,7 @@ use Rattle.route_viewer.specs.declared.Routed.TheVariants as routed
 use Rattle.check_jumps.specs.Jumps.{is_unit}
 use Rattle.check_dispatch.specs.Rule.{rule}
 use Rattle.refusal_state.specs.Targets.{refused_or, state_answer}
-use Rattle.refusal_state.specs.TargetsLaws.{Sound, state_passed}
+use Rattle.refusal_state.proofs.TargetsLaws.{Sound, state_passed}
 use Rattle.call_routes.specs.declared.Coded.TheVariants as coded
 use Rattle.call_routes.specs.Calls.{code_refusal, unless}
 use Rattle.call_routes.specs.Made.{coded_by, made_answer, made_slice}

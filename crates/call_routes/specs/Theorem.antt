@@ -5,28 +5,28 @@ use Rattle.std.proofs.Common.{sym, subst}
 use Rattle.table_records.specs.Table.{kind_of}
 use Rattle.refusal_verdict.specs.declared.Verdict.TheVariants.{Passed}
 use Rattle.refusal_input.specs.Input.{input_refusal}
-use Rattle.refusal_input.specs.InputLaws.{input_well_formed}
+use Rattle.refusal_input.proofs.InputLaws.{input_well_formed}
 use Rattle.route_completion.specs.Sem.{execs}
 use Rattle.route_completion.specs.Route.{route, parts, AllOnce}
 use Rattle.route_completion.specs.Entries.{Each}
-use Rattle.route_completion.specs.EntriesLaws.{execs_each}
+use Rattle.route_completion.proofs.EntriesLaws.{execs_each}
 use Rattle.code_flat.specs.Code.{unit}
 use Rattle.code_flat.specs.Machine.{started, code_route}
 use Rattle.code_flat.specs.Own.{s_unit, total, shapes_all}
 use Rattle.code_flat.specs.Claims.{claims}
 use Rattle.code_tree.specs.Statements.{unit_of}
-use Rattle.code_tree.specs.RoomLaws.{unit_room_lem}
+use Rattle.code_tree.proofs.RoomLaws.{unit_room_lem}
 use Rattle.code_length.specs.Length.{code_length}
-use Rattle.code_length.specs.LengthLaws.{code_length_lem}
-use Rattle.code_once.specs.Once.{unit_once}
+use Rattle.code_length.proofs.LengthLaws.{code_length_lem}
+use Rattle.code_once.proofs.Once.{unit_once}
 use Rattle.code_wellformed.specs.Parts.{good}
 use Rattle.code_wellformed.specs.Holder.{holder_in_lem}
 use Rattle.code_jump_scope.specs.UnitScoped.{Targeted, unit_scoped}
 use Rattle.code_entries.specs.Asking.{ByKind}
-use Rattle.code_entries.specs.AskingLaws.{unit_by_kind}
+use Rattle.code_entries.proofs.AskingLaws.{unit_by_kind}
 use Rattle.check_dispatch.specs.Rule.{rule}
 use Rattle.refusal_state.specs.Targets.{state_answer}
-use Rattle.refusal_state.specs.TargetsLaws.{state_passed, targets_found}
+use Rattle.refusal_state.proofs.TargetsLaws.{state_passed, targets_found}
 use Rattle.call_routes.specs.CallsLaws.{unit_kind_lem}
 
 -- What holds of the unit u and the answers.

@@ -1,3 +1,2 @@
 pub mod Shared
-pub mod SharedLaws
 pub mod Theorem

@@ -9,14 +9,14 @@ use Rattle.code_flat.specs.Machine.{code_route}
 use Rattle.table_records.specs.Table.{kind_of}
 use Rattle.refusal_verdict.specs.declared.Verdict.TheVariants.{Passed}
 use Rattle.refusal_input.specs.Input.{input_refusal}
-use Rattle.refusal_input.specs.InputLaws.{input_well_formed}
+use Rattle.refusal_input.proofs.InputLaws.{input_well_formed}
 use Rattle.refusal_state.specs.Targets.{state_answer}
-use Rattle.refusal_state.specs.TargetsLaws.{state_passed}
+use Rattle.refusal_state.proofs.TargetsLaws.{state_passed}
 use Rattle.check_dispatch.specs.Rule.{rule}
 use Rattle.route_completion.specs.Sem.{execs}
 use Rattle.route_completion.specs.Route.{node_of, route}
-use Rattle.route_completion.specs.Parts.{parts_once}
-use Rattle.route_completion.specs.EntriesLaws.{execs_each}
+use Rattle.route_completion.proofs.Parts.{parts_once}
+use Rattle.route_completion.proofs.EntriesLaws.{execs_each}
 use Rattle.route_laws.specs.Changed.{OneChanged}
 use Rattle.route_laws.specs.Inside.{In}
 use Rattle.route_laws.specs.Fits.{entries_fit}
@@ -25,8 +25,8 @@ use Rattle.route_laws.specs.SharedLaws.{longest}
 use Rattle.route_laws.specs.Claims.{Compared, ComparedRuns, Short, changed_route, changed_code}
 use Rattle.code_tree.specs.Statements.{unit_of}
 use Rattle.code_length.specs.UnitNodes.{unit_nodes}
-use Rattle.code_length.specs.UnitNodesLaws.{unit_nodes_lem}
-use Rattle.code_once.specs.Once.{unit_once}
+use Rattle.code_length.proofs.UnitNodesLaws.{unit_nodes_lem}
+use Rattle.code_once.proofs.Once.{unit_once}
 use Rattle.code_wellformed.specs.Parts.{good}
 use Rattle.code_wellformed.specs.Holder.{holder_in_lem}
 use Rattle.call_routes.specs.CallsLaws.{unit_kind_lem}

@@ -1,3 +1,2 @@
 pub mod Walked
-pub mod WalkedLaws
 pub mod Theorem

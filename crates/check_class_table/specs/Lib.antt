@@ -1,4 +1,2 @@
 pub mod Classes
 pub mod Elements
-pub mod ClassesLaws
-pub mod ElementsLaws

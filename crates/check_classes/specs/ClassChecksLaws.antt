@@ -7,28 +7,28 @@ use Rattle.std.proofs.Math.Bool.{true, false}
 use native.Mathlib.Omega.{arith}
 use Rattle.std.proofs.Math.ListN.{length-append}
 use Rattle.base_common.specs.Upto.{upto}
-use Rattle.base_common.specs.UptoLaws.{and_left_lem, and_right_lem}
+use Rattle.base_common.proofs.UptoLaws.{and_left_lem, and_right_lem}
 use Rattle.base_common.specs.Tests.{within}
 use Rattle.base_walk.specs.On.{on}
-use Rattle.base_walk.specs.PreorderLaws.{interval, leaves, no_child}
+use Rattle.base_walk.proofs.PreorderLaws.{interval, leaves, no_child}
 use Rattle.table_records.specs.Table.{count, kind_of, parent_of}
 use Rattle.table_records.specs.Facts.{Tree}
 use Rattle.table_records.specs.Kinds as k
 use Rattle.table_records.specs.declared.Found.{Found}
 use Rattle.table_records.specs.declared.Found.TheVariants.{At, Nothing}
 use Rattle.table_children.specs.Children.{keep, children, first_node}
-use Rattle.table_children.specs.ChildrenLaws.{keep_keep, no_node}
+use Rattle.table_children.proofs.ChildrenLaws.{keep_keep, no_node}
 use Rattle.check_diagnostics.specs.declared.Finding.{Finding}
 use Rattle.check_diagnostics.specs.declared.Raised.{Raised}
 use Rattle.check_diagnostics.specs.declared.Raised.TheVariants.{Clear}
 use Rattle.check_diagnostics.specs.Finding.{listed, sink}
-use Rattle.check_diagnostics.specs.FindingLaws.{sink_append}
+use Rattle.check_diagnostics.proofs.FindingLaws.{sink_append}
 use Rattle.check_class_table.specs.declared.Current.{Current}
 use Rattle.check_class_table.specs.declared.Current.TheVariants.{Class, Outside}
 use Rattle.check_class_table.specs.Classes.{class_at, body_above, current_class}
-use Rattle.check_class_table.specs.ClassesLaws.{over, class_found}
+use Rattle.check_class_table.proofs.ClassesLaws.{over, class_found}
 use Rattle.check_class_table.specs.Elements.{is_constructor, has_body}
-use Rattle.check_diagnostics.specs.Gather.{flat_turn, flat_end, flat_none, flat_keep, flat_same_lem, listed_cond, kept_first_lem, kept_none}
+use Rattle.check_diagnostics.proofs.Gather.{flat_turn, flat_end, flat_none, flat_keep, flat_same_lem, listed_cond, kept_first_lem, kept_none}
 use Rattle.check_classes.specs.ClassChecks.{is_class, is_reference, references, undeclared_at, undeclared_in, constructors, first_pair, private_undeclared, require_class_name, second_constructor, check_class}
 
 -- node m is a private reference of class c

@@ -7,8 +7,8 @@ use Rattle.std.proofs.Math.Bool.{true, false, cond, xor}
 use borrow.Author.Tests.{ltb-true, lt-ltb, le-ltb}
 use Rattle.std.proofs.Math.Dec.{eqb}
 use Rattle.base_common.specs.Upto.{upto}
-use Rattle.base_common.specs.UptoLaws.{upto_nil, upto_cons, and_left_lem}
-use Rattle.base_walk.specs.PreorderLaws.{lt_or_ge}
+use Rattle.base_common.proofs.UptoLaws.{upto_nil, upto_cons, and_left_lem}
+use Rattle.base_walk.proofs.PreorderLaws.{lt_or_ge}
 use Rattle.table_records.specs.Table.{count, parent_of}
 use Rattle.table_records.specs.Facts.{Tree}
 use Rattle.table_names.specs.Name.{same}
@@ -19,8 +19,8 @@ use Rattle.check_diagnostics.specs.declared.Raised.TheVariants.{Clear}
 use Rattle.check_diagnostics.specs.Finding.{listed}
 use Rattle.check_class_table.specs.Classes.{classes_of, is_class_body}
 use Rattle.check_class_table.specs.Elements.{element_name, is_definition, is_private, is_setter, is_keyed, enters, elements, is_definition_in, is_named, is_compared_element}
-use Rattle.check_class_table.specs.ElementsLaws.{elements_scan, compared_scan, compared_out}
-use Rattle.check_diagnostics.specs.Gather.{flat_turn, flat_end, flat_none, flat_keep, flat_same_lem, listed_cond}
+use Rattle.check_class_table.proofs.ElementsLaws.{elements_scan, compared_scan, compared_out}
+use Rattle.check_diagnostics.proofs.Gather.{flat_turn, flat_end, flat_none, flat_keep, flat_same_lem, listed_cond}
 use Rattle.check_duplicates.specs.declared.Place.{Place}
 use Rattle.check_duplicates.specs.Duplicates.{nowhere, here, step, last_of, side_of, is_earlier, previous_on, or_else, previous_of, clashes, redeclaration, duplicate_by, duplicate_at, duplicates_in, duplicate_elements}
 

@@ -14,14 +14,14 @@ use Rattle.table_records.specs.Kinds as k
 use Rattle.table_records.specs.declared.Found.{Found}
 use Rattle.table_records.specs.declared.Found.TheVariants.{At, Nothing}
 use Rattle.table_children.specs.Children.{keep, is_child, inner_of, next_child, below}
-use Rattle.table_children.specs.ChildrenLaws.{found_child}
-use Rattle.table_ancestry.specs.AncestryLaws.{ancestors_up, ancestors_root}
+use Rattle.table_children.proofs.ChildrenLaws.{found_child}
+use Rattle.table_ancestry.proofs.AncestryLaws.{ancestors_up, ancestors_root}
 use Rattle.check_diagnostics.specs.Finding.{listed, error_between}
 use Rattle.check_diagnostics.specs.Codes as code
 use Rattle.check_diagnostics.specs.declared.Finding.{Finding}
 use Rattle.check_diagnostics.specs.declared.Raised.{Raised}
 use Rattle.check_diagnostics.specs.declared.Raised.TheVariants.{Clear}
-use Rattle.check_diagnostics.specs.Gather.{kept_first_lem, kept_none}
+use Rattle.check_diagnostics.proofs.Gather.{kept_first_lem, kept_none}
 use Rattle.check_expressions.specs.Expressions.{proto_key, to_list, repeats_after, repeats, check_object_expression, is_parenthesis, inside, stripped, inner_expression, is_parameter, in_formal_parameters}
 
 -- the search for a parameter: a is the parent of i

@@ -1,5 +1,1 @@
 pub mod Unreserved
-pub mod CheckLaws
-pub mod SuperLaws
-pub mod NamedLaws
-pub mod FindingsLaws

@@ -1,2 +1,1 @@
 pub mod Super
-pub mod SuperLaws

@@ -1,4 +1,1 @@
 pub mod Branch
-pub mod BranchLaws
-pub mod NextLaws
-pub mod JumpLaws

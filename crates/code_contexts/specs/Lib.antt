@@ -1,4 +1,1 @@
 pub mod Contexts
-pub mod EndLaws
-pub mod PlacesLaws
-pub mod OffsetLaws

@@ -7,7 +7,7 @@ use Rattle.route_completion.specs.Sem.{Comp, normal, breaks, continues, returns,
 use Rattle.route_completion.specs.Route.{end_of, route_of, route, ScopedAll, top_scope, Once, nodes_of_all, parts, AllOnce}
 use Rattle.route_completion.specs.Taken.{execs_takes}
 use Rattle.route_completion.specs.Scope.{scoped_end}
-use Rattle.route_completion.specs.Parts.{parts_once}
+use Rattle.route_completion.proofs.Parts.{parts_once}
 use Rattle.code_flat.specs.Code.{unit, sizes, RoomAll}
 use Rattle.code_flat.specs.Machine.{run, room, started, code_route, result}
 use Rattle.code_flat.specs.Meet.{meet}

@@ -11,6 +11,4 @@ pub mod Correct
 pub mod Meet
 pub mod Sum
 pub mod Room
-pub mod Examples
 pub mod Leg
-pub mod LegLaws

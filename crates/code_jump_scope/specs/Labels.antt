@@ -5,7 +5,7 @@ use Rattle.std.proofs.Common.{subst, ◌∙◌, inl, inr}
 use Rattle.std.proofs.Math.Bool.{true, false}
 use native.Mathlib.Omega.{arith}
 use borrow.Author.Tests.{eq-eqb, ne_eqb}
-use Rattle.base_common.specs.Bools.{never, range_of}
+use Rattle.base_common.proofs.Bools.{never, range_of}
 use Rattle.table_records.specs.Table.{kind_of, parent_of, role_of, count}
 use Rattle.table_records.specs.Kinds as k
 use Rattle.table_records.specs.Roles as role
@@ -13,15 +13,15 @@ use Rattle.table_records.specs.declared.Found.{Found}
 use Rattle.table_records.specs.declared.Found.TheVariants.{At, Nothing}
 use Rattle.table_names.specs.Name.{same_name}
 use Rattle.table_children.specs.Children.{label_of, held_of}
-use Rattle.table_children.specs.ChildrenLaws.{found_child}
+use Rattle.table_children.proofs.ChildrenLaws.{found_child}
 use Rattle.table_ancestry.specs.Ancestry.{is_at}
 use Rattle.check_jumps.specs.Jumps.{is_iteration, when_found, same_label, labeled_item}
-use Rattle.check_jumps.specs.JumpsLaws.{item_here, item_none, item_down}
+use Rattle.check_jumps.proofs.JumpsLaws.{item_here, item_none, item_down}
 use Rattle.refusal_standing.specs.Standing.{Placed}
 use Rattle.code_tree.specs.Labels.{name_id, id_at}
-use Rattle.code_tree.specs.LabelLaws.{named_as, id_test}
+use Rattle.code_tree.proofs.LabelLaws.{named_as, id_test}
 use Rattle.code_tree.specs.Parts.{entered_by, up_of, shape_by, shape_at, is_part, part_by}
-use Rattle.code_tree.specs.PartsLaws.{Part}
+use Rattle.code_tree.proofs.PartsLaws.{Part}
 use Rattle.code_tree.specs.declared.Shape.{Shape}
 use Rattle.code_tree.specs.declared.Shape.TheVariants.{Leaf as Single, Class, If, With, Block, Label, Loop, Switch, Case, Try, Catch}
 use Rattle.code_layout.specs.Shaped.{is_one, Good}

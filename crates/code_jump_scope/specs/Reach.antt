@@ -6,16 +6,16 @@ use Rattle.std.proofs.Math.Logic.{⊎_elim}
 use Rattle.std.proofs.Math.Bool.{true, false, cond}
 use native.Mathlib.Omega.{arith}
 use Rattle.std.proofs.lemmas.Bool.{eqb-false}
-use Rattle.base_common.specs.Bools.{never, either}
+use Rattle.base_common.proofs.Bools.{never, either}
 use Rattle.table_records.specs.Table.{kind_of, parent_of, count}
 use Rattle.table_records.specs.Kinds as k
 use Rattle.table_records.specs.Roles as role
 use Rattle.table_records.specs.declared.Found.{Found}
 use Rattle.table_records.specs.declared.Found.TheVariants.{At, Nothing}
 use Rattle.table_children.specs.Children.{label_of}
-use Rattle.table_children.specs.ChildrenLaws.{found_child}
+use Rattle.table_children.proofs.ChildrenLaws.{found_child}
 use Rattle.table_ancestry.specs.Ancestry.{is_at}
-use Rattle.table_ancestry.specs.AncestryLaws.{ancestors_up}
+use Rattle.table_ancestry.proofs.AncestryLaws.{ancestors_up}
 use Rattle.check_jumps.specs.Jumps.{is_unit, is_iteration, is_breakable, when_found, same_label, labeled_item}
 use Rattle.route_completion.specs.Tree.{near, named}
 use Rattle.route_completion.specs.Sem.{Comp, normal, breaks, continues, returns, throws, pick, elem, no_break}

@@ -3,16 +3,16 @@ use Rattle.std.specs.Prelude.{ℕ, zero, suc, ◌≤◌, ◌<◌, ◌≡◌, Boo
 use Rattle.std.proofs.Common.{ap, sym, subst, ◌∙◌, ⊎_elim, eq-or-lt_of_le, arith, le-leb}
 use mathlib.Core.List.{List, [], ◌∷◌, foldr}
 use Rattle.std.proofs.lemmas.Bool.{lt-leb}
-use Rattle.base_common.specs.Bools.{never}
+use Rattle.base_common.proofs.Bools.{never}
 use Rattle.base_walk.specs.Above.{Falls, above}
-use Rattle.base_walk.specs.AboveLaws.{fold_up}
-use Rattle.base_walk.specs.PreorderLaws.{lt_or_ge}
+use Rattle.base_walk.proofs.AboveLaws.{fold_up}
+use Rattle.base_walk.proofs.PreorderLaws.{lt_or_ge}
 use Rattle.table_records.specs.Table.{count}
 use Rattle.route_completion.specs.Sem.{Comp, no_break}
 use Rattle.route_completion.specs.Route.{top_scope, loop_scope, label_scope}
 use Rattle.code_tree.specs.Labels.{id_at}
 use Rattle.code_tree.specs.Parts.{up_of, shape_at}
-use Rattle.code_tree.specs.PartsLaws.{Part}
+use Rattle.code_tree.proofs.PartsLaws.{Part}
 use Rattle.code_tree.specs.declared.Shape.{Shape}
 use Rattle.code_tree.specs.declared.Shape.TheVariants.{Leaf as Single, Class, If, With, Block, Label, Loop, Switch, Case, Try, Catch}
 use Rattle.code_layout.specs.Widths.{in_unit}

@@ -6,7 +6,7 @@ use Rattle.std.proofs.Math.Path.{refl, ap}
 use Rattle.std.proofs.Common.{sym, subst, ◌∙◌, inl, inr, ⊎_elim, arith, eqb-true}
 use mathlib.Core.List.{List, [], ◌∷◌}
 use Rattle.std.proofs.Math.Bool.{true, false}
-use Rattle.base_common.specs.Bools.{range_of}
+use Rattle.base_common.proofs.Bools.{range_of}
 use Rattle.table_records.specs.Table.{kind_of, role_of, count}
 use Rattle.table_records.specs.Facts.{Tree}
 use Rattle.table_records.specs.Kinds as k
@@ -24,7 +24,7 @@ use Rattle.route_completion.specs.Route.{Scoped, ScopedAll, ScopedCases, top_sco
 use Rattle.code_tree.specs.Labels.{id_at, lab_at}
 use Rattle.code_tree.specs.Parts.{shape_at, order}
 use Rattle.code_tree.specs.Statements.{leaf_at, list_of, one_of, if_of, try_of, class_of, cases_of, build, stmt_at, body_of, holder_of, unit_by, unit_of}
-use Rattle.code_tree.specs.PartsLaws.{All, Part, order_all_lem}
+use Rattle.code_tree.proofs.PartsLaws.{All, Part, order_all_lem}
 use Rattle.code_tree.specs.declared.Shape.{Shape}
 use Rattle.code_tree.specs.declared.Shape.TheVariants.{Leaf as Single, Class, If, With, Block, Label, Loop, Switch, Case, Try, Catch}
 use Rattle.code_layout.specs.Shaped.{is_switch, Two, Three, Good}

@@ -7,14 +7,14 @@ use mathlib.Core.List.{List, [], ◌∷◌, ◌++◌}
 use Rattle.std.proofs.Math.Bool.{true, false, cond}
 use Rattle.std.proofs.Math.ListN.{length, length-append}
 use Rattle.std.proofs.lemmas.Bool.{lt-leb}
-use Rattle.base_common.specs.UptoLaws.{and_left_lem, and_right_lem}
+use Rattle.base_common.proofs.UptoLaws.{and_left_lem, and_right_lem}
 use Rattle.base_walk.specs.Above.{Falls}
-use Rattle.base_walk.specs.AboveLaws.{fold_up}
+use Rattle.base_walk.proofs.AboveLaws.{fold_up}
 use Rattle.table_records.specs.Table.{count}
 use Rattle.table_records.specs.Roles as role
 use Rattle.code_tree.specs.Parts.{up_of, shape_at, is_part, order}
-use Rattle.code_tree.specs.PartsLaws.{All, Part, order_all_lem}
-use Rattle.code_tree.specs.BoundLaws.{all_map}
+use Rattle.code_tree.proofs.PartsLaws.{All, Part, order_all_lem}
+use Rattle.code_tree.proofs.BoundLaws.{all_map}
 use Rattle.code_tree.specs.declared.Shape.{Shape}
 use Rattle.code_tree.specs.declared.Shape.TheVariants.{Leaf as Single, Class, If, With, Block, Label, Loop, Switch, Case, Try, Catch}
 use Rattle.code_layout.specs.Opcodes as op

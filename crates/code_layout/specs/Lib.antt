@@ -7,7 +7,3 @@ pub mod Shaped
 pub mod Sums
 pub mod LayoutLaws
 pub mod Nodes
-pub mod Stands
-pub mod Made
-pub mod Examples
-pub mod ExactLaws

@@ -14,9 +14,9 @@ use Rattle.route_completion.specs.Sem.{Comp, normal, pick, no_break, default_at 
 use Rattle.code_flat.specs.Code.{Stat, at, goto, case_to, next, in_try, first, link, through, place, size, sizes, size_cases, code, codes, code_cases, top}
 use Rattle.code_tree.specs.Parts.{up_of, shape_at, is_part, part_by, order}
 use Rattle.code_tree.specs.Statements.{default_at, list_of, cases_of, try_of, build, stmt_at, body_of}
-use Rattle.code_tree.specs.PartsLaws.{All, Part, order_all_lem}
-use Rattle.code_tree.specs.BoundLaws.{all_map}
-use Rattle.code_tree.specs.ClassLaws.{class_code, class_size}
+use Rattle.code_tree.proofs.PartsLaws.{All, Part, order_all_lem}
+use Rattle.code_tree.proofs.BoundLaws.{all_map}
+use Rattle.code_tree.proofs.ClassLaws.{class_code, class_size}
 use Rattle.code_tree.specs.declared.Shape.{Shape}
 use Rattle.code_tree.specs.declared.Shape.TheVariants.{Leaf as Single, Class, If, With, Block, Label, Loop, Switch, Case, Try, Catch}
 use Rattle.code_layout.specs.Widths.{has_role, sum, own_width_by, own_width, width_at}

@@ -2,8 +2,8 @@
 use Rattle.std.specs.Prelude.{ℕ, zero, suc, ◌≤◌, ◌<◌, ◌≡◌, refl, ◌⊎◌, Bool, true, false, not, ◌&&◌, ◌||◌, eqb}
 use Rattle.std.proofs.Common.{ap, sym, ◌∙◌, inl, inr, ⊎_elim, eq-or-lt_of_le, arith, eqb-true, eq-eqb}
 use Rattle.base_common.specs.Tests.{within}
-use Rattle.base_common.specs.Bools.{never, either}
-use Rattle.base_common.specs.UptoLaws.{and_left_lem, and_right_lem}
+use Rattle.base_common.proofs.Bools.{never, either}
+use Rattle.base_common.proofs.UptoLaws.{and_left_lem, and_right_lem}
 use Rattle.table_records.specs.Kinds as k
 use Rattle.table_records.specs.Roles as role
 use Rattle.refusal_standing.specs.Standing.{is_statement, is_holder, is_held, may_be_statement, try_part}

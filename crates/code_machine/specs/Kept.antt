@@ -8,7 +8,7 @@ use Rattle.route_completion.specs.Sem.{Entry, plain, asked}
 use Rattle.route_completion.specs.Route.{asks, node_of, route_of}
 use Rattle.route_completion.specs.Taken.{asks_append}
 use Rattle.route_list.specs.Listing.{most, saturated, next, laid, Listing}
-use Rattle.route_list.specs.ListingLaws.{listing_first, listing_more}
+use Rattle.route_list.proofs.ListingLaws.{listing_first, listing_more}
 use Rattle.code_flat.specs.Machine.{room, res, Pos, pos, code_route}
 use Rattle.code_marks.specs.Stop.{Stop, held, over, after, stops, stopped}
 use Rattle.code_marks.specs.Steps.{after_none, after_twice}

@@ -8,4 +8,3 @@ pub mod RoomLaws
 pub mod Places
 pub mod Sound
 pub mod Kept
-pub mod Examples

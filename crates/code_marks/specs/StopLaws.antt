@@ -11,7 +11,7 @@ use Rattle.route_completion.specs.Route.{asks}
 use Rattle.route_completion.specs.Taken.{asks_append}
 use Rattle.code_flat.specs.Machine.{Res, res, pre, Frame, Pos, pos, run}
 use Rattle.code_flat.specs.Leg.{Leg, ends, waits, listed, leg, onward}
-use Rattle.code_flat.specs.LegLaws.{run_leg, leg_plain}
+use Rattle.code_flat.proofs.LegLaws.{run_leg, leg_plain}
 use Rattle.code_marks.specs.Stop.{Stop, held, over, after, behind, stops, stopped, taken_up, Call, goes_on, calls, so_far}
 
 -- What a stopped run comes to when it goes on with the answers that are left.

@@ -10,7 +10,7 @@ use Rattle.code_flat.specs.Machine.{Res, res, pre, Instr, NONE, LIST, LEAVE, ASK
 use Rattle.code_flat.specs.Runs.{is_none, inside}
 use Rattle.code_flat.specs.Forward.{ask_now, behind, forward, measure, step, run}
 use Rattle.code_flat.specs.Steps.{run_step}
-use Rattle.code_valid.specs.ReadingLaws.{decode_none}
+use Rattle.code_valid.proofs.ReadingLaws.{decode_none}
 use Rattle.code_shorten.specs.declared.Aim.TheVariants.{To as to}
 use Rattle.code_shorten.specs.Short.{aim_of}
 use Rattle.code_shorten.specs.Unwinds.{Ahead, Like, like_length, Same, Both, unwinds}

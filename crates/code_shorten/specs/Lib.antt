@@ -1,11 +1,8 @@
 pub mod Short
 pub mod Claims
 pub mod Threading
-pub mod ThreadingLaws
 pub mod Marking
-pub mod MarkingLaws
 pub mod Laws
-pub mod Examples
 pub mod Longer
 pub mod Reads
 pub mod Unwinds

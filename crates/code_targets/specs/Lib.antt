@@ -1,3 +1,1 @@
 pub mod Targets
-pub mod TargetsLaws
-pub mod PositiveLaws

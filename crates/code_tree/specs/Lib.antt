@@ -1,11 +1,4 @@
 pub mod Labels
 pub mod Parts
 pub mod Statements
-pub mod LabelLaws
-pub mod PartsLaws
-pub mod UpLaws
-pub mod BoundLaws
-pub mod RoomLaws
-pub mod ClassLaws
-pub mod RunLaws
 pub mod Examples

@@ -1,4 +1,3 @@
 pub mod Instrs
 pub mod Valid
 pub mod Reading
-pub mod ReadingLaws

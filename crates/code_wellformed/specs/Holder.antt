@@ -6,13 +6,13 @@ use Rattle.std.proofs.Math.Logic.{inl, inr}
 use Rattle.std.proofs.Math.Bool.{true, false, cond}
 use native.Mathlib.Omega.{arith}
 use Rattle.base_common.specs.Tests.{within}
-use Rattle.base_common.specs.Bools.{never, in_range_lem}
+use Rattle.base_common.proofs.Bools.{never, in_range_lem}
 use Rattle.table_records.specs.Table.{kind_of, parent_of, count}
 use Rattle.table_records.specs.Facts.{Tree, Named}
 use Rattle.table_records.specs.Kinds as k
 use Rattle.table_records.specs.declared.Found.TheVariants.{At}
 use Rattle.table_children.specs.Children.{function_body_of}
-use Rattle.table_children.specs.ChildrenLaws.{found_child, number}
+use Rattle.table_children.proofs.ChildrenLaws.{found_child, number}
 use Rattle.refusal_fields.specs.Fields.{Listed}
 use Rattle.refusal_standing.specs.Standing.{Placed}
 use Rattle.refusal_counts.specs.Counts.{Counted}

@@ -2,7 +2,7 @@
 use Rattle.std.specs.Prelude.{ℕ, ◌≤◌, ◌≡◌, refl, Bool, true, false, cond, ◌||◌, ◌⊎◌, eqb}
 use Rattle.std.proofs.Common.{ap, sym, inl, inr, arith, eqb-true}
 use Rattle.base_common.specs.Tests.{within}
-use Rattle.base_common.specs.Bools.{never, range_of}
+use Rattle.base_common.proofs.Bools.{never, range_of}
 use Rattle.table_records.specs.Kinds as k
 use Rattle.code_tree.specs.Parts.{is_class, shape_by}
 use Rattle.code_tree.specs.declared.Shape.{Shape}

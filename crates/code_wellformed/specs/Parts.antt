@@ -11,21 +11,21 @@ use borrow.Author.Tests.{eq-eqb, ne_eqb, eqb-true, eqb-false}
 use Rattle.std.proofs.Math.Dec.{eqb}
 use Rattle.std.proofs.Math.ListN.{length}
 use Rattle.base_common.specs.Upto.{upto}
-use Rattle.base_common.specs.UptoLaws.{upto_nil, upto_cons, and_left_lem, and_right_lem}
+use Rattle.base_common.proofs.UptoLaws.{upto_nil, upto_cons, and_left_lem, and_right_lem}
 use Rattle.base_common.specs.Tests.{within}
-use Rattle.base_common.specs.Bools.{never, either, in_range_lem, range_of}
+use Rattle.base_common.proofs.Bools.{never, either, in_range_lem, range_of}
 use Rattle.table_records.specs.Table.{kind_of, parent_of, role_of, flags_of, count, has_flag}
 use Rattle.table_records.specs.Kinds as k
 use Rattle.table_records.specs.NodeFlag as flag
 use Rattle.table_records.specs.Facts.{Tree}
 use Rattle.table_children.specs.Children.{keep, children, fits, is_child, how_many}
-use Rattle.table_children.specs.ChildrenLaws.{keep_keep, tally, tally_all}
+use Rattle.table_children.proofs.ChildrenLaws.{keep_keep, tally, tally_all}
 use Rattle.refusal_fields.specs.Fields.{Listed}
 use Rattle.refusal_standing.specs.Standing.{Placed}
 use Rattle.refusal_counts.specs.Counts.{with_role as number, Counted}
 use Rattle.code_tree.specs.Parts.{entered_by, up_of, shape_at, is_part, part_by, parts, with_role, order_by, order}
-use Rattle.code_tree.specs.PartsLaws.{All, Part, parts_all}
-use Rattle.code_tree.specs.UpLaws.{up_falls}
+use Rattle.code_tree.proofs.PartsLaws.{All, Part, parts_all}
+use Rattle.code_tree.proofs.UpLaws.{up_falls}
 use Rattle.code_tree.specs.declared.Shape.{Shape}
 use Rattle.code_tree.specs.declared.Shape.TheVariants.{Leaf as Single, Class, If, With, Block, Label, Loop, Switch, Case, Try, Catch}
 use Rattle.code_layout.specs.Shaped.{is_one, is_case, is_switch, One, Two, Three, Good}

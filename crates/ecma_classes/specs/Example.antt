@@ -6,8 +6,8 @@ use Rattle.std.proofs.Common.{sym, ◌∙◌, inl, inr, ⊎_elim, arith, eq-eqb,
 use mathlib.Core.List.{List, [], ◌∷◌, flat_map}
 use Rattle.std.proofs.Math.Bool.{xor}
 use Rattle.base_common.specs.Upto.{upto, range, all}
-use Rattle.base_common.specs.UptoLaws.{all_upto}
-use Rattle.base_common.specs.Bools.{never, either}
+use Rattle.base_common.proofs.UptoLaws.{all_upto}
+use Rattle.base_common.proofs.Bools.{never, either}
 use Rattle.table_records.specs.Table.{kind_of, parent_of, count}
 use Rattle.table_records.specs.Kinds as k
 use Rattle.table_names.specs.Name.{same, name_of}
@@ -26,7 +26,7 @@ use Rattle.base_walk.specs.On.{on}
 use Rattle.table_ancestry.specs.Ancestry.{nearest_of}
 use Rattle.check_supers.specs.Super.{is_value_of, part_of, place_of, object_use, method_use, function_use, step_at, reach_from, reach_of, fails_at}
 use Rattle.refusal_verdict.specs.declared.Verdict.TheVariants.{Passed}
-use Rattle.refusal_input.specs.InputLaws.{input_well_formed}
+use Rattle.refusal_input.proofs.InputLaws.{input_well_formed}
 use Rattle.check_diagnostics.specs.declared.Finding.{Finding}
 use Rattle.check_dispatch.specs.Findings.{findings_of}
 use Rattle.ecma_dispatch.specs.WithCode.{with_code}

@@ -7,24 +7,24 @@ use Rattle.std.proofs.Math.Bool.{true, false}
 use borrow.Author.Tests.{eq-eqb, eqb-true, lt-ltb}
 use Rattle.std.proofs.Math.Dec.{eqb, ltb}
 use Rattle.base_common.specs.Upto.{upto}
-use Rattle.base_common.specs.UptoLaws.{and_right_lem}
-use Rattle.base_common.specs.Bools.{never}
+use Rattle.base_common.proofs.UptoLaws.{and_right_lem}
+use Rattle.base_common.proofs.Bools.{never}
 use Rattle.base_walk.specs.On.{member}
 use Rattle.table_records.specs.Table.{kind_of, parent_of, count}
 use Rattle.table_records.specs.Facts.{Tree}
 use Rattle.table_records.specs.Kinds as k
 use Rattle.table_records.specs.declared.Found.TheVariants.{At}
 use Rattle.table_children.specs.Children.{keep, children, is_node}
-use Rattle.table_ancestry.specs.AncestryLaws.{parent_in}
+use Rattle.table_ancestry.proofs.AncestryLaws.{parent_in}
 use Rattle.refusal_fields.specs.Fields.{Listed}
 use Rattle.refusal_input.specs.WellFormed.{Shaped}
 use Rattle.ecma_trees.specs.Trail.{unit_of}
-use Rattle.table_lists.specs.ListLaws.{in_kept, upto_in}
+use Rattle.table_lists.proofs.ListLaws.{in_kept, upto_in}
 use Rattle.ecma_elements.specs.ClassElements.{elements_in, class_elements, names_constructor, constructor_twice, is_constructor_kind, constructor_method, is_first_constructor}
 use Rattle.ecma_supers.specs.Supers.{begins, is_method, is_constructor_method, is_bare, standard_bare}
 use Rattle.ecma_supers.specs.Changed.{OneInClass, OneConstructor, each_bare}
-use Rattle.ecma_privates.specs.PrivateNamesLaws.{class_above_lem, body_of_class}
-use Rattle.ecma_supers.specs.SupersLaws.{unit_is_lem, method_kind}
+use Rattle.ecma_privates.proofs.PrivateNamesLaws.{class_above_lem, body_of_class}
+use Rattle.ecma_supers.proofs.SupersLaws.{unit_is_lem, method_kind}
 
 holds_one : (l : List ℕ) (p : ℕ) → member p l ≡ true → 1 ≤ length l
 holds_one [] p m = never (sym m)

@@ -11,7 +11,7 @@ use Rattle.table_records.specs.Table.{kind_of, parent_of, count}
 use Rattle.table_records.specs.Kinds as k
 use Rattle.table_records.specs.declared.Found.TheVariants.{At}
 use Rattle.table_children.specs.Children.{keep, class_body_of, found}
-use Rattle.table_children.specs.ChildrenLaws.{found_child}
+use Rattle.table_children.proofs.ChildrenLaws.{found_child}
 use Rattle.ecma_trees.specs.Rose.{tree_of}
 use Rattle.ecma_trees.specs.Walk.{some, only}
 use Rattle.ecma_trees.specs.WalkLaws.{some_append}
@@ -22,14 +22,14 @@ use Rattle.check_diagnostics.specs.Contexts as context
 use Rattle.check_class_table.specs.Classes.{classes_of}
 use Rattle.check_dispatch.specs.Findings.{findings_at, findings_of}
 use Rattle.check_dispatch.specs.Former.{duplicates_in, duplicate_elements}
-use Rattle.check_dispatch.specs.FormerLaws.{same_duplicates}
+use Rattle.check_dispatch.proofs.FormerLaws.{same_duplicates}
 use Rattle.refusal_input.specs.WellFormed.{WellFormed}
 use Rattle.ecma_dispatch.specs.WithCode.{with_code}
 use Rattle.ecma_dispatch.specs.Dispatch.{whole_one, whole_other}
 use Rattle.ecma_dispatch.specs.NodesOf.{raised}
-use Rattle.ecma_dispatch.specs.NodesOfLaws.{raised_append, raised_flat, raised_again}
-use Rattle.ecma_elements.specs.RaisingLaws.{flat_upto, flat_members, keep_upto, any_upto, any_kept, any_three}
-use Rattle.table_lists.specs.ListLaws.{Rising, kept_in}
+use Rattle.ecma_dispatch.proofs.NodesOfLaws.{raised_append, raised_flat, raised_again}
+use Rattle.ecma_elements.proofs.RaisingLaws.{flat_upto, flat_members, keep_upto, any_upto, any_kept, any_three}
+use Rattle.table_lists.proofs.ListLaws.{Rising, kept_in}
 use Rattle.ecma_elements.specs.ClassElements.{name_missing, constructor_twice, is_first_constructor, proto_twice}
 use Rattle.ecma_privates.specs.PrivateNames.{private_bound, entries, allowed, private_twice, is_class_body, is_use, all_private_identifiers_valid, invalid_identifiers}
 use Rattle.ecma_supers.specs.Supers.{is_super_call, is_super_property, is_bare, bars_call, bars_property, bare_error, call_error, property_error, super_error, standard_bare, standard_stray, standard_property, unit}
@@ -37,20 +37,20 @@ use Rattle.ecma_elements.specs.Changed.{built_twice, ConstructorsNamed, proto_ag
 use Rattle.ecma_supers.specs.Changed.{OneConstructor, each_bare, OneInClass, table_bare, table_stray, table_property, MethodNamed, MethodsNamed, CallStands, PropertyStands, SupersStand, ConstructorOrdinary, ConstructorsOrdinary}
 use Rattle.ecma_privates.specs.Changed.{private_entered, private_again, PrivatesEntered, OnceOrTwice, invalid_in_table, PrivatesPlain, is_outside, OutsideUsed, UsedOutside}
 use Rattle.ecma_supers.specs.SupersByScopes.{bare_by_scopes, stray_by_scopes, property_by_scopes}
-use Rattle.ecma_elements.specs.ClassElementsLaws.{class_name_lem, second_constructor_lem, constructors_agree}
+use Rattle.ecma_elements.proofs.ClassElementsLaws.{class_name_lem, second_constructor_lem, constructors_agree}
 use Rattle.ecma_elements.specs.Raised.{times}
 use Rattle.ecma_privates.specs.Raised.{same_node, body_around, reported}
 use Rattle.ecma_supers.specs.Raised.{in_unit}
-use Rattle.ecma_elements.specs.ObjectsLaws.{proto_again_lem, proto_agrees, proto_once, proto_at, proto_once_at}
-use Rattle.ecma_privates.specs.PrivateTwiceLaws.{some_kept, flat_alike, private_again_lem, again_some, again_once, entered_all, entered_rising}
-use Rattle.ecma_privates.specs.PrivateNamesLaws.{invalid_at, invalid_list, valid_none, private_outside_lem, outside_invalid, private_undeclared_lem, invalid_same, class_above_lem, body_of_class}
+use Rattle.ecma_elements.proofs.ObjectsLaws.{proto_again_lem, proto_agrees, proto_once, proto_at, proto_once_at}
+use Rattle.ecma_privates.proofs.PrivateTwiceLaws.{some_kept, flat_alike, private_again_lem, again_some, again_once, entered_all, entered_rising}
+use Rattle.ecma_privates.proofs.PrivateNamesLaws.{invalid_at, invalid_list, valid_none, private_outside_lem, outside_invalid, private_undeclared_lem, invalid_same, class_above_lem, body_of_class}
 use Rattle.ecma_base.specs.Telling.{Telling, ordinary}
 use Rattle.ecma_base.specs.Scopes.{scopes_follow}
-use Rattle.ecma_supers.specs.ScopesFitLaws.{ScopesFit, fit_of}
-use Rattle.ecma_supers.specs.SupersLaws.{unit_is_lem, super_bare_lem, super_call_lem, super_property_lem, bare_same, stray_same, property_rule_same, super_same}
-use Rattle.ecma_supers.specs.SupersByScopesLaws.{bare_by_scopes_lem, stray_by_scopes_lem, property_by_scopes_lem}
+use Rattle.ecma_supers.proofs.ScopesFitLaws.{ScopesFit, fit_of}
+use Rattle.ecma_supers.proofs.SupersLaws.{unit_is_lem, super_bare_lem, super_call_lem, super_property_lem, bare_same, stray_same, property_rule_same, super_same}
+use Rattle.ecma_supers.proofs.SupersByScopesLaws.{bare_by_scopes_lem, stray_by_scopes_lem, property_by_scopes_lem}
 use Rattle.ecma_classes.specs.FirstConstructorLaws.{one_here, first_same}
-use Rattle.ecma_supers.specs.ContainsLaws.{unit_bare, unit_stray, unit_property}
+use Rattle.ecma_supers.proofs.ContainsLaws.{unit_bare, unit_stray, unit_property}
 use Rattle.ecma_classes.specs.WholeLaws.{some_flat, some_times, below_of, all_raised, any_unit}
 
 -- from each node to the whole tree

@@ -5,8 +5,8 @@ use Rattle.std.proofs.Common.{sym, subst, ◌∙◌, ⊎_elim, eq-or-lt_of_le, a
 use mathlib.Core.List.{List, [], ◌∷◌, flat_map}
 use Rattle.std.proofs.Math.Bool.{true, false}
 use Rattle.base_common.specs.Upto.{range, upto, any}
-use Rattle.base_common.specs.UptoLaws.{and_left_lem, and_right_lem}
-use Rattle.base_common.specs.Bools.{never}
+use Rattle.base_common.proofs.UptoLaws.{and_left_lem, and_right_lem}
+use Rattle.base_common.proofs.Bools.{never}
 use Rattle.base_walk.specs.On.{member}
 use Rattle.table_records.specs.Table.{kind_of, parent_of, count}
 use Rattle.table_records.specs.Facts.{Tree}
@@ -14,29 +14,29 @@ use Rattle.table_records.specs.Kinds as k
 use Rattle.table_records.specs.declared.Found.{Found}
 use Rattle.table_records.specs.declared.Found.TheVariants.{At, Nothing}
 use Rattle.table_children.specs.Children.{keep, class_body_of, found}
-use Rattle.check_class_table.specs.ClassesLaws.{within_one, over}
+use Rattle.check_class_table.proofs.ClassesLaws.{within_one, over}
 use Rattle.refusal_fields.specs.Fields.{Listed}
 use Rattle.refusal_input.specs.WellFormed.{Shaped}
 use Rattle.ecma_trees.specs.Walk.{some, only}
 use Rattle.ecma_trees.specs.WalkLaws.{some_append, some_each, some_only}
 use Rattle.ecma_trees.specs.Trail.{unit_of}
-use Rattle.ecma_trees.specs.TrailLaws.{handed_law, handed_root}
+use Rattle.ecma_trees.proofs.TrailLaws.{handed_law, handed_root}
 use Rattle.check_diagnostics.specs.declared.Finding.{Finding}
 use Rattle.check_diagnostics.specs.Finding.{listed, error_at}
 use Rattle.check_diagnostics.specs.Codes as code
 use Rattle.check_diagnostics.specs.Contexts as context
 use Rattle.ecma_dispatch.specs.WithCode.{with_code}
 use Rattle.ecma_dispatch.specs.NodesOf.{nodes_of, raised}
-use Rattle.ecma_dispatch.specs.NodesOfLaws.{raised_flat}
-use Rattle.ecma_elements.specs.RaisingLaws.{any_upto}
-use Rattle.table_lists.specs.ListLaws.{any_hit_lem, any_find_lem, kept_in, in_kept, member_here, in_upto}
+use Rattle.ecma_dispatch.proofs.NodesOfLaws.{raised_flat}
+use Rattle.ecma_elements.proofs.RaisingLaws.{any_upto}
+use Rattle.table_lists.proofs.ListLaws.{any_hit_lem, any_find_lem, kept_in, in_kept, member_here, in_upto}
 use Rattle.ecma_supers.specs.Supers.{begins, unit_contains}
 use Rattle.ecma_elements.specs.Raised.{times}
 use Rattle.ecma_privates.specs.Raised.{same_node, body_around}
 use Rattle.ecma_supers.specs.Raised.{in_unit}
-use Rattle.ecma_privates.specs.PrivateTwiceLaws.{some_kept, both_ways}
-use Rattle.ecma_privates.specs.PrivateNamesLaws.{around_is, class_above_lem, body_of_class}
-use Rattle.ecma_supers.specs.ContainsLaws.{unit_rule}
+use Rattle.ecma_privates.proofs.PrivateTwiceLaws.{some_kept, both_ways}
+use Rattle.ecma_privates.proofs.PrivateNamesLaws.{around_is, class_above_lem, body_of_class}
+use Rattle.ecma_supers.proofs.ContainsLaws.{unit_rule}
 
 pub some_flat : {A : Type 0} (f : ℕ → List A) (l : List ℕ) → some (flat_map f l) ≡ any (λ x. some (f x)) l
 unfolding flat_map

@@ -3,20 +3,20 @@ use Rattle.std.specs.Prelude.{ℕ, ◌<◌, ◌≡◌, refl, List, [], ◌∷◌
 use Rattle.std.proofs.Common.{ap, sym, ◌∙◌, ⊎_elim, eq-or-lt_of_le, arith, eq-eqb, ne_eqb, eqb-true}
 use Rattle.std.proofs.lemmas.Bool.{not-true}
 use Rattle.base_common.specs.Upto.{any}
-use Rattle.base_common.specs.UptoLaws.{and_left_lem}
+use Rattle.base_common.proofs.UptoLaws.{and_left_lem}
 use Rattle.base_common.specs.Tests.{within}
-use Rattle.base_common.specs.Bools.{never, or_first, or_second, either, in_range_lem, range_of}
+use Rattle.base_common.proofs.Bools.{never, or_first, or_second, either, in_range_lem, range_of}
 use Rattle.table_records.specs.Table.{kind_of, parent_of, count, extra_of, ancestors}
 use Rattle.table_records.specs.Facts.{Tree}
 use Rattle.table_records.specs.Extras as extra
 use Rattle.table_children.specs.Children.{value_of, is_node}
 use Rattle.ecma_trees.specs.Trail.{unit_of}
-use Rattle.table_ancestry.specs.AncestryLaws.{ancestors_up}
-use Rattle.ecma_trees.specs.TrailLaws.{handed_law, handed_root}
+use Rattle.table_ancestry.proofs.AncestryLaws.{ancestors_up}
+use Rattle.ecma_trees.proofs.TrailLaws.{handed_law, handed_root}
 use Rattle.ecma_base.specs.Contains.{initializer, comes, static_block}
 use Rattle.ecma_contains.specs.Contains.{contains_into, block_begin, arguments_begin, arguments_into, parameter, parameter_begin, lexical_declaration, bound_begin, unbound, bound_into, reached}
 use Rattle.ecma_contains.specs.Changed.{await_edge, arguments_edge, arguments_home, parameter_edge, bound_edge}
-use Rattle.ecma_base.specs.ContainsLaws.{upward, unit_up, unit_root, comes_home, positive}
+use Rattle.ecma_base.proofs.ContainsLaws.{upward, unit_up, unit_root, comes_home, positive}
 
 -- some member of a list passes a test
 any_hit : (p : ℕ → Bool) (u : ℕ) → p u ≡ true → (l : List ℕ) → any (λ a. eqb a u) l ≡ true → any p l ≡ true

@@ -3,7 +3,7 @@ use Rattle.std.specs.Prelude.{ℕ, suc, ◌≤◌, ◌≡◌, refl, List, [], Bo
 use Rattle.std.proofs.Common.{sym, ◌∙◌, arith, eqb-true}
 use Rattle.std.proofs.lemmas.Bool.{eqb-false}
 use Rattle.base_common.specs.Tests.{within}
-use Rattle.base_common.specs.Bools.{range_of}
+use Rattle.base_common.proofs.Bools.{range_of}
 
 -- a number outside of a range
 beyond : (k lo hi : ℕ) → ((lo ≤ k) → (k ≤ hi) → ⊥) → within k lo hi ≡ false

@@ -1,7 +1,7 @@
 -- The codes that each check raises.
 use Rattle.std.specs.Prelude.{ℕ, ◌≤◌, ◌≡◌, refl, List, [], ◌∷◌, Bool, true, false, cond, ◌&&◌}
 use Rattle.table_source.specs.SourceType.{is_typescript}
-use Rattle.table_source.specs.SourceTypeLaws.{no_typescript}
+use Rattle.table_source.proofs.SourceTypeLaws.{no_typescript}
 use Rattle.table_records.specs.Table.{ancestors}
 use Rattle.table_records.specs.declared.Found.{Found}
 use Rattle.table_records.specs.declared.Found.TheVariants.{At, Nothing}

@@ -7,5 +7,3 @@ pub mod ByKind
 pub mod Dispatch
 pub mod OptionLaws
 pub mod NodesOf
-pub mod NodesOfLaws
-pub mod TypescriptLaws

@@ -5,8 +5,8 @@ use Rattle.std.proofs.Common.{ap, sym, ◌∙◌, eqb-true}
 use mathlib.Core.List.{List, [], ◌∷◌, ◌++◌, flat_map}
 use Rattle.base_common.specs.Upto.{upto, all}
 use Rattle.base_common.specs.Tests.{within}
-use Rattle.base_common.specs.UptoLaws.{and_left_lem, and_right_lem}
-use Rattle.base_common.specs.Bools.{never}
+use Rattle.base_common.proofs.UptoLaws.{and_left_lem, and_right_lem}
+use Rattle.base_common.proofs.Bools.{never}
 use Rattle.base_walk.specs.On.{member}
 use Rattle.table_records.specs.Table.{kind_of, count}
 use Rattle.table_records.specs.Kinds as k
@@ -19,7 +19,7 @@ use Rattle.check_duplicates.specs.Duplicates.{duplicate_elements}
 use Rattle.check_dispatch.specs.Findings.{findings_at, findings_of}
 use Rattle.check_dispatch.specs.Rule.{Rule, rule}
 use Rattle.check_dispatch.specs.Reported.{reported_at, reported}
-use Rattle.check_dispatch.specs.ReportedLaws.{nil_right_lem}
+use Rattle.check_dispatch.proofs.ReportedLaws.{nil_right_lem}
 use Rattle.ecma_dispatch.specs.WithCode.{with_code, without_code}
 use Rattle.ecma_dispatch.specs.WithCodeLaws.{with_append, with_flat_map, with_nil, Coded, coded_none, coded_all, coded_nil, coded_append, coded_cond, coded_flat_map, coded_more, each_code, coded, fine, fine_if, fine_error, fine_clear, both_true, fine_held}
 use Rattle.ecma_dispatch.specs.CheckCodes.{of_clash, duplicate_codes}

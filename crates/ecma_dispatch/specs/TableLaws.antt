@@ -3,8 +3,8 @@ use Rattle.std.specs.Prelude.{ℕ, ◌≡◌, refl, List, [], ◌∷◌, ◌++�
 use Rattle.std.proofs.Common.{ap, sym, ◌∙◌, eqb-true}
 use Rattle.std.proofs.lemmas.Bool.{not-true}
 use Rattle.base_common.specs.Upto.{all}
-use Rattle.base_common.specs.UptoLaws.{and_left_lem, and_right_lem}
-use Rattle.base_common.specs.Bools.{never, or_first, or_second}
+use Rattle.base_common.proofs.UptoLaws.{and_left_lem, and_right_lem}
+use Rattle.base_common.proofs.Bools.{never, or_first, or_second}
 use Rattle.base_walk.specs.On.{member}
 use Rattle.check_diagnostics.specs.declared.Finding.{Finding}
 use Rattle.ecma_dispatch.specs.WithCode.{with_code}

@@ -3,8 +3,8 @@ use Rattle.std.specs.Prelude.{ℕ, ◌≡◌, refl, Bool, true, false, cond, ◌
 use Rattle.std.proofs.Common.{ap, sym, subst, ◌∙◌, eq-eqb, eqb-true}
 use mathlib.Core.List.{List, [], ◌∷◌, ◌++◌, foldr, flat_map}
 use Rattle.base_common.specs.Upto.{all}
-use Rattle.base_common.specs.UptoLaws.{and_left_lem, and_right_lem}
-use Rattle.base_common.specs.Bools.{never}
+use Rattle.base_common.proofs.UptoLaws.{and_left_lem, and_right_lem}
+use Rattle.base_common.proofs.Bools.{never}
 use Rattle.base_walk.specs.On.{member}
 use Rattle.table_records.specs.declared.Found.{Found}
 use Rattle.table_records.specs.declared.Found.TheVariants.{At, Nothing}

@@ -2,7 +2,7 @@
 use Rattle.std.specs.Prelude.{ℕ, zero, suc, ◌≤◌, ◌<◌, ◌≡◌, refl, Bool, true, false, cond}
 use Rattle.std.proofs.Common.{sym, ◌∙◌, subst, ⊎_elim, true≢false, eq-or-lt_of_le, arith}
 use mathlib.Core.List.{List, foldr}
-use Rattle.base_walk.specs.AboveLaws.{fold_up}
+use Rattle.base_walk.proofs.AboveLaws.{fold_up}
 use Rattle.table_records.specs.Table.{parent_of, count, ancestors}
 use Rattle.table_records.specs.Facts.{Tree}
 use Rattle.ecma_trees.specs.Unit.{home_of, in_unit}

@@ -8,8 +8,8 @@ use Rattle.std.proofs.Math.Dec.{eqb}
 use borrow.Author.Tests.{eqb-true, eqb-false, lt-leb, le-leb}
 use native.Mathlib.Omega.{arith}
 use Rattle.base_common.specs.Tests.{within}
-use Rattle.base_common.specs.Bools.{in_range_lem, range_of}
-use Rattle.base_walk.specs.AboveLaws.{fold_root}
+use Rattle.base_common.proofs.Bools.{in_range_lem, range_of}
+use Rattle.base_walk.proofs.AboveLaws.{fold_root}
 use Rattle.table_records.specs.Table.{kind_of, parent_of, count, ancestors}
 use Rattle.table_records.specs.Facts.{Tree}
 use Rattle.table_records.specs.declared.Found.{Found}

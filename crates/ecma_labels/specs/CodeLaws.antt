@@ -9,7 +9,7 @@ use Rattle.std.proofs.Math.Dec.{eqb}
 use borrow.Author.Tests.{eqb-true, eqb-false}
 use Rattle.base_common.specs.Tests.{within}
 use Rattle.base_common.specs.Upto.{upto}
-use Rattle.base_common.specs.Bools.{in_range_lem, range_of}
+use Rattle.base_common.proofs.Bools.{in_range_lem, range_of}
 use Rattle.table_records.specs.Table.{kind_of, count}
 use Rattle.table_records.specs.Facts.{Tree}
 use Rattle.table_records.specs.declared.Found.{Found}
@@ -21,11 +21,11 @@ use Rattle.check_diagnostics.specs.declared.Raised.{Raised}
 use Rattle.check_diagnostics.specs.declared.Raised.TheVariants.{Clear}
 use Rattle.check_diagnostics.specs.Finding.{listed, error_at, error_between}
 use Rattle.check_jumps.specs.Jumps.{when_found, walk_up, no_label, plain_continue_at, labelled_continue_at, check_continue_statement, check_break_statement, check_labeled_statement}
-use Rattle.check_jumps.specs.JumpsLaws.{item_here}
+use Rattle.check_jumps.proofs.JumpsLaws.{item_here}
 use Rattle.check_dispatch.specs.Findings.{findings_at, findings_of}
 use Rattle.ecma_dispatch.specs.WithCode.{with_code}
 use Rattle.ecma_dispatch.specs.NodesOf.{nodes_of, raised}
-use Rattle.ecma_dispatch.specs.NodesOfLaws.{nodes_nil, nodes_whole}
+use Rattle.ecma_dispatch.proofs.NodesOfLaws.{nodes_nil, nodes_whole}
 use Rattle.ecma_dispatch.specs.Dispatch.{at_code}
 use Rattle.ecma_trees.specs.Walk.{only}
 use Rattle.ecma_trees.specs.Unit.{home_of}

@@ -3,12 +3,8 @@ pub mod Breaches
 pub mod Changed
 pub mod Findings
 pub mod ShapeLaws
-pub mod BreachLaws
 pub mod AgreeLaws
 pub mod BreakLaws
 pub mod ContinueLaws
 pub mod CodeLaws
-pub mod DifferenceLaws
-pub mod EarlyLaws
-pub mod Theorems
 pub mod Examples

@@ -8,20 +8,20 @@ use Rattle.base_walk.specs.On.{member}
 use Rattle.table_records.specs.Table.{count}
 use Rattle.refusal_verdict.specs.declared.Verdict.TheVariants.{Passed}
 use Rattle.refusal_input.specs.Input.{input_refusal}
-use Rattle.refusal_input.specs.InputLaws.{input_well_formed}
+use Rattle.refusal_input.proofs.InputLaws.{input_well_formed}
 use Rattle.check_dispatch.specs.Findings.{findings_at, findings_of}
 use Rattle.check_dispatch.specs.Rule.{Rule}
 use Rattle.check_dispatch.specs.Reported.{reported_at, reported}
 use Rattle.ecma_trees.specs.Walk.{some, only}
 use Rattle.ecma_dispatch.specs.WithCode.{with_code, without_code}
 use Rattle.ecma_dispatch.specs.NodesOf.{nodes_of, raised}
-use Rattle.ecma_dispatch.specs.NodesOfLaws.{raised_again}
+use Rattle.ecma_dispatch.proofs.NodesOfLaws.{raised_again}
 use Rattle.ecma_dispatch.specs.OptionLaws.{without34, at34, other_at, codes_on_listed}
 use Rattle.ecma_base.specs.Strict.{strict_code}
 use Rattle.ecma_base.specs.Telling.{Telling}
 use Rattle.ecma_statements.specs.Functions.{annex_holder, function_misplaced, function_misplaced_else, labelled_function_at}
 use Rattle.ecma_strict.specs.Bodies.{Flagged}
-use Rattle.ecma_strict.specs.BodiesLaws.{code34, standard16on, functions_on}
+use Rattle.ecma_strict.proofs.BodiesLaws.{code34, standard16on, functions_on}
 use Rattle.check_bodies.specs.Bodies.{async_bodies_at}
 
 module _ (told : Telling) (r : Rule) where

@@ -9,13 +9,13 @@ use Rattle.table_records.specs.Table.{count}
 use Rattle.table_children.specs.Children.{keep}
 use Rattle.refusal_verdict.specs.declared.Verdict.TheVariants.{Passed}
 use Rattle.refusal_input.specs.Input.{input_refusal}
-use Rattle.refusal_input.specs.InputLaws.{input_well_formed}
+use Rattle.refusal_input.proofs.InputLaws.{input_well_formed}
 use Rattle.check_dispatch.specs.Findings.{findings_of}
 use Rattle.ecma_dispatch.specs.WithCode.{with_code}
 use Rattle.ecma_dispatch.specs.NodesOf.{raised}
 use Rattle.ecma_labels.specs.Breaches.{duplicate_label_at, break_not_nested_at}
 use Rattle.ecma_labels.specs.Changed.{plain_continue_not_nested_at, no_label_at, no_loop_at, in_program}
-use Rattle.ecma_labels.specs.Theorems as labels
+use Rattle.ecma_labels.proofs.Theorems as labels
 use Rattle.ecma_strict.specs.Theorems.{EarlyErrors, early_errors}
 use Rattle.ecma_elements.specs.ClassElements.{name_missing}
 use Rattle.ecma_privates.specs.PrivateNames.{is_class_body}

@@ -10,7 +10,7 @@ use Rattle.table_children.specs.Children.{function_body_of, class_body_of}
 use Rattle.check_diagnostics.specs.declared.Finding.{Finding}
 use Rattle.refusal_verdict.specs.declared.Verdict.TheVariants.{Passed}
 use Rattle.refusal_input.specs.Input.{input_refusal}
-use Rattle.refusal_input.specs.InputLaws.{input_well_formed}
+use Rattle.refusal_input.proofs.InputLaws.{input_well_formed}
 use Rattle.check_dispatch.specs.Findings.{findings_at, findings_of}
 use Rattle.ecma_trees.specs.Rose.{parts_of, marks_all}
 use Rattle.ecma_trees.specs.Walk.{each, some, Says}
@@ -23,7 +23,7 @@ use Rattle.ecma_base.specs.Scopes.{scopes_follow}
 use Rattle.ecma_labels.specs.Labels.{is_unit, any_duplicate_labels, any_undefined_break_target, any_undefined_continue_target, any_break_not_nested}
 use Rattle.ecma_labels.specs.Changed.{LabelsOnce}
 use Rattle.ecma_labels.specs.Findings.{of_unit, break_findings, continue_findings}
-use Rattle.ecma_labels.specs.Theorems as labels
+use Rattle.ecma_labels.proofs.Theorems as labels
 use Rattle.ecma_names.specs.Identifiers.{simple_parameters, contains_use_strict}
 use Rattle.ecma_contains.specs.BoundNames.{binds_let}
 use Rattle.ecma_contains.specs.Contains.{contains_into, block_begin, await_expression, for_await, await_using, arguments_reference, arguments_begin, arguments_into, parameter, parameter_begin, await_or_yield, lexical_declaration, bound_begin, bound_into, let_name}

@@ -13,7 +13,7 @@ use Rattle.table_children.specs.Children.{keep, found}
 use Rattle.check_diagnostics.specs.declared.Finding.{Finding}
 use Rattle.refusal_verdict.specs.declared.Verdict.TheVariants.{Passed}
 use Rattle.refusal_input.specs.Input.{input_refusal}
-use Rattle.refusal_input.specs.InputLaws.{input_well_formed}
+use Rattle.refusal_input.proofs.InputLaws.{input_well_formed}
 use Rattle.check_dispatch.specs.Findings.{findings_at, findings_of}
 use Rattle.ecma_trees.specs.Walk.{some, only, Says}
 use Rattle.ecma_trees.specs.Unit.{home_of}
@@ -28,10 +28,10 @@ use Rattle.ecma_labels.specs.Changed.{LabelsOnce, ContinuePlain}
 use Rattle.ecma_labels.specs.Labels.{is_unit, label_errors}
 use Rattle.ecma_labels.specs.Breaches.{duplicate_label_at, undefined_break_at, undefined_continue_at, continue_not_nested_at, break_not_nested_at}
 use Rattle.ecma_labels.specs.Findings.{label_findings, with_codes}
-use Rattle.ecma_labels.specs.Theorems as labels
+use Rattle.ecma_labels.proofs.Theorems as labels
 use Rattle.ecma_literals.specs.Literals.{strict_octal, strict_non_octal, strict_octal_escape, strict_non_octal_escape, numeric_literal, string_literal}
 use Rattle.ecma_literals.specs.EscapeSpans.{StringTold, NumberTold}
-use Rattle.ecma_literals.specs.EscapeSpansLaws.{string_told, number_told}
+use Rattle.ecma_literals.proofs.EscapeSpansLaws.{string_told, number_told}
 use Rattle.ecma_literals.specs.Delete.{deletes_name, deletes_private}
 use Rattle.ecma_statements.specs.Statements.{strict_with, initialized_head, using_declaration, bad_using}
 use Rattle.ecma_names.specs.Identifiers.{identifier, identifier_error, binds_eval, assigns_eval, use_strict_there}

@@ -5,13 +5,13 @@ use Rattle.std.proofs.Common.{◌∙◌, inl, inr, ⊎_elim, eq-or-lt_of_le, ari
 use Rattle.std.proofs.Math.Bool.{true}
 use Rattle.std.proofs.lemmas.Bool.{eqb-false}
 use Rattle.base_common.specs.Tests.{within}
-use Rattle.base_common.specs.Bools.{never, or_second, in_range_lem, range_of}
+use Rattle.base_common.proofs.Bools.{never, or_second, in_range_lem, range_of}
 use Rattle.table_records.specs.Table.{kind_of, parent_of, count, scope_of, scope_parent_of}
 use Rattle.table_records.specs.Facts.{Tree, Chained, Scoped}
 use Rattle.table_records.specs.Kinds as k
 use Rattle.table_children.specs.Children.{value_of, is_node}
 use Rattle.table_scoping.specs.Scoping.{in_static_block}
-use Rattle.table_scoping.specs.ScopingLaws.{static_here, static_function, static_up, static_root}
+use Rattle.table_scoping.proofs.ScopingLaws.{static_here, static_function, static_up, static_root}
 use Rattle.ecma_trees.specs.Trail.{unit_of}
 use Rattle.ecma_base.specs.Strict.{strict_code}
 use Rattle.ecma_names.specs.Identifiers.{assigns_eval}
@@ -19,7 +19,7 @@ use Rattle.ecma_base.specs.Contains.{initializer, static_block}
 use Rattle.ecma_contains.specs.Contains.{arguments_reference, parameter, unbound, await_in_block, arguments_in_class, await_in_parameter, let_bound}
 use Rattle.ecma_contains.specs.NodeRules.{await_up, arguments_up, parameter_up, let_up}
 use Rattle.ecma_base.specs.Scopes.{block_scope, function_scope}
-use Rattle.ecma_base.specs.ContainsLaws.{upward, unit_root, unit_here, unit_pass}
+use Rattle.ecma_base.proofs.ContainsLaws.{upward, unit_root, unit_here, unit_pass}
 use Rattle.ecma_contains.specs.Changed.{await_edge, arguments_edge, arguments_home, parameter_edge, bound_edge, class_part, scoped_in_block, let_edge, let_bound_said, field_edge, field_home, arguments_said, through_class_edge, await_in_parameter_said}
 
 -- two sets of edges, one larger: where the nearest of the larger set is none of the surplus, it is the nearest of the smaller too

@@ -4,10 +4,7 @@ pub mod AgreeLaws
 pub mod ScopesLaws
 pub mod Bodies
 pub mod Theorems
-pub mod BodiesLaws
 pub mod Standard
 pub mod Units
 pub mod ExampleTrees
 pub mod ExamplesLiterals
-pub mod ExamplesNames
-pub mod ExamplesStatements

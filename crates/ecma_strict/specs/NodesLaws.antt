@@ -15,7 +15,7 @@ use Rattle.ecma_trees.specs.WalkLaws.{each_same}
 use Rattle.ecma_dispatch.specs.WithCode.{with_code}
 use Rattle.ecma_dispatch.specs.Dispatch.{whole_other}
 use Rattle.ecma_dispatch.specs.NodesOf.{nodes_of, raised}
-use Rattle.ecma_dispatch.specs.NodesOfLaws.{nodes_append, raised_nil, raised_again}
+use Rattle.ecma_dispatch.proofs.NodesOfLaws.{nodes_append, raised_nil, raised_again}
 use Rattle.ecma_base.specs.Nodes.{of_check}
 
 -- a check

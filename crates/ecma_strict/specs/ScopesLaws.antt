@@ -3,17 +3,17 @@ use Rattle.std.specs.Prelude.{ℕ, ◌<◌, ◌≡◌, refl, List, Bool, true, f
 use Rattle.std.proofs.Common.{ap, ◌∙◌, inl, inr, ⊎_elim, eq-or-lt_of_le, arith, eqb-true}
 use Rattle.std.proofs.lemmas.Bool.{eqb-false}
 use Rattle.base_common.specs.Tests.{within}
-use Rattle.base_common.specs.Bools.{either, in_range_lem, range_of}
+use Rattle.base_common.proofs.Bools.{either, in_range_lem, range_of}
 use Rattle.table_records.specs.Table.{kind_of, parent_of, count, scope_of, scope_node_of}
 use Rattle.table_records.specs.Facts.{Tree}
 use Rattle.table_records.specs.Kinds as k
-use Rattle.table_ancestry.specs.AncestryLaws.{parent_in}
+use Rattle.table_ancestry.proofs.AncestryLaws.{parent_in}
 use Rattle.refusal_standing.specs.Standing.{Placed}
 use Rattle.ecma_base.specs.Scopes.{scopes_follow}
-use Rattle.ecma_base.specs.ScopesLaws.{not_program, no_function, root, block_flag, function_flag, made, same_or_made, same_only, made_kind, root_kind}
+use Rattle.ecma_base.proofs.ScopesLaws.{not_program, no_function, root, block_flag, function_flag, made, same_or_made, same_only, made_kind, root_kind}
 use Rattle.ecma_strict.specs.AgreeLaws.{ScopesTold}
-use Rattle.ecma_base.specs.ContainsLaws.{root_only}
-use Rattle.ecma_names.specs.IdentifiersLaws.{DirectiveScope}
+use Rattle.ecma_base.proofs.ContainsLaws.{root_only}
+use Rattle.ecma_names.proofs.IdentifiersLaws.{DirectiveScope}
 use Rattle.ecma_names.specs.Changed.{directive_placed}
 
 module _ (ns ss : List ℕ) (t : Tree ns) (w : scopes_follow ns ss ≡ true) where

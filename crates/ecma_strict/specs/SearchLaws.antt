@@ -5,7 +5,7 @@ use Rattle.std.proofs.Common.{ap, sym, ◌∙◌, ⊎_elim, eq-or-lt_of_le, arit
 use Rattle.std.proofs.Math.Bool.{false}
 use Rattle.std.proofs.lemmas.Bool.{eqb-false}
 use Rattle.base_common.specs.Tests.{within}
-use Rattle.base_common.specs.Bools.{never, either, in_range_lem, range_of}
+use Rattle.base_common.proofs.Bools.{never, either, in_range_lem, range_of}
 use Rattle.table_records.specs.Table.{kind_of, parent_of, count, flags_of, extra_of, span_start_of, span_end_of, has_flag}
 use Rattle.table_records.specs.Facts.{Tree}
 use Rattle.table_records.specs.Kinds as k
@@ -15,7 +15,7 @@ use Rattle.table_names.specs.Name.{name_is}
 use Rattle.table_names.specs.Words as word
 use Rattle.table_children.specs.Children.{value_of, is_node}
 use Rattle.table_ancestry.specs.Ancestry.{has_ancestor}
-use Rattle.table_ancestry.specs.AncestryLaws.{parent_in, ancestors_up}
+use Rattle.table_ancestry.proofs.AncestryLaws.{parent_in, ancestors_up}
 use Rattle.check_diagnostics.specs.Finding.{error_at}
 use Rattle.check_diagnostics.specs.Codes as code
 use Rattle.check_diagnostics.specs.Contexts as context
@@ -23,7 +23,7 @@ use Rattle.check_diagnostics.specs.declared.Raised.{Raised}
 use Rattle.check_diagnostics.specs.declared.Raised.TheVariants.{Clear}
 use Rattle.table_scoping.specs.Scoping.{in_static_block}
 use Rattle.check_identifiers.specs.Identifiers as its
-use Rattle.check_identifiers.specs.IdentifierLaws.{let_found, let_function, let_on, let_root, arguments_function, arguments_found, arguments_on, arguments_root}
+use Rattle.check_identifiers.proofs.IdentifierLaws.{let_found, let_function, let_on, let_root, arguments_function, arguments_found, arguments_on, arguments_root}
 use Rattle.check_expressions.specs.Expressions.{is_parameter, in_formal_parameters, in_parameter, in_block}
 use Rattle.check_expressions.specs.ExpressionLaws.{parameter_found, parameter_stop, parameter_on, parameter_root}
 use Rattle.check_statements.specs.Statements.{check_for_of_statement, check_await_using}
@@ -32,10 +32,10 @@ use Rattle.ecma_trees.specs.Walk.{only}
 use Rattle.ecma_trees.specs.Trail.{unit_of}
 use Rattle.ecma_base.specs.Nodes.{of_check}
 use Rattle.ecma_base.specs.Strict.{strict_code}
-use Rattle.ecma_base.specs.NodesLaws.{if_only}
+use Rattle.ecma_base.proofs.NodesLaws.{if_only}
 use Rattle.ecma_names.specs.Identifiers.{eval_or_arguments, binds_eval, assigns_eval}
 use Rattle.ecma_contains.specs.Contains.{await_expression, for_await, await_using, parameter, await_or_yield, lexical_declaration}
-use Rattle.ecma_base.specs.ContainsLaws.{positive, upward, unit_root, unit_here, unit_pass}
+use Rattle.ecma_base.proofs.ContainsLaws.{positive, upward, unit_root, unit_here, unit_pass}
 use Rattle.ecma_contains.specs.Changed.{scoped_in_block, let_edge, let_bound_said, field_edge, field_home, arguments_said, through_class_edge, await_in_parameter_said}
 
 or_true : (b : Bool) → (b || true) ≡ true

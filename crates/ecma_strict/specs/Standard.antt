@@ -8,7 +8,7 @@ use Rattle.std.proofs.Math.Bool.{true, false}
 use borrow.Author.Tests.{eqb-true, not-true}
 use Rattle.std.proofs.Math.Dec.{eqb}
 use Rattle.base_common.specs.Tests.{within}
-use Rattle.base_common.specs.UptoLaws.{and_left_lem, and_right_lem}
+use Rattle.base_common.proofs.UptoLaws.{and_left_lem, and_right_lem}
 use Rattle.table_records.specs.Table.{kind_of, parent_of, count, extra_of}
 use Rattle.table_records.specs.Kinds as k
 use Rattle.table_records.specs.Extras as extra
@@ -20,25 +20,25 @@ use Rattle.ecma_dispatch.specs.NodesOf.{raised}
 use Rattle.ecma_base.specs.Telling.{Telling, ordinary}
 use Rattle.ecma_base.specs.Strict.{strict_code}
 use Rattle.ecma_literals.specs.Literals.{numeric_literal, string_literal, strict_octal, strict_non_octal, strict_octal_escape, strict_non_octal_escape}
-use Rattle.ecma_literals.specs.LiteralsLaws.{octal_agrees, non_octal_agrees, octal_escape_agrees, non_octal_escape_agrees}
+use Rattle.ecma_literals.proofs.LiteralsLaws.{octal_agrees, non_octal_agrees, octal_escape_agrees, non_octal_escape_agrees}
 use Rattle.ecma_literals.specs.Delete.{private_reference, derives, delete_expression, deletes_private}
 use Rattle.table_children.specs.Children.{value_of}
-use Rattle.ecma_literals.specs.DeleteLaws.{delete_private_agrees}
+use Rattle.ecma_literals.proofs.DeleteLaws.{delete_private_agrees}
 use Rattle.ecma_statements.specs.Statements.{using_declaration, initialized_head, bad_using}
-use Rattle.ecma_statements.specs.StatementsLaws.{head_agrees, using_agrees}
+use Rattle.ecma_statements.proofs.StatementsLaws.{head_agrees, using_agrees}
 use Rattle.ecma_names.specs.Identifiers.{identifier, identifier_error, assigns_eval, use_strict_there}
-use Rattle.ecma_names.specs.IdentifiersLaws.{use_strict_agrees}
-use Rattle.ecma_names.specs.NamesLaws.{names_agree, names_agree_only, names_sound}
-use Rattle.ecma_names.specs.ParametersLaws.{yield_from, await_told, await_only, block_await}
+use Rattle.ecma_names.proofs.IdentifiersLaws.{use_strict_agrees}
+use Rattle.ecma_names.proofs.NamesLaws.{names_agree, names_agree_only, names_sound}
+use Rattle.ecma_names.proofs.ParametersLaws.{yield_from, await_told, await_only, block_await}
 use Rattle.ecma_contains.specs.Contains.{let_name, arguments_reference, await_or_yield, await_expression, for_await, await_using, await_in_block, arguments_in_class, await_in_parameter, let_bound, lexical_declaration, parameter}
 use Rattle.ecma_contains.specs.NodeRules.{await_up, arguments_up, parameter_up, let_up}
 use Rattle.ecma_base.specs.Scopes.{scopes_follow}
-use Rattle.ecma_base.specs.ScopesLaws.{not_program}
-use Rattle.ecma_statements.specs.UsingLaws.{using_scope}
+use Rattle.ecma_base.proofs.ScopesLaws.{not_program}
+use Rattle.ecma_statements.proofs.UsingLaws.{using_scope}
 use Rattle.ecma_strict.specs.ScopesLaws.{scopes_told, directive_scope}
 use Rattle.ecma_strict.specs.AgreeLaws.{let_agrees, arguments_agree, parameter_agrees, block_agrees}
 use Rattle.ecma_statements.specs.Functions.{function_misplaced, function_misplaced_else, labels_function, labelled_function_at}
-use Rattle.ecma_statements.specs.FunctionsLaws.{labelled_agrees, labelled_strict, misplaced_agrees, misplaced_else_agrees}
+use Rattle.ecma_statements.proofs.FunctionsLaws.{labelled_agrees, labelled_strict, misplaced_agrees, misplaced_else_agrees}
 use Rattle.ecma_strict.specs.Theorems.{code3, code5, code6, code9, code10, code11, code12, code13, code14, code15, code16, code24, code25, code32, code33, beyond, code2}
 use Rattle.ecma_contains.specs.Changed.{bound_edge, await_edge, arguments_edge, parameter_edge, BlockTold, LetTold, ArgumentsTold, ParameterTold, let_edge, let_bound_said, field_edge, field_home, class_part, arguments_said, await_in_parameter_said, scoped_in_block}
 use Rattle.ecma_statements.specs.Changed.{sloppy_function, sloppy_function_else, UsingTold, HeadTold, top_using, labelled_function_said, OrdinaryHeld}

@@ -9,7 +9,7 @@ use borrow.Author.Tests.{ne_eqb, eqb-true, eqb-false}
 use Rattle.std.proofs.Math.Dec.{eqb}
 use Rattle.base_common.specs.Upto.{upto}
 use Rattle.base_common.specs.Tests.{within}
-use Rattle.base_common.specs.Bools.{never, in_range_lem, range_of}
+use Rattle.base_common.proofs.Bools.{never, in_range_lem, range_of}
 use Rattle.table_records.specs.Table.{kind_of, count}
 use Rattle.table_records.specs.Kinds as k
 use Rattle.check_diagnostics.specs.declared.Finding.{Finding}
@@ -22,29 +22,29 @@ use Rattle.check_dispatch.specs.Findings.{findings_at, findings_of}
 use Rattle.refusal_input.specs.WellFormed.{WellFormed}
 use Rattle.refusal_verdict.specs.declared.Verdict.TheVariants.{Passed}
 use Rattle.refusal_input.specs.Input.{input_refusal}
-use Rattle.refusal_input.specs.InputLaws.{input_well_formed}
+use Rattle.refusal_input.proofs.InputLaws.{input_well_formed}
 use Rattle.ecma_trees.specs.Walk.{each, only}
 use Rattle.ecma_dispatch.specs.WithCode.{with_code}
 use Rattle.ecma_dispatch.specs.Dispatch.{at_code, at2, at3, at15, at16, at33}
 use Rattle.ecma_dispatch.specs.NodesOf.{raised}
-use Rattle.ecma_dispatch.specs.NodesOfLaws.{raised_nil, raised_again, raised_append}
+use Rattle.ecma_dispatch.proofs.NodesOfLaws.{raised_nil, raised_again, raised_append}
 use Rattle.ecma_base.specs.Strict.{strict_code}
 use Rattle.ecma_base.specs.Nodes.{of_check}
 use Rattle.ecma_strict.specs.NodesLaws.{raised_by, raised_listed, at_listed, at_with, at_two, at_two_listed, at_two_mixed, whole_is}
 use Rattle.ecma_literals.specs.EscapeSpans.{StringTold, NumberTold}
-use Rattle.ecma_literals.specs.EscapeSpansLaws.{string_told, number_told}
-use Rattle.ecma_literals.specs.LiteralsLaws.{number_octal, number_non_octal, string_octal, string_non_octal}
+use Rattle.ecma_literals.proofs.EscapeSpansLaws.{string_told, number_told}
+use Rattle.ecma_literals.proofs.LiteralsLaws.{number_octal, number_non_octal, string_octal, string_non_octal}
 use Rattle.ecma_literals.specs.Delete.{deletes_name}
-use Rattle.ecma_literals.specs.DeleteLaws.{delete_name, delete_private}
+use Rattle.ecma_literals.proofs.DeleteLaws.{delete_name, delete_private}
 use Rattle.ecma_statements.specs.Statements.{strict_with}
-use Rattle.ecma_statements.specs.StatementsLaws.{with_is, head_is, using_is}
+use Rattle.ecma_statements.proofs.StatementsLaws.{with_is, head_is, using_is}
 use Rattle.ecma_names.specs.Identifiers.{identifier, binds_eval, assigns_eval}
-use Rattle.ecma_names.specs.IdentifiersLaws.{reserved_is, await_name_is, use_strict_is}
+use Rattle.ecma_names.proofs.IdentifiersLaws.{reserved_is, await_name_is, use_strict_is}
 use Rattle.ecma_contains.specs.Contains.{await_expression, await_using, for_await, await_or_yield}
 use Rattle.ecma_strict.specs.SearchLaws.{binding_is, let_bound_is, reference_is, arguments_said_is, parameter_is, await_block_is, await_using_is, for_await_is}
 use Rattle.ecma_base.specs.Telling.{Telling, ordinary}
 use Rattle.ecma_statements.specs.Functions.{function_misplaced, function_misplaced_else}
-use Rattle.ecma_statements.specs.FunctionsLaws.{and_false, body_strict, consequent_strict, alternate_strict, body_sloppy, consequent_sloppy, alternate_sloppy, label_strict, label_sloppy, label_free}
+use Rattle.ecma_statements.proofs.FunctionsLaws.{and_false, body_strict, consequent_strict, alternate_strict, body_sloppy, consequent_sloppy, alternate_sloppy, label_strict, label_sloppy, label_free}
 use Rattle.ecma_statements.specs.Changed.{strict_function, strict_function_else, sloppy_function, sloppy_function_else, said_head, top_using, labelled_function_said}
 use Rattle.ecma_literals.specs.Changed.{told_octal, told_non_octal, first_octal_escape, first_non_octal_escape, deletes_private_anywhere}
 use Rattle.ecma_names.specs.Changed.{use_strict_scoped, await_name_scoped, reserved_name}

@@ -8,13 +8,13 @@ use native.Mathlib.Omega.{arith}
 use borrow.Author.Tests.{eq-eqb, eqb-true, not-true}
 use Rattle.std.proofs.Math.Dec.{eqb}
 use Rattle.base_common.specs.Upto.{upto, any}
-use Rattle.base_common.specs.UptoLaws.{and_left_lem, and_right_lem}
+use Rattle.base_common.proofs.UptoLaws.{and_left_lem, and_right_lem}
 use Rattle.base_common.specs.Tests.{within}
-use Rattle.base_common.specs.Bools.{never, or_first, or_second, in_range_lem, range_of}
+use Rattle.base_common.proofs.Bools.{never, or_first, or_second, in_range_lem, range_of}
 use Rattle.table_records.specs.Table.{kind_of, parent_of, count, extra_of}
 use Rattle.table_records.specs.declared.Found.TheVariants.{At}
 use Rattle.table_children.specs.Children.{keep, children, value_of, held_of, function_body_of, is_node}
-use Rattle.table_children.specs.ChildrenLaws.{found_child}
+use Rattle.table_children.proofs.ChildrenLaws.{found_child}
 use Rattle.table_records.specs.Kinds as k
 use Rattle.table_records.specs.Extras as extra
 use Rattle.table_names.specs.Name.{name_is}
@@ -32,15 +32,15 @@ use Rattle.ecma_base.specs.Telling.{ordinary}
 use Rattle.ecma_names.specs.Identifiers.{strict_reserved, binds_eval, assigns_eval, use_strict_directive, simple_parameters, contains_use_strict, use_strict_there}
 use Rattle.ecma_base.specs.Contains.{contains_from, initializer, contains_in, comes, static_block}
 use Rattle.ecma_contains.specs.BoundNames.{binds_let}
-use Rattle.ecma_contains.specs.BoundNamesLaws.{binds_let_is}
+use Rattle.ecma_contains.proofs.BoundNamesLaws.{binds_let_is}
 use Rattle.ecma_contains.specs.Contains.{contains_into, block_begin, await_expression, for_await, await_using, arguments_reference, arguments_begin, arguments_into, parameter, parameter_begin, await_or_yield, lexical_declaration, unbound, bound_begin, bound_into, let_name}
 use Rattle.ecma_base.specs.Scopes.{scopes_follow}
 use Rattle.ecma_strict.specs.ScopesLaws.{scopes_told}
-use Rattle.ecma_base.specs.ContainsLaws.{contains_is, comes_is, comes_home, positive}
+use Rattle.ecma_base.proofs.ContainsLaws.{contains_is, comes_is, comes_home, positive}
 use Rattle.ecma_strict.specs.AgreeLaws.{block_edge, scopes_are}
 use Rattle.ecma_statements.specs.Functions.{is_function, ends_in_statement, ends_in_labelled, labelled_among, labels_function, label_edge, function_misplaced}
-use Rattle.ecma_statements.specs.FunctionsLaws.{strict_misplaced}
-use Rattle.ecma_statements.specs.LabelledLaws.{statements_of}
+use Rattle.ecma_statements.proofs.FunctionsLaws.{strict_misplaced}
+use Rattle.ecma_statements.proofs.LabelledLaws.{statements_of}
 use Rattle.ecma_strict.specs.Standard.{standard12}
 use Rattle.ecma_strict.specs.Theorems.{code2, code3, code4, code5, code6, code14, code15, code16, code25, code33}
 use Rattle.ecma_statements.specs.Changed.{strict_function, strict_function_else, sloppy_function, sloppy_function_else, labelled_function_said}

@@ -2,8 +2,3 @@ pub mod Supers
 pub mod Raised
 pub mod Changed
 pub mod SupersByScopes
-pub mod ScopesFitLaws
-pub mod SuperSearchLaws
-pub mod SupersLaws
-pub mod SupersByScopesLaws
-pub mod ContainsLaws

@@ -6,5 +6,4 @@ pub mod Unit
 pub mod UnitLaws
 pub mod ProgramLaws
 pub mod Trail
-pub mod TrailLaws
 pub mod Rule

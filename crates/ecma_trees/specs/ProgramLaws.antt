@@ -1,7 +1,7 @@
 -- A rule that the standard states at each unit of a program, and the same rule node by node.
 use Rattle.std.specs.Prelude.{ℕ, ◌+◌, ◌-◌, ◌<◌, ◌≡◌, refl, ◌↔◌, Bool, true, false, cond, ◌&&◌, ◌||◌, List, [], eqb}
 use Rattle.std.proofs.Common.{sym, ◌∙◌, ap, true≢false, eq-eqb, arith}
-use Rattle.base_common.specs.UptoLaws.{and_left_lem, and_right_lem}
+use Rattle.base_common.proofs.UptoLaws.{and_left_lem, and_right_lem}
 use Rattle.table_records.specs.Table.{count}
 use Rattle.table_records.specs.Facts.{Tree}
 use Rattle.ecma_trees.specs.Rose.{Rose, Roses, node, rnil, rcons, marks, marks_all, parts_of, tree_of}

@@ -5,9 +5,9 @@ use Rattle.std.proofs.Common.{sym, ◌∙◌, subst, ⊎_elim, eqb-true, add-one
 use mathlib.Core.List.{List, [], ◌∷◌, ◌++◌, append_assoc, append-nil, foldr, foldr-append}
 use Rattle.std.proofs.lemmas.Bool.{eqb-false}
 use Rattle.base_common.specs.Upto.{range, upto}
-use Rattle.base_common.specs.UptoLaws.{upto_cons}
+use Rattle.base_common.proofs.UptoLaws.{upto_cons}
 use Rattle.base_walk.specs.On.{on}
-use Rattle.base_walk.specs.OnLaws.{on_cases, on_le}
+use Rattle.base_walk.proofs.OnLaws.{on_cases, on_le}
 use Rattle.table_records.specs.Table.{parent_of, count}
 use Rattle.table_records.specs.Facts.{Tree}
 use Rattle.ecma_trees.specs.Rose.{Rose, Roses, node, rnil, rcons, idx, kids, others, forest, parts_of, rest_of, tree_of, marks, marks_all, fold_parts}

@@ -8,7 +8,7 @@ use Rattle.std.proofs.Math.Dec.{eqb}
 use borrow.Author.Tests.{eqb-true, eqb-false, eq-eqb}
 use native.Mathlib.Omega.{arith}
 use Rattle.base_common.specs.Upto.{upto}
-use Rattle.base_walk.specs.AboveLaws.{fold_up, fold_root}
+use Rattle.base_walk.proofs.AboveLaws.{fold_up, fold_root}
 use Rattle.table_records.specs.Table.{parent_of, count, ancestors}
 use Rattle.table_records.specs.Facts.{Tree}
 use Rattle.ecma_trees.specs.Rose.{Rose, Roses, node, rnil, rcons, idx, marks, marks_all, parts_of, rest_of}

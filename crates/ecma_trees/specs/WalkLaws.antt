@@ -3,7 +3,7 @@ use Rattle.std.specs.Prelude.{ℕ, zero, suc, ◌+◌, ◌-◌, ◌≤◌, ◌<�
 use Rattle.std.proofs.Common.{sym, ◌∙◌, ap, subst, ⊎_elim, true≢false, eq-or-lt_of_le, arith}
 use mathlib.Core.List.{List, [], ◌∷◌, ◌++◌, append_assoc, foldr}
 use Rattle.base_common.specs.Upto.{range, upto}
-use Rattle.base_walk.specs.AboveLaws.{fold_up, fold_root}
+use Rattle.base_walk.proofs.AboveLaws.{fold_up, fold_root}
 use Rattle.table_records.specs.Table.{parent_of, count, ancestors}
 use Rattle.table_records.specs.Facts.{Tree}
 use Rattle.ecma_trees.specs.Rose.{Rose, Roses, node, rnil, rcons, idx, marks, marks_all, tree_of}

@@ -2,13 +2,13 @@
 use Rattle.std.specs.Prelude.{ℕ, ◌+◌, ◌-◌, ◌*◌, ◌/◌, ◌%◌, ◌≤◌, ◌<◌, ◌≡◌, refl, true, false, ◌&&◌, ◌||◌, List, [], ◌∷◌, ◌++◌, eqb, length, get_or, set, take, drop}
 use Rattle.std.proofs.Common.{⊎_elim, arith, le-leb, eq-eqb, eqb-true}
 use Rattle.std.proofs.lemmas.Bool.{lt-leb}
-use Rattle.base_common.specs.Bools.{either, range_of}
+use Rattle.base_common.proofs.Bools.{either, range_of}
 use Rattle.base_common.specs.Tests.{within}
 use Rattle.base_common.specs.Upto.{all}
-use Rattle.base_common.specs.UptoLaws.{and_left_lem, and_right_lem}
+use Rattle.base_common.proofs.UptoLaws.{and_left_lem, and_right_lem}
 use Rattle.base_common.specs.Wrote.{Wrote}
 use Rattle.line_digits.specs.Lists.{drop_step, drop_end, part_from}
-use Rattle.table_put.specs.Writes.{wrote_one, wrote_done}
+use Rattle.table_put.proofs.Writes.{wrote_one, wrote_done}
 use Rattle.line_digits.specs.Hex.{is_hex_digit, nibble_of, is_hex, bytes_of}
 
 -- the ranges of a digit, in numbers

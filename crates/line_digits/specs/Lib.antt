@@ -1,5 +1,4 @@
 pub mod Number
 pub mod Hex
 pub mod Lists
-pub mod NumberLaws
 pub mod HexLaws

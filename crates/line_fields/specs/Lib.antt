@@ -1,3 +1,1 @@
 pub mod Split
-pub mod SplitLaws
-pub mod FieldLaws

@@ -5,8 +5,8 @@ use Rattle.std.proofs.Common.{ap, sym, ◌∙◌, append-nil, arith, drop_of_len
 use Rattle.std.proofs.Math.Bool.{true, false, cond}
 use Rattle.std.proofs.lemmas.List.{length-map}
 use borrow.Author.Tests.{eq-eqb, ne_eqb, eqb-true}
-use Rattle.base_common.specs.Bools.{never}
-use Rattle.base_common.specs.UptoLaws.{and_left_lem, and_right_lem}
+use Rattle.base_common.proofs.Bools.{never}
+use Rattle.base_common.proofs.UptoLaws.{and_left_lem, and_right_lem}
 use Rattle.base_common.specs.Wrote.{put}
 use Rattle.line_digits.specs.Hex.{is_hex, bytes_of}
 use Rattle.line_digits.specs.Number.{value_of}
@@ -17,8 +17,8 @@ use Rattle.line_input.specs.declared.Input.{Input}
 use Rattle.line_input.specs.declared.Input.TheVariants.{Tables, Unread}
 use Rattle.line_forms.specs.Forms.{lettered, rest, numbers_of, is_numbers, fits, kind_in, nodes_in, scopes_in, is_j, is_x, source_of}
 use Rattle.line_input.specs.Format.{nodes_of, scopes_of, names_of, Room, Reading, stopped, tables, ss_in, ns_in, x_in, read_behind, read_lines, front, Given}
-use Rattle.line_digits.specs.NumberLaws.{and_no}
-use Rattle.line_forms.specs.FormLaws.{tail_of, rest_tail, numbers_told, source_field, fits_told}
+use Rattle.line_digits.proofs.NumberLaws.{and_no}
+use Rattle.line_forms.proofs.FormLaws.{tail_of, rest_tail, numbers_told, source_field, fits_told}
 use Rattle.line_input.specs.ReadLaws.{first_of, nodes_nil_lem, scopes_nil, names_nil, empty_numbers}
 
 -- what the J line says

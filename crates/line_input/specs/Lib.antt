@@ -1,6 +1,5 @@
 pub mod Format
 pub mod Route
-pub mod Example
 pub mod ReadLaws
 pub mod InputLaws
 pub mod RouteLaws

@@ -10,15 +10,15 @@ use Rattle.std.proofs.Math.ListN.{length}
 use Rattle.std.proofs.lemmas.List.{length-map}
 use Rattle.std.proofs.lemmas.List.Edits.{sets-eq}
 use borrow.Author.Tests.{le-leb, lt-leb, leb-true}
-use Rattle.base_common.specs.Bools.{never}
+use Rattle.base_common.proofs.Bools.{never}
 use Rattle.base_common.specs.Wrote.{Wrote, put}
-use Rattle.base_common.specs.WroteLaws.{wrote_put, length_put}
+use Rattle.base_common.proofs.WroteLaws.{wrote_put, length_put}
 use Rattle.line_digits.specs.Number.{value_of}
-use Rattle.table_put.specs.Writes.{wrote_done, put_put}
+use Rattle.table_put.proofs.Writes.{wrote_done, put_put}
 use Rattle.line_fields.specs.Split.{fields_of}
 use Rattle.line_forms.specs.Forms.{lettered, rest, numbers_of, is_numbers, is_s, is_n, name_of}
 use Rattle.line_input.specs.Format.{leading, named, scope_lines, node_lines, scopes_of, names_of, node_of, nodes_of, front}
-use Rattle.line_forms.specs.FormLaws.{numbers_told, node_told, rest_tail}
+use Rattle.line_forms.proofs.FormLaws.{numbers_told, node_told, rest_tail}
 
 -- the first of some lines; a missing line is empty, and can't be read
 abbrev pub first_of : List (List ℕ) → List ℕ

@@ -7,12 +7,12 @@ use mathlib.Core.List.{List, [], ◌∷◌, ◌++◌, map}
 use native.Mathlib.Omega.{arith}
 use Rattle.std.proofs.Math.ListN.{length}
 use Rattle.base_common.specs.Upto.{all}
-use Rattle.base_common.specs.UptoLaws.{and_left_lem, and_right_lem}
+use Rattle.base_common.proofs.UptoLaws.{and_left_lem, and_right_lem}
 use Rattle.base_common.specs.Wrote.{put}
 use Rattle.line_digits.specs.Number.{is_number, value_of}
 use Rattle.line_fields.specs.Split.{fields_in, field_of, firsts}
-use Rattle.line_fields.specs.SplitLaws.{fields_turn}
-use Rattle.line_fields.specs.FieldLaws.{tail_some, number_first}
+use Rattle.line_fields.proofs.SplitLaws.{fields_turn}
+use Rattle.line_fields.proofs.FieldLaws.{tail_some, number_first}
 use Rattle.line_input.specs.declared.Two.{Two}
 use Rattle.line_input.specs.declared.Two.TheVariants.{Both, NoUnit, NoAnswers}
 use Rattle.line_input.specs.declared.Input.{Input}
@@ -21,8 +21,8 @@ use Rattle.line_input.specs.declared.Route.{Route}
 use Rattle.line_input.specs.declared.Route.TheVariants.{Asked, Unasked}
 use Rattle.line_forms.specs.Forms.{lettered, rest, numbers_of, is_numbers, fits, is_j, kind_in, nodes_in, scopes_in, is_x}
 use Rattle.line_input.specs.Format.{nodes_of, scopes_of, Room, stopped, tables, ss_in, ns_in, x_in, read_behind, read_lines, front}
-use Rattle.line_digits.specs.NumberLaws.{and_no}
-use Rattle.line_forms.specs.FormLaws.{tail_of, rest_tail, numbers_told, fits_told}
+use Rattle.line_digits.proofs.NumberLaws.{and_no}
+use Rattle.line_forms.proofs.FormLaws.{tail_of, rest_tail, numbers_told, fits_told}
 use Rattle.line_input.specs.ReadLaws.{first_of, scopes_sized, nodes_sized}
 use Rattle.line_input.specs.InputLaws.{head_room}
 use Rattle.line_input.specs.Route.{is_u, unit_in, is_a, Asking, unasked, lines_before, asked_by}

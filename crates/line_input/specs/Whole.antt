@@ -7,12 +7,12 @@ use Rattle.std.specs.Prelude.{Bool, cond, ◌&&◌, ◌⊎◌, List, [], ◌∷�
 use Rattle.std.proofs.Math.Bool.{true, false}
 use native.Mathlib.Omega.{arith}
 use Rattle.std.proofs.Math.Seq.{take-nil}
-use Rattle.base_common.specs.Bools.{never}
-use Rattle.base_common.specs.UptoLaws.{and_left_lem, and_right_lem}
+use Rattle.base_common.proofs.Bools.{never}
+use Rattle.base_common.proofs.UptoLaws.{and_left_lem, and_right_lem}
 use Rattle.line_fields.specs.Split.{lines_of, before, onward}
-use Rattle.line_fields.specs.SplitLaws.{line_first, lines_after}
+use Rattle.line_fields.proofs.SplitLaws.{line_first, lines_after}
 use Rattle.line_forms.specs.Forms.{kind_in, nodes_in, scopes_in, name_of, is_j, is_s, is_n, is_x}
-use Rattle.line_forms.specs.FormLaws.{lettered_long, numbers_letter, node_letter, source_letter}
+use Rattle.line_forms.proofs.FormLaws.{lettered_long, numbers_letter, node_letter, source_letter}
 use Rattle.line_input.specs.declared.Input.{Input}
 use Rattle.line_input.specs.declared.Input.TheVariants.{Tables, Unread}
 use Rattle.line_input.specs.Format.{scope_lines, node_lines, nodes_of, scopes_of, Room, Reading, stopped, tables, read_behind, read_lines, read_input}

@@ -3,9 +3,9 @@ use Rattle.std.specs.Prelude.{ℕ, zero, suc, ◌+◌, ◌-◌, ◌*◌, ◌/◌
 use Rattle.std.proofs.Common.{ap, sym, subst, ◌∙◌, append_assoc, append-nil, arith, pow-suc, mul-suc, length-append, length-take-le, drop_at, lt-ltb, le-ltb, ltb-true, ltb-false, add-one}
 use Rattle.std.proofs.lemmas.List.{set_split, take-set-le}
 use Rattle.base_common.specs.Wrote.{Wrote, put}
-use Rattle.base_common.specs.WroteLaws.{wrote_put, length_put}
+use Rattle.base_common.proofs.WroteLaws.{wrote_put, length_put}
 use Rattle.line_digits.specs.Lists.{drop_step, drop_end}
-use Rattle.table_put.specs.Writes.{put_put, put_end, wrote_done}
+use Rattle.table_put.proofs.Writes.{put_put, put_end, wrote_done}
 use Rattle.line_fields.specs.Split.{joined}
 use Rattle.line_print.specs.Print.{spelled, decimal, line_of}
 

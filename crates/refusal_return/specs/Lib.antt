@@ -1,2 +1,1 @@
 pub mod Return
-pub mod Examples

@@ -4,17 +4,17 @@ use Rattle.std.proofs.Common.{sym, subst, ◌∙◌, ⊎_elim, eq-or-lt_of_le, a
 use Rattle.std.proofs.Math.Bool.{and-true, and-false}
 use borrow.Author.Tests.{eq-eqb, ne_eqb, le-leb, lt-leb, eqb-true, ltb-false, leb-false, not-false}
 use Rattle.std.proofs.Math.Dec.{leb}
-use Rattle.base_common.specs.UptoLaws.{and_left_lem, and_right_lem}
-use Rattle.base_common.specs.Bools.{never, or_first, or_second, or3}
-use Rattle.base_walk.specs.AboveLaws.{above_up, above_root}
+use Rattle.base_common.proofs.UptoLaws.{and_left_lem, and_right_lem}
+use Rattle.base_common.proofs.Bools.{never, or_first, or_second, or3}
+use Rattle.base_walk.proofs.AboveLaws.{above_up, above_root}
 use Rattle.base_walk.specs.On.{on}
-use Rattle.base_walk.specs.OnLaws.{on_cases, on_le, on_trans, on_linear}
-use Rattle.base_walk.specs.PreorderLaws.{lt_or_ge}
+use Rattle.base_walk.proofs.OnLaws.{on_cases, on_le, on_trans, on_linear}
+use Rattle.base_walk.proofs.PreorderLaws.{lt_or_ge}
 use Rattle.table_records.specs.Table.{kind_of, parent_of, scope_of, extra_of, count, count_scopes, scope_parent_of, scope_flags_of, scope_node_of, Some}
 use Rattle.table_records.specs.Facts.{Tree, Chained, Scoped}
 use Rattle.refusal_verdict.specs.declared.Place.TheVariants.{Nowhere}
 use Rattle.refusal_verdict.specs.First.{first}
-use Rattle.refusal_verdict.specs.FirstLaws.{first_none}
+use Rattle.refusal_verdict.proofs.FirstLaws.{first_none}
 use Rattle.refusal_scopes.specs.Scopes.{broken_at, chain_on, misscoped_at}
 
 -- r is on the way up from a node just where both a and b are

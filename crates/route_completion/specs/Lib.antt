@@ -2,10 +2,7 @@ pub mod Tree
 pub mod Sem
 pub mod Route
 pub mod Rest
-pub mod Laws
 pub mod Taken
 pub mod Scope
-pub mod Parts
 pub mod Examples
 pub mod Entries
-pub mod EntriesLaws

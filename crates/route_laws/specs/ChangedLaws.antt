@@ -7,7 +7,7 @@ use Rattle.route_completion.specs.Route.{asks, node_of}
 use Rattle.route_completion.specs.Taken.{asks_append}
 use Rattle.code_flat.specs.Machine.{Res, res, pre, Frame, run}
 use Rattle.code_flat.specs.Leg.{Leg, ends, waits, listed, leg, onward}
-use Rattle.code_flat.specs.LegLaws.{run_leg, leg_plain}
+use Rattle.code_flat.proofs.LegLaws.{run_leg, leg_plain}
 use Rattle.route_laws.specs.Changed.{up_to, beyond, Agree, Alike}
 use Rattle.route_laws.specs.Shared.{shared}
 use Rattle.route_laws.specs.SharedLaws.{shared_longest}

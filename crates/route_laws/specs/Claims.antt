@@ -7,7 +7,7 @@ use Rattle.std.proofs.lemmas.List.{length-map}
 use Rattle.route_completion.specs.Tree.{Stmts}
 use Rattle.route_completion.specs.Sem.{execs}
 use Rattle.route_completion.specs.Route.{node_of, Route, route_of, end_of, route, Once, nodes_of_all}
-use Rattle.route_completion.specs.Parts.{parts_once}
+use Rattle.route_completion.proofs.Parts.{parts_once}
 use Rattle.code_flat.specs.Code.{unit, sizes, RoomAll}
 use Rattle.code_flat.specs.Machine.{Frame, room, run, started, code_route, result}
 use Rattle.code_flat.specs.Claims.{claims, every_unit}

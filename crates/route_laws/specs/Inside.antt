@@ -4,9 +4,9 @@ use Rattle.std.proofs.Common.{inl, inr}
 use Rattle.route_completion.specs.Tree.{Stmt, Stmts, Cases, leaf, if1, if2, if3, withs, block, label, loop, switch, try_c, try_f, nil, cons, none, case}
 use Rattle.route_completion.specs.Sem.{Entry, execs}
 use Rattle.route_completion.specs.Route.{node_of, Mem, nodes_of, nodes_of_all, nodes_of_cases}
-use Rattle.route_completion.specs.Parts.{mem_left, mem_right}
+use Rattle.route_completion.proofs.Parts.{mem_left, mem_right}
 use Rattle.route_completion.specs.Entries.{Each, Lists, ListsAll, ListsCases}
-use Rattle.route_completion.specs.EntriesLaws.{lists_as, lists_all_as, lists_cases_as, execs_each}
+use Rattle.route_completion.proofs.EntriesLaws.{lists_as, lists_all_as, lists_cases_as, execs_each}
 
 -- The entry lists a node of N.
 abbrev pub In : List ℕ → Entry → Type 0

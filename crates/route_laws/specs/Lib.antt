@@ -5,4 +5,3 @@ pub mod SharedLaws
 pub mod ChangedLaws
 pub mod Inside
 pub mod Fits
-pub mod Examples

@@ -1,4 +1,3 @@
 pub mod Statement
 pub mod Steps
-pub mod StepsLaws
 pub mod StatementLaws

@@ -1,2 +1,1 @@
 pub mod Shown
-pub mod ShownLaws

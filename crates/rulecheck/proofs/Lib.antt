@@ -1,1 +1,3 @@
 mod Whole
+pub mod Example
+pub mod ResponseLaws

@@ -7,7 +7,7 @@ use Rattle.std.specs.Io.KnownBytes.{Appends}
 use Rattle.line_input.specs.Format.{front}
 use Rattle.line_input.specs.Whole.{enough}
 use Rattle.rulecheck.specs.Response.{response}
-use Rattle.rulecheck.specs.ResponseLaws.{response_whole}
+use Rattle.rulecheck.proofs.ResponseLaws.{response_whole}
 
 -- the response to what was read, which stands at a slice's front, is that to all bytes of the input
 pub answered : (left : Option (List ℕ)) (n : ℕ) (read shown out f : List ℕ) (end : ℕ) → n ≡ enough → IfSome left (λ bytes. read ≡ take n bytes)

@@ -1,3 +1,1 @@
 pub mod Response
-pub mod ResponseLaws
-pub mod Example

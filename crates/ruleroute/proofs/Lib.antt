@@ -1,1 +1,3 @@
 mod Whole
+pub mod AnswerLaws
+pub mod RoomLaws

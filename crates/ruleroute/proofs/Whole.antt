@@ -6,7 +6,7 @@ use Rattle.std.specs.Io.KnownBytes.{Appends}
 use Rattle.route_viewer.specs.declared.Routed.{Routed}
 use Rattle.line_input.specs.Whole.{enough}
 use Rattle.ruleroute.specs.Answer.{entries_of, printed, routed_of, text_of}
-use Rattle.ruleroute.specs.AnswerLaws.{entries_whole, routed_whole}
+use Rattle.ruleroute.proofs.AnswerLaws.{entries_whole, routed_whole}
 
 -- the text of the answer for what was read is that for all bytes of the input
 pub answered : (left : Option (List ℕ)) (n : ℕ) (read f out : List ℕ) (answer : Routed) → n ≡ enough → IfSome left (λ bytes. read ≡ take n bytes)

@@ -1,3 +1,1 @@
 pub mod Answer
-pub mod AnswerLaws
-pub mod RoomLaws

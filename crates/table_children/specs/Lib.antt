@@ -1,2 +1,1 @@
 pub mod Children
-pub mod ChildrenLaws

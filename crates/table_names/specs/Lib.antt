@@ -1,3 +1,2 @@
 pub mod Name
 pub mod Words
-pub mod NameLaws

@@ -1,7 +1,7 @@
 -- Names where they are asked for: at nodes that are no labels they are the same bytes; two labels have one name before if and only if they have one after.
 use Rattle.std.specs.Prelude.{ℕ, ◌+◌, ◌<◌, ◌≡◌, refl, List, Bool, true, false, cond, ◌&&◌, eqb, length}
 use Rattle.std.proofs.Common.{ap, sym, ◌∙◌, arith, eq-eqb, ne_eqb, eqb-true}
-use Rattle.base_common.specs.Bools.{never}
+use Rattle.base_common.proofs.Bools.{never}
 use Rattle.table_records.specs.Table.{count, kind_of, role_of, name_len_of}
 use Rattle.table_records.specs.Facts.{Named}
 use Rattle.table_records.specs.Kinds as k
@@ -9,9 +9,9 @@ use Rattle.table_records.specs.Roles as role
 use Rattle.table_records.specs.declared.Found.{Found}
 use Rattle.table_records.specs.declared.Found.TheVariants.{At, Nothing}
 use Rattle.table_names.specs.Name.{same, name_of, same_name}
-use Rattle.table_names.specs.NameLaws.{same_self, same_eq, name_length}
+use Rattle.table_names.proofs.NameLaws.{same_self, same_eq, name_length}
 use Rattle.table_children.specs.Children.{key_of, label_of}
-use Rattle.table_children.specs.ChildrenLaws.{found_child}
+use Rattle.table_children.proofs.ChildrenLaws.{found_child}
 use Rattle.code_tree.specs.Labels.{is_label}
 use Rattle.table_renamed.specs.RenamedLaws.{Alike}
 use Rattle.table_renamed.specs.TableLaws.{tables}

@@ -2,8 +2,8 @@
 use Rattle.std.specs.Prelude.{ℕ, ◌*◌, ◌+◌, ◌≤◌, ◌<◌, ◌≡◌, List, true, false, length, get_or}
 use Rattle.std.proofs.Common.{sym, ◌∙◌, ⊎_elim, arith}
 use Rattle.std.proofs.Math.ListN.{get_or-eq_default}
-use Rattle.base_common.specs.Bools.{never}
-use Rattle.base_walk.specs.PreorderLaws.{lt_or_ge}
+use Rattle.base_common.proofs.Bools.{never}
+use Rattle.base_walk.proofs.PreorderLaws.{lt_or_ge}
 use Rattle.table_records.specs.Table.{count, kind_of, parent_of, role_of, span_start_of, span_end_of, scope_of, flags_of, extra_of}
 use Rattle.table_names.specs.Name.{name_of}
 use Rattle.code_tree.specs.Labels.{is_label}

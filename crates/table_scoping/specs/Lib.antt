@@ -1,2 +1,1 @@
 pub mod Scoping
-pub mod ScopingLaws

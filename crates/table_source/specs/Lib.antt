@@ -1,2 +1,1 @@
 pub mod SourceType
-pub mod SourceTypeLaws

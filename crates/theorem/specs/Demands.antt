@@ -9,17 +9,17 @@ use Rattle.check_dispatch.specs.Findings.{findings_of}
 use Rattle.check_class_table.specs.Classes.{classes_of}
 use Rattle.check_duplicates.specs.Duplicates.{duplicate_elements}
 use Rattle.check_pairs.specs.Pairs.{clash_findings}
-use Rattle.check_pairs.specs.PairsLaws.{each_clash}
+use Rattle.check_pairs.proofs.PairsLaws.{each_clash}
 use Rattle.check_dispatch.specs.Former as Former
-use Rattle.check_dispatch.specs.FormerLaws.{former_of}
+use Rattle.check_dispatch.proofs.FormerLaws.{former_of}
 use Rattle.check_dispatch.specs.Rule.{Rule, rule}
 use Rattle.check_dispatch.specs.Reported.{reported}
-use Rattle.check_dispatch.specs.ReportedLaws as option
+use Rattle.check_dispatch.proofs.ReportedLaws as option
 use Rattle.refusal_state.specs.Targets.{state_answer}
 use Rattle.call_renamed.specs.Same.{LabelsRenamed, Same, with_tables}
-use Rattle.call_renamed.specs.Theorem.{labels_renamed}
+use Rattle.call_renamed.proofs.Theorem.{labels_renamed}
 use Rattle.ecma_base.specs.Telling.{Telling}
-use Rattle.ecma_dispatch.specs.TypescriptLaws.{Typescript, typescript}
+use Rattle.ecma_dispatch.proofs.TypescriptLaws.{Typescript, typescript}
 use Rattle.ecma_standard.specs.Standard.{Standard, standard262}
 use Rattle.ecma_standard.specs.Findings.{Broken, findings262}
 use Rattle.ecma_standard.specs.AsyncBodies.{OptionOn, option_on}
@@ -29,11 +29,11 @@ use Rattle.call_shared.specs.Theorem.{OneAnswerChanged, one_answer_changed_lem}
 use Rattle.call_walk.specs.Theorem.{BothEngines, both_engines}
 use Rattle.call_marks.specs.Theorem.{History, TakenUp, marks_in_a_route}
 use Rattle.call_rows.specs.Rows.{rows, Each, Holds}
-use Rattle.call_rows.specs.RowsHold.{rows_hold_lem}
+use Rattle.call_rows.proofs.RowsHold.{rows_hold_lem}
 use Rattle.call_labels.specs.Written.{nodes_renamed, names_renamed}
 use Rattle.call_rename.specs.declared.Relabelled.TheVariants.{Names}
 use Rattle.call_rename_laws.specs.Output.{renaming_of, Output}
-use Rattle.call_rename_laws.specs.OutputLaws.{output}
+use Rattle.call_rename_laws.proofs.OutputLaws.{output}
 use Rattle.exports.proofs.velkunshe_check.Statement as check-call
 use Rattle.exports.proofs.velkunshe_check.Met as check-proved
 use Rattle.exports.proofs.velkunshe_code.Statement as code_call

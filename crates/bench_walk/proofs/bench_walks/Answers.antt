@@ -1,4 +1,4 @@
-use Rattle.refusal_input.specs.InputLaws.{input_well_formed}
+use Rattle.refusal_input.proofs.InputLaws.{input_well_formed}
 use mathlib.Core.Path.{sym, ◌∙◌}
 use Rattle.bench_walk.proofs.bench_walks.Goals as goal
 

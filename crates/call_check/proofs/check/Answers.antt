@@ -1,7 +1,7 @@
 use Rattle.call_check.specs.Check.{report_answer, report_slice, answer_by, slice_by, check_answer, check_slice}
 use Rattle.check_dispatch.specs.Rule.{rule}
 use Rattle.check_dispatch.specs.Reported.{reported}
-use Rattle.refusal_input.specs.InputLaws.{input_well_formed}
+use Rattle.refusal_input.proofs.InputLaws.{input_well_formed}
 use Rattle.refusal_verdict.specs.declared.Verdict.{Verdict}
 use lib.ListN.{length}
 use mathlib.Core.Path.{ap, sym, ◌∙◌}

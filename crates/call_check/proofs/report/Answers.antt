@@ -1,5 +1,5 @@
 use Rattle.call_check.specs.declared.Checked.TheVariants.{Findings, Short}
-use Rattle.call_check.specs.CheckLaws.{answer_short, slice_short, answer_room, slice_room}
+use Rattle.call_check.proofs.CheckLaws.{answer_short, slice_short, answer_room, slice_room}
 use Rattle.check_dispatch.specs.Rule.{rule}
 use Rattle.check_dispatch.specs.Reported.{reported}
 use lib.ListN.{length}

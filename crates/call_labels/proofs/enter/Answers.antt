@@ -1,9 +1,9 @@
 use Rattle.call_labels.specs.Order.{seen_before, place_in}
-use Rattle.call_labels.specs.UnfitLaws.{other_fit, reserved_unfit, nameless_fit, known_fit, many_unfit, new_fit}
+use Rattle.call_labels.proofs.UnfitLaws.{other_fit, reserved_unfit, nameless_fit, known_fit, many_unfit, new_fit}
 use Rattle.call_labels.specs.Firsts.{Firsts}
-use Rattle.call_labels.specs.FirstsLaws.{firsts_length, firsts_add}
+use Rattle.call_labels.proofs.FirstsLaws.{firsts_length, firsts_add}
 use Rattle.table_names.specs.Name.{name_of}
-use Rattle.table_names.specs.NameLaws.{name_length}
+use Rattle.table_names.proofs.NameLaws.{name_length}
 use borrow.Author.Tests.{not-true, not-false}
 use lib.ListN.{length, set}
 use native.Mathlib.Omega.{arith}

@@ -1,9 +1,9 @@
 use Rattle.table_records.specs.Table as table
-use Rattle.refusal_verdict.specs.FirstLaws.{first_on, first_stop, first_end}
+use Rattle.refusal_verdict.proofs.FirstLaws.{first_on, first_stop, first_end}
 use Rattle.call_labels.specs.Order.{seen_before}
 use Rattle.call_labels.specs.Unfit.{unfit_at}
 use Rattle.call_labels.specs.Firsts.{Firsts}
-use Rattle.call_labels.specs.FirstsLaws.{firsts_start, entered_unfit, entered_few}
+use Rattle.call_labels.proofs.FirstsLaws.{firsts_start, entered_unfit, entered_few}
 use native.Mathlib.Omega.{arith}
 use mathlib.Core.Path.{◌≡◌, refl, sym, subst, ◌∙◌}
 use Prim.Native.Nat.{ℕ}

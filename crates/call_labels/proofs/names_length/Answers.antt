@@ -1,11 +1,11 @@
 use Rattle.call_labels.specs.Written.{new_name_of}
-use Rattle.call_labels.specs.WrittenLaws.{next_length}
+use Rattle.call_labels.proofs.WrittenLaws.{next_length}
 use lib.ListN.{length}
 use native.Mathlib.Omega.{arith}
 use mathlib.Core.Path.{◌≡◌, ap, sym, ◌∙◌}
 use Rattle.table_records.specs.Table as table
 use Rattle.call_labels.specs.Written.{names_to, names_renamed}
-use Rattle.check_diagnostics.specs.Gather.{flat_end}
+use Rattle.check_diagnostics.proofs.Gather.{flat_end}
 use Rattle.call_labels.proofs.names_length.Goals as goal
 
 pub size-count-requires : goal.size-count-requires

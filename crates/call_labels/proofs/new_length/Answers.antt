@@ -1,9 +1,9 @@
 use Rattle.call_labels.specs.Short.{short_name}
-use Rattle.call_labels.specs.ShortLaws.{short_most}
+use Rattle.call_labels.proofs.ShortLaws.{short_most}
 use Rattle.call_labels.specs.Order.{place_in}
-use Rattle.call_labels.specs.WrittenLaws.{nameless_new, other_new, short_new}
+use Rattle.call_labels.proofs.WrittenLaws.{nameless_new, other_new, short_new}
 use Rattle.table_names.specs.Name.{name_of}
-use Rattle.table_names.specs.NameLaws.{name_length}
+use Rattle.table_names.proofs.NameLaws.{name_length}
 use borrow.Author.Tests.{not-true, not-false}
 use lib.ListN.{length}
 use native.Mathlib.Omega.{arith}

@@ -1,4 +1,4 @@
-use Rattle.call_labels.specs.FirstsLaws.{place_stop, place_on, place_end_lem}
+use Rattle.call_labels.proofs.FirstsLaws.{place_stop, place_on, place_end_lem}
 use Rattle.table_names.specs.Name.{name_of}
 use native.Mathlib.Omega.{arith}
 use mathlib.Core.Path.{sym, ◌∙◌}

@@ -1,10 +1,10 @@
 use Rattle.call_labels.specs.Short.{short_name}
-use Rattle.call_labels.specs.ShortLaws.{put_none}
+use Rattle.call_labels.proofs.ShortLaws.{put_none}
 use Rattle.call_labels.specs.Order.{label_names, place_in}
-use Rattle.call_labels.specs.FirstsLaws.{firsts_length}
-use Rattle.call_labels.specs.WrittenLaws.{nameless_new, other_new, short_new, label_below}
+use Rattle.call_labels.proofs.FirstsLaws.{firsts_length}
+use Rattle.call_labels.proofs.WrittenLaws.{nameless_new, other_new, short_new, label_below}
 use Rattle.table_names.specs.Name.{name_of}
-use Rattle.table_names.specs.NameLaws.{name_length}
+use Rattle.table_names.proofs.NameLaws.{name_length}
 use Rattle.base_common.specs.Wrote.{put}
 use borrow.Author.Tests.{not-true, not-false}
 use lib.ListN.{length}

@@ -1,6 +1,6 @@
 use Rattle.call_labels.specs.Short.{letter_a, letters, pair_of}
-use Rattle.call_labels.specs.ShortLaws.{short_one, short_two, pair_below, put_one}
-use Rattle.table_put.specs.Stores.{put_two}
+use Rattle.call_labels.proofs.ShortLaws.{short_one, short_two, pair_below, put_one}
+use Rattle.table_put.proofs.Stores.{put_two}
 use Rattle.base_common.specs.Wrote.{put}
 use lib.ListN.{length, set, length-set}
 use native.Mathlib.Omega.{arith}

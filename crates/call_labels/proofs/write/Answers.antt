@@ -1,10 +1,10 @@
 use Rattle.table_records.specs.Table as table
 use Rattle.base_common.specs.Wrote.{put}
-use Rattle.base_common.specs.WroteLaws.{wrote_start}
-use Rattle.check_diagnostics.specs.Gather.{flat_end}
+use Rattle.base_common.proofs.WroteLaws.{wrote_start}
+use Rattle.check_diagnostics.proofs.Gather.{flat_end}
 use Rattle.call_labels.specs.Written.{new_name_of, record_with, record_of, nodes_renamed, names_renamed}
-use Rattle.call_labels.specs.WrittenLaws.{next_length}
-use Rattle.call_labels.specs.WriteLaws.{written_length, write_room, write_turn, write_end}
+use Rattle.call_labels.proofs.WrittenLaws.{next_length}
+use Rattle.call_labels.proofs.WriteLaws.{written_length, write_room, write_turn, write_end}
 use lib.ListN.{length}
 use native.Mathlib.Omega.{arith}
 use mathlib.Core.Path.{◌≡◌, ap, sym, ◌∙◌}

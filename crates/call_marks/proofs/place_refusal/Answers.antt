@@ -1,8 +1,8 @@
 use Rattle.refusal_verdict.specs.Refusals as refusal
 use Rattle.call_marks.specs.Marked.{seventeen_of}
 use Rattle.route_marks.specs.Taken.{Ready, begins_at}
-use Rattle.route_marks.specs.MarksLaws.{set_facts}
-use Rattle.route_marks.specs.BeginsLaws.{same_test}
+use Rattle.route_marks.proofs.MarksLaws.{set_facts}
+use Rattle.route_marks.proofs.BeginsLaws.{same_test}
 use Rattle.route_marks.specs.declared.Begin.{Begin}
 use Rattle.refusal_verdict.specs.declared.Verdict.TheVariants.{Refused, Passed}
 use mathlib.Core.Bool.{Bool, cond}

@@ -1,5 +1,5 @@
 use Rattle.call_rename.specs.Rename.{Renaming}
-use Rattle.call_rename.specs.RenameLaws.{ready, listed_unfit, listed_few, labelled_unfit, labelled_fit}
+use Rattle.call_rename.proofs.RenameLaws.{ready, listed_unfit, listed_few, labelled_unfit, labelled_fit}
 use native.Mathlib.Omega.{arith}
 use mathlib.Core.Path.{ap, sym, ◌∙◌}
 use Rattle.call_rename.proofs.labels.Goals as goal

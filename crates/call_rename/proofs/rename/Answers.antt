@@ -1,5 +1,5 @@
 use Rattle.call_rename.specs.Rename.{Renaming}
-use Rattle.call_rename.specs.RenameLaws.{sized, input_refused, input_passed}
+use Rattle.call_rename.proofs.RenameLaws.{sized, input_refused, input_passed}
 use mathlib.Core.Path.{ap, sym, ◌∙◌}
 use Rattle.call_rename.proofs.rename.Goals as goal
 

@@ -1,7 +1,7 @@
 use Rattle.call_rename.specs.declared.Relabelled.TheVariants.{Names, Short}
 use Rattle.call_rename.specs.Rename.{Renaming}
-use Rattle.call_rename.specs.RenameLaws.{short_nodes, short_names_lem, long_names, room}
-use Rattle.call_labels.specs.WrittenLaws.{records_length}
+use Rattle.call_rename.proofs.RenameLaws.{short_nodes, short_names_lem, long_names, room}
+use Rattle.call_labels.proofs.WrittenLaws.{records_length}
 use native.Mathlib.Omega.{arith}
 use mathlib.Core.Path.{ap, sym, ◌∙◌}
 use Prim.Native.Nat.{ℕ}

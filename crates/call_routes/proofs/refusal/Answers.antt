@@ -1,4 +1,4 @@
-use Rattle.refusal_input.specs.InputLaws.{input_well_formed}
+use Rattle.refusal_input.proofs.InputLaws.{input_well_formed}
 use Rattle.check_dispatch.specs.Rule.{rule}
 use Rattle.refusal_state.specs.Targets.{refused_or, state_answer}
 use Rattle.refusal_verdict.specs.declared.Verdict.{Verdict}

@@ -1,5 +1,5 @@
 use Rattle.call_shared.specs.Shared.{shared_length}
-use Rattle.call_shared.specs.SharedLaws.{shared_by, shared_by_lem, inside, shares}
+use Rattle.call_shared.proofs.SharedLaws.{shared_by, shared_by_lem, inside, shares}
 use Rattle.call_shared.specs.declared.Beginning.TheVariants as answer
 use Rattle.check_dispatch.specs.Rule.{rule}
 use Rattle.route_shared.specs.Shared.{shared_entries}

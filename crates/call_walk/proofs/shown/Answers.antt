@@ -4,7 +4,7 @@ use native.Mathlib.Omega.{arith}
 use lib.ListN.{length}
 use Rattle.route_list.specs.Listing.{most}
 use Rattle.route_completion.specs.Route.{route}
-use Rattle.route_viewer.specs.ShownLaws.{short_answer, short_slice, whole_answer, whole_slice}
+use Rattle.route_viewer.proofs.ShownLaws.{short_answer, short_slice, whole_answer, whole_slice}
 use Rattle.code_tree.specs.Statements.{unit_of}
 use Rattle.call_walk.proofs.shown.Goals as goal
 

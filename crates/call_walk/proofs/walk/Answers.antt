@@ -7,7 +7,7 @@ use Rattle.route_viewer.specs.declared.Routed.TheVariants as routed
 use Rattle.code_tree.specs.Statements.{unit_of}
 use Rattle.call_routes.specs.Calls.{unless}
 use Rattle.call_walk.specs.Walked.{walk_answer, walk_slice}
-use Rattle.call_walk.specs.WalkedLaws.{enterable}
+use Rattle.call_walk.proofs.WalkedLaws.{enterable}
 use Rattle.call_walk.proofs.walk.Goals as goal
 
 pub shown-requires : goal.shown-requires

@@ -1,5 +1,5 @@
 use Rattle.check_bodies.specs.Bodies.{async_bodies_at}
-use Rattle.check_diagnostics.specs.RaisesLaws.{raises_none}
+use Rattle.check_diagnostics.proofs.RaisesLaws.{raises_none}
 use borrow.Author.Tests.{ne_eqb}
 use Rattle.table_records.specs.Kinds as k
 use native.Mathlib.Omega.{arith}

@@ -2,7 +2,7 @@ use borrow.Author.Tests.{ne_eqb}
 use mathlib.Core.Path.{sym, subst}
 use Rattle.check_class_table.specs.declared.Current.{Current}
 use Rattle.check_class_table.specs.Classes.{in_table, current_class}
-use Rattle.check_class_table.specs.ClassesLaws.{in_table_lem}
+use Rattle.check_class_table.proofs.ClassesLaws.{in_table_lem}
 use borrow.Author.Rules.{rules}
 use Rattle.check_class_table.proofs.current_class.Goals as goal
 

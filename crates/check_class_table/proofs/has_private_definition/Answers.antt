@@ -2,7 +2,7 @@ use mathlib.Core.Path.{sym, ◌∙◌}
 use native.Mathlib.Omega.{arith}
 use borrow.Author.Tests.{ltb-true, ltb-false}
 use Rattle.table_records.specs.Table.{count}
-use Rattle.check_class_table.specs.ElementsLaws.{has_start, has_stop, has_on, has_end, has_out}
+use Rattle.check_class_table.proofs.ElementsLaws.{has_start, has_stop, has_on, has_end, has_out}
 use borrow.Author.Rules.{rules}
 use Rattle.check_class_table.proofs.has_private_definition.Goals as goal
 

@@ -2,7 +2,7 @@ use Prim.Native.Nat.{◌≤◌, ◌<◌, ◌-◌}
 use mathlib.Core.Path.{◌≡◌}
 use Rattle.table_records.specs.Table.{count}
 use Rattle.check_class_table.specs.Elements.{has_private}
-use Rattle.check_class_table.specs.ElementsLaws.{has_private_from}
+use Rattle.check_class_table.proofs.ElementsLaws.{has_private_from}
 use Rattle.check_class_table.proofs.has_private_definition.Given as goal
 
 abbrev pub invariant-loop-c : goal.invariant-loop-c

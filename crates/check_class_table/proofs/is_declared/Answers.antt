@@ -3,8 +3,8 @@ use mathlib.Core.Path.{sym, subst, ◌∙◌}
 use native.Mathlib.Omega.{arith}
 use Rattle.check_class_table.specs.declared.Current.{Current}
 use Rattle.check_class_table.specs.Classes.{body_above, before}
-use Rattle.check_class_table.specs.ClassesLaws.{class_found, class_none}
-use Rattle.check_class_table.specs.ElementsLaws.{declared_here, declared_outer, declared_none}
+use Rattle.check_class_table.proofs.ClassesLaws.{class_found, class_none}
+use Rattle.check_class_table.proofs.ElementsLaws.{declared_here, declared_outer, declared_none}
 use Rattle.check_class_table.proofs.is_declared.Goals as goal
 
 pub returns-then-has_private_definition : goal.returns-then-has_private_definition

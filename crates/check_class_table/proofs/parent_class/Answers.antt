@@ -1,7 +1,7 @@
 use mathlib.Core.Path.{sym, ap, subst, ◌∙◌}
 use Rattle.check_class_table.specs.declared.Current.{Current}
 use Rattle.check_class_table.specs.Classes.{before, class_at}
-use Rattle.check_class_table.specs.ClassesLaws.{above_before}
+use Rattle.check_class_table.proofs.ClassesLaws.{above_before}
 use Rattle.check_class_table.proofs.parent_class.Goals as goal
 
 pub returns : goal.returns

@@ -4,7 +4,7 @@ use native.Mathlib.Omega.{arith}
 use lib.ListN.{length}
 use Rattle.check_diagnostics.specs.Finding.{listed, sink}
 use Rattle.check_diagnostics.specs.declared.Raised.{Raised}
-use Rattle.check_diagnostics.specs.Gather.{listed_one}
+use Rattle.check_diagnostics.proofs.Gather.{listed_one}
 use Rattle.check_classes.specs.ClassChecksLaws.{check_place, check_sink}
 use Rattle.check_classes.specs.ClassChecks.{require_class_name, second_constructor}
 use Rattle.check_classes.proofs.check_class.Goals as goal

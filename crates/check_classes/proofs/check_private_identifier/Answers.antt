@@ -3,7 +3,7 @@ use mathlib.Core.List.{List, []}
 use mathlib.Core.Path.{◌≡◌, sym, ap, subst, ◌∙◌}
 use native.Mathlib.Omega.{arith}
 use lib.ListN.{length}
-use Rattle.check_diagnostics.specs.FindingLaws.{sink_nil}
+use Rattle.check_diagnostics.proofs.FindingLaws.{sink_nil}
 use Rattle.check_diagnostics.specs.Finding.{sink}
 use Rattle.check_diagnostics.specs.declared.Finding.{Finding}
 use Rattle.check_class_table.specs.declared.Current.{Current}

@@ -3,7 +3,7 @@ use native.Mathlib.Omega.{arith}
 use borrow.Author.Tests.{ltb-true, ltb-false}
 use Rattle.table_records.specs.Table.{count}
 use Rattle.check_classes.specs.ClassChecksLaws.{is_constructor_of, constructor_out}
-use Rattle.table_children.specs.ChildrenLaws.{node_on, node_stop, node_end}
+use Rattle.table_children.proofs.ChildrenLaws.{node_on, node_stop, node_end}
 use borrow.Author.Rules.{rules}
 use Rattle.check_classes.proofs.next_constructor.Goals as goal
 

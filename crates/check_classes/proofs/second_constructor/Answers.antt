@@ -4,7 +4,7 @@ use native.Mathlib.Omega.{arith}
 use Rattle.table_records.specs.declared.Found.{Found}
 use Rattle.table_records.specs.Table.{count}
 use Rattle.table_children.specs.Children.{below}
-use Rattle.check_diagnostics.specs.Gather.{found_from}
+use Rattle.check_diagnostics.proofs.Gather.{found_from}
 use Rattle.check_classes.specs.ClassChecksLaws.{is_constructor_of, none_found, one_found, two_found}
 use Rattle.check_classes.specs.ClassChecks.{second_by}
 use Rattle.check_classes.proofs.second_constructor.Goals as goal

@@ -1,6 +1,6 @@
 use lib.ListN.{length-set}
 use native.Mathlib.Omega.{arith}
-use Rattle.base_common.specs.WroteLaws.{put_seven}
+use Rattle.base_common.proofs.WroteLaws.{put_seven}
 use Rattle.check_diagnostics.proofs.put.Goals as goal
 
 pub bounds-findings-at-2 : goal.bounds-findings-at-2

@@ -1,4 +1,4 @@
-use Rattle.check_diagnostics.specs.FindingLaws.{sink_nil, one_room_lem, one_full}
+use Rattle.check_diagnostics.proofs.FindingLaws.{sink_nil, one_room_lem, one_full}
 use Rattle.check_diagnostics.specs.Finding.{listed, sink}
 use Rattle.check_diagnostics.specs.declared.Raised.{Raised}
 use lib.ListN.{length}

@@ -1,4 +1,4 @@
-use Rattle.check_diagnostics.specs.RaisesLaws.{listed_small}
+use Rattle.check_diagnostics.proofs.RaisesLaws.{listed_small}
 use native.Mathlib.Omega.{arith}
 use Rattle.check_diagnostics.proofs.raise_one.Goals as goal
 

@@ -1,4 +1,4 @@
-use Rattle.check_diagnostics.specs.RaisesLaws.{listed_small, raises_then}
+use Rattle.check_diagnostics.proofs.RaisesLaws.{listed_small, raises_then}
 use Rattle.check_diagnostics.specs.Finding.{listed}
 use mathlib.Core.List.{◌++◌}
 use native.Mathlib.Omega.{arith}

@@ -1,4 +1,4 @@
-use Rattle.check_diagnostics.specs.RaisesLaws.{listed_small, raises_then}
+use Rattle.check_diagnostics.proofs.RaisesLaws.{listed_small, raises_then}
 use Rattle.check_diagnostics.specs.Finding.{listed}
 use native.Mathlib.Omega.{arith}
 use Rattle.check_diagnostics.proofs.raise_two.Goals as goal

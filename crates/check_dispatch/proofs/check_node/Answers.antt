@@ -1,6 +1,6 @@
 use Rattle.check_dispatch.specs.Findings.{findings_at}
-use Rattle.check_diagnostics.specs.RaisesLaws.{raises_none}
-use Rattle.check_dispatch.specs.FindingsLaws.{no_case}
+use Rattle.check_diagnostics.proofs.RaisesLaws.{raises_none}
+use Rattle.check_dispatch.proofs.FindingsLaws.{no_case}
 use native.Mathlib.Omega.{arith}
 use Rattle.check_dispatch.proofs.check_node.Goals as goal
 

@@ -1,8 +1,8 @@
 use Rattle.check_dispatch.specs.Findings.{findings_at}
 use Rattle.check_dispatch.specs.Reported.{reported_at}
-use Rattle.check_dispatch.specs.ReportedLaws.{nil_right_lem}
+use Rattle.check_dispatch.proofs.ReportedLaws.{nil_right_lem}
 use Rattle.check_bodies.specs.Bodies.{async_bodies_at}
-use Rattle.check_diagnostics.specs.RaisesLaws.{raises_then}
+use Rattle.check_diagnostics.proofs.RaisesLaws.{raises_then}
 use borrow.Author.Tests.{eq-eqb, ne_eqb}
 use native.Mathlib.Omega.{arith}
 use Rattle.check_dispatch.proofs.check_node_and_bodies.Goals as goal

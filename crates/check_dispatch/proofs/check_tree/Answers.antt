@@ -1,9 +1,9 @@
 use Rattle.check_dispatch.specs.Rule.{rule}
 use Rattle.check_dispatch.specs.Reported.{reported_at, reported}
-use Rattle.check_diagnostics.specs.RaisesLaws.{raises_then}
-use Rattle.check_diagnostics.specs.Gather.{flat_turn, flat_end, piece_place, piece_sink}
+use Rattle.check_diagnostics.proofs.RaisesLaws.{raises_then}
+use Rattle.check_diagnostics.proofs.Gather.{flat_turn, flat_end, piece_place, piece_sink}
 use Rattle.check_duplicates.specs.Duplicates.{duplicate_elements}
-use Rattle.check_diagnostics.specs.FindingLaws.{sink_nil}
+use Rattle.check_diagnostics.proofs.FindingLaws.{sink_nil}
 use Rattle.check_diagnostics.specs.Finding.{sink}
 use Rattle.check_diagnostics.specs.declared.Finding.{Finding}
 use Rattle.table_records.specs.Table.{count}

@@ -5,9 +5,9 @@ use native.Mathlib.Omega.{arith}
 use borrow.Author.Tests.{ltb-true, ltb-false}
 use lib.ListN.{length}
 use Rattle.table_records.specs.Table.{count}
-use Rattle.check_diagnostics.specs.FindingLaws.{sink_nil, sink_length}
+use Rattle.check_diagnostics.proofs.FindingLaws.{sink_nil, sink_length}
 use Rattle.check_diagnostics.specs.Finding.{sink}
-use Rattle.check_diagnostics.specs.Gather.{piece_place, piece_sink}
+use Rattle.check_diagnostics.proofs.Gather.{piece_place, piece_sink}
 use Rattle.check_duplicates.specs.DuplicatesLaws.{class_at, classes_from, all_start, all_turn, all_end}
 use Rattle.check_duplicates.specs.Duplicates.{duplicate_elements}
 use borrow.Author.Rules.{rules}

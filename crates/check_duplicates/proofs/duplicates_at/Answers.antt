@@ -7,7 +7,7 @@ use native.Mathlib.Omega.{arith}
 use borrow.Author.Tests.{eq-eqb, ne_eqb}
 use lib.ListN.{length}
 use Rattle.check_class_table.specs.Classes.{is_class_body}
-use Rattle.check_diagnostics.specs.FindingLaws.{sink_nil}
+use Rattle.check_diagnostics.proofs.FindingLaws.{sink_nil}
 use Rattle.check_diagnostics.specs.Finding.{sink}
 use Rattle.check_diagnostics.specs.declared.Finding.{Finding}
 use Rattle.check_duplicates.specs.DuplicatesLaws.{class_at, class_here, class_other}

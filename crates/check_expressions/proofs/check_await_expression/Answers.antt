@@ -1,10 +1,10 @@
 use mathlib.Core.List.{◌++◌}
-use Rattle.check_diagnostics.specs.Gather.{piece_place, piece_sink}
+use Rattle.check_diagnostics.proofs.Gather.{piece_place, piece_sink}
 use native.Mathlib.Omega.{arith}
 use mathlib.Core.Path.{◌≡◌, ◌∙◌}
 use Rattle.check_expressions.specs.Expressions.{check_await_expression}
 use Rattle.check_diagnostics.specs.Finding.{listed}
-use Rattle.check_diagnostics.specs.Gather.{listed_one}
+use Rattle.check_diagnostics.proofs.Gather.{listed_one}
 use Rattle.check_expressions.proofs.check_await_expression.Goals as goal
 
 pub raise-requires : goal.raise-requires

@@ -8,11 +8,11 @@ use Rattle.table_records.specs.declared.Found.{Found}
 use Rattle.table_records.specs.Kinds as k
 use Rattle.table_records.specs.Table.{count}
 use Rattle.check_diagnostics.specs.declared.Finding.{Finding}
-use Rattle.check_diagnostics.specs.FindingLaws.{sink_nil, sink_length}
+use Rattle.check_diagnostics.proofs.FindingLaws.{sink_nil, sink_length}
 use Rattle.check_diagnostics.specs.Finding.{listed, sink}
 use Rattle.table_children.specs.Children.{below}
-use Rattle.table_children.specs.ChildrenLaws.{found_child}
-use Rattle.check_diagnostics.specs.Gather.{piece_place, piece_sink, listed_one}
+use Rattle.table_children.proofs.ChildrenLaws.{found_child}
+use Rattle.check_diagnostics.proofs.Gather.{piece_place, piece_sink, listed_one}
 use Rattle.check_expressions.specs.Expressions.{check_object_expression}
 use Rattle.check_expressions.specs.ExpressionLaws.{repeats_from, keys_from, keys_start, later_below, object_turn, object_end}
 use borrow.Author.Rules.{rules}

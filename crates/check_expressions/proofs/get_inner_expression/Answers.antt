@@ -3,7 +3,7 @@ use Prim.Native.Nat.{◌+◌}
 use mathlib.Core.Path.{sym, subst, ◌∙◌}
 use Rattle.table_records.specs.declared.Found.{Found}
 use Rattle.table_children.specs.Children.{below}
-use Rattle.table_children.specs.ChildrenLaws.{found_child}
+use Rattle.table_children.proofs.ChildrenLaws.{found_child}
 use Rattle.check_expressions.specs.ExpressionLaws.{inner_bare, inner_empty, inner_on}
 use Rattle.check_expressions.proofs.get_inner_expression.Goals as goal
 

@@ -5,7 +5,7 @@ use lib.Dec.{eqb}
 use Rattle.table_records.specs.Kinds as k
 use Rattle.table_records.specs.Table.{kind_of}
 use Rattle.check_identifiers.specs.Identifiers.{is_field_value}
-use Rattle.check_identifiers.specs.IdentifierLaws.{arguments_function, arguments_found, arguments_on, arguments_root}
+use Rattle.check_identifiers.proofs.IdentifierLaws.{arguments_function, arguments_found, arguments_on, arguments_root}
 use Rattle.check_identifiers.proofs.arguments_in_class.Goals as goal
 
 pub loop-previous-preserved : goal.loop-previous-preserved

@@ -1,7 +1,7 @@
 use Rattle.table_records.specs.Table.{scope_of, scope_node_of}
 use mathlib.Core.Path.{◌≡◌}
 use native.Mathlib.Omega.{arith}
-use Rattle.check_identifiers.specs.IdentifierLaws.{scope_node_below}
+use Rattle.check_identifiers.proofs.IdentifierLaws.{scope_node_below}
 use Rattle.check_identifiers.proofs.current_scope_node.Goals as goal
 
 pub scope_node-requires : goal.scope_node-requires

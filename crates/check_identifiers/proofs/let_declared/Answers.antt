@@ -4,7 +4,7 @@ use mathlib.Core.Bool.{true, false}
 use Rattle.base_common.specs.Tests.{within}
 use Rattle.table_records.specs.Kinds as k
 use Rattle.table_records.specs.Table.{kind_of}
-use Rattle.check_identifiers.specs.IdentifierLaws.{let_found, let_function, let_on, let_root}
+use Rattle.check_identifiers.proofs.IdentifierLaws.{let_found, let_function, let_on, let_root}
 use Rattle.check_identifiers.proofs.let_declared.Goals as goal
 
 pub loop-at-preserved : goal.loop-at-preserved

@@ -1,4 +1,4 @@
-use Rattle.check_jumps.specs.JumpsLaws.{held_after_lem, item_here, item_none, item_down}
+use Rattle.check_jumps.proofs.JumpsLaws.{held_after_lem, item_here, item_none, item_down}
 use mathlib.Core.Path.{sym, ◌∙◌}
 use native.Mathlib.Omega.{arith}
 use Rattle.check_jumps.proofs.labeled_item.Goals as goal

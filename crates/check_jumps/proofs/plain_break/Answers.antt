@@ -1,7 +1,7 @@
 use native.Mathlib.Omega.{arith}
 use mathlib.Core.Path.{◌≡◌, sym, ◌∙◌}
 use Rattle.check_jumps.specs.Jumps.{plain_break_at}
-use Rattle.check_jumps.specs.JumpsLaws.{walk_up_lem, walk_root}
+use Rattle.check_jumps.proofs.JumpsLaws.{walk_up_lem, walk_root}
 use Rattle.check_jumps.proofs.plain_break.Goals as goal
 
 pub loop-at-preserved : goal.loop-at-preserved

@@ -1,7 +1,7 @@
 use native.Mathlib.Omega.{arith}
 use mathlib.Core.Path.{◌≡◌, sym, ◌∙◌}
 use Rattle.check_jumps.specs.Jumps.{labeled_at}
-use Rattle.check_jumps.specs.JumpsLaws.{walk_up_lem, walk_root}
+use Rattle.check_jumps.proofs.JumpsLaws.{walk_up_lem, walk_root}
 use Rattle.check_jumps.proofs.redeclared_label.Goals as goal
 
 pub same_label-requires : goal.same_label-requires

@@ -2,7 +2,7 @@ use Rattle.check_literals.specs.Literals.{check_string_literal}
 use Rattle.check_literals.specs.Escapes.{bad_escape}
 use Rattle.check_literals.specs.declared.Escape.TheVariants.{LegacyOctal, NonOctalDecimal}
 use mathlib.Core.Path.{ap, sym, ◌∙◌}
-use Rattle.check_literals.specs.EscapeLaws.{escape_spanned}
+use Rattle.check_literals.proofs.EscapeLaws.{escape_spanned}
 use borrow.Author.Tests.{eq-eqb, ne_eqb}
 use borrow.Author.Rules.{rules}
 use Rattle.check_literals.proofs.check_string_literal.Goals as goal

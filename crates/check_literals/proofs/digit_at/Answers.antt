@@ -1,5 +1,5 @@
 use mathlib.Core.Path.{sym}
-use Rattle.check_literals.specs.EscapeLaws.{digit_here, digit_none}
+use Rattle.check_literals.proofs.EscapeLaws.{digit_here, digit_none}
 use Rattle.check_literals.proofs.digit_at.Goals as goal
 
 pub returns-then-i-raw : goal.returns-then-i-raw

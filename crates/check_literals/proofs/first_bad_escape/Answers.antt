@@ -1,6 +1,6 @@
 use mathlib.Core.Path.{sym, ◌∙◌}
 use native.Mathlib.Omega.{arith}
-use Rattle.check_literals.specs.EscapeLaws.{scan_plain, scan_stop, scan_on, scan_end}
+use Rattle.check_literals.proofs.EscapeLaws.{scan_plain, scan_stop, scan_on, scan_end}
 use borrow.Author.Rules.{rules}
 use Rattle.check_literals.proofs.first_bad_escape.Goals as goal
 

@@ -1,5 +1,5 @@
 use native.Mathlib.Omega.{arith}
-use Rattle.check_literals.specs.EscapeLaws.{zero_short, zero_long}
+use Rattle.check_literals.proofs.EscapeLaws.{zero_short, zero_long}
 use Rattle.check_literals.proofs.leading_zero.Goals as goal
 
 pub returns-then-raw-lt2 : goal.returns-then-raw-lt2

@@ -3,7 +3,7 @@ use mathlib.Core.Path.{◌≡◌, ap, sym, ◌∙◌}
 use Prim.Native.Nat.{ℕ}
 use Rattle.table_records.specs.Kinds as k
 use Rattle.base_common.specs.Tests.{within}
-use Rattle.check_statements.specs.StatementsLaws.{function_on, function_held, function_free, function_root}
+use Rattle.check_statements.proofs.StatementsLaws.{function_on, function_held, function_free, function_root}
 use Rattle.check_statements.proofs.labelled_function.Goals as goal
 
 pub loop-at-preserved : goal.loop-at-preserved

@@ -1,13 +1,13 @@
 use Rattle.check_super_search.specs.Search.{scopes_in, at_most, AroundSuper}
-use Rattle.check_super_search.specs.SearchLaws.{node_in, around_less, around_super, all_spent, class_fails, class_value, class_key, scope_stops, scope_goes, place_value, place_key}
+use Rattle.check_super_search.proofs.SearchLaws.{node_in, around_less, around_super, all_spent, class_fails, class_value, class_key, scope_stops, scope_goes, place_value, place_key}
 use Rattle.check_super_search.specs.declared.Scopes.{Scopes}
 use Rattle.check_supers.specs.Super.{place_of, leave_class, reach_from, reach_of, body_of}
 use Rattle.check_class_table.specs.declared.Current.{Current}
-use Rattle.check_supers.specs.SuperLaws.{place_root, place_none}
+use Rattle.check_supers.proofs.SuperLaws.{place_root, place_none}
 use Rattle.table_children.specs.Children.{below}
 use Rattle.table_records.specs.Table.{scope_of, scope_parent_of}
 use Rattle.base_walk.specs.On.{on}
-use Rattle.base_walk.specs.OnLaws.{on_self}
+use Rattle.base_walk.proofs.OnLaws.{on_self}
 use native.Mathlib.Omega.{arith}
 use mathlib.Core.Bool.{true}
 use mathlib.Core.Path.{◌≡◌, refl, sym, subst, ap, ◌∙◌}

@@ -1,4 +1,4 @@
-use Rattle.table_children.specs.ChildrenLaws.{node_on, node_stop, node_end}
+use Rattle.table_children.proofs.ChildrenLaws.{node_on, node_stop, node_end}
 use Rattle.table_records.specs.Kinds as k
 use Rattle.table_records.specs.Table.{count, kind_of}
 use borrow.Author.Tests.{ltb-true, ltb-false, eq-eqb, ne_eqb}

@@ -1,4 +1,4 @@
-use Rattle.table_ancestry.specs.AncestryLaws.{parent_in}
+use Rattle.table_ancestry.proofs.AncestryLaws.{parent_in}
 use Rattle.check_supers.specs.Super.{is_class_scope, body_of}
 use Rattle.check_class_table.specs.declared.Current.{Current}
 use native.Mathlib.Omega.{arith}

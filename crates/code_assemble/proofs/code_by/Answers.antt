@@ -1,9 +1,9 @@
-use Rattle.code_assemble.specs.WrittenLaws.{fits_answer, fits_slice, short_answer, short_slice, length_whole}
+use Rattle.code_assemble.proofs.WrittenLaws.{fits_answer, fits_slice, short_answer, short_slice, length_whole}
 use Prim.Native.Nat.{◌+◌}
 use native.Mathlib.Omega.{arith}
 use mathlib.Core.Path.{◌≡◌, ◌∙◌}
 use mathlib.Core.Bool.{true, false}
-use Rattle.code_widths.specs.WidthsLaws.{root_small}
+use Rattle.code_widths.proofs.WidthsLaws.{root_small}
 use Rattle.code_tree.specs.Statements.{body_of}
 use Rattle.code_layout.specs.Widths.{width_at}
 use Rattle.code_layout.specs.LayoutLaws.{in_root}

@@ -1,4 +1,4 @@
-use Rattle.code_assemble.specs.WrittenLaws.{fits_answer, fits_slice, short_answer, short_slice, ends_over}
+use Rattle.code_assemble.proofs.WrittenLaws.{fits_answer, fits_slice, short_answer, short_slice, ends_over}
 use native.Mathlib.Omega.{arith}
 use mathlib.Core.Path.{refl, ◌∙◌}
 use mathlib.Core.Bool.{true, false}

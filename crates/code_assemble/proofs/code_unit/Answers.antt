@@ -1,4 +1,4 @@
-use Rattle.code_assemble.specs.ReadyLaws.{unit_held, unit_none}
+use Rattle.code_assemble.proofs.ReadyLaws.{unit_held, unit_none}
 use Rattle.code_assemble.specs.Assembled.{assembled, assembled_slice}
 use mathlib.Core.Path.{sym, ap, ◌∙◌}
 use lib.ListN.{length}

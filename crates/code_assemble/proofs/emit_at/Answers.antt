@@ -1,10 +1,10 @@
-use Rattle.code_assemble.specs.WrittenLaws.{length_whole, emit_skip, emit_fits, emit_put, level_none, level_in}
+use Rattle.code_assemble.proofs.WrittenLaws.{length_whole, emit_skip, emit_fits, emit_put, level_none, level_in}
 use native.Mathlib.Omega.{arith}
 use mathlib.Core.Path.{◌≡◌, sym, ap, ◌∙◌}
 use mathlib.Core.Bool.{true, false}
 use lib.ListN.{get_or}
 use Rattle.code_layout.specs.Context.{offset_at}
-use Rattle.code_branch.specs.JumpLaws as array
+use Rattle.code_branch.proofs.JumpLaws as array
 use Rattle.code_assemble.proofs.emit_at.Goals as goal
 
 pub returns-then-levels-wide-eq0 : goal.returns-then-levels-wide-eq0

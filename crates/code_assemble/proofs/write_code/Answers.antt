@@ -1,4 +1,4 @@
-use Rattle.code_assemble.specs.WrittenLaws.{length_whole, write_start, write_turn, write_end}
+use Rattle.code_assemble.proofs.WrittenLaws.{length_whole, write_start, write_turn, write_end}
 use Prim.Native.Nat.{◌+◌}
 use native.Mathlib.Omega.{arith}
 use mathlib.Core.Path.{◌≡◌, refl, ap, ◌∙◌}
@@ -6,7 +6,7 @@ use mathlib.Core.Bool.{true, false}
 use lib.ListN.{get_or}
 use Rattle.code_layout.specs.Widths.{width_at}
 use Rattle.code_layout.specs.LayoutLaws.{in_root}
-use Rattle.code_branch.specs.JumpLaws as array
+use Rattle.code_branch.proofs.JumpLaws as array
 use Rattle.code_assemble.proofs.write_code.Goals as goal
 
 pub overflow_add-j : goal.overflow_add-j

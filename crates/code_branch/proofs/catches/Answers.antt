@@ -5,7 +5,7 @@ use lib.Dec.{eqb}
 use Rattle.table_records.specs.Table.{role_of}
 use Rattle.code_tree.specs.Parts.{shape_at, order}
 use Rattle.code_layout.specs.Widths.{is_try, has_role}
-use Rattle.code_contexts.specs.PlacesLaws.{try_is}
+use Rattle.code_contexts.proofs.PlacesLaws.{try_is}
 use Rattle.code_branch.proofs.catches.Goals as goal
 
 pub returns-then-not-is_try : goal.returns-then-not-is_try

@@ -8,9 +8,9 @@ use Rattle.code_tree.specs.Parts.{up_of, shape_at}
 use Rattle.code_tree.specs.Labels.{name_id, id_at}
 use Rattle.code_targets.specs.Targets.{is_labeled, labels_at}
 use Rattle.code_layout.specs.Widths.{in_unit}
-use Rattle.code_layout.specs.Stands.{in_from}
-use Rattle.code_contexts.specs.PlacesLaws.{above_in_lem}
-use Rattle.code_branch.specs.JumpLaws.{labels_root, labels_stop, labels_hit, labels_on}
+use Rattle.code_layout.proofs.Stands.{in_from}
+use Rattle.code_contexts.proofs.PlacesLaws.{above_in_lem}
+use Rattle.code_branch.proofs.JumpLaws.{labels_root, labels_stop, labels_hit, labels_on}
 use Rattle.code_branch.proofs.has_label_above.Goals as goal
 
 pub loop-at-init : goal.loop-at-init

@@ -1,5 +1,5 @@
 use Rattle.table_records.specs.declared.Found.TheVariants.{At, Nothing}
-use Rattle.code_tree.specs.LabelLaws.{id_test}
+use Rattle.code_tree.proofs.LabelLaws.{id_test}
 use Rattle.code_tree.specs.Labels.{name_id, id_by}
 use lib.Dec.{eqb}
 use mathlib.Core.Path.{sym, ap, ◌∙◌}

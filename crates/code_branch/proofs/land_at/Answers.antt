@@ -6,8 +6,8 @@ use Rattle.code_flat.specs.Code.{at}
 use Rattle.code_layout.specs.Widths.{in_unit}
 use Rattle.code_layout.specs.Context.{offset_at}
 use Rattle.code_targets.specs.Targets.{target, depth_at}
-use Rattle.base_common.specs.Bools.{never}
-use Rattle.code_contexts.specs.PlacesLaws.{above_in_lem}
+use Rattle.base_common.proofs.Bools.{never}
+use Rattle.code_contexts.proofs.PlacesLaws.{above_in_lem}
 use Rattle.code_branch.specs.Branch.{land_at, stops_at, comp_by}
 use Rattle.code_branch.proofs.land_at.Goals as goal
 

@@ -1,6 +1,6 @@
 use mathlib.Core.Path.{sym, ap, ◌∙◌}
 use Rattle.code_targets.specs.Targets.{target}
-use Rattle.code_branch.specs.JumpLaws.{leaf_break, leaf_continue, leaf_return, leaf_throw, leaf_simple}
+use Rattle.code_branch.proofs.JumpLaws.{leaf_break, leaf_continue, leaf_return, leaf_throw, leaf_simple}
 use Rattle.code_branch.proofs.leaf_target.Goals as goal
 
 pub break_of-jump-requires : goal.break_of-jump-requires

@@ -1,4 +1,4 @@
-use Rattle.code_branch.specs.NextLaws.{next_root, next_try, next_loop, next_plain, up_deep, own_deep, up_small, end_small}
+use Rattle.code_branch.proofs.NextLaws.{next_root, next_try, next_loop, next_plain, up_deep, own_deep, up_small, end_small}
 use Rattle.code_targets.specs.Targets.{is_loop}
 use Rattle.code_layout.specs.Widths.{is_try}
 use Rattle.code_tree.specs.Parts.{up_of, shape_at}

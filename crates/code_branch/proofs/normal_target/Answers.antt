@@ -1,7 +1,7 @@
 use mathlib.Core.Path.{sym, ◌∙◌, ap}
 use lib.ListN.{get_or}
 use Rattle.code_contexts.specs.Contexts.{next_of}
-use Rattle.code_branch.specs.JumpLaws.{follow_is}
+use Rattle.code_branch.proofs.JumpLaws.{follow_is}
 use Rattle.code_branch.proofs.normal_target.Goals as goal
 
 pub next_of-requires : goal.next_of-requires

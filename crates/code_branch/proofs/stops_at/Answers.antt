@@ -8,7 +8,7 @@ use Rattle.code_tree.specs.Parts.{shape_at}
 use Rattle.code_tree.specs.Labels.{name_id, id_at}
 use Rattle.code_layout.specs.Widths.{in_unit}
 use Rattle.code_targets.specs.Targets.{is_loop, is_breakable, is_labeled, catches_at, labels_at}
-use Rattle.code_contexts.specs.PlacesLaws.{above_in_lem}
+use Rattle.code_contexts.proofs.PlacesLaws.{above_in_lem}
 use Rattle.code_branch.specs.Branch.{stops_at, comp_by, LabelIn}
 use Rattle.code_branch.proofs.stops_at.Goals as goal
 

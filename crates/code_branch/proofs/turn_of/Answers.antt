@@ -3,7 +3,7 @@ use mathlib.Core.Path.{◌≡◌, ◌∙◌, ap}
 use native.Mathlib.Omega.{arith}
 use lib.ListN.{get_or}
 use Rattle.code_flat.specs.Code.{at}
-use Rattle.code_branch.specs.JumpLaws.{offset_is, depth_is, level_some, end_small}
+use Rattle.code_branch.proofs.JumpLaws.{offset_is, depth_is, level_some, end_small}
 use Rattle.code_branch.proofs.turn_of.Goals as goal
 
 pub overflow_add-result : goal.overflow_add-result

@@ -1,7 +1,7 @@
-use Rattle.code_close.specs.ClosingLaws.{moving_begin, moving_fits, turn, turn_size, turn_kept, closing_first, closing_next, closing_end}
+use Rattle.code_close.proofs.ClosingLaws.{moving_begin, moving_fits, turn, turn_size, turn_kept, closing_first, closing_next, closing_end}
 use Rattle.code_shorten.specs.Longer.{total, flat_length}
 use Rattle.code_shorten.specs.Sound.{Begin, len_pos}
-use Rattle.code_shorten.specs.MarkingLaws.{size_is}
+use Rattle.code_shorten.proofs.MarkingLaws.{size_is}
 use Rattle.code_valid.specs.Instrs.{find}
 use lib.ListN.{length}
 use native.Mathlib.Omega.{arith}

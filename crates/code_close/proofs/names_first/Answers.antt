@@ -1,5 +1,5 @@
 use native.Mathlib.Omega.{arith}
-use Rattle.code_close.specs.ClosingLaws.{first_not}
+use Rattle.code_close.proofs.ClosingLaws.{first_not}
 use Rattle.code_close.specs.Closing.{names_first}
 use mathlib.Core.Path.{sym, ap}
 use Rattle.code_close.proofs.names_first.Goals as goal

@@ -1,5 +1,5 @@
 use native.Mathlib.Omega.{arith}
-use Rattle.code_close.specs.ClosingLaws.{second_not}
+use Rattle.code_close.proofs.ClosingLaws.{second_not}
 use Rattle.code_close.specs.Closing.{names_second}
 use mathlib.Core.Path.{sym, ap}
 use Rattle.code_close.proofs.names_second.Goals as goal

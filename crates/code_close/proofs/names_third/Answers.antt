@@ -1,5 +1,5 @@
 use native.Mathlib.Omega.{arith}
-use Rattle.code_close.specs.ClosingLaws.{third_not}
+use Rattle.code_close.proofs.ClosingLaws.{third_not}
 use Rattle.code_close.specs.Closing.{names_third}
 use mathlib.Core.Path.{sym, ap}
 use Rattle.code_close.proofs.names_third.Goals as goal

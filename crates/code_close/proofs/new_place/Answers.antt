@@ -1,6 +1,6 @@
-use Rattle.code_close.specs.ClosingLaws.{moving_first, moving_before, moving_up, moving_at, turn, turn_size}
+use Rattle.code_close.proofs.ClosingLaws.{moving_first, moving_before, moving_up, moving_at, turn, turn_size}
 use Rattle.code_shorten.specs.Sound.{len_pos}
-use Rattle.code_shorten.specs.MarkingLaws.{size_is}
+use Rattle.code_shorten.proofs.MarkingLaws.{size_is}
 use Rattle.code_valid.specs.Instrs.{find}
 use native.Mathlib.Omega.{arith}
 use mathlib.Core.Path.{◌≡◌}

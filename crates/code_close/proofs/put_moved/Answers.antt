@@ -1,4 +1,4 @@
-use Rattle.code_close.specs.ClosingLaws.{put_moved, begin_first, begin_second, begin_third}
+use Rattle.code_close.proofs.ClosingLaws.{put_moved, begin_first, begin_second, begin_third}
 use Rattle.code_close.specs.Closing.{names_first, names_second, names_third}
 use Rattle.code_shorten.specs.Short.{moved}
 use Rattle.code_shorten.specs.Sound.{Begin}

@@ -1,4 +1,4 @@
-use Rattle.code_close.specs.PassLaws.{pass_sound, pass_end, pass_length}
+use Rattle.code_close.proofs.PassLaws.{pass_sound, pass_end, pass_length}
 use Rattle.code_shorten.specs.Short.{threaded}
 use Rattle.code_valid.specs.Instrs.{parse}
 use Rattle.code_close.proofs.shorten_by.Goals as goal

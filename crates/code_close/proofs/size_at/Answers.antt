@@ -1,4 +1,4 @@
-use Rattle.code_shorten.specs.MarkingLaws.{len_most}
+use Rattle.code_shorten.proofs.MarkingLaws.{len_most}
 use Rattle.code_shorten.specs.Marking.{plain}
 use Rattle.code_valid.specs.Instrs.{len}
 use Rattle.code_flat.specs.Machine.{decode}

@@ -1,4 +1,4 @@
-use Rattle.code_shorten.specs.MarkingLaws.{plain_low, plain_high}
+use Rattle.code_shorten.proofs.MarkingLaws.{plain_low, plain_high}
 use native.Mathlib.Omega.{arith}
 use mathlib.Core.Path.{sym}
 use Rattle.code_close.proofs.unmarked.Goals as goal

@@ -1,4 +1,4 @@
-use Rattle.code_contexts.specs.PlacesLaws.{places_start}
+use Rattle.code_contexts.proofs.PlacesLaws.{places_start}
 use Rattle.code_contexts.specs.Contexts.{Places}
 use Rattle.table_records.specs.Table.{count}
 use lib.ListN.{length-set}

@@ -1,5 +1,5 @@
 use Prim.Native.Nat.{◌+◌}
-use Rattle.code_contexts.specs.PlacesLaws.{above_lt, goes_is_lem, follow_self, follow_up}
+use Rattle.code_contexts.proofs.PlacesLaws.{above_lt, goes_is_lem, follow_self, follow_up}
 use Rattle.code_contexts.specs.Contexts.{goes_by, Follow}
 use Rattle.code_widths.specs.Widths.{counted}
 use Rattle.code_layout.specs.Widths.{sum}

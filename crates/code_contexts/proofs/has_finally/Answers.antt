@@ -1,4 +1,4 @@
-use Rattle.code_contexts.specs.EndLaws.{is_at, has_found}
+use Rattle.code_contexts.proofs.EndLaws.{is_at, has_found}
 use mathlib.Core.Logic.{inr}
 use mathlib.Core.Path.{refl, sym, ◌∙◌, ap}
 use Rattle.code_contexts.proofs.has_finally.Goals as goal

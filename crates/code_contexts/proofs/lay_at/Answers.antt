@@ -1,5 +1,5 @@
-use Rattle.code_contexts.specs.PlacesLaws.{places_skip}
-use Rattle.code_widths.specs.WidthsLaws.{unit_test, unit_is_lem}
+use Rattle.code_contexts.proofs.PlacesLaws.{places_skip}
+use Rattle.code_widths.proofs.WidthsLaws.{unit_test, unit_is_lem}
 use Rattle.code_layout.specs.Widths.{in_unit}
 use lib.ListN.{get_or}
 use native.Mathlib.Omega.{arith}

@@ -1,4 +1,4 @@
-use Rattle.code_contexts.specs.PlacesLaws.{above_in_lem, above_low, above_lt, depth_small, level_is_lem, places_turn}
+use Rattle.code_contexts.proofs.PlacesLaws.{above_in_lem, above_low, above_lt, depth_small, level_is_lem, places_turn}
 use Rattle.code_contexts.specs.Contexts.{Follow}
 use Rattle.code_widths.specs.Widths.{counted}
 use Rattle.code_targets.specs.Targets.{depth_at}

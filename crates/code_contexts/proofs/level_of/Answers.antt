@@ -1,4 +1,4 @@
-use Rattle.code_contexts.specs.PlacesLaws.{try_is}
+use Rattle.code_contexts.proofs.PlacesLaws.{try_is}
 use Rattle.code_layout.specs.Widths.{is_try, has_role}
 use Rattle.code_tree.specs.Parts.{shape_at, order}
 use Rattle.table_records.specs.Roles as role

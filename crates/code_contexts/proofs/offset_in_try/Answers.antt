@@ -1,10 +1,10 @@
-use Rattle.code_contexts.specs.OffsetLaws.{up_lt, up_room, finally_room, finally_is, block_is_lem, catch_is, catch_room}
-use Rattle.code_contexts.specs.PlacesLaws.{try_low, block_found}
-use Rattle.code_contexts.specs.EndLaws.{is_at, child_part}
+use Rattle.code_contexts.proofs.OffsetLaws.{up_lt, up_room, finally_room, finally_is, block_is_lem, catch_is, catch_room}
+use Rattle.code_contexts.proofs.PlacesLaws.{try_low, block_found}
+use Rattle.code_contexts.proofs.EndLaws.{is_at, child_part}
 use Rattle.code_tree.specs.Parts.{shape_at}
 use Rattle.table_children.specs.Children.{first_child}
 use Rattle.table_records.specs.Table.{role_of}
-use Rattle.base_common.specs.Bools.{never}
+use Rattle.base_common.proofs.Bools.{never}
 use lib.ListN.{get_or}
 use native.Mathlib.Omega.{arith}
 use mathlib.Core.Logic.{inl}

@@ -1,5 +1,5 @@
-use Rattle.code_contexts.specs.OffsetLaws.{up_lt, up_room, plain_room, plain_less, plain_is_lem}
-use Rattle.code_contexts.specs.PlacesLaws.{try_is}
+use Rattle.code_contexts.proofs.OffsetLaws.{up_lt, up_room, plain_room, plain_less, plain_is_lem}
+use Rattle.code_contexts.proofs.PlacesLaws.{try_is}
 use Rattle.code_layout.specs.Widths.{is_try}
 use Rattle.code_tree.specs.Parts.{shape_at}
 use lib.ListN.{get_or}

@@ -1,4 +1,4 @@
-use Rattle.code_contexts.specs.EndLaws.{try_own}
+use Rattle.code_contexts.proofs.EndLaws.{try_own}
 use native.Mathlib.Omega.{arith}
 use mathlib.Core.Bool.{cond}
 use mathlib.Core.Path.{sym, ◌∙◌, ap}

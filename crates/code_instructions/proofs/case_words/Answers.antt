@@ -1,5 +1,5 @@
-use Rattle.code_instructions.specs.PartLaws.{ifz_none, ifz_some, behind_none, behind_has, case_holder}
-use Rattle.code_instructions.specs.WordsLaws.{case_has}
+use Rattle.code_instructions.proofs.PartLaws.{ifz_none, ifz_some, behind_none, behind_has, case_holder}
+use Rattle.code_instructions.proofs.WordsLaws.{case_has}
 use Prim.Native.Nat.{◌+◌}
 use native.Mathlib.Omega.{arith}
 use mathlib.Core.Path.{◌≡◌, refl, sym, ap, ◌∙◌}
@@ -14,7 +14,7 @@ use Rattle.code_layout.specs.Context.{ifz, head0, behind, offset_at}
 use Rattle.code_layout.specs.Widths.{sum, is_try, number_by, width_at}
 use Rattle.code_flat.specs.Code.{at}
 use Rattle.code_branch.specs.Branch.{stat_of}
-use Rattle.code_branch.specs.JumpLaws as array
+use Rattle.code_branch.proofs.JumpLaws as array
 use Rattle.code_instructions.proofs.case_words.Goals as goal
 
 pub up_of-p-requires : goal.up_of-p-requires

@@ -1,4 +1,4 @@
-use Rattle.code_instructions.specs.WordsLaws.{class_has}
+use Rattle.code_instructions.proofs.WordsLaws.{class_has}
 use Prim.Native.Nat.{◌+◌}
 use mathlib.Core.Path.{sym, ap, ◌∙◌, subst}
 use Rattle.route_completion.specs.Sem.{normal}

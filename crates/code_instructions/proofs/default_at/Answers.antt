@@ -1,4 +1,4 @@
-use Rattle.code_instructions.specs.PartLaws.{default_of, default_yes, default_no, default_end, default_is_lem, case_first, case_in, case_next, case_last}
+use Rattle.code_instructions.proofs.PartLaws.{default_of, default_yes, default_no, default_end, default_is_lem, case_first, case_in, case_next, case_last}
 use Prim.Native.Nat.{◌+◌}
 use native.Mathlib.Omega.{arith}
 use mathlib.Core.Path.{◌≡◌, sym, ap, ◌∙◌}
@@ -8,7 +8,7 @@ use lib.ListN.{get_or}
 use Rattle.code_tree.specs.Parts.{parts}
 use Rattle.code_layout.specs.Context.{behind, offset_at}
 use Rattle.code_layout.specs.Widths.{is_try}
-use Rattle.code_branch.specs.JumpLaws as array
+use Rattle.code_branch.proofs.JumpLaws as array
 use Rattle.code_instructions.proofs.default_at.Goals as goal
 
 pub overflow_add-n : goal.overflow_add-n

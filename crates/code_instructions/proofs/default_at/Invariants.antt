@@ -1,9 +1,9 @@
-use Rattle.code_instructions.specs.PartLaws.{default_of}
+use Rattle.code_instructions.proofs.PartLaws.{default_of}
 use Prim.Native.Nat.{◌+◌, ◌-◌}
 use mathlib.Core.Path.{◌≡◌}
 use mathlib.Core.List.{◌∷◌}
 use Rattle.table_records.specs.Table.{count}
-use Rattle.code_tree.specs.PartsLaws.{Part}
+use Rattle.code_tree.proofs.PartsLaws.{Part}
 use Rattle.code_tree.specs.Parts.{parts}
 use Rattle.code_layout.specs.Context.{offset_at}
 use Rattle.code_instructions.proofs.default_at.Given as goal

@@ -1,4 +1,4 @@
-use Rattle.code_instructions.specs.PartLaws.{ifz_none, ifz_some, number_fits, head_none, head_has}
+use Rattle.code_instructions.proofs.PartLaws.{ifz_none, ifz_some, number_fits, head_none, head_has}
 use Prim.Native.Nat.{◌+◌, ◌-◌}
 use native.Mathlib.Omega.{arith}
 use mathlib.Core.Path.{◌≡◌, sym, ap, ◌∙◌}
@@ -9,7 +9,7 @@ use Rattle.code_tree.specs.Parts.{order}
 use Rattle.code_targets.specs.Targets.{target, depth_at}
 use Rattle.code_layout.specs.Context.{head0, offset_at}
 use Rattle.code_flat.specs.Code.{at}
-use Rattle.code_branch.specs.JumpLaws as array
+use Rattle.code_branch.proofs.JumpLaws as array
 use Rattle.code_instructions.proofs.entry_of.Goals as goal
 
 pub normal_target-requires : goal.normal_target-requires

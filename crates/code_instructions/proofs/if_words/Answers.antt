@@ -1,5 +1,5 @@
-use Rattle.code_instructions.specs.PartLaws.{if_part, if_in, if_alone, if_both}
-use Rattle.code_instructions.specs.WordsLaws.{if_has}
+use Rattle.code_instructions.proofs.PartLaws.{if_part, if_in, if_alone, if_both}
+use Rattle.code_instructions.proofs.WordsLaws.{if_has}
 use Prim.Native.Nat.{◌+◌}
 use native.Mathlib.Omega.{arith}
 use mathlib.Core.Path.{◌≡◌, sym, ap, ◌∙◌, subst}
@@ -12,7 +12,7 @@ use Rattle.code_layout.specs.Context.{offset_at}
 use Rattle.code_layout.specs.Words.{words_at}
 use Rattle.code_flat.specs.Correct.{Has}
 use Rattle.code_branch.specs.Branch.{stat_of}
-use Rattle.code_branch.specs.JumpLaws as array
+use Rattle.code_branch.proofs.JumpLaws as array
 use Rattle.code_instructions.proofs.if_words.Goals as goal
 
 pub normal_target-t-requires : goal.normal_target-t-requires

@@ -1,10 +1,10 @@
-use Rattle.code_instructions.specs.PartLaws.{holder_lt, holder_small, last_is_lem}
+use Rattle.code_instructions.proofs.PartLaws.{holder_lt, holder_small, last_is_lem}
 use Prim.Native.Nat.{◌+◌}
 use native.Mathlib.Omega.{arith}
 use mathlib.Core.Path.{◌≡◌, ap, ◌∙◌}
 use lib.Dec.{eqb}
 use lib.ListN.{get_or}
-use Rattle.code_branch.specs.JumpLaws as array
+use Rattle.code_branch.proofs.JumpLaws as array
 use Rattle.code_instructions.proofs.is_last.Goals as goal
 
 pub bounds-offsets-wide : goal.bounds-offsets-wide

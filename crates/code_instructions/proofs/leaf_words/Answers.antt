@@ -1,4 +1,4 @@
-use Rattle.code_instructions.specs.WordsLaws.{leaf_has}
+use Rattle.code_instructions.proofs.WordsLaws.{leaf_has}
 use mathlib.Core.Path.{sym, subst}
 use Rattle.code_layout.specs.Words.{words_at}
 use Rattle.code_flat.specs.Correct.{Has}

@@ -1,11 +1,11 @@
-use Rattle.code_instructions.specs.WordsLaws.{loop_has}
+use Rattle.code_instructions.proofs.WordsLaws.{loop_has}
 use Prim.Native.Nat.{◌+◌, ◌-◌}
 use native.Mathlib.Omega.{arith}
 use mathlib.Core.Path.{◌≡◌, ap, ◌∙◌}
 use lib.ListN.{get_or}
 use Rattle.route_completion.specs.Sem.{pick}
 use Rattle.code_branch.specs.Branch.{stat_of}
-use Rattle.code_branch.specs.JumpLaws as array
+use Rattle.code_branch.proofs.JumpLaws as array
 use Rattle.code_instructions.proofs.loop_words.Goals as goal
 
 pub normal_target-t-requires : goal.normal_target-t-requires

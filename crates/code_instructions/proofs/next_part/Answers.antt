@@ -1,4 +1,4 @@
-use Rattle.code_instructions.specs.PartLaws.{part_stop, part_on, part_none}
+use Rattle.code_instructions.proofs.PartLaws.{part_stop, part_on, part_none}
 use native.Mathlib.Omega.{arith}
 use mathlib.Core.Path.{refl, sym, ◌∙◌}
 use mathlib.Core.Bool.{true, false}

@@ -1,5 +1,5 @@
 use Rattle.code_layout.specs.LayoutLaws.{own_width_on}
-use Rattle.code_contexts.specs.PlacesLaws.{try_is}
+use Rattle.code_contexts.proofs.PlacesLaws.{try_is}
 use native.Mathlib.Omega.{arith}
 use mathlib.Core.Path.{◌≡◌, sym, ap, ◌∙◌}
 use mathlib.Core.Bool.{true, false, cond, ◌&&◌}

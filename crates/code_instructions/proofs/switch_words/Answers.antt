@@ -1,5 +1,5 @@
-use Rattle.code_instructions.specs.PartLaws.{ifz_none, ifz_some, some_zero, head_none, head_has, default_none}
-use Rattle.code_instructions.specs.WordsLaws.{switch_has}
+use Rattle.code_instructions.proofs.PartLaws.{ifz_none, ifz_some, some_zero, head_none, head_has, default_none}
+use Rattle.code_instructions.proofs.WordsLaws.{switch_has}
 use Prim.Native.Nat.{◌+◌}
 use native.Mathlib.Omega.{arith}
 use mathlib.Core.Path.{◌≡◌, sym, ap, ◌∙◌, subst}
@@ -11,7 +11,7 @@ use Rattle.code_layout.specs.Widths.{is_try, number_by}
 use Rattle.code_layout.specs.Words.{words_at}
 use Rattle.code_flat.specs.Correct.{Has}
 use Rattle.code_branch.specs.Branch.{stat_of}
-use Rattle.code_branch.specs.JumpLaws as array
+use Rattle.code_branch.proofs.JumpLaws as array
 use Rattle.code_instructions.proofs.switch_words.Goals as goal
 
 pub normal_target-t-requires : goal.normal_target-t-requires

@@ -1,10 +1,10 @@
-use Rattle.code_instructions.specs.PartLaws.{finally_part, finally_in_lem, finally_has, finally_at, finally_none}
-use Rattle.code_instructions.specs.WordsLaws.{open_has, catch_has}
+use Rattle.code_instructions.proofs.PartLaws.{finally_part, finally_in_lem, finally_has, finally_at, finally_none}
+use Rattle.code_instructions.proofs.WordsLaws.{open_has, catch_has}
 use native.Mathlib.Omega.{arith}
 use mathlib.Core.Path.{sym, ap, ◌∙◌}
 use mathlib.Core.List.{[], ◌∷◌}
 use lib.ListN.{get_or}
-use Rattle.code_branch.specs.JumpLaws as array
+use Rattle.code_branch.proofs.JumpLaws as array
 use Rattle.code_instructions.proofs.try_words.Goals as goal
 
 pub first_child-requires : goal.first_child-requires

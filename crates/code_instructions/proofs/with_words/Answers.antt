@@ -1,4 +1,4 @@
-use Rattle.code_instructions.specs.WordsLaws.{with_has}
+use Rattle.code_instructions.proofs.WordsLaws.{with_has}
 use Rattle.code_instructions.proofs.with_words.Goals as goal
 
 pub returns : goal.returns

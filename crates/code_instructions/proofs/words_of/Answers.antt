@@ -1,4 +1,4 @@
-use Rattle.code_instructions.specs.WordsLaws.{label_has, clause_has}
+use Rattle.code_instructions.proofs.WordsLaws.{label_has, clause_has}
 use mathlib.Core.Path.{sym, ◌∙◌}
 use mathlib.Core.List.{[], ◌∷◌}
 use Rattle.code_instructions.proofs.words_of.Goals as goal

@@ -1,6 +1,6 @@
 use native.Mathlib.Omega.{arith}
 use mathlib.Core.Path.{◌∙◌}
-use Rattle.code_machine.specs.TurnLaws.{ask_no, ask_yes, ask_none}
+use Rattle.code_machine.proofs.TurnLaws.{ask_no, ask_yes, ask_none}
 use Rattle.code_machine.proofs.asked.Goals as goal
 
 pub returns-then-answers-at-eq0 : goal.returns-then-answers-at-eq0

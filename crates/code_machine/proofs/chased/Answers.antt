@@ -1,4 +1,4 @@
-use Rattle.code_machine.specs.TurnLaws.{chase_end, chase_here, chase_on}
+use Rattle.code_machine.proofs.TurnLaws.{chase_end, chase_here, chase_on}
 use native.Mathlib.Omega.{arith}
 use mathlib.Core.Path.{sym, ◌∙◌}
 use Prim.Native.Nat.{◌-◌}

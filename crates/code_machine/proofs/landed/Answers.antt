@@ -1,4 +1,4 @@
-use Rattle.code_machine.specs.TurnLaws.{land_zero, land_on}
+use Rattle.code_machine.proofs.TurnLaws.{land_zero, land_on}
 use Rattle.code_machine.proofs.landed.Goals as goal
 
 pub returns-then-to-eq0 : goal.returns-then-to-eq0

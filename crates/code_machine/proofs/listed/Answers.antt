@@ -1,4 +1,4 @@
-use Rattle.code_machine.specs.TurnLaws.{list_stuck, list_on}
+use Rattle.code_machine.proofs.TurnLaws.{list_stuck, list_on}
 use Rattle.code_machine.proofs.listed.Goals as goal
 
 pub returns-then-p-eq0 : goal.returns-then-p-eq0

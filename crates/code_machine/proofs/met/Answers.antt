@@ -1,5 +1,5 @@
 use native.Mathlib.Omega.{arith}
-use Rattle.code_machine.specs.PendingLaws.{open_here, open_into, wait_below, wait_next, wait_here}
+use Rattle.code_machine.proofs.PendingLaws.{open_here, open_into, wait_below, wait_next, wait_here}
 use Rattle.code_machine.proofs.met.Goals as goal
 
 pub returns-then-below-wide : goal.returns-then-below-wide

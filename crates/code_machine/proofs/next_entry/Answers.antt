@@ -1,6 +1,6 @@
 use mathlib.Core.Path.{refl, subst, ◌∙◌}
 use mathlib.Core.List.{[], ◌∷◌}
-use Rattle.code_machine.specs.NextLaws.{quiet_first, quiet_on, quiet_going, quiet_over}
+use Rattle.code_machine.proofs.NextLaws.{quiet_first, quiet_on, quiet_going, quiet_over}
 use Rattle.code_machine.specs.Turn.{Turned}
 use borrow.Author.Rules.{rules}
 use Rattle.code_machine.proofs.next_entry.Goals as goal

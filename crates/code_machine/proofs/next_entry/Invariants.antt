@@ -1,5 +1,5 @@
 use mathlib.Core.Path.{◌≡◌}
-use Rattle.code_machine.specs.NextLaws.{Quiet}
+use Rattle.code_machine.proofs.NextLaws.{Quiet}
 use Rattle.code_flat.specs.Machine.{measure}
 use lib.ListN.{length, drop}
 use Rattle.code_machine.proofs.next_entry.Given as goal

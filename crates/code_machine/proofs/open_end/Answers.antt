@@ -1,6 +1,6 @@
 use mathlib.Core.Path.{ap, ◌∙◌}
 use native.Mathlib.Omega.{arith}
-use Rattle.code_machine.specs.PendingLaws.{open_made}
+use Rattle.code_machine.proofs.PendingLaws.{open_made}
 use Rattle.code_machine.specs.Pending.{frame_of}
 use Rattle.code_machine.proofs.open_end.Goals as goal
 

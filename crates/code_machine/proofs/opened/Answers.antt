@@ -1,7 +1,7 @@
 use native.Mathlib.Omega.{arith}
 use mathlib.Core.Path.{sym, ◌∙◌}
 use lib.ListN.{set}
-use Rattle.code_machine.specs.TurnLaws.{open_none, open_on}
+use Rattle.code_machine.proofs.TurnLaws.{open_none, open_on}
 use Rattle.code_machine.proofs.opened.Goals as goal
 
 pub returns-then-pending-ends : goal.returns-then-pending-ends

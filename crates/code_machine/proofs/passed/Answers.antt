@@ -1,4 +1,4 @@
-use Rattle.code_machine.specs.TurnLaws.{pass_stuck, pass_on}
+use Rattle.code_machine.proofs.TurnLaws.{pass_stuck, pass_on}
 use Rattle.code_machine.proofs.passed.Goals as goal
 
 pub returns-then-p-eq0 : goal.returns-then-p-eq0

@@ -1,6 +1,6 @@
 use native.Mathlib.Omega.{arith}
 use mathlib.Core.Path.{◌∙◌}
-use Rattle.code_machine.specs.TurnLaws.{select_case, select_none}
+use Rattle.code_machine.proofs.TurnLaws.{select_case, select_none}
 use Rattle.code_machine.proofs.selected.Goals as goal
 
 pub returns-then-at-answers : goal.returns-then-at-answers

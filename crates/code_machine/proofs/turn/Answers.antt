@@ -6,7 +6,7 @@ use lib.ListN.{get_or, drop}
 use Rattle.code_flat.specs.Machine.{res}
 use Rattle.code_marks.specs.Stop.{over}
 use Rattle.code_flat.specs.Opcodes as op
-use Rattle.code_machine.specs.TurnLaws.{on_past, on_instr, on_none}
+use Rattle.code_machine.proofs.TurnLaws.{on_past, on_instr, on_none}
 use Rattle.code_machine.proofs.turn.Goals as goal
 
 pub returns-then-code-pc : goal.returns-then-code-pc

@@ -1,6 +1,6 @@
 use Prim.Native.Nat.{◌-◌}
 use mathlib.Core.Path.{refl, sym, ◌∙◌, subst}
-use Rattle.code_machine.specs.PendingLaws.{unwind_here, unwind_into, unwind_below, unwind_none}
+use Rattle.code_machine.proofs.PendingLaws.{unwind_here, unwind_into, unwind_below, unwind_none}
 use Rattle.code_machine.specs.Pending.{shallow}
 use native.Mathlib.Omega.{arith}
 use Rattle.code_machine.proofs.unwound.Goals as goal

@@ -1,7 +1,7 @@
 use Prim.Native.Nat.{◌+◌, ◌*◌}
 use mathlib.Core.Path.{◌∙◌}
 use native.Mathlib.Omega.{arith}
-use Rattle.code_machine.specs.PendingLaws.{wait_made}
+use Rattle.code_machine.proofs.PendingLaws.{wait_made}
 use Rattle.code_machine.specs.Pending.{frame_of}
 use Rattle.code_machine.proofs.waiting_end.Goals as goal
 

@@ -1,7 +1,7 @@
 use Prim.Native.Nat.{◌-◌, ◌/◌}
 use mathlib.Core.Path.{ap, sym, ◌∙◌}
 use Rattle.code_flat.specs.Machine.{pend}
-use Rattle.code_machine.specs.PendingLaws.{wait_frame}
+use Rattle.code_machine.proofs.PendingLaws.{wait_frame}
 use Rattle.code_machine.proofs.way_of.Goals as goal
 
 pub returns : goal.returns

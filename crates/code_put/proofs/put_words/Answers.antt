@@ -1,4 +1,4 @@
-use Rattle.code_put.specs.PutLaws.{put_start, put_turn}
+use Rattle.code_put.proofs.PutLaws.{put_start, put_turn}
 use Rattle.code_put.specs.Put.{Put}
 use native.Mathlib.Omega.{arith}
 use mathlib.Core.Path.{◌≡◌, subst}

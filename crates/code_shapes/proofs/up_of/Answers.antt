@@ -1,4 +1,4 @@
-use Rattle.code_tree.specs.UpLaws.{step_up, up_step}
+use Rattle.code_tree.proofs.UpLaws.{step_up, up_step}
 use Rattle.code_tree.specs.Parts.{up_of}
 use Prim.Native.Nat.{◌<◌}
 use native.Mathlib.Omega.{arith}

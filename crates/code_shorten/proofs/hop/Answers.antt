@@ -1,7 +1,7 @@
 use Rattle.std.proofs.Common.{◌≢◌}
 use Rattle.code_flat.specs.Opcodes as op
 use native.Mathlib.Omega.{arith}
-use Rattle.code_shorten.specs.ThreadingLaws.{hop_zero, hop_leave, hop_case, hop_other}
+use Rattle.code_shorten.proofs.ThreadingLaws.{hop_zero, hop_leave, hop_case, hop_other}
 use Rattle.code_shorten.specs.declared.Aim.TheVariants.{To}
 use lib.ListN.{get_or}
 use mathlib.Core.Path.{sym, ◌∙◌, ap}

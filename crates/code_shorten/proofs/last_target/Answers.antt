@@ -1,4 +1,4 @@
-use Rattle.code_shorten.specs.ThreadingLaws.{last_end, last_on, last_out}
+use Rattle.code_shorten.proofs.ThreadingLaws.{last_end, last_on, last_out}
 use Rattle.code_shorten.specs.Threading.{last_at}
 use native.Mathlib.Omega.{arith}
 use mathlib.Core.Path.{◌≡◌, refl, sym, ◌∙◌, ap}

@@ -1,4 +1,4 @@
-use Rattle.code_shorten.specs.MarkingLaws.{plain_low, plain_high}
+use Rattle.code_shorten.proofs.MarkingLaws.{plain_low, plain_high}
 use Rattle.code_valid.specs.Instrs.{len}
 use Rattle.code_flat.specs.Machine.{decode}
 use native.Mathlib.Omega.{arith}

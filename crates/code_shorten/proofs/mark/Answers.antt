@@ -1,4 +1,4 @@
-use Rattle.code_shorten.specs.MarkingLaws.{mark_out, mark_new, mark_old}
+use Rattle.code_shorten.proofs.MarkingLaws.{mark_out, mark_new, mark_old}
 use native.Mathlib.Omega.{arith}
 use Rattle.code_shorten.proofs.mark.Goals as goal
 

@@ -1,4 +1,4 @@
-use Rattle.code_shorten.specs.MarkingLaws.{news_two, marks_two}
+use Rattle.code_shorten.proofs.MarkingLaws.{news_two, marks_two}
 use Rattle.code_shorten.specs.Marking.{marked_at, new_at}
 use mathlib.Core.Path.{sym, ◌∙◌, ap}
 use mathlib.Core.Bool.{◌||◌}

@@ -1,4 +1,4 @@
-use Rattle.code_shorten.specs.MarkingLaws.{no_marks, news_one, marks_one, leads_low, leads_by, leads_not}
+use Rattle.code_shorten.proofs.MarkingLaws.{no_marks, news_one, marks_one, leads_low, leads_by, leads_not}
 use Rattle.code_shorten.specs.Marking.{marks_at, news_at, leads_at}
 use Rattle.code_flat.specs.Opcodes as op
 use native.Mathlib.Omega.{arith}

@@ -1,4 +1,4 @@
-use Rattle.code_shorten.specs.MarkingLaws.{started_first}
+use Rattle.code_shorten.proofs.MarkingLaws.{started_first}
 use Rattle.code_shorten.specs.Marking.{marked_at, Started}
 use mathlib.Core.Path.{sym, ◌∙◌, ap, subst}
 use Rattle.code_shorten.proofs.mark_reached.Goals as goal

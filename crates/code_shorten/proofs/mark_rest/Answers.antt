@@ -1,4 +1,4 @@
-use Rattle.code_shorten.specs.MarkingLaws.{marks_first, marks_next}
+use Rattle.code_shorten.proofs.MarkingLaws.{marks_first, marks_next}
 use Rattle.code_shorten.specs.Marking.{bit}
 use native.Mathlib.Omega.{arith}
 use mathlib.Core.Path.{refl, ap}

@@ -1,4 +1,4 @@
-use Rattle.code_shorten.specs.MarkingLaws.{Marks}
+use Rattle.code_shorten.proofs.MarkingLaws.{Marks}
 use Rattle.code_shorten.specs.Marking.{low, bit, Started}
 use Rattle.code_shorten.specs.Sound.{Sound}
 use mathlib.Core.List.{List}

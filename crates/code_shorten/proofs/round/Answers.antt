@@ -1,4 +1,4 @@
-use Rattle.code_shorten.specs.MarkingLaws.{len_most, low_marks, low_or, Going, going_first, going_size, going_some, going_next, going_end}
+use Rattle.code_shorten.proofs.MarkingLaws.{len_most, low_marks, low_or, Going, going_first, going_size, going_some, going_next, going_end}
 use Rattle.code_shorten.specs.Marking.{marks_at, news_at, leads_at, plain, low}
 use Rattle.code_flat.specs.Machine.{decode}
 use native.Mathlib.Omega.{arith}

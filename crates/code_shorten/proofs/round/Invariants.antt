@@ -1,4 +1,4 @@
-use Rattle.code_shorten.specs.MarkingLaws.{Going}
+use Rattle.code_shorten.proofs.MarkingLaws.{Going}
 use Rattle.code_shorten.specs.Marking.{low, bit, Inked}
 use Rattle.code_shorten.specs.Sound.{Sound}
 use Rattle.code_flat.specs.Machine.{Instr}

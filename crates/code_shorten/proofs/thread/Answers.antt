@@ -1,4 +1,4 @@
-use Rattle.code_shorten.specs.ThreadingLaws.{threading_first, threading_some, threading_next, threading_end}
+use Rattle.code_shorten.proofs.ThreadingLaws.{threading_first, threading_some, threading_next, threading_end}
 use Rattle.code_shorten.specs.Threading.{threaded_at, Threading}
 use Rattle.code_shorten.specs.Sound.{valid_sound}
 use Rattle.code_valid.specs.Instrs.{parse}

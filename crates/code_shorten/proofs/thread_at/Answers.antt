@@ -1,5 +1,5 @@
-use Rattle.code_shorten.specs.ThreadingLaws.{thread_leave, thread_case, thread_other}
-use Rattle.code_valid.specs.ReadingLaws.{standing_in, stands_in}
+use Rattle.code_shorten.proofs.ThreadingLaws.{thread_leave, thread_case, thread_other}
+use Rattle.code_valid.proofs.ReadingLaws.{standing_in, stands_in}
 use Rattle.code_flat.specs.Opcodes as op
 use native.Mathlib.Omega.{arith}
 use mathlib.Core.Path.{sym, ◌∙◌}

@@ -1,4 +1,4 @@
-use Rattle.code_valid.specs.ReadingLaws.{table_at}
+use Rattle.code_valid.proofs.ReadingLaws.{table_at}
 use native.Mathlib.Omega.{arith}
 use mathlib.Core.Path.{◌∙◌}
 use Rattle.code_valid.proofs.begins_at.Goals as goal

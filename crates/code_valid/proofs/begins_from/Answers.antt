@@ -1,4 +1,4 @@
-use Rattle.code_valid.specs.ReadingLaws.{search_none, search_on, search_at, search_past}
+use Rattle.code_valid.proofs.ReadingLaws.{search_none, search_on, search_at, search_past}
 use Rattle.code_valid.specs.Reading.{from}
 use Rattle.code_valid.specs.Instrs.{begins}
 use native.Mathlib.Omega.{arith}

@@ -1,4 +1,4 @@
-use Rattle.code_valid.specs.ReadingLaws.{check_none, check_some, table_first, zeros}
+use Rattle.code_valid.proofs.ReadingLaws.{check_none, check_some, table_first, zeros}
 use Prim.Native.Nat.{ℕ}
 use lib.ListN.{replicate}
 use native.Mathlib.Omega.{arith}

@@ -1,4 +1,4 @@
-use Rattle.code_valid.specs.ReadingLaws.{entry_first, entry_next, table_more}
+use Rattle.code_valid.proofs.ReadingLaws.{entry_first, entry_next, table_more}
 use Rattle.code_valid.specs.Reading.{Entry}
 use native.Mathlib.Omega.{arith}
 use native.Mathlib.Nat.{div-le_self}

@@ -1,4 +1,4 @@
-use Rattle.code_valid.specs.ReadingLaws.{bad_none, bad_here, bad_on, bad_end}
+use Rattle.code_valid.proofs.ReadingLaws.{bad_none, bad_here, bad_on, bad_end}
 use Rattle.code_valid.specs.Reading.{standing, from}
 use Rattle.code_valid.specs.Valid.{sound, first_bad}
 use Rattle.code_valid.specs.Instrs.{parse}

@@ -1,6 +1,6 @@
 use native.Mathlib.Omega.{arith}
 use mathlib.Core.Path.{sym, ap}
-use Rattle.code_valid.specs.ReadingLaws.{runs_on_not}
+use Rattle.code_valid.proofs.ReadingLaws.{runs_on_not}
 use Rattle.code_valid.specs.Instrs.{runs_on}
 use Rattle.code_flat.specs.Machine.{decode}
 use Rattle.code_valid.proofs.runs_on.Goals as goal

@@ -1,6 +1,6 @@
 use native.Mathlib.Omega.{arith}
 use mathlib.Core.Path.{sym, ap}
-use Rattle.code_valid.specs.ReadingLaws.{standing_past, size_fits, size_cut}
+use Rattle.code_valid.proofs.ReadingLaws.{standing_past, size_fits, size_cut}
 use Rattle.code_valid.specs.Instrs.{len}
 use Rattle.code_valid.proofs.size_at.Goals as goal
 

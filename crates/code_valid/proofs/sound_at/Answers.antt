@@ -1,4 +1,4 @@
-use Rattle.code_valid.specs.ReadingLaws.{standing_in, sound_not, sound_inside, sound_last}
+use Rattle.code_valid.proofs.ReadingLaws.{standing_in, sound_not, sound_inside, sound_last}
 use Rattle.code_valid.specs.Reading.{standing, from}
 use Rattle.code_valid.specs.Valid.{sound}
 use Rattle.code_valid.specs.Instrs.{parse}

@@ -1,4 +1,4 @@
-use Rattle.code_valid.specs.ReadingLaws.{standing_in, stands_in, names_one, names_two, names_none}
+use Rattle.code_valid.proofs.ReadingLaws.{standing_in, stands_in, names_one, names_two, names_none}
 use Rattle.code_flat.specs.Opcodes as op
 use native.Mathlib.Omega.{arith}
 use lib.ListN.{get_or}

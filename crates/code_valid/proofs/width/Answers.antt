@@ -1,6 +1,6 @@
 use native.Mathlib.Omega.{arith}
 use mathlib.Core.Path.{sym, ap}
-use Rattle.code_valid.specs.ReadingLaws.{decode_not}
+use Rattle.code_valid.proofs.ReadingLaws.{decode_not}
 use Rattle.code_valid.specs.Instrs.{len}
 use Rattle.code_flat.specs.Machine.{decode}
 use Rattle.code_valid.proofs.width.Goals as goal

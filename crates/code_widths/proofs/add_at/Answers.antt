@@ -1,4 +1,4 @@
-use Rattle.code_widths.specs.WidthsLaws.{unit_test, unit_is_lem, counts_skip}
+use Rattle.code_widths.proofs.WidthsLaws.{unit_test, unit_is_lem, counts_skip}
 use Rattle.code_layout.specs.Widths.{in_unit}
 use lib.ListN.{get_or}
 use mathlib.Core.Path.{sym, ◌∙◌, ap}

@@ -1,4 +1,4 @@
-use Rattle.code_widths.specs.WidthsLaws.{own_is, rest_small, counts_turn, width_small}
+use Rattle.code_widths.proofs.WidthsLaws.{own_is, rest_small, counts_turn, width_small}
 use Rattle.code_layout.specs.Widths.{number_by}
 use Rattle.code_tree.specs.Parts.{up_of, shape_at}
 use lib.ListN.{length-set, get_or}

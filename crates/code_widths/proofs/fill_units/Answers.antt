@@ -1,4 +1,4 @@
-use Rattle.code_widths.specs.WidthsLaws.{units_next, zeros_next}
+use Rattle.code_widths.proofs.WidthsLaws.{units_next, zeros_next}
 use Rattle.code_widths.specs.Widths.{Units, Zeros}
 use Rattle.table_records.specs.Table.{count}
 use lib.ListN.{length-set}

@@ -1,4 +1,4 @@
-use Rattle.code_widths.specs.WidthsLaws.{counts_start, counts_end}
+use Rattle.code_widths.proofs.WidthsLaws.{counts_start, counts_end}
 use Rattle.code_widths.specs.Widths.{Counts}
 use native.Mathlib.Omega.{arith}
 use mathlib.Core.Path.{◌≡◌, refl, sym, subst}

@@ -1,4 +1,4 @@
-use Rattle.code_widths.specs.WidthsLaws.{unit_low, unit_root_lem, unit_no, unit_part}
+use Rattle.code_widths.proofs.WidthsLaws.{unit_low, unit_root_lem, unit_no, unit_part}
 use Rattle.code_layout.specs.Widths.{in_unit}
 use Rattle.code_tree.specs.Parts.{up_of, is_part}
 use lib.ListN.{get_or}

@@ -1,6 +1,6 @@
 -- `answers::answer_text` meets its contract.
 use native.Mathlib.Omega.{arith}
-use Rattle.line_answers.specs.AnswerLaws.{length_findings, counted_findings, text_findings, text_refused, text_short}
+use Rattle.line_answers.proofs.AnswerLaws.{length_findings, counted_findings, text_findings, text_refused, text_short}
 use Rattle.line_answers.proofs.answer_text.Goals as goal
 
 pub findings_text-requires : goal.findings_text-requires

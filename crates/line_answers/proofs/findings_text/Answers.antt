@@ -5,7 +5,7 @@ use native.Mathlib.Omega.{arith}
 use lib.ListN.{length-append}
 use Rattle.line_print.specs.Print.{line_of}
 use Rattle.line_answers.specs.Answer.{finding_lines}
-use Rattle.line_answers.specs.AnswerLaws.{count_room, count_put}
+use Rattle.line_answers.proofs.AnswerLaws.{count_room, count_put}
 use Rattle.line_answers.proofs.findings_text.Goals as goal
 
 pub put_findings-at-requires : goal.put_findings-at-requires

@@ -1,7 +1,7 @@
 use native.Mathlib.Omega.{arith}
 use Rattle.line_print.specs.PrintLaws.{put_done}
 use Rattle.line_answers.specs.Answer.{finding_lines}
-use Rattle.line_answers.specs.AnswerLaws.{lines_start, lines_turn, lines_room, lines_end}
+use Rattle.line_answers.proofs.AnswerLaws.{lines_start, lines_turn, lines_room, lines_end}
 use Rattle.line_answers.proofs.put_findings.Goals as goal
 
 pub loop-i-init : goal.loop-i-init

@@ -2,7 +2,7 @@
 use mathlib.Core.List.{[], ◌∷◌}
 use native.Mathlib.Omega.{arith}
 use Rattle.line_print.specs.PrintLaws.{line_numbers}
-use Rattle.line_answers.specs.AnswerLaws.{numbers_two}
+use Rattle.line_answers.proofs.AnswerLaws.{numbers_two}
 use Rattle.line_answers.proofs.refusal_text.Goals as goal
 
 pub line-requires : goal.line-requires

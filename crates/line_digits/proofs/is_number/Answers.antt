@@ -1,5 +1,5 @@
 -- `digits::is_number` meets its contract.
-use Rattle.line_digits.specs.NumberLaws.{told_value, told_none}
+use Rattle.line_digits.proofs.NumberLaws.{told_value, told_none}
 use mathlib.Core.Path.{sym}
 use Rattle.line_digits.proofs.is_number.Goals as goal
 

@@ -1,4 +1,4 @@
-use Rattle.line_digits.specs.NumberLaws.{number_none, number_start, number_on, number_low, number_high, number_over, number_end}
+use Rattle.line_digits.proofs.NumberLaws.{number_none, number_start, number_on, number_low, number_high, number_over, number_end}
 use lib.ListN.{drop, get_or}
 use native.Mathlib.Omega.{arith}
 use mathlib.Core.Path.{sym}

@@ -1,5 +1,5 @@
 -- `digits::number` meets its contract. The loop keeps: what is left of the work, with what is done, is the whole.
-use Rattle.line_digits.specs.NumberLaws.{number_from}
+use Rattle.line_digits.proofs.NumberLaws.{number_from}
 use Rattle.line_digits.specs.Number.{number_of}
 use lib.ListN.{length, drop}
 use mathlib.Core.Path.{◌≡◌}

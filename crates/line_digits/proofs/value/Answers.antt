@@ -1,6 +1,6 @@
 -- `digits::value` meets its contract.
 use mathlib.Core.Path.{◌≡◌}
-use Rattle.line_digits.specs.NumberLaws.{told_value, told_none}
+use Rattle.line_digits.proofs.NumberLaws.{told_value, told_none}
 use native.Mathlib.Omega.{arith}
 use mathlib.Core.Path.{sym}
 use Prim.Native.Nat.{ℕ}

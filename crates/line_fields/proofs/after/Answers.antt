@@ -1,5 +1,5 @@
 -- `line_fields::after` meets its contract.
-use Rattle.line_fields.specs.SplitLaws.{lines_after}
+use Rattle.line_fields.proofs.SplitLaws.{lines_after}
 use Rattle.line_fields.proofs.after.Goals as goal
 
 pub returns : goal.returns

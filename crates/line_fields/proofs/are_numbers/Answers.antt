@@ -1,4 +1,4 @@
-use Rattle.line_fields.specs.FieldLaws.{numbers_on, numbers_bad, numbers_end, numbers_none}
+use Rattle.line_fields.proofs.FieldLaws.{numbers_on, numbers_bad, numbers_end, numbers_none}
 use native.Mathlib.Omega.{arith}
 use Rattle.line_fields.proofs.are_numbers.Goals as goal
 

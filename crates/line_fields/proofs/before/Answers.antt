@@ -1,5 +1,5 @@
 -- `line_fields::before` meets its contract.
-use Rattle.line_fields.specs.SplitLaws.{take_before}
+use Rattle.line_fields.proofs.SplitLaws.{take_before}
 use lib.Seq.{length-take-le}
 use mathlib.Core.Path.{sym}
 use Rattle.line_fields.proofs.before.Goals as goal

@@ -1,5 +1,5 @@
 use Rattle.line_fields.specs.Split.{next_of, fields_in}
-use Rattle.line_fields.specs.FieldLaws.{count_turn, count_end}
+use Rattle.line_fields.proofs.FieldLaws.{count_turn, count_end}
 use lib.ListN.{length}
 use native.Mathlib.Omega.{arith}
 use mathlib.Core.Path.{◌≡◌}

@@ -1,5 +1,5 @@
 -- `line_fields::line` meets its contract.
-use Rattle.line_fields.specs.SplitLaws.{line_first}
+use Rattle.line_fields.proofs.SplitLaws.{line_first}
 use mathlib.Core.Path.{◌∙◌}
 use Rattle.line_fields.proofs.line.Goals as goal
 

@@ -1,6 +1,6 @@
 -- `line_fields::next` meets its contract.
 use Rattle.line_fields.specs.Split.{next_of, onward}
-use Rattle.line_fields.specs.FieldLaws.{next_short}
+use Rattle.line_fields.proofs.FieldLaws.{next_short}
 use mathlib.Core.Path.{◌≡◌}
 use Rattle.line_fields.proofs.next.Goals as goal
 

@@ -1,5 +1,5 @@
 -- `line_fields::onward` meets its contract.
-use Rattle.line_fields.specs.SplitLaws.{drop_onward}
+use Rattle.line_fields.proofs.SplitLaws.{drop_onward}
 use Rattle.line_digits.specs.Lists.{part_from}
 use mathlib.Core.Path.{◌∙◌}
 use Rattle.line_fields.proofs.onward.Goals as goal

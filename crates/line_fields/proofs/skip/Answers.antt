@@ -1,4 +1,4 @@
-use Rattle.line_fields.specs.FieldLaws.{past_turn, past_none}
+use Rattle.line_fields.proofs.FieldLaws.{past_turn, past_none}
 use native.Mathlib.Omega.{arith}
 use Rattle.line_fields.proofs.skip.Goals as goal
 

@@ -1,4 +1,4 @@
-use Rattle.line_fields.specs.FieldLaws.{lines_turn, lines_none}
+use Rattle.line_fields.proofs.FieldLaws.{lines_turn, lines_none}
 use Rattle.line_fields.specs.Split.{lines_of}
 use native.Mathlib.Omega.{arith}
 use Rattle.line_fields.proofs.skip_lines.Goals as goal

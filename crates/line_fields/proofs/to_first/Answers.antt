@@ -1,4 +1,4 @@
-use Rattle.line_fields.specs.SplitLaws.{first_on, first_hit, first_end}
+use Rattle.line_fields.proofs.SplitLaws.{first_on, first_hit, first_end}
 use native.Mathlib.Omega.{arith}
 use Rattle.line_fields.proofs.to_first.Goals as goal
 

@@ -1,5 +1,5 @@
 -- `forms::fits` meets its contract.
-use Rattle.line_forms.specs.FormLaws.{fits_many, fits_is}
+use Rattle.line_forms.proofs.FormLaws.{fits_many, fits_is}
 use native.Mathlib.Omega.{arith}
 use native.Mathlib.Nat.{mul-le-mul}
 use mathlib.Core.Path.{sym}

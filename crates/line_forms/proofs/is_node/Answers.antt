@@ -1,5 +1,5 @@
 -- `forms::is_node` meets its contract.
-use Rattle.line_forms.specs.FormLaws.{tail_of, node_letter, node_few, node_is}
+use Rattle.line_forms.proofs.FormLaws.{tail_of, node_letter, node_few, node_is}
 use Rattle.line_fields.specs.Split.{fields_in}
 use lib.ListN.{length}
 use native.Mathlib.Omega.{arith}

@@ -1,5 +1,5 @@
 -- `forms::is_numbers` meets its contract.
-use Rattle.line_forms.specs.FormLaws.{numbers_letter, numbers_count, numbers_is}
+use Rattle.line_forms.proofs.FormLaws.{numbers_letter, numbers_count, numbers_is}
 use mathlib.Core.Path.{sym}
 use Rattle.line_forms.proofs.is_numbers.Goals as goal
 

@@ -1,5 +1,5 @@
 -- `forms::lettered` meets its contract.
-use Rattle.line_forms.specs.FormLaws.{lettered_long, lettered_not, lettered_is}
+use Rattle.line_forms.proofs.FormLaws.{lettered_long, lettered_not, lettered_is}
 use mathlib.Core.Path.{sym}
 use Rattle.line_forms.proofs.lettered.Goals as goal
 

@@ -1,5 +1,5 @@
 -- `forms::name` meets its contract.
-use Rattle.line_forms.specs.FormLaws.{name_is_lem}
+use Rattle.line_forms.proofs.FormLaws.{name_is_lem}
 use Rattle.line_forms.proofs.name.Goals as goal
 
 pub returns : goal.returns

@@ -1,6 +1,6 @@
 -- `lines::read_head` meets its contract.
 use Rattle.line_input.specs.InputLaws.{head_array, head_numbers, head_nodes, head_scopes, head_is_lem}
-use Rattle.line_forms.specs.FormLaws.{numbers_told}
+use Rattle.line_forms.proofs.FormLaws.{numbers_told}
 use Rattle.line_forms.specs.Forms.{is_numbers, nodes_in, scopes_in, kind_in}
 use lib.ListN.{get_or}
 use native.Mathlib.Omega.{arith}

@@ -5,7 +5,7 @@ use Rattle.line_digits.specs.Number.{value_of}
 use Rattle.base_common.specs.Wrote.{put}
 use mathlib.Core.List.{List, map}
 use Rattle.line_input.specs.ReadLaws.{Scoping, scoping_start, scoping_turn, scoping_done, scopes_bad, scopes_none, first_of}
-use Rattle.line_forms.specs.FormLaws.{numbers_told}
+use Rattle.line_forms.proofs.FormLaws.{numbers_told}
 use Rattle.line_input.specs.Format.{scope_lines}
 use Rattle.line_fields.specs.Split.{lines_of}
 use native.Mathlib.Omega.{arith}

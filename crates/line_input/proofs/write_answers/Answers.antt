@@ -1,6 +1,6 @@
 -- `lines::write_answers` meets its contract.
 use Rattle.line_input.specs.RouteLaws.{answers_told, answers_put}
-use Rattle.line_forms.specs.FormLaws.{tail_of, rest_tail}
+use Rattle.line_forms.proofs.FormLaws.{tail_of, rest_tail}
 use Rattle.line_fields.specs.Split.{fields_in}
 use lib.ListN.{length}
 use native.Mathlib.Omega.{arith}

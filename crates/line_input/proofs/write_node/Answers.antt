@@ -5,7 +5,7 @@ use lib.ListN.{set, take, length-set}
 use mathlib.Core.List.{List, [], ◌∷◌, ◌++◌, map}
 use Prim.Native.Nat.{ℕ, ◌+◌}
 use Rattle.line_input.specs.ReadLaws.{node_put, eight}
-use Rattle.line_forms.specs.FormLaws.{node_told}
+use Rattle.line_forms.proofs.FormLaws.{node_told}
 use Rattle.line_fields.specs.Split.{onward}
 use Rattle.line_digits.specs.Number.{value_of}
 use native.Mathlib.Omega.{arith}

@@ -1,5 +1,5 @@
 use Rattle.line_print.specs.PrintLaws.{put_done, fields_for, fields_turn, fields_room, fields_end}
-use Rattle.table_put.specs.Writes.{put_start}
+use Rattle.table_put.proofs.Writes.{put_start}
 use native.Mathlib.Omega.{arith}
 use Rattle.line_print.proofs.put_fields.Goals as goal
 

@@ -1,5 +1,5 @@
 use native.Mathlib.Omega.{arith}
-use Rattle.table_put.specs.Writes.{put_start}
+use Rattle.table_put.proofs.Writes.{put_start}
 use Rattle.line_print.specs.PrintLaws.{fields_for, fields_turn, fields_room, fields_end, put_done}
 use Rattle.line_print.proofs.put_words.Goals as goal
 

@@ -1,9 +1,9 @@
 -- `reader::step_at` meets its contract.
-use Rattle.line_reader.specs.StepLaws.{past_is, step_number, step_stop}
+use Rattle.line_reader.proofs.StepLaws.{past_is, step_number, step_stop}
 use Rattle.line_reader.specs.Step.{past_at}
 use Rattle.line_fields.specs.Split.{field_of, next_of}
 use Rattle.line_digits.specs.Number.{is_number, value_of}
-use Rattle.line_digits.specs.NumberLaws.{told_value, told_none}
+use Rattle.line_digits.proofs.NumberLaws.{told_value, told_none}
 use lib.ListN.{length, drop, length-drop}
 use native.Mathlib.Omega.{arith}
 use Prim.Native.Nat.{◌-◌}

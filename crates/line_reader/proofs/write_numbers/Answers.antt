@@ -1,9 +1,9 @@
 use Rattle.line_reader.specs.declared.Step.TheVariants.{Number}
-use Rattle.line_reader.specs.StepLaws.{step_number, step_never, past_drop}
+use Rattle.line_reader.proofs.StepLaws.{step_number, step_never, past_drop}
 use Rattle.line_reader.specs.Step.{past_at}
 use Rattle.line_fields.specs.Split.{field_of, next_of, firsts}
-use Rattle.line_fields.specs.FieldLaws.{firsts_none, values_turn, length_values, count_turn, tail_some, number_first, numbers_rest}
-use Rattle.table_put.specs.Writes.{put_start, put_end}
+use Rattle.line_fields.proofs.FieldLaws.{firsts_none, values_turn, length_values, count_turn, tail_some, number_first, numbers_rest}
+use Rattle.table_put.proofs.Writes.{put_start, put_end}
 use Rattle.line_digits.specs.Number.{value_of}
 use lib.ListN.{length, drop}
 use native.Mathlib.Omega.{arith}

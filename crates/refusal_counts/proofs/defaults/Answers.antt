@@ -5,7 +5,7 @@ use native.Mathlib.Omega.{arith}
 use borrow.Author.Tests.{ltb-true, ltb-false}
 use Rattle.table_records.specs.Table.{count}
 use Rattle.refusal_counts.specs.Counts.{is_default}
-use Rattle.refusal_counts.specs.CountsLaws.{by_turn, by_end, defaults_all, defaults_out}
+use Rattle.refusal_counts.proofs.CountsLaws.{by_turn, by_end, defaults_all, defaults_out}
 use Rattle.refusal_counts.proofs.defaults.Goals as goal
 
 pub parent-q-requires : goal.parent-q-requires

@@ -2,7 +2,7 @@ use Prim.Native.Nat.{◌≤◌, ◌<◌, ◌+◌, ◌-◌}
 use mathlib.Core.Path.{◌≡◌}
 use Rattle.table_records.specs.Table.{count}
 use Rattle.refusal_counts.specs.Counts.{is_default}
-use Rattle.refusal_counts.specs.CountsLaws.{tally_by}
+use Rattle.refusal_counts.proofs.CountsLaws.{tally_by}
 use Rattle.refusal_counts.proofs.defaults.Given as goal
 
 abbrev pub invariant-loop-p : goal.invariant-loop-p

@@ -1,5 +1,5 @@
 use native.Mathlib.Omega.{arith}
-use Rattle.refusal_fields.specs.FieldsLaws.{outside_first, outside_rest}
+use Rattle.refusal_fields.proofs.FieldsLaws.{outside_first, outside_rest}
 use Rattle.refusal_fields.proofs.outside.Goals as goal
 
 pub returns-then-len-s : goal.returns-then-len-s

@@ -1,5 +1,5 @@
 use Rattle.refusal_return.specs.Return.{return_in_static}
-use Rattle.refusal_verdict.specs.FirstLaws.{first_on, first_stop, first_end}
+use Rattle.refusal_verdict.proofs.FirstLaws.{first_on, first_stop, first_end}
 use Rattle.table_records.specs.Table.{count}
 use native.Mathlib.Omega.{arith}
 use mathlib.Core.Path.{sym, ◌∙◌}

@@ -1,7 +1,7 @@
 use mathlib.Core.Path.{sym, ◌∙◌}
 use native.Mathlib.Omega.{arith}
 use Rattle.table_records.specs.Table.{count_scopes}
-use Rattle.refusal_verdict.specs.FirstLaws.{first_on, first_stop, first_end}
+use Rattle.refusal_verdict.proofs.FirstLaws.{first_on, first_stop, first_end}
 use Rattle.refusal_scopes.specs.Scopes.{broken_at}
 use borrow.Author.Rules.{rules}
 use Rattle.refusal_scopes.proofs.broken.Goals as goal

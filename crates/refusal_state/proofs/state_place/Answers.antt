@@ -1,5 +1,5 @@
 use mathlib.Core.List.{List}
-use Rattle.refusal_state.specs.TargetsLaws.{place_none, place_some}
+use Rattle.refusal_state.proofs.TargetsLaws.{place_none, place_some}
 use Rattle.refusal_verdict.specs.declared.Place.TheVariants.{Here}
 use lib.ListN.{get_or}
 use Prim.Native.Nat.{ℕ}

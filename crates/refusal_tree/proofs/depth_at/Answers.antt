@@ -1,5 +1,5 @@
 use native.Mathlib.Omega.{arith}
-use Rattle.refusal_tree.specs.TreeLaws.{at_program, at_stray, at_deep, at_fine}
+use Rattle.refusal_tree.proofs.TreeLaws.{at_program, at_stray, at_deep, at_fine}
 use borrow.Author.Rules.{rules}
 use Rattle.refusal_tree.proofs.depth_at.Goals as goal
 

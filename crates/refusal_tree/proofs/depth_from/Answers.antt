@@ -2,8 +2,8 @@ use Prim.Native.Nat.{◌+◌}
 use mathlib.Core.Path.{ap}
 use native.Mathlib.Omega.{arith}
 use Rattle.table_records.specs.Table.{parent_of, depth_of}
-use Rattle.base_walk.specs.OnLaws.{on_miss}
-use Rattle.refusal_tree.specs.TreeLaws.{depth_up, from_hit, from_miss}
+use Rattle.base_walk.proofs.OnLaws.{on_miss}
+use Rattle.refusal_tree.proofs.TreeLaws.{depth_up, from_hit, from_miss}
 use Rattle.refusal_tree.proofs.depth_from.Goals as goal
 
 pub overflow_sub-d : goal.overflow_sub-d

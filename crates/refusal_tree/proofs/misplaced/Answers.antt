@@ -2,9 +2,9 @@ use Prim.Native.Nat.{◌+◌, ◌-◌}
 use mathlib.Core.Path.{◌≡◌, ap, sym, ◌∙◌}
 use native.Mathlib.Omega.{arith}
 use Rattle.table_records.specs.Table.{count, depth_of}
-use Rattle.refusal_verdict.specs.FirstLaws.{first_on, first_stop, first_end}
+use Rattle.refusal_verdict.proofs.FirstLaws.{first_on, first_stop, first_end}
 use Rattle.refusal_tree.specs.Tree.{misplaced_at}
-use Rattle.refusal_tree.specs.TreeLaws.{depth_root, root_kind_lem, root_parent, root_fine, if_off, if_of_lem, falls_more, fine_on}
+use Rattle.refusal_tree.proofs.TreeLaws.{depth_root, root_kind_lem, root_parent, root_fine, if_off, if_of_lem, falls_more, fine_on}
 use borrow.Author.Rules.{rules}
 use Rattle.refusal_tree.proofs.misplaced.Goals as goal
 

@@ -1,6 +1,6 @@
 use Rattle.code_marks.specs.Begins.{width}
 use mathlib.Core.Path.{sym, refl, ◌∙◌, ap}
-use Rattle.route_marks.specs.BeginsLaws.{width_most, scan_first, scan_more, scan_none, scan_past, scan_here}
+use Rattle.route_marks.proofs.BeginsLaws.{width_most, scan_first, scan_more, scan_none, scan_past, scan_here}
 use lib.ListN.{get_or}
 use native.Mathlib.Omega.{arith}
 use mathlib.Core.Bool.{true≢false}

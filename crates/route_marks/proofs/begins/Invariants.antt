@@ -1,4 +1,4 @@
-use Rattle.route_marks.specs.BeginsLaws.{Scanned}
+use Rattle.route_marks.proofs.BeginsLaws.{Scanned}
 use Prim.Native.Nat.{◌-◌}
 use Rattle.route_marks.proofs.begins.Given as goal
 

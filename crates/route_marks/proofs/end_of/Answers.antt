@@ -2,7 +2,7 @@ use Prim.Native.Nat.{◌+◌, ◌*◌}
 use mathlib.Core.Path.{◌∙◌}
 use native.Mathlib.Omega.{arith}
 use Rattle.code_machine.specs.Pending.{half, frame_of}
-use Rattle.route_marks.specs.MarksLaws.{pair_frame}
+use Rattle.route_marks.proofs.MarksLaws.{pair_frame}
 use Rattle.route_marks.proofs.end_of.Goals as goal
 
 pub returns : goal.returns

@@ -3,7 +3,7 @@ use lib.ListN.{length-set}
 use native.Mathlib.Omega.{arith}
 use Rattle.code_machine.specs.Pending.{stack}
 use Rattle.route_marks.specs.Marks.{ends_at}
-use Rattle.route_marks.specs.MarksLaws.{read_first, read_more}
+use Rattle.route_marks.proofs.MarksLaws.{read_first, read_more}
 use Rattle.route_marks.proofs.load.Goals as goal
 
 pub loop-i-init : goal.loop-i-init

@@ -1,4 +1,4 @@
-use Rattle.route_marks.specs.TakenLaws.{told_from, stands_from}
+use Rattle.route_marks.proofs.TakenLaws.{told_from, stands_from}
 use Rattle.route_marks.proofs.run_from.Goals as goal
 
 pub returns : goal.returns

@@ -1,4 +1,4 @@
-use Rattle.route_marks.specs.MarksLaws.{write_first, write_more}
+use Rattle.route_marks.proofs.MarksLaws.{write_first, write_more}
 use Rattle.route_marks.specs.Marks.{ends_numbers}
 use Rattle.code_machine.specs.Pending.{stack}
 use native.Mathlib.Omega.{arith}

@@ -1,4 +1,4 @@
-use Rattle.route_marks.specs.MarksLaws.{mark_written}
+use Rattle.route_marks.proofs.MarksLaws.{mark_written}
 use mathlib.Core.Path.{refl, ◌∙◌}
 use Prim.Native.Nat.{◌+◌}
 use Rattle.route_marks.proofs.set_mark.Goals as goal

@@ -1,6 +1,6 @@
-use Rattle.route_marks.specs.TakenLaws.{short_marks, held_marks, over_marks}
+use Rattle.route_marks.proofs.TakenLaws.{short_marks, held_marks, over_marks}
 use Rattle.route_marks.specs.Taken.{begin_at, stop_of}
-use Rattle.route_viewer.specs.ShownLaws.{short_answer, short_slice, whole_answer, whole_slice}
+use Rattle.route_viewer.proofs.ShownLaws.{short_answer, short_slice, whole_answer, whole_slice}
 use Rattle.code_machine.specs.Halted.{route_to}
 use lib.ListN.{length}
 use native.Mathlib.Omega.{arith}

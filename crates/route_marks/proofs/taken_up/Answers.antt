@@ -1,4 +1,4 @@
-use Rattle.route_marks.specs.MarksLaws.{set_facts}
+use Rattle.route_marks.proofs.MarksLaws.{set_facts}
 use Rattle.route_marks.specs.Marks.{ends_at}
 use Rattle.code_flat.specs.Machine.{pos}
 use lib.ListN.{get_or}

@@ -1,4 +1,4 @@
-use Rattle.route_shared.specs.InStepLaws.{in_step_first, first_over, second_over, differ, in_step_more}
+use Rattle.route_shared.proofs.InStepLaws.{in_step_first, first_over, second_over, differ, in_step_more}
 use Rattle.code_machine.specs.Turn.{Coming}
 use native.Mathlib.Omega.{arith}
 use mathlib.Core.Path.{refl, subst, ◌∙◌, ap}

@@ -1,4 +1,4 @@
-use Rattle.route_shared.specs.InStepLaws.{InStep}
+use Rattle.route_shared.proofs.InStepLaws.{InStep}
 use Rattle.code_flat.specs.Machine.{room, measure}
 use lib.ListN.{length, drop}
 use mathlib.Core.Path.{◌≡◌}

@@ -1,6 +1,6 @@
 use mathlib.Core.Path.{sym, ◌∙◌}
 use native.Mathlib.Omega.{arith}
-use Rattle.route_viewer.specs.ShownLaws.{short_answer, short_slice, whole_answer, whole_slice}
+use Rattle.route_viewer.proofs.ShownLaws.{short_answer, short_slice, whole_answer, whole_slice}
 use Rattle.code_flat.specs.Machine.{code_route}
 use Rattle.route_viewer.proofs.show.Goals as goal
 

@@ -1,5 +1,5 @@
 use mathlib.Core.Path.{refl}
-use Rattle.route_walk.specs.WalkLaws.{takes}
+use Rattle.route_walk.proofs.WalkLaws.{takes}
 use Rattle.route_walk.proofs.asked.Goals as goal
 
 pub returns : goal.returns

@@ -3,7 +3,7 @@ use native.Mathlib.Omega.{arith}
 use Prim.Native.Nat.{◌+◌}
 use Rattle.code_tree.specs.Parts.{parts}
 use Rattle.route_steps.specs.Steps.{First}
-use Rattle.route_steps.specs.StepsLaws.{branch_none, branch_one_no, branch_one_yes, branch_alternate_no, branch_alternate_yes, branch_held_no, branch_held_yes}
+use Rattle.route_steps.proofs.StepsLaws.{branch_none, branch_one_no, branch_one_yes, branch_alternate_no, branch_alternate_yes, branch_held_no, branch_held_yes}
 use borrow.Author.Rules.{rules}
 use Rattle.route_walk.proofs.branch_of.Goals as goal
 

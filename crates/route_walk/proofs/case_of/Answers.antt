@@ -3,7 +3,7 @@ use Prim.Native.Nat.{◌+◌}
 use lib.ListN.{drop}
 use Rattle.code_tree.specs.Parts.{parts}
 use Rattle.route_steps.specs.Steps.{First}
-use Rattle.route_steps.specs.StepsLaws.{case_nth, case_default}
+use Rattle.route_steps.proofs.StepsLaws.{case_nth, case_default}
 use Rattle.route_walk.proofs.case_of.Goals as goal
 
 pub returns-in_default : goal.returns-in_default

@@ -3,7 +3,7 @@ use native.Mathlib.Omega.{arith}
 use Prim.Native.Nat.{◌+◌}
 use Rattle.code_tree.specs.Parts.{parts}
 use Rattle.route_steps.specs.Steps.{First, from_default}
-use Rattle.route_steps.specs.StepsLaws.{first_low_lem, default_on, default_hit, default_none}
+use Rattle.route_steps.proofs.StepsLaws.{first_low_lem, default_on, default_hit, default_none}
 use borrow.Author.Rules.{rules}
 use Rattle.route_walk.proofs.default_part.Goals as goal
 

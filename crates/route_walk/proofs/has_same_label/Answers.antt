@@ -2,7 +2,7 @@ use mathlib.Core.Path.{sym, ◌∙◌, ap}
 use Rattle.table_records.specs.declared.Found.TheVariants.{At, Nothing}
 use lib.Dec.{eqb}
 use Rattle.code_tree.specs.Labels.{name_id, id_by}
-use Rattle.code_tree.specs.LabelLaws.{id_test}
+use Rattle.code_tree.proofs.LabelLaws.{id_test}
 use Rattle.route_walk.proofs.has_same_label.Goals as goal
 
 pub returns-in_default : goal.returns-in_default

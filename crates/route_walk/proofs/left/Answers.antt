@@ -1,6 +1,6 @@
 use mathlib.Core.Path.{refl, sym, ◌∙◌, ap}
 use Rattle.route_completion.specs.Sem.{no_break}
-use Rattle.route_walk.specs.WalkLaws.{ends_as}
+use Rattle.route_walk.proofs.WalkLaws.{ends_as}
 use Rattle.route_walk.proofs.left.Goals as goal
 
 pub returns : goal.returns

@@ -1,7 +1,7 @@
 use mathlib.Core.Path.{refl, sym, ◌∙◌, ap}
 use Rattle.route_completion.specs.Sem.{no_label}
 use Rattle.code_tree.specs.Labels.{id_at}
-use Rattle.route_walk.specs.WalkLaws.{ends_as}
+use Rattle.route_walk.proofs.WalkLaws.{ends_as}
 use Rattle.route_walk.proofs.left_label.Goals as goal
 
 pub returns : goal.returns

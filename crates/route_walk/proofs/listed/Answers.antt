@@ -1,6 +1,6 @@
 use mathlib.Core.Path.{refl}
 use Rattle.route_completion.specs.Sem.{normal}
-use Rattle.route_walk.specs.WalkLaws.{lists}
+use Rattle.route_walk.proofs.WalkLaws.{lists}
 use Rattle.route_walk.proofs.listed.Goals as goal
 
 pub returns : goal.returns

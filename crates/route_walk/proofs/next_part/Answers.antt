@@ -3,7 +3,7 @@ use native.Mathlib.Omega.{arith}
 use borrow.Author.Tests.{ltb-true, ltb-false}
 use Rattle.table_records.specs.Table.{count}
 use Rattle.code_tree.specs.Parts.{parts}
-use Rattle.route_steps.specs.StepsLaws.{part_hit, part_miss, part_none}
+use Rattle.route_steps.proofs.StepsLaws.{part_hit, part_miss, part_none}
 use borrow.Author.Rules.{rules}
 use Rattle.route_walk.proofs.next_part.Goals as goal
 

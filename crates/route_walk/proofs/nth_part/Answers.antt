@@ -4,7 +4,7 @@ use Prim.Native.Nat.{◌-◌, ◌+◌}
 use Rattle.code_tree.specs.Parts.{parts}
 use Rattle.route_steps.specs.Steps.{First}
 use lib.ListN.{drop}
-use Rattle.route_steps.specs.StepsLaws.{first_low_lem, nth_on, nth_hit, nth_none}
+use Rattle.route_steps.proofs.StepsLaws.{first_low_lem, nth_on, nth_hit, nth_none}
 use borrow.Author.Rules.{rules}
 use Rattle.route_walk.proofs.nth_part.Goals as goal
 

@@ -3,7 +3,7 @@ use native.Mathlib.Omega.{arith}
 use Prim.Native.Nat.{◌+◌}
 use Rattle.code_tree.specs.Parts.{parts}
 use Rattle.route_steps.specs.Steps.{First}
-use Rattle.route_steps.specs.StepsLaws.{first_low_lem, role_start, role_on, role_hit, role_none}
+use Rattle.route_steps.proofs.StepsLaws.{first_low_lem, role_start, role_on, role_hit, role_none}
 use borrow.Author.Rules.{rules}
 use Rattle.route_walk.proofs.part_with_role.Goals as goal
 

@@ -2,7 +2,7 @@ use mathlib.Core.Path.{subst}
 use Rattle.route_walk.specs.Walk.{label_in}
 use mathlib.Core.List.{[]}
 use Rattle.code_tree.specs.Labels.{id_at}
-use Rattle.route_walk.specs.WalkLaws.{unlabel_hit, unlabel_miss}
+use Rattle.route_walk.proofs.WalkLaws.{unlabel_hit, unlabel_miss}
 use Rattle.route_walk.proofs.unlabelled.Goals as goal
 
 pub has_same_label-requires : goal.has_same_label-requires

@@ -1,7 +1,7 @@
 use mathlib.Core.Path.{refl, sym}
 use Rattle.route_completion.specs.Sem.{comp_of}
 use Rattle.code_tree.specs.Statements.{leaf_at}
-use Rattle.route_walk.specs.WalkLaws.{lists}
+use Rattle.route_walk.proofs.WalkLaws.{lists}
 use Rattle.route_walk.proofs.walk_leaf.Goals as goal
 
 pub returns : goal.returns

@@ -1,6 +1,6 @@
 -- `rulecheck::check_text` meets its contract.
 use native.Mathlib.Omega.{arith}
-use Rattle.rulecheck.specs.ResponseLaws.{checked_counted, checked_text, front_put}
+use Rattle.rulecheck.proofs.ResponseLaws.{checked_counted, checked_text, front_put}
 use Rattle.rulecheck.proofs.check_text.Goals as goal
 
 pub answer_text-requires : goal.answer_text-requires

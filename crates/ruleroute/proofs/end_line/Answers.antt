@@ -2,7 +2,7 @@
 use mathlib.Core.List.{[], ◌∷◌}
 use native.Mathlib.Omega.{arith}
 use Rattle.line_print.specs.PrintLaws.{line_words}
-use Rattle.ruleroute.specs.AnswerLaws.{words_three}
+use Rattle.ruleroute.proofs.AnswerLaws.{words_three}
 use Rattle.ruleroute.proofs.end_line.Goals as goal
 
 pub long_line-requires : goal.long_line-requires

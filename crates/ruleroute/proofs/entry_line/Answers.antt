@@ -2,7 +2,7 @@
 use mathlib.Core.List.{[], ◌∷◌}
 use native.Mathlib.Omega.{arith}
 use Rattle.line_print.specs.PrintLaws.{line_numbers}
-use Rattle.ruleroute.specs.AnswerLaws.{number_one}
+use Rattle.ruleroute.proofs.AnswerLaws.{number_one}
 use Rattle.ruleroute.proofs.entry_line.Goals as goal
 
 pub line-requires : goal.line-requires

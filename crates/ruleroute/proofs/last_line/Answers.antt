@@ -1,5 +1,5 @@
 -- `ruleroute::last_line` meets its contract.
-use Rattle.ruleroute.specs.AnswerLaws.{last_route, last_refused, last_short, last_code_short}
+use Rattle.ruleroute.proofs.AnswerLaws.{last_route, last_refused, last_short, last_code_short}
 use Rattle.ruleroute.proofs.last_line.Goals as goal
 
 pub returns-in-Route : goal.returns-in-Route

@@ -1,7 +1,7 @@
 use Rattle.std.proofs.Common.{rules, sym, subst}
 use Rattle.std.specs.Io.KnownBytes.{Appends}
 use Rattle.std.proofs.KnownBytes.{Appends-nil, Appends-trans}
-use Rattle.ruleroute.specs.AnswerLaws.{lines_next, lines_none}
+use Rattle.ruleroute.proofs.AnswerLaws.{lines_next, lines_none}
 use Rattle.ruleroute.proofs.print_entries.Goals as goal
 
 pub loop-i-init : goal.loop-i-init

@@ -1,5 +1,5 @@
 -- `ruleroute::routed` meets its contract.
-use Rattle.ruleroute.specs.AnswerLaws.{fronted}
+use Rattle.ruleroute.proofs.AnswerLaws.{fronted}
 use Rattle.ruleroute.proofs.routed.Goals as goal
 
 pub returns : goal.returns

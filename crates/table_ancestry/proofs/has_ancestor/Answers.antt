@@ -1,5 +1,5 @@
 use Rattle.table_ancestry.specs.Ancestry.{is_at}
-use Rattle.table_ancestry.specs.AncestryLaws.{nearest_some}
+use Rattle.table_ancestry.proofs.AncestryLaws.{nearest_some}
 use mathlib.Core.Path.{ap, sym, ◌∙◌}
 use Rattle.table_ancestry.proofs.has_ancestor.Goals as goal
 

@@ -1,7 +1,7 @@
 use native.Mathlib.Omega.{arith}
 use Rattle.table_records.specs.Table.{count, parent_of}
-use Rattle.base_walk.specs.OnLaws.{on_miss}
-use Rattle.table_ancestry.specs.AncestryLaws.{on_at}
+use Rattle.base_walk.proofs.OnLaws.{on_miss}
+use Rattle.table_ancestry.proofs.AncestryLaws.{on_at}
 use Rattle.table_ancestry.proofs.is_on_path.Goals as goal
 
 pub loop-at-smaller : goal.loop-at-smaller

@@ -2,7 +2,7 @@ use Rattle.table_records.specs.Table.{kind_of}
 use Rattle.base_common.specs.Tests.{within}
 use mathlib.Core.Bool.{true, false}
 use mathlib.Core.Path.{ap}
-use Rattle.table_ancestry.specs.AncestryLaws.{nearest_stop, nearest_on, nearest_root}
+use Rattle.table_ancestry.proofs.AncestryLaws.{nearest_stop, nearest_on, nearest_root}
 use native.Mathlib.Omega.{arith}
 use mathlib.Core.Path.{◌≡◌, sym, ◌∙◌}
 use borrow.Author.Rules.{rules}

@@ -1,4 +1,4 @@
-use Rattle.table_ancestry.specs.AncestryLaws.{parent_in}
+use Rattle.table_ancestry.proofs.AncestryLaws.{parent_in}
 use native.Mathlib.Omega.{arith}
 use Rattle.table_ancestry.proofs.parent_kind.Goals as goal
 

@@ -1,4 +1,4 @@
-use Rattle.table_children.specs.ChildrenLaws.{tally_all, tally_turn, tally_end, tally_out}
+use Rattle.table_children.proofs.ChildrenLaws.{tally_all, tally_turn, tally_end, tally_out}
 use Rattle.table_children.specs.Children.{is_child}
 use Rattle.table_records.specs.Table.{count}
 use borrow.Author.Tests.{ltb-true, ltb-false}

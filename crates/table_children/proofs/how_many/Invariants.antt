@@ -1,4 +1,4 @@
-use Rattle.table_children.specs.ChildrenLaws.{tally}
+use Rattle.table_children.proofs.ChildrenLaws.{tally}
 use Rattle.table_records.specs.Table.{count}
 use mathlib.Core.Path.{◌≡◌}
 use Prim.Native.Nat.{◌≤◌, ◌<◌, ◌+◌, ◌-◌}

@@ -1,5 +1,5 @@
 use mathlib.Core.Path.{sym, ◌∙◌}
-use Rattle.table_children.specs.ChildrenLaws.{node_on, node_stop, node_end, child_out}
+use Rattle.table_children.proofs.ChildrenLaws.{node_on, node_stop, node_end, child_out}
 use Rattle.table_children.specs.Children.{is_child}
 use Rattle.table_records.specs.Table.{count}
 use borrow.Author.Tests.{ltb-true, ltb-false}

@@ -1,4 +1,4 @@
-use Rattle.table_names.specs.NameLaws.{same_lengths, same_on, same_stop, same_end}
+use Rattle.table_names.proofs.NameLaws.{same_lengths, same_on, same_stop, same_end}
 use native.Mathlib.Omega.{arith}
 use borrow.Author.Rules.{rules}
 use Rattle.table_names.proofs.same.Goals as goal

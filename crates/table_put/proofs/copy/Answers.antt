@@ -1,4 +1,4 @@
-use Rattle.table_put.specs.Writes.{put_start, put_end, copy_turn, copy_room, copy_end}
+use Rattle.table_put.proofs.Writes.{put_start, put_end, copy_turn, copy_room, copy_end}
 use native.Mathlib.Omega.{arith}
 use Rattle.table_put.proofs.copy.Goals as goal
 

@@ -1,6 +1,6 @@
 use lib.ListN.{length-set}
 use native.Mathlib.Omega.{arith}
-use Rattle.table_put.specs.Stores.{put_ten}
+use Rattle.table_put.proofs.Stores.{put_ten}
 use Rattle.table_put.proofs.put10.Goals as goal
 
 pub bounds-code-w-2 : goal.bounds-code-w-2

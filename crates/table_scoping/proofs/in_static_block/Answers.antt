@@ -1,7 +1,7 @@
 use Rattle.table_records.specs.ScopeFlag as scope
 use Rattle.table_records.specs.Table.{scope_flags_of, has_flag}
 use mathlib.Core.Bool.{true, false}
-use Rattle.table_scoping.specs.ScopingLaws.{static_here, static_function, static_up, static_root}
+use Rattle.table_scoping.proofs.ScopingLaws.{static_here, static_function, static_up, static_root}
 use native.Mathlib.Omega.{arith}
 use mathlib.Core.Path.{◌≡◌, sym, ◌∙◌, ap}
 use Rattle.table_scoping.proofs.in_static_block.Goals as goal

@@ -1,0 +1,3 @@
+pub mod Bools
+pub mod UptoLaws
+pub mod WroteLaws

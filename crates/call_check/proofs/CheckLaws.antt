@@ -1,0 +1,31 @@
+-- The report of findings, as the code comes to it.
+use Rattle.std.specs.Prelude.{ℕ, ◌+◌, ◌*◌, ◌≤◌, ◌<◌, ◌≡◌, List}
+use Rattle.std.proofs.Common.{sym, ◌∙◌, le-leb}
+use native.Mathlib.Omega.{arith}
+use Rattle.std.proofs.lemmas.Bool.{lt-leb}
+use Rattle.std.proofs.Math.ListN.{length}
+use Rattle.check_diagnostics.specs.declared.Finding.{Finding}
+use Rattle.check_diagnostics.specs.Finding.{flat, sink}
+use Rattle.check_diagnostics.proofs.FindingLaws.{length_flat_lem, sink_all}
+use Rattle.call_check.specs.Check.{report_answer, report_slice}
+use Rattle.call_check.specs.declared.Checked.TheVariants.{Findings, Short}
+
+module _ (fs : List Finding) (s : List ℕ) where
+  pub answer_short : length s < 7 * length fs → report_answer fs (length s) ≡ Short (7 * length fs)
+  unfolding report_answer
+  answer_short h = rw (lt-leb (7 * length fs) (length s) h)
+
+  pub slice_short : length s < 7 * length fs → report_slice fs s ≡ s
+  unfolding report_slice
+  slice_short h = rw (lt-leb (7 * length fs) (length s) h)
+
+  pub answer_room : 7 * length fs ≤ length s → report_answer fs (length s) ≡ Findings (length fs)
+  unfolding report_answer
+  answer_room h = rw (le-leb (7 * length fs) (length s) h)
+
+  pub slice_room : 7 * length fs ≤ length s → report_slice fs s ≡ sink s 0 fs
+  unfolding report_slice
+  slice_room h =
+      let l = length_flat_lem fs in
+      let e : 0 + length (flat fs) ≡ 7 * length fs = omega arith in
+      rw (le-leb (7 * length fs) (length s) h) (sym (sink_all s 0 fs (omega arith) ∙ rw e))

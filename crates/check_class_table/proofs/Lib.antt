@@ -1,0 +1,2 @@
+pub mod ClassesLaws
+pub mod ElementsLaws

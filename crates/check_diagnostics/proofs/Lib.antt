@@ -1,0 +1,3 @@
+pub mod FindingLaws
+pub mod Gather
+pub mod RaisesLaws

@@ -1,0 +1,3 @@
+pub mod FindingsLaws
+pub mod FormerLaws
+pub mod ReportedLaws

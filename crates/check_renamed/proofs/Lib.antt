@@ -1,0 +1,4 @@
+pub mod CheckLaws
+pub mod FindingsLaws
+pub mod NamedLaws
+pub mod SuperLaws

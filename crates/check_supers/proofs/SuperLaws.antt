@@ -1,0 +1,92 @@
+-- The searches of check_super, as loops meet them.
+use Rattle.std.specs.Prelude.{ℕ, ◌<◌, refl, List, ◌∷◌, Bool, eqb}
+use Rattle.std.proofs.Math.Path.{◌≡◌, ap}
+use Rattle.std.proofs.Common.{sym, ◌∙◌}
+use Rattle.std.proofs.Math.Bool.{true, false, cond}
+use native.Mathlib.Omega.{arith}
+use Rattle.base_common.specs.Tests.{within}
+use Rattle.base_walk.proofs.AboveLaws.{above_up, above_root}
+use Rattle.table_records.specs.Table.{kind_of, parent_of, count, outer, count_scopes, scope_parent_of, scope_node_of}
+use Rattle.table_records.specs.Facts.{Tree, Chained}
+use Rattle.table_records.specs.Kinds as k
+use Rattle.table_records.specs.declared.Found.{Found}
+use Rattle.table_ancestry.proofs.AncestryLaws.{ancestors_up, ancestors_root}
+use Rattle.check_supers.specs.Super.{is_value_of, part_of, part_at, place_of, step_at, class_after, leave_class, or_rest, reach_from}
+use Rattle.check_supers.specs.declared.ElementPart.{ElementPart}
+use Rattle.check_supers.specs.declared.ElementPart.TheVariants.{Value, Key, NoElement}
+use Rattle.check_supers.specs.declared.Reach.{Reach}
+use Rattle.check_supers.specs.declared.Reach.TheVariants.{Illegal}
+use Rattle.check_supers.specs.declared.Step.{Step}
+use Rattle.check_supers.specs.declared.Step.TheVariants.{Stop, Leave, On}
+
+-- the part of a node that is a class element, and of one that isn't
+module _ (ns : List ℕ) (a x : ℕ) where
+  part_at_lem : within (kind_of ns a) k.MethodDefinition k.AccessorProperty ≡ true → part_at ns a x ≡ part_of ns a x
+  unfolding part_at
+  part_at_lem w = rw w
+
+  part_none : within (kind_of ns a) k.MethodDefinition k.AccessorProperty ≡ false → part_at ns a x ≡ NoElement
+  unfolding part_at
+  part_none w = rw w
+
+  part_some : part_of ns a x ≡ NoElement → ⊥
+  unfolding part_of
+  part_some = go (eqb (kind_of ns a) k.MethodDefinition) (is_value_of ns a x)
+    where
+      go : (p q : Bool) → cond p Key (cond q Value Key) ≡ NoElement → ⊥
+      go true q e = let z : ◌≡◌ {A = ℕ} 0 1 = cc in omega arith
+      go false true e = let z : ◌≡◌ {A = ℕ} 0 1 = cc in omega arith
+      go false false e = let z : ◌≡◌ {A = ℕ} 0 1 = cc in omega arith
+
+-- the part of the nearest class element: a is the parent of x
+module _ (ns : List ℕ) (t : Tree ns) (x a : ℕ) (e : a ≡ parent_of ns x) (h : 0 < x) (l : x < count ns) where
+  pub place_stop : within (kind_of ns a) k.MethodDefinition k.AccessorProperty ≡ true → place_of ns x ≡ part_of ns a x
+  unfolding place_of
+  place_stop w = rw (← e, w)
+
+  pub place_on : within (kind_of ns a) k.MethodDefinition k.AccessorProperty ≡ false → place_of ns x ≡ place_of ns a
+  unfolding place_of
+  place_on w = rw (← e, w) (ancestors_up _ _ ns t x h l ∙ rw (← e))
+
+  -- by what the parent says
+  pub place_none : part_at ns a x ≡ NoElement → place_of ns x ≡ place_of ns a
+  place_none q = go (within (kind_of ns a) k.MethodDefinition k.AccessorProperty) refl
+    where
+      go : (b : Bool) → within (kind_of ns a) k.MethodDefinition k.AccessorProperty ≡ b → place_of ns x ≡ place_of ns a
+      go true w = absurd (part_some ns a x (sym (part_at_lem ns a x w) ∙ q))
+      go false w = place_on w
+
+  pub place_some : (p : ElementPart) → part_at ns a x ≡ p → (p ≡ NoElement → ⊥) → place_of ns x ≡ p
+  place_some p q m = go (within (kind_of ns a) k.MethodDefinition k.AccessorProperty) refl
+    where
+      go : (b : Bool) → within (kind_of ns a) k.MethodDefinition k.AccessorProperty ≡ b → place_of ns x ≡ p
+      go true w = place_stop w ∙ sym (part_at_lem ns a x w) ∙ q
+      go false w = absurd (m (sym q ∙ part_none ns a x w))
+
+pub place_root : (ns : List ℕ) → Tree ns → place_of ns 0 ≡ NoElement
+unfolding place_of
+place_root ns t = rw (t.top, t.root) (ancestors_root _ _ ns)
+
+-- the search over the scopes: one scope, and the next
+module _ (ns ss : List ℕ) (n : ℕ) (call : Bool) (class : Found) (start s : ℕ) where
+  abbrev rest : List ℕ → Reach
+  rest l = reach_from ns ss n call l (class_after ns class (step_at ns ss n call class start s)) (scope_node_of ss s)
+
+  pub reach_stop : (r : Reach) → step_at ns ss n call class start s ≡ Stop r → reach_from ns ss n call (s ∷ outer ss s) class start ≡ r
+  unfolding reach_from
+  reach_stop r e = ap (λ (x : Step). or_rest x (rest (outer ss s))) e
+
+  pub reach_leave : step_at ns ss n call class start s ≡ Leave → reach_from ns ss n call (s ∷ outer ss s) class start ≡ reach_from ns ss n call (outer ss s) (leave_class ns class) (scope_node_of ss s)
+  unfolding reach_from
+  reach_leave e = ap (λ (x : Step). or_rest x (reach_from ns ss n call (outer ss s) (class_after ns class x) (scope_node_of ss s))) e
+
+  pub reach_on : step_at ns ss n call class start s ≡ On → reach_from ns ss n call (s ∷ outer ss s) class start ≡ reach_from ns ss n call (outer ss s) class (scope_node_of ss s)
+  unfolding reach_from
+  reach_on e = ap (λ (x : Step). or_rest x (reach_from ns ss n call (outer ss s) (class_after ns class x) (scope_node_of ss s))) e
+
+pub outer_next : (ss : List ℕ) → Chained ss → (s p : ℕ) → p ≡ scope_parent_of ss s → 0 < s → s < count_scopes ss → outer ss s ≡ p ∷ outer ss p
+outer_next ss c s p e h l = above_up (scope_parent_of ss) (count_scopes ss) c.falls s h l ∙ rw (← e)
+
+pub reach_end : (ns ss : List ℕ) (n : ℕ) (call : Bool) (class : Found) (start : ℕ) → reach_from ns ss n call (outer ss 0) class start ≡ Illegal
+unfolding reach_from
+reach_end ns ss n call class start = rw (above_root (scope_parent_of ss))

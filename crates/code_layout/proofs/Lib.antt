@@ -1,0 +1,4 @@
+pub mod ExactLaws
+pub mod Examples
+pub mod Made
+pub mod Stands

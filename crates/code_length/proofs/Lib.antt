@@ -1,0 +1,4 @@
+pub mod Examples
+pub mod LengthLaws
+pub mod MostLaws
+pub mod UnitNodesLaws

@@ -1,0 +1,2 @@
+pub mod PositiveLaws
+pub mod TargetsLaws

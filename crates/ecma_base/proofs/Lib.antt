@@ -1,0 +1,3 @@
+pub mod ContainsLaws
+pub mod NodesLaws
+pub mod ScopesLaws

@@ -1,0 +1,2 @@
+pub mod BoundNamesLaws
+pub mod ExamplesBoundNames

@@ -1,0 +1,2 @@
+pub mod NodesOfLaws
+pub mod TypescriptLaws

@@ -1,0 +1,4 @@
+pub mod ClassElementsLaws
+pub mod Keys
+pub mod ObjectsLaws
+pub mod RaisingLaws

@@ -1,0 +1,4 @@
+pub mod BreachLaws
+pub mod DifferenceLaws
+pub mod EarlyLaws
+pub mod Theorems

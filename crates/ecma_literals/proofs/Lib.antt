@@ -1,0 +1,3 @@
+pub mod DeleteLaws
+pub mod EscapeSpansLaws
+pub mod LiteralsLaws

@@ -1,0 +1,4 @@
+pub mod IdentifiersLaws
+pub mod NamesLaws
+pub mod ParametersLaws
+pub mod ReservedWordsLaws

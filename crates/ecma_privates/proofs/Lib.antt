@@ -1,0 +1,2 @@
+pub mod PrivateNamesLaws
+pub mod PrivateTwiceLaws

@@ -1,0 +1,4 @@
+pub mod FunctionsLaws
+pub mod LabelledLaws
+pub mod StatementsLaws
+pub mod UsingLaws

@@ -1,0 +1,3 @@
+pub mod BodiesLaws
+pub mod ExamplesNames
+pub mod ExamplesStatements

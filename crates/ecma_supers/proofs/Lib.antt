@@ -1,0 +1,5 @@
+pub mod ContainsLaws
+pub mod ScopesFitLaws
+pub mod SuperSearchLaws
+pub mod SupersByScopesLaws
+pub mod SupersLaws

@@ -1,0 +1,3 @@
+pub mod ByKindLaws
+pub mod FormerLaws
+pub mod InputLaws

@@ -1,0 +1,3 @@
+pub mod EntriesLaws
+pub mod Laws
+pub mod Parts

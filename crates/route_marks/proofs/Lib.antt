@@ -1,0 +1,3 @@
+pub mod BeginsLaws
+pub mod MarksLaws
+pub mod TakenLaws
