@@ -1,5 +1,5 @@
 -- Laws of the first labels: a search for a name among theirs, and one label more.
-use Rattle.std.specs.Prelude.{ℕ, zero, suc, ◌+◌, ◌-◌, ◌≤◌, ◌<◌, ◌≡◌, refl, List, [], ◌∷◌, ◌++◌, map, Bool, true, false, length, get_or, set}
+use Rattle.std.specs.Prelude.{ℕ, zero, suc, ◌+◌, ◌-◌, ◌≤◌, ◌<◌, ◌≡◌, List, [], ◌∷◌, ◌++◌, map, true, false, length, get_or, set}
 use Rattle.std.proofs.Common.{ap, sym, subst, ◌∙◌, ⊎_elim, eq-or-lt_of_le, arith, length-set, get_or-set_same, get_or-set_other}
 use Rattle.std.proofs.lemmas.List.{map-append}
 use Rattle.base_common.specs.Upto.{upto}
@@ -9,7 +9,7 @@ use Rattle.table_records.specs.Table.{count}
 use Rattle.table_names.specs.Name.{same, name_of}
 use Rattle.call_labels.specs.Short.{most}
 use Rattle.call_labels.specs.Order.{seeing, seen_before, place_in}
-use Rattle.call_labels.specs.Firsts.{kept_from, Nodes, Firsts, Entered}
+use Rattle.call_labels.specs.Firsts.{kept_from, Firsts, Entered}
 use Rattle.call_labels.specs.Unfit.{unfit_at}
 use Rattle.call_labels.specs.declared.Labels.{Labels}
 use Rattle.call_labels.specs.declared.Labels.TheVariants.{Few, Unfit}

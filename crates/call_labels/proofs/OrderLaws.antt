@@ -2,7 +2,7 @@
 use Prim.Native.Nat.{ℕ, zero, suc, ◌+◌, ◌≤◌, ◌<◌}
 use Rattle.std.specs.Prelude.{◌≡◌, Bool, cond, ◌||◌, length}
 use Rattle.std.proofs.Math.Path.{refl}
-use Rattle.std.proofs.Common.{ap, sym, ◌∙◌, ⊎_elim, eq-or-lt_of_le, arith}
+use Rattle.std.proofs.Common.{sym, ◌∙◌, ⊎_elim, eq-or-lt_of_le, arith}
 use mathlib.Core.List.{List, [], ◌∷◌, ◌++◌}
 use Rattle.std.proofs.Math.Bool.{true, false}
 use Rattle.base_common.specs.Upto.{upto}
@@ -13,7 +13,7 @@ use Rattle.table_names.specs.Name.{same, name_of, has}
 use Rattle.table_names.proofs.NameLaws.{same_self, same_eq}
 use Rattle.code_tree.specs.Labels.{is_label}
 use Rattle.call_labels.specs.Reserved.{is_reserved}
-use Rattle.call_labels.specs.Short.{most, short_name}
+use Rattle.call_labels.specs.Short.{most}
 use Rattle.call_labels.proofs.ShortLaws.{short_once, short_free, short_some}
 use Rattle.call_labels.specs.Order.{add, seeing, seen_before, label_names, place_in, new_name}
 

@@ -16,7 +16,7 @@ use Rattle.check_diagnostics.proofs.Gather.{flat_turn, flat_end}
 use Rattle.refusal_verdict.specs.First.{first}
 use Rattle.refusal_verdict.proofs.FirstLaws.{le_or_lt, first_nowhere}
 use Rattle.refusal_verdict.specs.declared.Place.TheVariants.{Nowhere}
-use Rattle.table_records.specs.Table.{count, kind_of, role_of}
+use Rattle.table_records.specs.Table.{count}
 use Rattle.table_names.specs.Name.{same, name_of, has}
 use Rattle.table_names.proofs.NameLaws.{same_self, same_eq}
 use Rattle.code_tree.specs.Labels.{is_label}

@@ -1,7 +1,7 @@
 -- Pieces written one after the other: a turn of the loop, and its end.
 use Rattle.std.specs.Prelude.{ℕ, ◌+◌, ◌≤◌, ◌<◌, ◌≡◌, length, take, drop}
 use Rattle.std.proofs.Common.{ap, sym, subst, ◌∙◌, arith, length-append, length-take-le}
-use mathlib.Core.List.{List, [], ◌++◌, flat_map}
+use mathlib.Core.List.{List, ◌++◌, flat_map}
 use Rattle.base_common.specs.Upto.{upto}
 use Rattle.base_common.specs.Wrote.{Wrote, put}
 use Rattle.base_common.proofs.WroteLaws.{wrote_put, wrote_end}

@@ -5,15 +5,13 @@ use mathlib.Core.List.{List, [], ◌∷◌, ◌++◌, flat_map, append_assoc, ap
 use Rattle.std.proofs.Math.ListN.{get_or-append}
 use Rattle.base_common.specs.Upto.{upto}
 use Rattle.check_diagnostics.proofs.Gather.{flat_turn, flat_end}
-use Rattle.table_records.specs.Table.{count, name_len_of}
-use Rattle.table_records.specs.Facts.{Named}
+use Rattle.table_records.specs.Table.{count}
 use Rattle.table_names.specs.Name.{name_of}
-use Rattle.table_names.proofs.NameLaws.{name_length}
 use Rattle.code_tree.specs.Labels.{is_label}
 use Rattle.call_labels.specs.Short.{short_name}
 use Rattle.call_labels.specs.Order.{label_names, place_in, new_name}
 use Rattle.call_labels.proofs.OrderLaws.{Known, label_known, place_below}
-use Rattle.call_labels.specs.Written.{new_name_of, names_to, record_of, nodes_renamed, names_renamed}
+use Rattle.call_labels.specs.Written.{new_name_of, record_of, nodes_renamed}
 
 -- A NODE'S NEW NAME
 new_none : (b : Bool) (seen : List (List ℕ)) (x : List ℕ) → length x ≡ 0 → cond b (new_name seen x) x ≡ []

@@ -1,5 +1,5 @@
 -- The new name of a label. Document 02, request 12: labels become the short names "in order of first appearance. .. a nameless node, label or not, keeps length 0".
-use Rattle.std.specs.Prelude.{ℕ, suc, List, [], ◌∷◌, ◌++◌, Bool, cond}
+use Rattle.std.specs.Prelude.{ℕ, suc, List, [], ◌∷◌, ◌++◌, cond}
 use Rattle.base_common.specs.Upto.{upto}
 use Rattle.table_records.specs.Table.{count}
 use Rattle.table_names.specs.Name.{same, name_of, has}

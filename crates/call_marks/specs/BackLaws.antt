@@ -6,7 +6,7 @@ use Rattle.std.proofs.lemmas.List.Edits.{sets}
 use Rattle.std.proofs.Math.Seq.{length-sets}
 use Rattle.code_flat.specs.Machine.{Frame, open', pend, Pos, pos}
 use Rattle.code_machine.specs.Pending.{frame_by}
-use Rattle.route_marks.specs.Marks.{marks, part_at, first_of, is_set, place_of, ends_at, mark_at, end_numbers, ends_numbers, mark_numbers, set_mark}
+use Rattle.route_marks.specs.Marks.{marks, part_at, first_of, is_set, ends_at, mark_at, end_numbers, ends_numbers, mark_numbers, set_mark}
 use Rattle.route_marks.proofs.MarksLaws.{numbers_length}
 
 sets_before : (vs M : List ℕ) (o k : ℕ) → k < o → get_or (sets M o vs) k 0 ≡ get_or M k 0

@@ -1,7 +1,7 @@
 -- What is known where 16 is not given; what is made by whether there is room; and a route taken up that is not stopped again.
 use Rattle.std.specs.Prelude.{ℕ, ◌≤◌, ◌<◌, ◌≡◌, refl, List, Bool, true, false, cond, ◌&&◌, ltb, leb, length}
 use Rattle.std.proofs.Math.Path.{sym}
-use Rattle.std.proofs.Common.{◌∙◌, ap, arith, ltb-true, le-leb}
+use Rattle.std.proofs.Common.{ap, ltb-true, le-leb}
 use Rattle.std.proofs.lemmas.Bool.{lt-leb}
 use Rattle.base_common.proofs.UptoLaws.{and_left_lem}
 use Rattle.refusal_verdict.specs.Refusals as refusal

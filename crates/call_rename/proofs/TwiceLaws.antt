@@ -1,6 +1,6 @@
 -- What success of the call says, and document 02, request 12/13: "Renaming twice gives the bytes of renaming once."
 use Rattle.std.specs.Prelude.{ℕ, ◌≤◌, ◌≡◌, refl, List, Bool, false, cond, ◌&&◌, length}
-use Rattle.std.proofs.Common.{ap, sym, ◌∙◌, arith}
+use Rattle.std.proofs.Common.{◌∙◌, arith}
 use Rattle.std.proofs.Math.Bool.{true}
 use borrow.Author.Tests.{leb-true}
 use Rattle.std.proofs.Math.Dec.{leb}
@@ -18,7 +18,7 @@ use Rattle.call_labels.proofs.UnfitLaws.{renamable}
 use Rattle.call_labels.specs.Written.{nodes_renamed, names_renamed}
 use Rattle.call_labels.proofs.TwiceLaws.{twice_nodes, twice_names, twice_fit}
 use Rattle.call_rename.specs.declared.Relabelled.TheVariants.{Names}
-use Rattle.call_rename.specs.Rename.{Renaming, most_bytes, fits, written, labelled, renaming, after_unfit, after_input}
+use Rattle.call_rename.specs.Rename.{most_bytes, fits, written, labelled, renaming, after_unfit, after_input}
 use Rattle.call_rename.proofs.RenameLaws.{short, full, room, labelled_fit, input_passed}
 
 -- nothing was refused

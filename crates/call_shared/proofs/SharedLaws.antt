@@ -2,14 +2,14 @@
 use Prim.Native.Nat.{ℕ, ◌≤◌}
 use Rattle.std.specs.Prelude.{◌≡◌, Bool, true, false, cond, leb, length, take}
 use Rattle.std.proofs.Math.Path.{refl}
-use Rattle.std.proofs.Common.{sym, ◌∙◌, ap, arith}
+use Rattle.std.proofs.Common.{◌∙◌, ap, arith}
 use mathlib.Core.List.{List}
 use Rattle.refusal_verdict.specs.declared.Verdict.{Verdict}
 use Rattle.refusal_verdict.specs.declared.Verdict.TheVariants.{Refused, Passed}
 use Rattle.route_list.specs.Listing.{saturated}
 use Rattle.route_laws.specs.Shared.{shared}
 use Rattle.route_shared.specs.Shared.{shared_entries}
-use Rattle.check_dispatch.specs.Rule.{Rule, rule}
+use Rattle.check_dispatch.specs.Rule.{Rule}
 use Rattle.code_flat.specs.Code.{unit}
 use Rattle.route_list.specs.Over.{over}
 use Rattle.code_tree.specs.Statements.{unit_of}

@@ -1,6 +1,6 @@
 -- BOTH ENGINES: "For every tree, unit and answer list it gives the list, end and count of answers of the code engine. That equality is proved for all
 -- statement kinds, `try` and static blocks included. It gives the refusals of the route call except 11."
-use Rattle.std.specs.Prelude.{ℕ, ◌≤◌, refl, List, Bool, cond, leb, length}
+use Rattle.std.specs.Prelude.{ℕ, ◌≤◌, List, Bool, cond, leb, length}
 use Rattle.std.proofs.Math.Path.{◌≡◌, ap}
 use Rattle.std.proofs.Common.{sym, ◌∙◌, arith, le-leb}
 use Rattle.std.proofs.Math.Bool.{true, false}

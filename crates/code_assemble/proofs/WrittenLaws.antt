@@ -1,5 +1,5 @@
 -- One law for each turn of the loop, and what the slice is in the end.
-use Rattle.std.specs.Prelude.{ℕ, zero, suc, ◌+◌, ◌-◌, ◌≤◌, ◌<◌, ◌≡◌, refl, ◌⊎◌, List, [], ◌∷◌, ◌++◌, Bool, true, false, leb, length, get_or, drop}
+use Rattle.std.specs.Prelude.{ℕ, suc, ◌+◌, ◌-◌, ◌≤◌, ◌<◌, ◌≡◌, refl, ◌⊎◌, List, Bool, true, false, length, get_or, drop}
 use Rattle.std.proofs.Math.Path.{ap, sym}
 use Rattle.std.proofs.Common.{◌∙◌, subst, inl, inr, length-append, length-drop, ext_get_or, get_or-drop, get_or-append-add, eq-or-lt_of_le, arith, le-leb}
 use Rattle.std.proofs.Math.Bool.{cond}
@@ -8,14 +8,14 @@ use Rattle.std.proofs.Math.Decide.{dec_lt}
 use Rattle.std.proofs.lemmas.Bool.{lt-leb}
 use Rattle.base_common.proofs.Bools.{never}
 use Rattle.table_records.specs.Table.{count}
-use Rattle.code_flat.specs.Code.{unit, ends, sizes}
+use Rattle.code_flat.specs.Code.{unit, ends}
 use Rattle.code_flat.specs.Correct.{Has, has_right, has_self}
 use Rattle.route_list.specs.Over.{over}
 use Rattle.code_tree.specs.Statements.{body_of}
 use Rattle.code_layout.specs.Widths.{in_unit, own_width, width_at}
 use Rattle.code_layout.specs.Context.{offset_at}
 use Rattle.code_layout.specs.Words.{words_at, code_at}
-use Rattle.code_layout.specs.LayoutLaws.{in_root, own_width_root, width_is_lem, words_length_lem, code_length_lem}
+use Rattle.code_layout.specs.LayoutLaws.{own_width_root, width_is_lem, words_length_lem, code_length_lem}
 use Rattle.code_layout.proofs.Stands.{in_from, Owner}
 use Rattle.code_layout.proofs.Made.{width_unit, code_unit, unit_has, unit_full, has_at}
 use Rattle.code_widths.proofs.WidthsLaws.{fits}
@@ -24,7 +24,6 @@ use Rattle.code_branch.specs.Branch.{Arrays}
 use Rattle.code_branch.proofs.JumpLaws as array
 use Rattle.code_put.specs.Put.{Put, Done}
 use Rattle.code_put.proofs.PutLaws.{put_done, put_keeps}
-use Rattle.code_assemble.specs.declared.Assembled.{Assembled}
 use Rattle.code_assemble.specs.declared.Assembled.TheVariants.{Code, Short}
 use Rattle.code_assemble.specs.Assembled.{assembled, assembled_slice}
 use Rattle.code_assemble.specs.Written.{whole, Emitted, Written}

@@ -1,24 +1,21 @@
 -- One law for each step of the walk up.
-use Rattle.std.specs.Prelude.{ℕ, suc, ◌+◌, ◌≤◌, ◌<◌, ◌≡◌, refl, ◌⊎◌, List, Bool, true, false, cond, ◌&&◌, ◌||◌, eqb, leb, get_or}
-use Rattle.std.proofs.Common.{ap, sym, ◌∙◌, subst, inl, inr, eq-or-lt_of_le, arith, le-leb}
-use Rattle.std.proofs.lemmas.Bool.{lt-leb}
+use Rattle.std.specs.Prelude.{ℕ, ◌≤◌, ◌<◌, ◌≡◌, refl, ◌⊎◌, List, true, false, cond, ◌&&◌, ◌||◌, eqb}
+use Rattle.std.proofs.Common.{ap, sym, ◌∙◌, inl, inr, eq-or-lt_of_le, arith}
 use Rattle.base_common.proofs.Bools.{never}
-use Rattle.table_records.specs.Table.{role_of, count}
+use Rattle.table_records.specs.Table.{count}
 use Rattle.route_completion.specs.Tree.{near, named}
 use Rattle.route_completion.specs.Sem.{Comp, normal, breaks, continues, returns, throws, spent, elem}
-use Rattle.code_flat.specs.Code.{Stat, at, place_of, depth_of, top}
 use Rattle.code_tree.specs.Labels.{id_at}
 use Rattle.code_tree.specs.Parts.{up_of, shape_at}
 use Rattle.code_tree.specs.declared.Shape.{Shape}
 use Rattle.code_tree.specs.declared.Shape.TheVariants.{Leaf, Class, If, With, Block, Label, Loop, Switch, Case, Try, Catch}
-use Rattle.code_layout.specs.Widths.{in_unit, width_at, is_try}
-use Rattle.code_layout.specs.Context.{offset_at}
+use Rattle.code_layout.specs.Widths.{in_unit}
 use Rattle.code_layout.specs.LayoutLaws.{in_part, in_above}
 use Rattle.code_layout.proofs.Stands.{in_from}
-use Rattle.code_targets.specs.Targets.{is_labeled, is_catch, target, depth_at, labels_at}
-use Rattle.code_targets.proofs.TargetsLaws.{target_root, break_near, break_named, continue_near, continue_named, return_up, throw_up, labels_up}
-use Rattle.code_contexts.specs.Contexts.{Ready, next_of, Follow}
-use Rattle.code_branch.specs.Branch.{stops_at, land_at, is_jump, Arrays}
+use Rattle.code_targets.specs.Targets.{is_labeled, is_catch, target, labels_at}
+use Rattle.code_targets.proofs.TargetsLaws.{break_near, break_named, continue_near, continue_named, return_up, throw_up, labels_up}
+use Rattle.code_contexts.specs.Contexts.{Ready}
+use Rattle.code_branch.specs.Branch.{stops_at, land_at, is_jump}
 
 module _ (ns names : List ℕ) (b : ℕ) where
   -- THE LAW of the way up.

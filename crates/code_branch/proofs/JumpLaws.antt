@@ -1,7 +1,7 @@
 -- What a step of a jump's way up knows: the arrays' numbers at a node of the unit, and the unit's own node.
-use Rattle.std.specs.Prelude.{ℕ, suc, ◌+◌, ◌-◌, ◌≤◌, ◌<◌, ◌≡◌, refl, List, Bool, true, false, cond, ◌&&◌, ◌||◌, eqb, get_or}
+use Rattle.std.specs.Prelude.{ℕ, suc, ◌+◌, ◌-◌, ◌≤◌, ◌<◌, ◌≡◌, refl, List, Bool, true, false, cond, ◌||◌, eqb, get_or}
 use Rattle.std.proofs.Math.Path.{ap}
-use Rattle.std.proofs.Common.{sym, ◌∙◌, subst, arith, eq-eqb, ne_eqb}
+use Rattle.std.proofs.Common.{sym, ◌∙◌, arith, eq-eqb, ne_eqb}
 use Rattle.table_records.specs.Table.{kind_of, count}
 use Rattle.table_records.specs.Kinds as k
 use Rattle.route_completion.specs.Tree.{simple, brk, con, ret, thr}
@@ -12,13 +12,12 @@ use Rattle.code_tree.specs.Parts.{up_of, shape_at}
 use Rattle.code_tree.specs.Statements.{leaf_at}
 use Rattle.code_layout.specs.Widths.{in_unit, width_at}
 use Rattle.code_layout.specs.Context.{offset_at}
-use Rattle.code_layout.specs.LayoutLaws.{in_root, context_root}
+use Rattle.code_layout.specs.LayoutLaws.{context_root}
 use Rattle.code_layout.proofs.Stands.{in_from}
 use Rattle.code_widths.proofs.WidthsLaws.{fits, root_small}
 use Rattle.code_targets.specs.Targets.{is_labeled, target, depth_at, labels_at}
 use Rattle.code_targets.proofs.TargetsLaws.{target_root}
-use Rattle.code_contexts.specs.Contexts.{Ready, Follow, next_of}
-use Rattle.code_contexts.proofs.PlacesLaws.{above_in_lem, above_lt}
+use Rattle.code_contexts.specs.Contexts.{Ready, Follow}
 use Rattle.code_branch.specs.Branch.{comp_by, end_by, is_jump, Arrays}
 use Rattle.code_branch.proofs.BranchLaws.{labels_in}
 use Rattle.code_branch.specs.declared.Jump.{Jump}

@@ -1,7 +1,7 @@
 -- WHAT A TYPESCRIPT MODULE HAS DIFFERENT FROM A MODULE OF JAVASCRIPT (document 02, request 13), of all tables: 1 at classes, 8, 17, the spans of 27, and 35. All else is the same, to the last number.
 use Rattle.std.specs.Prelude.{ℕ, ◌≡◌, refl, Bool, true, false, cond, ◌||◌, eqb}
 use Rattle.std.proofs.Common.{ap, sym, ◌∙◌, eqb-true}
-use mathlib.Core.List.{List, [], ◌∷◌, ◌++◌, flat_map}
+use mathlib.Core.List.{List, [], ◌∷◌, ◌++◌}
 use Rattle.base_common.specs.Upto.{upto}
 use Rattle.base_common.proofs.Bools.{or3, or5}
 use Rattle.base_walk.specs.On.{member}
@@ -10,7 +10,6 @@ use Rattle.table_records.specs.Kinds as k
 use Rattle.table_records.specs.declared.Found.{Found}
 use Rattle.table_records.specs.declared.Found.TheVariants.{At, Nothing}
 use Rattle.table_children.specs.Children.{class_body_of}
-use Rattle.check_diagnostics.specs.declared.Finding.{Finding}
 use Rattle.check_diagnostics.specs.Finding.{listed}
 use Rattle.check_diagnostics.proofs.Gather.{flat_same_lem}
 use Rattle.check_identifiers.specs.Identifiers.{await_finding, strict_context, check_identifier, check_binding_identifier, check_identifier_reference}

@@ -1,6 +1,6 @@
 -- Kinds that stand together: a chain of cases with one list is one case of a range.
 use Rattle.std.specs.Prelude.{ℕ, suc, ◌≤◌, ◌≡◌, refl, List, [], Bool, true, false, cond, eqb}
-use Rattle.std.proofs.Common.{sym, ◌∙◌, arith, eqb-true}
+use Rattle.std.proofs.Common.{arith, eqb-true}
 use Rattle.std.proofs.lemmas.Bool.{eqb-false}
 use Rattle.base_common.specs.Tests.{within}
 use Rattle.base_common.proofs.Bools.{range_of}

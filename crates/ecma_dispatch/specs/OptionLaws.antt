@@ -17,11 +17,11 @@ use Rattle.check_diagnostics.specs.Finding.{listed}
 use Rattle.check_bodies.specs.Bodies.{check_async_body, check_async_held, check_async_alternate, async_bodies_at}
 use Rattle.check_duplicates.specs.Duplicates.{duplicate_elements}
 use Rattle.check_dispatch.specs.Findings.{findings_at, findings_of}
-use Rattle.check_dispatch.specs.Rule.{Rule, rule}
+use Rattle.check_dispatch.specs.Rule.{Rule}
 use Rattle.check_dispatch.specs.Reported.{reported_at, reported}
 use Rattle.check_dispatch.proofs.ReportedLaws.{nil_right_lem}
 use Rattle.ecma_dispatch.specs.WithCode.{with_code, without_code}
-use Rattle.ecma_dispatch.specs.WithCodeLaws.{with_append, with_flat_map, with_nil, Coded, coded_none, coded_all, coded_nil, coded_append, coded_cond, coded_flat_map, coded_more, each_code, coded, fine, fine_if, fine_error, fine_clear, both_true, fine_held}
+use Rattle.ecma_dispatch.specs.WithCodeLaws.{with_append, with_flat_map, Coded, coded_none, coded_all, coded_nil, coded_append, coded_cond, coded_flat_map, coded_more, each_code, coded, fine, fine_if, fine_error, fine_clear, both_true, fine_held}
 use Rattle.ecma_dispatch.specs.CheckCodes.{of_clash, duplicate_codes}
 use Rattle.ecma_dispatch.specs.Dispatch.{listed_codes, coded_at}
 

@@ -1,5 +1,5 @@
 -- The one lemma of the dispatch: the findings of a kind with a code are those of the rows that can raise it; and the codes of a table are the codes of its findings.
-use Rattle.std.specs.Prelude.{ℕ, ◌≡◌, refl, List, [], ◌∷◌, ◌++◌, Bool, true, false, cond, not, ◌&&◌, ◌||◌, eqb}
+use Rattle.std.specs.Prelude.{ℕ, ◌≡◌, refl, List, [], ◌∷◌, ◌++◌, Bool, true, false, cond, not, ◌||◌, eqb}
 use Rattle.std.proofs.Common.{ap, sym, ◌∙◌, eqb-true}
 use Rattle.std.proofs.lemmas.Bool.{not-true}
 use Rattle.base_common.specs.Upto.{all}

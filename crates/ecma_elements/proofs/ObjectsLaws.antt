@@ -20,7 +20,7 @@ use Rattle.table_children.specs.Children.{keep, children, is_child, key_of}
 use Rattle.table_children.proofs.ChildrenLaws.{keep_keep, number}
 use Rattle.check_class_table.proofs.ClassesLaws.{within_one}
 use Rattle.refusal_fields.specs.Fields.{Listed}
-use Rattle.ecma_trees.specs.Walk.{each, some, only}
+use Rattle.ecma_trees.specs.Walk.{some, only}
 use Rattle.check_expressions.specs.Expressions.{properties, is_plain, if_proto, proto_key, to_list, proto_keys, repeats_after, repeats, check_object_expression}
 use Rattle.check_dispatch.specs.Findings.{findings_at}
 use Rattle.ecma_dispatch.specs.WithCode.{with_code}

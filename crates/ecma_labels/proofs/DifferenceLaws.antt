@@ -23,7 +23,7 @@ use Rattle.refusal_input.specs.WellFormed.{Shaped}
 use Rattle.check_dispatch.specs.Findings.{findings_at}
 use Rattle.ecma_dispatch.specs.NodesOf.{raised}
 use Rattle.ecma_trees.specs.Rose.{parts_of}
-use Rattle.ecma_trees.specs.Walk.{each, some, only}
+use Rattle.ecma_trees.specs.Walk.{some, only}
 use Rattle.ecma_trees.specs.WalkLaws.{folds_agree, some_each}
 use Rattle.ecma_trees.specs.Unit.{home_of, in_unit}
 use Rattle.ecma_trees.specs.UnitLaws.{home_before}

@@ -4,7 +4,6 @@
 use Rattle.std.specs.Prelude.{ℕ, Bool, true, false, cond, not, ◌&&◌, ◌||◌, List, [], ◌∷◌, ◌++◌, eqb}
 use Rattle.table_children.specs.Children.{found}
 use Rattle.base_common.specs.Tests.{within}
-use Rattle.base_common.specs.Upto.{any}
 use Rattle.table_records.specs.Table.{kind_of, role_of}
 use Rattle.table_records.specs.Kinds as k
 use Rattle.table_records.specs.Roles as role

@@ -8,11 +8,11 @@ use Rattle.base_common.proofs.Bools.{either, in_range_lem, range_of}
 use Rattle.table_records.specs.Table.{kind_of, parent_of, role_of, count}
 use Rattle.table_records.specs.Facts.{Tree}
 use Rattle.table_records.specs.declared.Found.TheVariants.{At, Nothing}
-use Rattle.table_children.specs.Children.{is_child, fits, first_node, next_child, how_many, label_of, held_of}
+use Rattle.table_children.specs.Children.{is_child, first_node, next_child, how_many, label_of, held_of}
 use Rattle.table_children.proofs.ChildrenLaws.{tally, tally_all, tally_turn, node_on, node_stop}
 use Rattle.refusal_standing.specs.Standing.{is_statement, is_holder}
 use Rattle.refusal_input.specs.WellFormed.{Shaped}
-use Rattle.ecma_trees.specs.Rose.{Roses, node, rnil, rcons, idx, fold_parts, parts_of}
+use Rattle.ecma_trees.specs.Rose.{Roses, rnil, rcons, idx, fold_parts, parts_of}
 use Rattle.ecma_trees.specs.RoseLaws.{fold_parts_is, parts_placed, PlacedAll}
 use Rattle.ecma_trees.specs.Walk.{only}
 use Rattle.ecma_trees.specs.Rule.{Going}

@@ -1,6 +1,6 @@
 -- Where [Yield] and [Await] come from: at every node from its givers (Changed), and what scopes that follow the tree tell of them.
-use Rattle.std.specs.Prelude.{ℕ, ◌≤◌, ◌<◌, ◌≡◌, refl, List, [], ◌∷◌, Bool, true, false, cond, not, ◌&&◌, ◌||◌, eqb}
-use Rattle.std.proofs.Common.{ap, sym, subst, ◌∙◌, ⊎_elim, arith, ne_eqb, eqb-true}
+use Rattle.std.specs.Prelude.{ℕ, ◌≤◌, ◌<◌, ◌≡◌, refl, List, [], ◌∷◌, Bool, true, false, cond, ◌&&◌, ◌||◌, eqb}
+use Rattle.std.proofs.Common.{ap, sym, ◌∙◌, ⊎_elim, arith, ne_eqb, eqb-true}
 use Rattle.base_common.specs.Upto.{any}
 use Rattle.base_common.proofs.UptoLaws.{and_left_lem}
 use Rattle.base_common.specs.Tests.{within}

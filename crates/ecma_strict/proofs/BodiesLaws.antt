@@ -25,9 +25,9 @@ use Rattle.ecma_base.specs.Strict.{strict_code}
 use Rattle.ecma_base.specs.Telling.{Telling, async_or_generator, ordinary}
 use Rattle.ecma_base.specs.Nodes.{of_check}
 use Rattle.ecma_strict.specs.NodesLaws.{raised_listed}
-use Rattle.ecma_statements.specs.Functions.{ends_in_statement, annex_holder, annex_allows, misplaced, function_misplaced, function_misplaced_else, labels_function, labelled_function_at}
+use Rattle.ecma_statements.specs.Functions.{ends_in_statement, annex_holder, misplaced, function_misplaced, function_misplaced_else, labels_function, labelled_function_at}
 use Rattle.ecma_statements.proofs.FunctionsLaws.{labelled_agrees, labelled_strict}
-use Rattle.ecma_statements.specs.Changed.{strict_function, strict_function_else, sloppy_function, sloppy_function_else, labelled_function_said}
+use Rattle.ecma_statements.specs.Changed.{labelled_function_said}
 use Rattle.ecma_strict.specs.Theorems.{code15, code16}
 use Rattle.ecma_strict.specs.Bodies.{Flagged}
 

@@ -1,6 +1,6 @@
 -- What is printed of a check's answer (document 01, "The reader program"): "It prints F with the seven numbers, then E with the count, or only R with
 -- number and place".
-use Rattle.std.specs.Prelude.{ℕ, zero, suc, ◌*◌, ◌≤◌, List, [], ◌∷◌, ◌++◌, length, take, drop}
+use Rattle.std.specs.Prelude.{ℕ, zero, suc, ◌*◌, ◌≤◌, List, [], ◌∷◌, ◌++◌, take, drop}
 use Rattle.line_print.specs.Print.{line_of}
 use Rattle.refusal_verdict.specs.Refusals as refusal
 use Rattle.call_check.specs.declared.Checked.{Checked}

@@ -6,7 +6,7 @@ use Rattle.line_digits.specs.Number.{value_of}
 use Rattle.line_forms.specs.Forms.{rest, numbers_of, kind_in, nodes_in, scopes_in, is_j, is_x}
 use Rattle.line_input.specs.declared.Input.{Input}
 use Rattle.line_input.specs.declared.Input.TheVariants.{Tables, Unread}
-use Rattle.line_input.specs.declared.Route.TheVariants.{Asked, Unasked}
+use Rattle.line_input.specs.declared.Route.TheVariants.{Asked}
 use Rattle.line_input.specs.Route.{is_u, is_a, unit_in, Asking, unasked, lines_before, asked_by}
 use Rattle.line_input.specs.Format.{Room, room_of, Reading, stopped, tables, lent, ss_in, ns_in, x_in, read_behind, read_lines, front}
 

@@ -1,9 +1,9 @@
 -- How much of an input is ever read: 2,052 lines (J, 1,024 scopes, 1,024 nodes, X, U, A), and of a line 2,101 bytes, since one of more
 -- than 2,100 can't be read. What stands behind the first `enough` bytes changes nothing, so a reader that takes no more of them cuts nothing.
-use Prim.Native.Nat.{ℕ, zero, suc, ◌+◌, ◌-◌, ◌*◌, ◌/◌, ◌≤◌, ◌<◌, min}
+use Prim.Native.Nat.{ℕ, zero, suc, ◌+◌, ◌-◌, ◌*◌, ◌≤◌, ◌<◌, min}
 use Rattle.std.proofs.Math.Path.{◌≡◌, refl, sym}
-use Rattle.std.proofs.Common.{ap, subst, ◌∙◌, inl, inr, length-take, take_all, drop-drop, get_or-drop, leb-true, leb-false, eqb-true, eq-eqb, ne_eqb}
-use Rattle.std.specs.Prelude.{Bool, cond, ◌&&◌, ◌⊎◌, List, [], ◌∷◌, leb, eqb, length, get_or, take, drop}
+use Rattle.std.proofs.Common.{ap, ◌∙◌, inl, inr, length-take, take_all, drop-drop, leb-true, leb-false, eqb-true, eq-eqb}
+use Rattle.std.specs.Prelude.{Bool, cond, ◌&&◌, ◌⊎◌, List, [], ◌∷◌, leb, eqb, length, take, drop}
 use Rattle.std.proofs.Math.Bool.{true, false}
 use native.Mathlib.Omega.{arith}
 use Rattle.std.proofs.Math.Seq.{take-nil}
@@ -15,8 +15,8 @@ use Rattle.line_forms.specs.Forms.{kind_in, nodes_in, scopes_in, name_of, is_j, 
 use Rattle.line_forms.proofs.FormLaws.{lettered_long, numbers_letter, node_letter, source_letter}
 use Rattle.line_input.specs.declared.Input.{Input}
 use Rattle.line_input.specs.declared.Input.TheVariants.{Tables, Unread}
-use Rattle.line_input.specs.Format.{scope_lines, node_lines, nodes_of, scopes_of, Room, Reading, stopped, tables, read_behind, read_lines, read_input}
-use Rattle.line_input.specs.Route.{is_u, is_a, unit_in, Asking, lines_before, asked_by, read_route}
+use Rattle.line_input.specs.Format.{scope_lines, node_lines, nodes_of, scopes_of, Room, Reading, tables, read_behind, read_lines, read_input}
+use Rattle.line_input.specs.Route.{is_u, is_a, lines_before, asked_by, read_route}
 use Rattle.line_input.specs.ReadLaws.{first_of, scopes_turn, scopes_bad, scopes_none, nodes_turn, nodes_bad, nodes_full, nodes_none, scopes_sized, nodes_sized}
 use Rattle.line_input.specs.RouteLaws.{answers_letter, two_of, two_answers, asked_two, asked_none}
 use Rattle.line_input.specs.InputLaws.{behind_scopes, behind_nodes, behind_source, behind_all, lines_no, lines_on, head_room}

@@ -1,9 +1,8 @@
 -- What is known where refusals 1, 2 and 4 do not apply.
-use Rattle.std.specs.Prelude.{ℕ, ◌+◌, ◌-◌, ◌/◌, ◌%◌, ◌≤◌, ◌<◌, ◌≡◌, refl, List, Bool, true, false, not, eqb, ltb, leb, length}
-use Rattle.std.proofs.Common.{arith, lt-ltb, le-ltb, eqb-true, ltb-true, ltb-false, leb-true}
+use Rattle.std.specs.Prelude.{ℕ, ◌+◌, ◌-◌, ◌/◌, ◌%◌, ◌≤◌, ◌<◌, ◌≡◌, refl, List, Bool, true, false, not, eqb, ltb, length}
+use Rattle.std.proofs.Common.{arith, lt-ltb, le-ltb, eqb-true, ltb-true, ltb-false}
 use Rattle.std.proofs.lemmas.Bool.{eqb-false, not-false}
 use Rattle.base_common.proofs.Bools.{or3, or4, or5}
-use Rattle.base_common.proofs.UptoLaws.{and_left_lem, and_right_lem}
 use Rattle.table_records.specs.Table.{kind_of, role_of, flags_of, extra_of, span_start_of, span_end_of, name_start_of, name_len_of, count}
 use Rattle.table_records.specs.Facts.{Named, Sourced}
 use Rattle.refusal_verdict.specs.declared.Place.TheVariants.{Nowhere}

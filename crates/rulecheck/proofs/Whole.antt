@@ -1,6 +1,6 @@
 -- What is written is the response to the whole input.
 use Rattle.std.specs.Prelude.{◌≡◌, ℕ, List, IfSome, None, Some, length, take}
-use Rattle.std.proofs.Common.{ap, sym, subst, ◌∙◌}
+use Rattle.std.proofs.Common.{ap, subst, ◌∙◌}
 use Rattle.std.proofs.Math.Seq.{take-append_seam}
 use Rattle.std.specs.declared.option.Option.{Option}
 use Rattle.std.specs.Io.KnownBytes.{Appends}

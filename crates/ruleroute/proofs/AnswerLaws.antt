@@ -12,7 +12,7 @@ use Rattle.line_input.specs.declared.Input.TheVariants.{Tables}
 use Rattle.line_input.specs.declared.Route.{Route}
 use Rattle.line_input.specs.declared.Route.TheVariants.{Asked, Unasked}
 use Rattle.line_input.specs.Format.{Room, Reading, lent, read_input, front, Given}
-use Rattle.line_input.specs.Route.{Asking, read_route}
+use Rattle.line_input.specs.Route.{read_route}
 use Rattle.line_input.specs.Sizes.{Sized, lines_told, asked_told, part}
 use Rattle.line_input.specs.Whole.{enough, input_whole, route_whole}
 use Rattle.line_print.specs.Print.{line_of}

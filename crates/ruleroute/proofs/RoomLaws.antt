@@ -1,6 +1,6 @@
 -- 11 is never given: the code slice has room for the code of every unit of a tree that can be read.
 use Rattle.std.specs.Prelude.{ℕ, ◌≤◌, ◌≡◌, refl, List, Bool, true, false, cond, ◌≢◌, leb, length}
-use Rattle.std.proofs.Common.{ap, sym, subst, ◌∙◌, arith, le-leb}
+use Rattle.std.proofs.Common.{subst, arith, le-leb}
 use Rattle.refusal_verdict.specs.declared.Verdict.{Verdict}
 use Rattle.refusal_verdict.specs.declared.Verdict.TheVariants as verdict
 use Rattle.route_completion.specs.Route.{Route as Listed, route}
@@ -10,7 +10,6 @@ use Rattle.route_viewer.specs.Shown.{shown_answer}
 use Rattle.route_viewer.specs.declared.Routed.{Routed}
 use Rattle.route_viewer.specs.declared.Routed.TheVariants as routed
 use Rattle.check_dispatch.specs.Rule.{Rule, rule}
-use Rattle.table_records.specs.Table.{count}
 use Rattle.code_length.specs.Length.{code_length}
 use Rattle.code_length.proofs.MostLaws.{length_most}
 use Rattle.call_routes.specs.Calls.{route_answer, code_refusal, unless}

@@ -1,6 +1,6 @@
 -- Laws of children: membership, the interval of p, counts and searches as a loop meets them.
 use Prim.Native.Nat.{ℕ, zero, suc, ◌+◌, ◌-◌, ◌≤◌, ◌<◌}
-use Rattle.std.specs.Prelude.{◌≡◌, List, [], ◌∷◌, Bool, not, ◌&&◌, ◌||◌, ◌⊎◌, ◌↔◌, leb}
+use Rattle.std.specs.Prelude.{◌≡◌, List, [], ◌∷◌, Bool, ◌&&◌, ◌||◌, ◌⊎◌, ◌↔◌, leb}
 use Rattle.std.proofs.Math.Path.{refl, sym, subst}
 use Rattle.std.proofs.Common.{ap, ◌∙◌, inl, inr, eq-or-lt_of_le}
 use Rattle.std.proofs.Math.Bool.{true, false, cond}
