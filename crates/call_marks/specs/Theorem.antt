@@ -19,13 +19,13 @@ use Rattle.route_list.specs.Listing.{saturated}
 use Rattle.route_viewer.specs.Shown.{shown_answer, shown_slice}
 use Rattle.route_viewer.specs.declared.Routed.TheVariants as routed
 use Rattle.code_flat.specs.Machine.{room, Pos, pos}
-use Rattle.code_flat.specs.Runs.{Ends, run_ends}
+use Rattle.code_flat.proofs.Runs.{Ends, run_ends}
 use Rattle.code_tree.specs.Statements.{unit_of}
 use Rattle.code_tree.proofs.RoomLaws.{unit_room_lem}
 use Rattle.code_length.specs.Length.{code_length}
 use Rattle.code_marks.specs.Stop.{Stop, held, over, after, stops, stopped, taken_up, Call, goes_on, calls, so_far}
-use Rattle.code_marks.specs.StopLaws.{finished, stopped_law}
-use Rattle.code_marks.specs.Claims.{marked, marked_route, mark_kept}
+use Rattle.code_marks.proofs.StopLaws.{finished, stopped_law}
+use Rattle.code_marks.proofs.ClaimsLaws.{marked, marked_route, mark_kept}
 use Rattle.code_machine.specs.Halted.{stopped_end, route_to}
 use Rattle.route_marks.specs.Marks.{marks, is_set, place_of, mark_at}
 use Rattle.route_marks.specs.Taken.{stop_of, gone_on, marks_after, marks_shown}

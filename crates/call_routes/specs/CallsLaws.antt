@@ -19,11 +19,11 @@ use Rattle.route_completion.specs.Tree.{Stmts}
 use Rattle.route_completion.specs.Route.{route}
 use Rattle.code_flat.specs.Code.{unit}
 use Rattle.code_flat.specs.Machine.{code_route}
-use Rattle.code_flat.specs.Claims.{claims}
+use Rattle.code_flat.proofs.ClaimsLaws.{claims}
 use Rattle.route_list.specs.Over.{over}
 use Rattle.code_tree.specs.Statements.{unit_of}
 use Rattle.code_tree.proofs.RoomLaws.{unit_room_lem}
-use Rattle.code_wellformed.specs.Holder.{holder_ready}
+use Rattle.code_wellformed.proofs.HolderReady.{holder_ready}
 use Rattle.code_length.specs.Length.{code_length}
 use Rattle.code_length.proofs.LengthLaws.{code_length_lem}
 use Rattle.code_assemble.specs.declared.Assembled.TheVariants.{Code, Short}

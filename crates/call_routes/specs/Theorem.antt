@@ -13,15 +13,16 @@ use Rattle.route_completion.proofs.EntriesLaws.{execs_each}
 use Rattle.code_flat.specs.Code.{unit}
 use Rattle.code_flat.specs.Machine.{started, code_route}
 use Rattle.code_flat.specs.Own.{s_unit, total, shapes_all}
-use Rattle.code_flat.specs.Claims.{claims}
+use Rattle.code_flat.proofs.ClaimsLaws.{claims}
 use Rattle.code_tree.specs.Statements.{unit_of}
 use Rattle.code_tree.proofs.RoomLaws.{unit_room_lem}
 use Rattle.code_length.specs.Length.{code_length}
 use Rattle.code_length.proofs.LengthLaws.{code_length_lem}
 use Rattle.code_once.proofs.Once.{unit_once}
-use Rattle.code_wellformed.specs.Parts.{good}
-use Rattle.code_wellformed.specs.Holder.{holder_in_lem}
-use Rattle.code_jump_scope.specs.UnitScoped.{Targeted, unit_scoped}
+use Rattle.code_wellformed.proofs.Parts.{good}
+use Rattle.code_wellformed.proofs.Holder.{holder_in_lem}
+use Rattle.code_jump_scope.specs.UnitScoped.{Targeted}
+use Rattle.code_jump_scope.proofs.UnitScopedLaws.{unit_scoped}
 use Rattle.code_entries.specs.Asking.{ByKind}
 use Rattle.code_entries.proofs.AskingLaws.{unit_by_kind}
 use Rattle.check_dispatch.specs.Rule.{rule}

@@ -19,16 +19,17 @@ use Rattle.route_completion.proofs.Parts.{parts_once}
 use Rattle.route_completion.proofs.EntriesLaws.{execs_each}
 use Rattle.route_laws.specs.Changed.{OneChanged}
 use Rattle.route_laws.specs.Inside.{In}
-use Rattle.route_laws.specs.Fits.{entries_fit}
+use Rattle.route_laws.proofs.FitsLaws.{entries_fit}
 use Rattle.route_laws.specs.Shared.{shared, Longest}
-use Rattle.route_laws.specs.SharedLaws.{longest}
-use Rattle.route_laws.specs.Claims.{Compared, ComparedRuns, Short, changed_route, changed_code}
+use Rattle.route_laws.proofs.SharedLaws.{longest}
+use Rattle.route_laws.specs.Claims.{Compared, ComparedRuns, Short}
+use Rattle.route_laws.proofs.ClaimsLaws.{changed_route, changed_code}
 use Rattle.code_tree.specs.Statements.{unit_of}
 use Rattle.code_length.specs.UnitNodes.{unit_nodes}
 use Rattle.code_length.proofs.UnitNodesLaws.{unit_nodes_lem}
 use Rattle.code_once.proofs.Once.{unit_once}
-use Rattle.code_wellformed.specs.Parts.{good}
-use Rattle.code_wellformed.specs.Holder.{holder_in_lem}
+use Rattle.code_wellformed.proofs.Parts.{good}
+use Rattle.code_wellformed.proofs.Holder.{holder_in_lem}
 use Rattle.call_routes.specs.CallsLaws.{unit_kind_lem}
 use Rattle.call_routes.specs.Theorem.{routes}
 

@@ -25,7 +25,7 @@ use Rattle.check_class_table.proofs.ElementsLaws.{keep_same, any_same}
 use Rattle.check_classes.specs.ClassChecks.{references, constructors, undeclared_at, undeclared_in, undeclared_by, private_undeclared, constructor_span, first_pair, second_by, check_class}
 use Rattle.check_duplicates.specs.declared.Place.{Place}
 use Rattle.check_duplicates.specs.Duplicates.{nowhere, here, step, last_of, side_of, is_earlier, previous_on, previous_of, is_pair, clashes, clash_code, redeclaration, duplicate_by, duplicate_at, duplicates_in, duplicate_elements}
-use Rattle.check_duplicates.specs.DuplicatesLaws.{last_keep}
+use Rattle.check_duplicates.proofs.DuplicatesLaws.{last_keep}
 use Rattle.check_dispatch.specs.Findings.{findings_at, findings_of}
 use Rattle.check_dispatch.specs.Former as former
 

@@ -1,2 +1,2 @@
 pub mod Duplicates
-pub mod DuplicatesLaws
+pub mod Scans

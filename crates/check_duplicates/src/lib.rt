@@ -8,7 +8,7 @@ ghost use Rattle.table_records.specs.Table.{count};
 ghost use Rattle.table_records.specs.Facts.{Tree, Named};
 ghost use Rattle.check_diagnostics.specs.Finding.{sink};
 ghost use Rattle.check_duplicates.specs.Duplicates.{side_of, previous_on, is_pair, is_apart, clashes, clash_code, redeclaration, duplicate_at, duplicates_in, duplicate_elements};
-ghost use Rattle.check_duplicates.specs.DuplicatesLaws.{see, prev_of, raised_at, class_at};
+ghost use Rattle.check_duplicates.specs.Scans.{see, prev_of, raised_at, class_at};
 
 use base_common::{and, not, or};
 use check_diagnostics::{Finding, Raised, codes, contexts};

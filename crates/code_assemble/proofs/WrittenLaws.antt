@@ -9,13 +9,13 @@ use Rattle.std.proofs.lemmas.Bool.{lt-leb}
 use Rattle.base_common.proofs.Bools.{never}
 use Rattle.table_records.specs.Table.{count}
 use Rattle.code_flat.specs.Code.{unit, ends}
-use Rattle.code_flat.specs.Correct.{Has, has_right, has_self}
+use Rattle.code_flat.proofs.Correct.{Has, has_right, has_self}
 use Rattle.route_list.specs.Over.{over}
 use Rattle.code_tree.specs.Statements.{body_of}
 use Rattle.code_layout.specs.Widths.{in_unit, own_width, width_at}
 use Rattle.code_layout.specs.Context.{offset_at}
 use Rattle.code_layout.specs.Words.{words_at, code_at}
-use Rattle.code_layout.specs.LayoutLaws.{own_width_root, width_is_lem, words_length_lem, code_length_lem}
+use Rattle.code_layout.proofs.LayoutLaws.{own_width_root, width_is_lem, words_length_lem, code_length_lem}
 use Rattle.code_layout.proofs.Stands.{in_from, Owner}
 use Rattle.code_layout.proofs.Made.{width_unit, code_unit, unit_has, unit_full, has_at}
 use Rattle.code_widths.proofs.WidthsLaws.{fits}

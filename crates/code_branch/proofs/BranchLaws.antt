@@ -10,7 +10,7 @@ use Rattle.code_tree.specs.Parts.{up_of, shape_at}
 use Rattle.code_tree.specs.declared.Shape.{Shape}
 use Rattle.code_tree.specs.declared.Shape.TheVariants.{Leaf, Class, If, With, Block, Label, Loop, Switch, Case, Try, Catch}
 use Rattle.code_layout.specs.Widths.{in_unit}
-use Rattle.code_layout.specs.LayoutLaws.{in_part, in_above}
+use Rattle.code_layout.proofs.LayoutLaws.{in_part, in_above}
 use Rattle.code_layout.proofs.Stands.{in_from}
 use Rattle.code_targets.specs.Targets.{is_labeled, is_catch, target, labels_at}
 use Rattle.code_targets.proofs.TargetsLaws.{break_near, break_named, continue_near, continue_named, return_up, throw_up, labels_up}

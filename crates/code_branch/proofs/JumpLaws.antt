@@ -12,7 +12,7 @@ use Rattle.code_tree.specs.Parts.{up_of, shape_at}
 use Rattle.code_tree.specs.Statements.{leaf_at}
 use Rattle.code_layout.specs.Widths.{in_unit, width_at}
 use Rattle.code_layout.specs.Context.{offset_at}
-use Rattle.code_layout.specs.LayoutLaws.{context_root}
+use Rattle.code_layout.proofs.LayoutLaws.{context_root}
 use Rattle.code_layout.proofs.Stands.{in_from}
 use Rattle.code_widths.proofs.WidthsLaws.{fits, root_small}
 use Rattle.code_targets.specs.Targets.{is_labeled, target, depth_at, labels_at}

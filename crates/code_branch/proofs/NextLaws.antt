@@ -12,7 +12,7 @@ use Rattle.code_tree.specs.declared.Shape.{Shape}
 use Rattle.code_tree.specs.declared.Shape.TheVariants.{Leaf, Class, If, With, Block, Label, Loop, Switch, Case, Try, Catch}
 use Rattle.code_layout.specs.Widths.{in_unit, width_at, is_try}
 use Rattle.code_layout.specs.Context.{offset_at}
-use Rattle.code_layout.specs.LayoutLaws.{in_root}
+use Rattle.code_layout.proofs.LayoutLaws.{in_root}
 use Rattle.code_widths.proofs.WidthsLaws.{fits, root_small}
 use Rattle.code_targets.specs.Targets.{is_loop, next_by, depth_at}
 use Rattle.code_contexts.specs.Contexts.{next_of}

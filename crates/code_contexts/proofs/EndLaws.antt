@@ -24,8 +24,8 @@ use Rattle.code_tree.specs.declared.Shape.TheVariants.{Leaf, Class, If, With, Bl
 use Rattle.code_layout.specs.Widths.{sum, has_role, is_try, own_width, own_width_by, width_at}
 use Rattle.code_layout.specs.Context.{head0, behind, offset_at}
 use Rattle.code_layout.specs.Shaped.{Good, Two, Three}
-use Rattle.code_layout.specs.Sums.{In, Row, in_order}
-use Rattle.code_layout.specs.LayoutLaws.{width_is_lem, own_width_on}
+use Rattle.code_layout.proofs.Sums.{In, Row, in_order}
+use Rattle.code_layout.proofs.LayoutLaws.{width_is_lem, own_width_on}
 use Rattle.code_layout.proofs.ExactLaws.{plain_sum}
 use Rattle.code_layout.proofs.Stands.{placed}
 use Rattle.code_targets.specs.Targets.{some}

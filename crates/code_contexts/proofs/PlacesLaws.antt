@@ -17,8 +17,8 @@ use Rattle.code_tree.specs.declared.Shape.TheVariants.{Leaf, Class, If, With, Bl
 use Rattle.code_layout.specs.Widths.{sum, has_role, is_try, in_unit, own_width, width_at}
 use Rattle.code_layout.specs.Context.{behind, offset_at}
 use Rattle.code_layout.specs.Shaped.{Two, Three}
-use Rattle.code_layout.specs.Sums.{In, in_order}
-use Rattle.code_layout.specs.LayoutLaws.{in_root, in_part, in_above, in_down}
+use Rattle.code_layout.proofs.Sums.{In, in_order}
+use Rattle.code_layout.proofs.LayoutLaws.{in_root, in_part, in_above, in_down}
 use Rattle.code_layout.proofs.Stands.{in_from, placed}
 use Rattle.code_layout.proofs.Made.{offset_root}
 use Rattle.code_targets.specs.Targets.{some, goes_on_by, next_by, depth_at}

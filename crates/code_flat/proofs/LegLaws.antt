@@ -6,9 +6,9 @@ use Rattle.std.proofs.Common.{sym, ◌∙◌, arith}
 use mathlib.Core.List.{List, [], ◌∷◌, append_assoc}
 use Rattle.route_completion.specs.Sem.{Entry, plain, asked, pick}
 use Rattle.route_completion.specs.Route.{asks}
-use Rattle.route_completion.specs.Taken.{asks_append}
+use Rattle.route_completion.proofs.TakenLaws.{asks_append}
 use Rattle.code_flat.specs.Machine.{Res, res, pre, Instr, NONE, LIST, LEAVE, ASK, SELECT, OPEN, END, CASE, fetch, Frame, open', Pos, is_zero, unwind, pass, jump, step, run}
-use Rattle.code_flat.specs.Runs.{run_step}
+use Rattle.code_flat.proofs.Runs.{run_step}
 use Rattle.code_flat.specs.Leg.{Leg, ends, waits, listed, before, leg_jump, leg_step, leg, onward}
 
 module _ (lim : ℕ) (C : List ℕ) where

@@ -1,2 +1,10 @@
 pub mod Examples
 pub mod LegLaws
+pub mod Meet
+pub mod Correct
+pub mod Room
+pub mod Size
+pub mod Sum
+pub mod Steps
+pub mod Runs
+pub mod ClaimsLaws

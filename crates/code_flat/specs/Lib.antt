@@ -3,12 +3,5 @@ pub mod Code
 pub mod Machine
 pub mod Own
 pub mod Claims
-pub mod Runs
 pub mod Forward
-pub mod Steps
-pub mod Size
-pub mod Correct
-pub mod Meet
-pub mod Sum
-pub mod Room
 pub mod Leg

@@ -21,8 +21,8 @@ use Rattle.code_layout.specs.Widths.{sum, has_role, is_try, number_by, in_unit, 
 use Rattle.code_layout.specs.Context.{ifz, head0, behind, offset_at}
 use Rattle.code_layout.specs.Words.{last_from, default_from, if_yes, if_no}
 use Rattle.code_layout.specs.Shaped.{is_case, is_switch, One, Two, Three}
-use Rattle.code_layout.specs.Sums.{In, Row, in_order}
-use Rattle.code_layout.specs.LayoutLaws.{width_is_lem, own_width_on, in_down}
+use Rattle.code_layout.proofs.Sums.{In, Row, in_order}
+use Rattle.code_layout.proofs.LayoutLaws.{width_is_lem, own_width_on, in_down}
 use Rattle.code_layout.proofs.Stands.{placed}
 use Rattle.code_targets.specs.Targets.{some}
 use Rattle.code_targets.proofs.PositiveLaws.{part_some}

@@ -5,7 +5,7 @@ use Rattle.std.proofs.Common.{sym, ◌∙◌}
 use Rattle.table_records.specs.Roles as role
 use Rattle.route_completion.specs.Sem.{normal, pick, comp_of}
 use Rattle.code_flat.specs.Code.{Stat, at, place_of, depth_of}
-use Rattle.code_flat.specs.Correct.{Has}
+use Rattle.code_flat.proofs.Correct.{Has}
 use Rattle.code_flat.specs.Opcodes as op
 use Rattle.code_tree.specs.Parts.{up_of, shape_at, order}
 use Rattle.code_tree.specs.Statements.{leaf_at, before_at, test_at}
@@ -14,7 +14,7 @@ use Rattle.code_tree.specs.declared.Shape.TheVariants.{Leaf, Class, If, With, Bl
 use Rattle.code_layout.specs.Widths.{has_role, width_at}
 use Rattle.code_layout.specs.Context.{ifz, head0, behind, context_at, offset_at}
 use Rattle.code_layout.specs.Words.{last_from, default_from, if_yes, if_no, words_by, words_at}
-use Rattle.code_layout.specs.LayoutLaws.{words_on}
+use Rattle.code_layout.proofs.LayoutLaws.{words_on}
 use Rattle.code_targets.specs.Targets.{target, depth_at}
 
 module _ (ns names : List ℕ) (b j : ℕ) (h : b < j) where

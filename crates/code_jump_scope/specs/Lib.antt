@@ -1,4 +1,1 @@
-pub mod ScopeAt
-pub mod Labels
-pub mod Reach
 pub mod UnitScoped

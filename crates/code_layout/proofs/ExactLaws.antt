@@ -14,7 +14,7 @@ use Rattle.table_records.specs.Table.{kind_of, role_of, count}
 use Rattle.table_records.specs.Roles as role
 use Rattle.table_children.specs.Children.{keep}
 use Rattle.code_flat.specs.Code.{unit}
-use Rattle.code_flat.specs.Correct.{unit_length}
+use Rattle.code_flat.proofs.Correct.{unit_length}
 use Rattle.code_tree.specs.Parts.{up_of, shape_at, is_part, part_by, parts, with_role, order_by, order}
 use Rattle.code_tree.specs.Statements.{body_of}
 use Rattle.code_tree.proofs.PartsLaws.{All, Part, parts_all, order_all_lem}
@@ -23,8 +23,8 @@ use Rattle.code_tree.specs.declared.Shape.{Shape}
 use Rattle.code_tree.specs.declared.Shape.TheVariants.{Leaf as Single, Class, If, With, Block, Label, Loop, Switch, Case, Try, Catch}
 use Rattle.code_layout.specs.Widths.{has_role, sum, in_unit, own_width, own_width_by, width_at}
 use Rattle.code_layout.specs.Shaped.{Good, Two, Three, Held}
-use Rattle.code_layout.specs.Sums.{sum_same}
-use Rattle.code_layout.specs.LayoutLaws.{in_root, in_low, in_up, in_above, own_width_on, own_width_root, width_is_lem}
+use Rattle.code_layout.proofs.Sums.{sum_same}
+use Rattle.code_layout.proofs.LayoutLaws.{in_root, in_low, in_up, in_above, own_width_on, own_width_root, width_is_lem}
 use Rattle.code_layout.specs.Widths.{is_try, number_by}
 use Rattle.code_layout.specs.Exact.{open_at, number_at, exact_length}
 use Rattle.code_layout.proofs.Made.{width_unit}

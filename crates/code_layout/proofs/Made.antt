@@ -4,14 +4,14 @@ use Rattle.std.proofs.Math.Path.{ap}
 use Rattle.std.proofs.Common.{sym, ◌∙◌, subst, add-zero, arith}
 use Rattle.table_records.specs.Table.{count}
 use Rattle.code_flat.specs.Code.{sizes, codes, top, unit, ends}
-use Rattle.code_flat.specs.Correct.{Has, has_left, has_of, has_self}
+use Rattle.code_flat.proofs.Correct.{Has, has_left, has_of, has_self}
 use Rattle.code_tree.specs.Statements.{body_of}
 use Rattle.code_layout.specs.Widths.{in_unit, width_at}
 use Rattle.code_layout.specs.Context.{offset_at}
 use Rattle.code_layout.specs.Words.{words_at, code_at}
 use Rattle.code_layout.specs.Shaped.{Held}
-use Rattle.code_layout.specs.LayoutLaws.{in_root, context_root, words_length_lem, code_length_lem}
-use Rattle.code_layout.specs.Nodes.{body_right}
+use Rattle.code_layout.proofs.LayoutLaws.{in_root, context_root, words_length_lem, code_length_lem}
+use Rattle.code_layout.proofs.Nodes.{body_right}
 use Rattle.code_layout.proofs.Stands.{words_stand, Owner, fills}
 
 module _ (ns names : List ℕ) (b : ℕ) (h : Held ns names b) where

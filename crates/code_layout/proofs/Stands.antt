@@ -9,7 +9,7 @@ use Rattle.std.proofs.Math.Decide.{dec_lt}
 use native.Mathlib.Omega.{arith}
 use Rattle.std.proofs.lemmas.Bool.{eqb-false}
 use Rattle.table_records.specs.Table.{count}
-use Rattle.code_flat.specs.Correct.{Has, has_left, has_right}
+use Rattle.code_flat.proofs.Correct.{Has, has_left, has_right}
 use Rattle.code_tree.specs.Parts.{up_of, shape_at, order}
 use Rattle.code_tree.proofs.PartsLaws.{All, Part, order_all_lem}
 use Rattle.code_tree.proofs.BoundLaws.{all_map}
@@ -19,8 +19,8 @@ use Rattle.code_layout.specs.Widths.{sum, in_unit, own_width, width_at}
 use Rattle.code_layout.specs.Context.{before, behind, Context, part_context, context_at, offset_at}
 use Rattle.code_layout.specs.Words.{words_at, flat, code_at}
 use Rattle.code_layout.specs.Shaped.{Good}
-use Rattle.code_layout.specs.Sums.{In, Row, row, order_distinct, in_order}
-use Rattle.code_layout.specs.LayoutLaws.{in_low, in_part, in_above, in_down, width_is_lem, context_part, words_length_lem, code_is, code_length_lem}
+use Rattle.code_layout.proofs.Sums.{In, Row, row, order_distinct, in_order}
+use Rattle.code_layout.proofs.LayoutLaws.{in_low, in_part, in_above, in_down, width_is_lem, context_part, words_length_lem, code_is, code_length_lem}
 
 module _ (ns names : List ℕ) (b : ℕ) where
   abbrev Z : ℕ → ℕ

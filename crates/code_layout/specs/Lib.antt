@@ -4,6 +4,3 @@ pub mod Context
 pub mod Words
 pub mod Exact
 pub mod Shaped
-pub mod Sums
-pub mod LayoutLaws
-pub mod Nodes

@@ -28,7 +28,7 @@ use Rattle.refusal_fields.specs.Fields.{Listed}
 use Rattle.refusal_standing.specs.Standing.{is_statement, is_holder, is_held, parent_kind, Placed}
 use Rattle.refusal_counts.specs.Counts.{Counted}
 use Rattle.code_flat.specs.Code.{unit, sizes}
-use Rattle.code_flat.specs.Correct.{unit_length}
+use Rattle.code_flat.proofs.Correct.{unit_length}
 use Rattle.code_tree.specs.Parts.{entered_by, up_of, shape_at, is_part, part_by}
 use Rattle.code_tree.proofs.PartsLaws.{Part}
 use Rattle.code_tree.specs.Statements.{holder_of, unit_by, unit_of}
@@ -37,13 +37,15 @@ use Rattle.code_tree.specs.declared.Shape.TheVariants.{Class}
 use Rattle.code_layout.specs.Widths.{sum, in_unit, is_try}
 use Rattle.code_layout.specs.Exact.{open_at, number_at, exact_length}
 use Rattle.code_layout.proofs.ExactLaws.{sum_none, upto_all, exact_length_lem}
-use Rattle.code_layout.specs.LayoutLaws.{in_root, in_low, in_part, in_above, in_down}
-use Rattle.code_layout.specs.Sums.{sum_same}
-use Rattle.code_wellformed.specs.Kinds.{switch_shape, try_shape, class_shape}
-use Rattle.code_wellformed.specs.Parts.{static_up, plain_up}
-use Rattle.code_wellformed.specs.Holder.{Root, holder_root, holder_in_lem, holder_ready}
+use Rattle.code_layout.proofs.LayoutLaws.{in_root, in_low, in_part, in_above, in_down}
+use Rattle.code_layout.proofs.Sums.{sum_same}
+use Rattle.code_wellformed.proofs.Kinds.{switch_shape, try_shape, class_shape}
+use Rattle.code_wellformed.proofs.Parts.{static_up, plain_up}
+use Rattle.code_wellformed.proofs.Holder.{Root, holder_root, holder_in_lem}
+use Rattle.code_wellformed.proofs.HolderReady.{holder_ready}
 use Rattle.code_length.specs.Length.{number_of, unit_number, is_listed, is_exported, is_entered, is_closed, of_unit, added_by, code_length}
-use Rattle.code_length.specs.Kinds.{open_holder, holder_is_lem, holder_open, try_holds, body_holds_none, export_holds_none, switch_stands, branch_part, finally_block, block_number, try_is, held_part, part_is_lem, may_count_lem, number_part, number_static, number_case, number_finally, number_some}
+use Rattle.code_length.specs.Kinds.{open_holder}
+use Rattle.code_length.proofs.KindsLaws.{holder_is_lem, holder_open, try_holds, body_holds_none, export_holds_none, switch_stands, branch_part, finally_block, block_number, try_is, held_part, part_is_lem, may_count_lem, number_part, number_static, number_case, number_finally, number_some}
 
 -- Of at most one child that fits, the first that is found is it.
 module _ (ns : List ℕ) (p lo hi a b j : ℕ) (l : j < count ns) (e : is_child ns p lo hi a b j ≡ true) where

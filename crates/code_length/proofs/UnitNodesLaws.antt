@@ -29,7 +29,7 @@ use Rattle.code_tree.specs.Statements.{list_of, one_of, if_of, try_of, class_of,
 use Rattle.code_tree.specs.declared.Shape.{Shape}
 use Rattle.code_tree.specs.declared.Shape.TheVariants.{Leaf as Single, Class, If, With, Block, Label, Loop, Switch, Case, Try, Catch}
 use Rattle.code_layout.specs.Widths.{in_unit}
-use Rattle.code_layout.specs.LayoutLaws.{in_root, in_down}
+use Rattle.code_layout.proofs.LayoutLaws.{in_root, in_down}
 use Rattle.code_length.specs.Length.{of_unit}
 use Rattle.code_length.proofs.LengthLaws.{inside}
 use Rattle.code_length.specs.UnitNodes.{chosen, unit_nodes}

@@ -7,7 +7,7 @@ use Rattle.route_completion.specs.Sem.{Entry}
 use Rattle.route_completion.specs.Route.{asks, node_of}
 use Rattle.code_flat.specs.Machine.{room, res, measure}
 use Rattle.code_marks.specs.Stop.{over, after}
-use Rattle.code_marks.specs.Steps.{after_none}
+use Rattle.code_marks.proofs.StepsLaws.{after_none}
 use Rattle.code_machine.specs.Turn.{up_to, Ends, Going}
 use Rattle.code_machine.specs.declared.Place.{Place}
 

@@ -10,10 +10,11 @@ use Rattle.route_completion.specs.Sem.{plain, asked, pick, is_yes}
 use Rattle.route_completion.specs.Route.{asks}
 use Rattle.code_flat.specs.Opcodes as op
 use Rattle.code_flat.specs.Machine.{room, res, pre, Instr, ASK, SELECT, decode, fetch, open', pos, is_case, chase, measure}
-use Rattle.code_flat.specs.Runs.{past}
+use Rattle.code_flat.proofs.Runs.{past}
 use Rattle.code_marks.specs.Stop.{Stop, over, after, stops}
-use Rattle.code_marks.specs.StopLaws.{finished, finished_after, stops_law}
-use Rattle.code_marks.specs.Steps.{pass, jump, step, after_none, stops_step}
+use Rattle.code_marks.proofs.StopLaws.{finished, finished_after, stops_law}
+use Rattle.code_marks.specs.Steps.{pass, jump, step}
+use Rattle.code_marks.proofs.StepsLaws.{after_none, stops_step}
 use Rattle.code_machine.specs.Pending.{half, frame_of, stack}
 use Rattle.code_machine.proofs.PendingLaws.{stack_length, stack_push, on_true, on_false}
 use Rattle.code_machine.specs.declared.Place.{Place}

@@ -6,13 +6,13 @@ use Rattle.std.proofs.lemmas.List.{map-append, length-map}
 use native.Mathlib.Omega.{arith}
 use Rattle.route_completion.specs.Sem.{Entry, plain, asked}
 use Rattle.route_completion.specs.Route.{asks, node_of, route_of}
-use Rattle.route_completion.specs.Taken.{asks_append}
+use Rattle.route_completion.proofs.TakenLaws.{asks_append}
 use Rattle.route_list.specs.Listing.{most, saturated, next, laid, Listing}
 use Rattle.route_list.proofs.ListingLaws.{listing_first, listing_more}
 use Rattle.code_flat.specs.Machine.{room, res, Pos, pos, code_route}
 use Rattle.code_marks.specs.Stop.{Stop, held, over, after, stops, stopped}
-use Rattle.code_marks.specs.Steps.{after_none, after_twice}
-use Rattle.code_marks.specs.StopLaws.{never_stopped}
+use Rattle.code_marks.proofs.StepsLaws.{after_none, after_twice}
+use Rattle.code_marks.proofs.StopLaws.{never_stopped}
 use Rattle.code_machine.specs.Pending.{half, stack}
 use Rattle.code_machine.specs.Turn.{up_to, Ends, Going}
 use Rattle.code_machine.specs.Halted.{stopped_end, route_to, StandsAt, Told, stop_from}

@@ -1,1 +1,9 @@
 pub mod Examples
+pub mod StopLaws
+pub mod RoomLaws
+pub mod Places
+pub mod Sound
+pub mod Kept
+pub mod Direct
+pub mod ClaimsLaws
+pub mod StepsLaws

@@ -1,10 +1,4 @@
 pub mod Stop
 pub mod Begins
 pub mod Claims
-pub mod StopLaws
-pub mod Direct
 pub mod Steps
-pub mod RoomLaws
-pub mod Places
-pub mod Sound
-pub mod Kept

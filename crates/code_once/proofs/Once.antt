@@ -20,7 +20,7 @@ use Rattle.code_tree.proofs.BoundLaws.{all_map}
 use Rattle.code_tree.specs.declared.Shape.{Shape}
 use Rattle.code_tree.specs.declared.Shape.TheVariants.{Leaf as Single, Class, If, With, Block, Label, Loop, Switch, Case, Try, Catch}
 use Rattle.code_layout.specs.Shaped.{Good}
-use Rattle.code_layout.specs.Sums.{Distinct, order_distinct}
+use Rattle.code_layout.proofs.Sums.{Distinct, order_distinct}
 
 mem_append : (x : ℕ) (a c : List ℕ) → Mem x (a ++ c) → Mem x a ⊎ Mem x c
 mem_append x [] c m = inr m

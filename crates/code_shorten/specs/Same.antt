@@ -3,7 +3,7 @@
 use Rattle.std.specs.Prelude.{ℕ, ◌≡◌, List, [], length}
 use Rattle.std.proofs.Common.{sym, ◌∙◌, ap, subst}
 use Rattle.code_flat.specs.Machine.{Instr, Res, run}
-use Rattle.code_flat.specs.Meet.{meet}
+use Rattle.code_flat.proofs.Meet.{meet}
 use Rattle.code_flat.specs.Forward.{run as runF}
 use Rattle.code_valid.specs.Instrs.{flat, parse}
 use Rattle.code_valid.specs.Valid.{Valid}

@@ -7,7 +7,7 @@ use Rattle.std.proofs.Math.Bool.{true}
 use Rattle.route_completion.specs.Tree.{near, named, Stmt, Stmts, Cases, Leaf, simple, brk, con, ret, thr, leaf, if1, if2, if3, withs, block, label, loop, switch, try_c, try_f, nil, cons, none, case}
 use Rattle.route_completion.specs.Sem.{Comp, normal, breaks, continues, returns, throws, spent, pick, is_spent, loop_continues, no_break, no_label, default_at, comp_of}
 use Rattle.code_flat.specs.Code.{Stat, at, place_of, depth_of, goto, case_to, next, in_try, in_loop, first, link, through, place, size, sizes, code, codes, code_cases, top, ends, unit}
-use Rattle.code_flat.specs.Size.{code_length, codes_length}
+use Rattle.code_flat.proofs.Size.{code_length, codes_length}
 use Rattle.code_flat.specs.Machine.{Instr, LIST, LEAVE, ASK, SELECT, OPEN, END, CASE}
 use Rattle.code_valid.specs.Instrs.{flat, begins}
 use Rattle.code_valid.specs.Valid.{is_last, Valid}

@@ -17,8 +17,8 @@ use Rattle.code_tree.specs.declared.Shape.TheVariants.{Leaf, Class, If, With, Bl
 use Rattle.code_layout.specs.Widths.{has_role, is_try, sum, in_unit, own_width, own_width_by, width_at, number_by}
 use Rattle.code_layout.specs.Context.{ifz, behind, before, Context, part_context, context_at}
 use Rattle.code_layout.specs.Shaped.{is_one, Good, Held, Two, Three}
-use Rattle.code_layout.specs.Sums.{In, in_order}
-use Rattle.code_layout.specs.LayoutLaws.{width_is_lem, own_width_on, context_root, context_up, in_part, in_above}
+use Rattle.code_layout.proofs.Sums.{In, in_order}
+use Rattle.code_layout.proofs.LayoutLaws.{width_is_lem, own_width_on, context_root, context_up, in_part, in_above}
 use Rattle.code_layout.proofs.Stands.{in_from}
 use Rattle.code_targets.specs.Targets.{target}
 

@@ -4,7 +4,7 @@ use Rattle.table_records.specs.Facts.{Tree}
 use Rattle.route_completion.specs.Sem.{execs}
 use Rattle.code_flat.specs.Code.{unit}
 use Rattle.code_flat.specs.Machine.{run, result}
-use Rattle.code_flat.specs.Claims.{unit_runs}
+use Rattle.code_flat.proofs.ClaimsLaws.{unit_runs}
 use Rattle.code_tree.specs.Statements.{unit_of}
 use Rattle.code_tree.proofs.RoomLaws.{unit_room_lem}
 

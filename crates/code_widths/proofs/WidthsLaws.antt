@@ -20,7 +20,7 @@ use Rattle.code_layout.specs.Widths.{sum, in_unit, width_at, number_by, is_try, 
 use Rattle.code_layout.specs.Context.{offset_at}
 use Rattle.code_layout.specs.Exact.{open_at, number_at}
 use Rattle.code_layout.specs.Shaped.{Good, Held}
-use Rattle.code_layout.specs.LayoutLaws.{in_root, in_low, in_up, in_part, in_above, width_is_lem, own_width_root}
+use Rattle.code_layout.proofs.LayoutLaws.{in_root, in_low, in_up, in_part, in_above, width_is_lem, own_width_root}
 use Rattle.code_layout.proofs.ExactLaws.{plain_sum, node_number, body_sum}
 use Rattle.code_layout.proofs.Stands.{in_from, part_in}
 use Rattle.code_layout.proofs.Made.{offset_root}

@@ -9,9 +9,9 @@ use Rattle.table_records.specs.Table.{kind_of, parent_of, count}
 use Rattle.table_records.specs.Facts.{Tree}
 use Rattle.table_ancestry.proofs.AncestryLaws.{parent_in}
 use Rattle.ecma_trees.specs.Rose.{Rose, Roses, node, rnil, rcons, idx, parts_of, marks, marks_all}
-use Rattle.ecma_trees.specs.RoseLaws.{Under, Placed, PlacedAll, parts_placed}
+use Rattle.ecma_trees.proofs.RoseLaws.{Under, Placed, PlacedAll, parts_placed}
 use Rattle.ecma_trees.specs.Walk.{each, some, only}
-use Rattle.ecma_trees.specs.WalkLaws.{each_append, some_append, some_only}
+use Rattle.ecma_trees.proofs.WalkLaws.{each_append, some_append, some_only}
 use Rattle.ecma_trees.specs.Unit.{says, says_all}
 use Rattle.ecma_trees.specs.Trail.{unit_of}
 use Rattle.ecma_trees.proofs.TrailLaws.{unit_bridge, handed_law, handed_root}

@@ -14,7 +14,7 @@ use Rattle.table_children.specs.Children.{keep, class_body_of, found}
 use Rattle.table_children.proofs.ChildrenLaws.{found_child}
 use Rattle.ecma_trees.specs.Rose.{tree_of}
 use Rattle.ecma_trees.specs.Walk.{some, only}
-use Rattle.ecma_trees.specs.WalkLaws.{some_append}
+use Rattle.ecma_trees.proofs.WalkLaws.{some_append}
 use Rattle.check_diagnostics.specs.declared.Finding.{Finding}
 use Rattle.check_diagnostics.specs.Finding.{listed, error_at}
 use Rattle.check_diagnostics.specs.Codes as code
@@ -25,7 +25,7 @@ use Rattle.check_dispatch.specs.Former.{duplicates_in, duplicate_elements}
 use Rattle.check_dispatch.proofs.FormerLaws.{same_duplicates}
 use Rattle.refusal_input.specs.WellFormed.{WellFormed}
 use Rattle.ecma_dispatch.specs.WithCode.{with_code}
-use Rattle.ecma_dispatch.specs.Dispatch.{whole_one, whole_other}
+use Rattle.ecma_dispatch.proofs.DispatchLaws.{whole_one, whole_other}
 use Rattle.ecma_dispatch.specs.NodesOf.{raised}
 use Rattle.ecma_dispatch.proofs.NodesOfLaws.{raised_append, raised_flat, raised_again}
 use Rattle.ecma_elements.proofs.RaisingLaws.{flat_upto, flat_members, keep_upto, any_upto, any_kept, any_three}

@@ -18,7 +18,7 @@ use Rattle.check_class_table.proofs.ClassesLaws.{within_one, over}
 use Rattle.refusal_fields.specs.Fields.{Listed}
 use Rattle.refusal_input.specs.WellFormed.{Shaped}
 use Rattle.ecma_trees.specs.Walk.{some, only}
-use Rattle.ecma_trees.specs.WalkLaws.{some_append, some_each, some_only}
+use Rattle.ecma_trees.proofs.WalkLaws.{some_append, some_each, some_only}
 use Rattle.ecma_trees.specs.Trail.{unit_of}
 use Rattle.ecma_trees.proofs.TrailLaws.{handed_law, handed_root}
 use Rattle.check_diagnostics.specs.declared.Finding.{Finding}

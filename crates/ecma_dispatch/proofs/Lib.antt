@@ -1,2 +1,9 @@
 pub mod NodesOfLaws
 pub mod TypescriptLaws
+pub mod ByKind
+pub mod TableLaws
+pub mod WithCodeLaws
+pub mod CheckCodesLaws
+pub mod OptionLaws
+pub mod Dispatch
+pub mod DispatchLaws

@@ -14,9 +14,9 @@ use Rattle.check_diagnostics.specs.declared.Raised.TheVariants.{Error, Clear}
 use Rattle.check_diagnostics.specs.Finding.{listed}
 use Rattle.check_dispatch.specs.Findings.{findings_at, findings_of}
 use Rattle.ecma_dispatch.specs.WithCode.{with_code}
-use Rattle.ecma_dispatch.specs.WithCodeLaws.{with_append}
+use Rattle.ecma_dispatch.proofs.WithCodeLaws.{with_append}
 use Rattle.ecma_dispatch.specs.NodesOf.{nodes_of, raised}
-use Rattle.ecma_dispatch.specs.Dispatch.{whole_other}
+use Rattle.ecma_dispatch.proofs.DispatchLaws.{whole_other}
 
 pub nodes_nil : nodes_of [] ≡ []
 unfolding nodes_of

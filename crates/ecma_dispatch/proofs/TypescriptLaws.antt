@@ -20,12 +20,14 @@ use Rattle.check_dispatch.specs.Findings.{findings_at, findings_of}
 use Rattle.check_dispatch.specs.Rule.{rule}
 use Rattle.check_dispatch.specs.Reported.{reported_at}
 use Rattle.ecma_dispatch.specs.WithCode.{with_code}
-use Rattle.ecma_dispatch.specs.WithCodeLaws.{with_append, Coded, coded_none}
+use Rattle.ecma_dispatch.proofs.WithCodeLaws.{with_append, coded_none}
+use Rattle.ecma_dispatch.specs.Coded.{Coded}
 use Rattle.ecma_dispatch.specs.NodesOf.{nodes_of, raised}
 use Rattle.ecma_dispatch.proofs.NodesOfLaws.{raised_again}
-use Rattle.ecma_dispatch.specs.CheckCodes.{of_clash, with_codes, undeclared_codes, constructor_codes, duplicate_codes}
-use Rattle.ecma_dispatch.specs.Dispatch.{at_code, whole_other}
-use Rattle.ecma_dispatch.specs.OptionLaws.{at34}
+use Rattle.ecma_dispatch.specs.CheckCodes.{of_clash}
+use Rattle.ecma_dispatch.proofs.CheckCodesLaws.{with_codes, undeclared_codes, constructor_codes, duplicate_codes}
+use Rattle.ecma_dispatch.proofs.DispatchLaws.{at_code, whole_other}
+use Rattle.ecma_dispatch.proofs.OptionLaws.{at34}
 
 pub record Typescript (ns ss source names : List ℕ) : Type 0 where
   -- at a node all codes but 8, 17 and 27 are as in a module of JavaScript, 1 at an object among them, ..

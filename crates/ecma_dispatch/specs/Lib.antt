@@ -1,9 +1,7 @@
 pub mod WithCode
-pub mod WithCodeLaws
+pub mod Coded
 pub mod CheckCodes
 pub mod Table
-pub mod TableLaws
-pub mod ByKind
 pub mod Dispatch
-pub mod OptionLaws
+pub mod Option
 pub mod NodesOf

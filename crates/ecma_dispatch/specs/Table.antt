@@ -4,7 +4,7 @@ use Rattle.base_common.specs.Upto.{all, any}
 use Rattle.base_walk.specs.On.{member}
 use Rattle.check_diagnostics.specs.declared.Finding.{Finding}
 use Rattle.ecma_dispatch.specs.WithCode.{with_code}
-use Rattle.ecma_dispatch.specs.WithCodeLaws.{Coded}
+use Rattle.ecma_dispatch.specs.Coded.{Coded}
 
 -- what a check raises, with the codes that it can have
 pub record Check : Type 0 where

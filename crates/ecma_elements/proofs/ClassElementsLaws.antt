@@ -26,7 +26,7 @@ use Rattle.check_class_table.specs.Elements as e
 use Rattle.check_classes.specs.ClassChecks.{require_class_name, constructors, first_pair, second_by, second_constructor}
 use Rattle.check_dispatch.specs.Findings.{findings_at}
 use Rattle.ecma_dispatch.specs.WithCode.{with_code}
-use Rattle.ecma_dispatch.specs.Dispatch.{at_code}
+use Rattle.ecma_dispatch.proofs.DispatchLaws.{at_code}
 use Rattle.ecma_dispatch.specs.NodesOf.{nodes_of, raised}
 use Rattle.table_lists.proofs.ListLaws.{keep_alike}
 use Rattle.ecma_elements.proofs.RaisingLaws.{keep_same}

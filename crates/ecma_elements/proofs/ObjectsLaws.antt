@@ -24,7 +24,7 @@ use Rattle.ecma_trees.specs.Walk.{some, only}
 use Rattle.check_expressions.specs.Expressions.{properties, is_plain, if_proto, proto_key, to_list, proto_keys, repeats_after, repeats, check_object_expression}
 use Rattle.check_dispatch.specs.Findings.{findings_at}
 use Rattle.ecma_dispatch.specs.WithCode.{with_code}
-use Rattle.ecma_dispatch.specs.Dispatch.{at_code}
+use Rattle.ecma_dispatch.proofs.DispatchLaws.{at_code}
 use Rattle.ecma_dispatch.specs.NodesOf.{nodes_of, raised}
 use Rattle.table_lists.proofs.ListLaws.{keep_alike}
 use Rattle.ecma_elements.proofs.RaisingLaws.{keep_upto}

@@ -11,12 +11,12 @@ use Rattle.refusal_input.specs.WellFormed.{Shaped}
 use Rattle.ecma_trees.specs.Rose.{Roses, node, parts_of, tree_of}
 use Rattle.ecma_trees.specs.Walk.{each, some, Says, only}
 use Rattle.ecma_trees.specs.Unit.{lists, broken}
-use Rattle.ecma_trees.specs.Rule.{Rule, rule_list, rule_unit, rule_program, rule_some}
+use Rattle.ecma_trees.proofs.Rule.{Rule, rule_list, rule_unit, rule_program, rule_some}
 use Rattle.ecma_labels.specs.Labels.{is_iteration, holds, is_unit, label_in, unlabelled, contains, lacks, adding, contains_duplicate_labels, any_duplicate_labels, contains_undefined_break_target, any_undefined_break_target, contains_undefined_continue_target, any_undefined_continue_target, contains_continue_not_nested, any_continue_not_nested, contains_break_not_nested, any_break_not_nested}
 use Rattle.ecma_labels.specs.Findings.{in_unit_of}
 use Rattle.ecma_labels.specs.Breaches.{label_at, labels_down, label_set_at, sets_down, sets_at, loop_down, in_loop, breakable_down, in_breakable, duplicate_label_at, undefined_break_at, undefined_continue_at, continue_not_nested_at, break_not_nested_at}
 use Rattle.ecma_labels.specs.Changed.{hiding, contains_undefined_nearest, any_undefined_nearest, nearest_down, nearest_at, undefined_nearest_at}
-use Rattle.ecma_labels.specs.ShapeLaws.{through_statements}
+use Rattle.ecma_labels.proofs.ShapeLaws.{through_statements}
 
 -- An operation by tests of a node: p, it is of the kind that may be wrong; q, v, it changes what is handed down; r, it is gone through.
 by_tests : {A : Type 0} (n : ℕ) (g : A → Bool) (s s' : A) (p q r x : Bool) → (p ≡ true → r ≡ false) → (q ≡ true → r ≡ true)

@@ -24,17 +24,17 @@ use Rattle.check_dispatch.specs.Findings.{findings_at}
 use Rattle.ecma_dispatch.specs.NodesOf.{raised}
 use Rattle.ecma_trees.specs.Rose.{parts_of}
 use Rattle.ecma_trees.specs.Walk.{some, only}
-use Rattle.ecma_trees.specs.WalkLaws.{folds_agree, some_each}
+use Rattle.ecma_trees.proofs.WalkLaws.{folds_agree, some_each}
 use Rattle.ecma_trees.specs.Unit.{home_of, in_unit}
-use Rattle.ecma_trees.specs.UnitLaws.{home_before}
+use Rattle.ecma_trees.proofs.UnitLaws.{home_before}
 use Rattle.ecma_labels.specs.Labels.{is_iteration, is_unit, unlabelled, contains, lacks, adding, any_duplicate_labels}
 use Rattle.ecma_labels.specs.Breaches.{label_at, labels_down, label_set_at, sets_down, sets_at, loop_down, in_loop, duplicate_label_at, undefined_break_at, undefined_continue_at, continue_not_nested_at}
 use Rattle.ecma_labels.specs.Changed.{without, hiding, nearest_down, nearest_at, undefined_nearest_at, plain_continue_not_nested_at, no_label_at, no_loop_at, in_program}
-use Rattle.ecma_labels.specs.ShapeLaws.{label_in_is}
+use Rattle.ecma_labels.proofs.ShapeLaws.{label_in_is}
 use Rattle.ecma_labels.specs.Findings.{in_unit_of}
 use Rattle.ecma_labels.proofs.BreachLaws.{duplicate_some}
-use Rattle.ecma_labels.specs.ContinueLaws.{is_clear, went_is, no_clear, without_self, without_other, has_append}
-use Rattle.ecma_labels.specs.CodeLaws.{later, neither, clear_at, code19, code20, code22}
+use Rattle.ecma_labels.proofs.ContinueLaws.{is_clear, went_is, no_clear, without_self, without_other, has_append}
+use Rattle.ecma_labels.proofs.CodeLaws.{later, neither, clear_at, code19, code20, code22}
 
 module _ (ns names : List ℕ) (t : Tree ns) where
   -- 8.3.2 AND THE CHANGED 8.3.3: a break or continue that breaks them has one finding, 19, 20 or 22

@@ -15,15 +15,15 @@ use Rattle.ecma_dispatch.specs.WithCode.{with_code}
 use Rattle.ecma_dispatch.specs.NodesOf.{nodes_of}
 use Rattle.ecma_trees.specs.Rose.{parts_of}
 use Rattle.ecma_trees.specs.Walk.{each, some, Says, only}
-use Rattle.ecma_trees.specs.WalkLaws.{each_same, some_append, some_each, some_only}
+use Rattle.ecma_trees.proofs.WalkLaws.{each_same, some_append, some_each, some_only}
 use Rattle.ecma_trees.specs.Unit.{home_of}
-use Rattle.ecma_trees.specs.ProgramLaws.{program_is}
+use Rattle.ecma_trees.proofs.ProgramLaws.{program_is}
 use Rattle.ecma_labels.specs.Labels.{is_unit, label_rule, label_errors, any_duplicate_labels}
 use Rattle.ecma_labels.specs.Breaches.{duplicate_label_at, undefined_break_at, undefined_continue_at, continue_not_nested_at, break_not_nested_at}
 use Rattle.ecma_labels.specs.Changed.{undefined_nearest_at, plain_continue_not_nested_at}
 use Rattle.ecma_labels.specs.Findings.{label_findings, in_unit_of}
 use Rattle.ecma_labels.proofs.BreachLaws.{duplicate_some, undefined_break_some, undefined_continue_some, continue_nested_some, break_nested_some}
-use Rattle.ecma_labels.specs.CodeLaws.{code18, code21, code23}
+use Rattle.ecma_labels.proofs.CodeLaws.{code18, code21, code23}
 use Rattle.ecma_labels.proofs.DifferenceLaws.{targets, not_nested, off_duplicates}
 
 -- one rule or another, in a unit

@@ -2,3 +2,9 @@ pub mod BreachLaws
 pub mod DifferenceLaws
 pub mod EarlyLaws
 pub mod Theorems
+pub mod ShapeLaws
+pub mod AgreeLaws
+pub mod BreakLaws
+pub mod ContinueLaws
+pub mod CodeLaws
+pub mod WholeLaws

@@ -20,15 +20,16 @@ use Rattle.ecma_dispatch.specs.NodesOf.{nodes_of, raised}
 use Rattle.ecma_dispatch.proofs.NodesOfLaws.{nodes_append}
 use Rattle.ecma_trees.specs.Rose.{parts_of}
 use Rattle.ecma_trees.specs.Walk.{each, some, Says, only}
-use Rattle.ecma_trees.specs.WalkLaws.{some_append, some_each, some_only}
+use Rattle.ecma_trees.proofs.WalkLaws.{some_append, some_each, some_only}
 use Rattle.ecma_trees.specs.Unit.{home_of}
-use Rattle.ecma_trees.specs.UnitLaws.{home_before, home_edge}
+use Rattle.ecma_trees.proofs.UnitLaws.{home_before, home_edge}
 use Rattle.ecma_labels.specs.Labels.{is_unit, label_rule, label_errors, unlabelled, any_duplicate_labels, any_undefined_break_target, any_undefined_continue_target, any_continue_not_nested, any_break_not_nested}
 use Rattle.ecma_labels.specs.Breaches.{label_at, in_loop, duplicate_label_at, undefined_break_at, undefined_continue_at, continue_not_nested_at, break_not_nested_at}
 use Rattle.ecma_labels.specs.Changed.{any_undefined_nearest, undefined_nearest_at, plain_continue_not_nested_at, no_label_at, no_loop_at, in_program, LabelsOnce, ContinuePlain}
 use Rattle.ecma_labels.specs.Findings.{of_unit, with_codes, label_findings, break_findings, continue_findings, in_unit_of}
 use Rattle.ecma_labels.proofs.BreachLaws.{undefined_continue_some, undefined_nearest_some, duplicate_unit, undefined_break_unit, undefined_continue_unit, undefined_nearest_unit, continue_nested_unit, break_nested_unit}
-use Rattle.ecma_labels.specs.CodeLaws.{code18, code19, code20, code21, code22, code23, all18, all19, all20, all21, all22, all23}
+use Rattle.ecma_labels.proofs.CodeLaws.{code18, code19, code20, code21, code22, code23}
+use Rattle.ecma_labels.proofs.WholeLaws.{all18, all19, all20, all21, all22, all23}
 use Rattle.ecma_labels.proofs.DifferenceLaws.{targets, not_nested, plain_same, off_duplicates}
 use Rattle.ecma_labels.proofs.EarlyLaws.{broken_at, same_unit, unit_is, some_findings, errors_iff}
 

@@ -2,9 +2,4 @@ pub mod Labels
 pub mod Breaches
 pub mod Changed
 pub mod Findings
-pub mod ShapeLaws
-pub mod AgreeLaws
-pub mod BreakLaws
-pub mod ContinueLaws
-pub mod CodeLaws
 pub mod Examples

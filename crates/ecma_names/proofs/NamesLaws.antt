@@ -8,7 +8,7 @@ use Rattle.base_common.proofs.Bools.{never, or_first, or_second}
 use Rattle.table_names.specs.Name.{same, name_of, name_is}
 use Rattle.table_names.specs.Words as word
 use Rattle.ecma_trees.specs.Walk.{some, only}
-use Rattle.ecma_trees.specs.WalkLaws.{some_append, some_only}
+use Rattle.ecma_trees.proofs.WalkLaws.{some_append, some_only}
 use Rattle.ecma_base.specs.Telling.{Telling}
 use Rattle.ecma_base.specs.Strict.{strict_code}
 use Rattle.ecma_base.specs.Scopes.{block_scope}

@@ -27,7 +27,7 @@ use Rattle.refusal_fields.specs.Fields.{Listed}
 use Rattle.refusal_input.specs.WellFormed.{Shaped}
 use Rattle.ecma_trees.specs.Rose.{Rose, Roses, node, rnil, rcons, tree_of}
 use Rattle.ecma_trees.specs.Walk.{each, walk, walk_all, some, only}
-use Rattle.ecma_trees.specs.WalkLaws.{fold_is, some_append, some_only}
+use Rattle.ecma_trees.proofs.WalkLaws.{fold_is, some_append, some_only}
 use Rattle.check_diagnostics.specs.declared.Finding.{Finding}
 use Rattle.check_diagnostics.specs.declared.Raised.TheVariants.{Clear}
 use Rattle.check_diagnostics.specs.Finding.{listed, error_at}
@@ -44,7 +44,7 @@ use Rattle.check_dispatch.specs.Former.{privates, has_private, is_declared, unde
 use Rattle.check_dispatch.proofs.FormerLaws.{same_undeclared}
 use Rattle.check_dispatch.specs.Findings.{findings_at}
 use Rattle.ecma_dispatch.specs.WithCode.{with_code}
-use Rattle.ecma_dispatch.specs.Dispatch.{at_code}
+use Rattle.ecma_dispatch.proofs.DispatchLaws.{at_code}
 use Rattle.ecma_dispatch.specs.NodesOf.{nodes_of, raised}
 use Rattle.ecma_elements.proofs.RaisingLaws.{keep_upto, flat_upto, keep_from}
 use Rattle.ecma_dispatch.proofs.NodesOfLaws.{raised_again}

@@ -16,7 +16,7 @@ use Rattle.ecma_trees.specs.Walk.{some, only}
 use Rattle.ecma_dispatch.specs.WithCode.{with_code, without_code}
 use Rattle.ecma_dispatch.specs.NodesOf.{nodes_of, raised}
 use Rattle.ecma_dispatch.proofs.NodesOfLaws.{raised_again}
-use Rattle.ecma_dispatch.specs.OptionLaws.{without34, at34, other_at, codes_on_listed}
+use Rattle.ecma_dispatch.proofs.OptionLaws.{without34, at34, other_at, codes_on_listed}
 use Rattle.ecma_base.specs.Strict.{strict_code}
 use Rattle.ecma_base.specs.Telling.{Telling}
 use Rattle.ecma_statements.specs.Functions.{annex_holder, function_misplaced, function_misplaced_else, labelled_function_at}

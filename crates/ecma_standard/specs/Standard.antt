@@ -22,7 +22,7 @@ use Rattle.ecma_dispatch.specs.NodesOf.{nodes_of, raised}
 use Rattle.ecma_base.specs.Telling.{Telling}
 use Rattle.ecma_base.specs.Scopes.{scopes_follow}
 use Rattle.ecma_base.specs.Strict.{strict_code}
-use Rattle.ecma_dispatch.specs.Dispatch.{whole_script, codes_listed}
+use Rattle.ecma_dispatch.proofs.DispatchLaws.{whole_script, codes_listed}
 use Rattle.ecma_standard.specs.Operations.{Operations, operations262}
 use Rattle.ecma_labels.specs.Changed.{LabelsOnce, ContinuePlain}
 use Rattle.ecma_labels.specs.Labels.{is_unit, label_errors}

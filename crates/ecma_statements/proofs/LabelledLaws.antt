@@ -20,7 +20,7 @@ use Rattle.refusal_fields.specs.Fields.{Listed}
 use Rattle.refusal_standing.specs.Standing.{is_statement}
 use Rattle.refusal_input.specs.WellFormed.{Shaped}
 use Rattle.ecma_trees.specs.Rose.{Rose, Roses, node, rnil, rcons, idx, parts_of, fold_parts}
-use Rattle.ecma_trees.specs.RoseLaws.{Under, Placed, PlacedAll, Whole, WholeAll, parts_placed, parts_whole, fold_parts_is}
+use Rattle.ecma_trees.proofs.RoseLaws.{Under, Placed, PlacedAll, Whole, WholeAll, parts_placed, parts_whole, fold_parts_is}
 use Rattle.ecma_base.specs.Contains.{contains, contains_any, contains_in}
 use Rattle.ecma_statements.specs.Functions.{is_function, ends_in_statement, is_labelled_function, labelled_item, labelled_among, labels_function, label_edge}
 

@@ -11,9 +11,9 @@ use Rattle.check_diagnostics.specs.declared.Raised.TheVariants.{Error, Clear}
 use Rattle.check_diagnostics.specs.Finding.{listed}
 use Rattle.check_dispatch.specs.Findings.{findings_at, findings_of}
 use Rattle.ecma_trees.specs.Walk.{each, only}
-use Rattle.ecma_trees.specs.WalkLaws.{each_same}
+use Rattle.ecma_trees.proofs.WalkLaws.{each_same}
 use Rattle.ecma_dispatch.specs.WithCode.{with_code}
-use Rattle.ecma_dispatch.specs.Dispatch.{whole_other}
+use Rattle.ecma_dispatch.proofs.DispatchLaws.{whole_other}
 use Rattle.ecma_dispatch.specs.NodesOf.{nodes_of, raised}
 use Rattle.ecma_dispatch.proofs.NodesOfLaws.{nodes_append, raised_nil, raised_again}
 use Rattle.ecma_base.specs.Nodes.{of_check}

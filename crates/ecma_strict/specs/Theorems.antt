@@ -25,7 +25,7 @@ use Rattle.refusal_input.specs.Input.{input_refusal}
 use Rattle.refusal_input.proofs.InputLaws.{input_well_formed}
 use Rattle.ecma_trees.specs.Walk.{each, only}
 use Rattle.ecma_dispatch.specs.WithCode.{with_code}
-use Rattle.ecma_dispatch.specs.Dispatch.{at_code, at2, at3, at15, at16, at33}
+use Rattle.ecma_dispatch.proofs.DispatchLaws.{at_code, at2, at3, at15, at16, at33}
 use Rattle.ecma_dispatch.specs.NodesOf.{raised}
 use Rattle.ecma_dispatch.proofs.NodesOfLaws.{raised_nil, raised_again, raised_append}
 use Rattle.ecma_base.specs.Strict.{strict_code}

@@ -24,7 +24,7 @@ use Rattle.check_dispatch.specs.Findings.{findings_at}
 use Rattle.refusal_input.specs.WellFormed.{WellFormed}
 use Rattle.ecma_trees.specs.Rose.{parts_of, marks_all}
 use Rattle.ecma_trees.specs.Walk.{each, some, only}
-use Rattle.ecma_trees.specs.WalkLaws.{some_append, some_only, each_same}
+use Rattle.ecma_trees.proofs.WalkLaws.{some_append, some_only, each_same}
 use Rattle.ecma_trees.specs.Trail.{unit_of}
 use Rattle.ecma_dispatch.specs.NodesOf.{raised}
 use Rattle.ecma_base.specs.Strict.{strict_code}

@@ -5,7 +5,7 @@ use Rattle.base_common.specs.Upto.{upto}
 use Rattle.table_records.specs.Table.{count}
 use Rattle.table_records.specs.Facts.{Tree}
 use Rattle.ecma_trees.specs.Walk.{each, some, only}
-use Rattle.ecma_trees.specs.WalkLaws.{each_same}
+use Rattle.ecma_trees.proofs.WalkLaws.{each_same}
 use Rattle.ecma_trees.specs.Trail.{unit_of}
 use Rattle.ecma_base.specs.Telling.{Telling}
 use Rattle.ecma_base.proofs.ContainsLaws.{contains_is}

@@ -8,14 +8,14 @@ use Rattle.table_records.specs.Facts.{Tree, Chained, Scoped}
 use Rattle.table_records.specs.Kinds as k
 use Rattle.refusal_standing.specs.Standing.{Placed}
 use Rattle.ecma_trees.specs.Walk.{some, only}
-use Rattle.ecma_trees.specs.WalkLaws.{some_only}
+use Rattle.ecma_trees.proofs.WalkLaws.{some_only}
 use Rattle.check_diagnostics.specs.Finding.{listed}
 use Rattle.check_supers.specs.Super.{reach_of, is_call, by_reach, check_super}
 use Rattle.check_supers.specs.declared.Reach.{Reach}
 use Rattle.check_supers.specs.declared.Reach.TheVariants.{Legal, Illegal, Underived, Fails}
 use Rattle.check_dispatch.specs.Findings.{findings_at}
 use Rattle.ecma_dispatch.specs.WithCode.{with_code}
-use Rattle.ecma_dispatch.specs.Dispatch.{at_code}
+use Rattle.ecma_dispatch.proofs.DispatchLaws.{at_code}
 use Rattle.ecma_dispatch.specs.NodesOf.{nodes_of, raised}
 use Rattle.ecma_dispatch.proofs.NodesOfLaws.{raised_again}
 use Rattle.ecma_supers.proofs.ScopesFitLaws.{ScopesFit}

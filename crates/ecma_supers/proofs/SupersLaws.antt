@@ -25,7 +25,7 @@ use Rattle.check_supers.specs.declared.Reach.{Reach}
 use Rattle.check_supers.specs.declared.Reach.TheVariants.{Legal, Illegal, Underived}
 use Rattle.check_dispatch.specs.Findings.{findings_at}
 use Rattle.ecma_dispatch.specs.WithCode.{with_code}
-use Rattle.ecma_dispatch.specs.Dispatch.{at_code}
+use Rattle.ecma_dispatch.proofs.DispatchLaws.{at_code}
 use Rattle.ecma_dispatch.specs.NodesOf.{nodes_of, raised}
 use Rattle.ecma_base.specs.Telling.{Telling, async_or_generator}
 use Rattle.ecma_dispatch.proofs.NodesOfLaws.{raised_again}

@@ -8,11 +8,11 @@ use Rattle.base_common.specs.Upto.{upto}
 use Rattle.table_records.specs.Table.{parent_of, count}
 use Rattle.table_records.specs.Facts.{Tree}
 use Rattle.ecma_trees.specs.Rose.{tree_of, parts_of}
-use Rattle.ecma_trees.specs.RoseLaws.{Under}
+use Rattle.ecma_trees.proofs.RoseLaws.{Under}
 use Rattle.ecma_trees.specs.Walk.{each, walk}
-use Rattle.ecma_trees.specs.WalkLaws.{table_is}
+use Rattle.ecma_trees.proofs.WalkLaws.{table_is}
 use Rattle.ecma_trees.specs.Unit.{says_all}
-use Rattle.ecma_trees.specs.UnitLaws.{unit_is}
+use Rattle.ecma_trees.proofs.UnitLaws.{unit_is}
 use Rattle.ecma_trees.specs.Trail.{climb, trail, handed_down, unit_of}
 
 module _ (ns : List ℕ) (t : Tree ns) where

@@ -1,9 +1,4 @@
 pub mod Rose
-pub mod RoseLaws
 pub mod Walk
-pub mod WalkLaws
 pub mod Unit
-pub mod UnitLaws
-pub mod ProgramLaws
 pub mod Trail
-pub mod Rule

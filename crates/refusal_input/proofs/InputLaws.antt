@@ -13,7 +13,7 @@ use Rattle.refusal_fields.proofs.FieldsLaws.{sizes_of, listed_of, sourced_of, na
 use Rattle.refusal_tree.specs.Tree.{misplaced_at}
 use Rattle.refusal_tree.proofs.TreeLaws.{tree_of}
 use Rattle.refusal_scopes.specs.Scopes.{broken_at, misscoped_at}
-use Rattle.refusal_scopes.specs.ScopesLaws.{chained_of, scoped_of}
+use Rattle.refusal_scopes.proofs.ScopesLaws.{chained_of, scoped_of}
 use Rattle.refusal_standing.specs.Standing.{misplaced_child_at}
 use Rattle.refusal_standing.proofs.StandingLaws.{placed_of}
 use Rattle.refusal_counts.specs.Counts.{wrong_count_at}

@@ -6,7 +6,7 @@ ghost use Rattle.table_records.specs.Table.{count, count_scopes, Some};
 ghost use Rattle.refusal_verdict.specs.First.{first};
 ghost use Rattle.table_records.specs.Facts.{Tree, Chained};
 ghost use Rattle.refusal_scopes.specs.Scopes.{broken_at, misscoped_at};
-ghost use Rattle.refusal_scopes.specs.ScopesLaws.{Meets, Deep};
+ghost use Rattle.refusal_scopes.specs.OwnScopes.{Meets, Deep};
 
 use base_common::and;
 use refusal_verdict::Place;

@@ -1,7 +1,5 @@
 pub mod Claims
 pub mod Changed
 pub mod Shared
-pub mod SharedLaws
-pub mod ChangedLaws
 pub mod Inside
 pub mod Fits

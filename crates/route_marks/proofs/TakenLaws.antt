@@ -4,9 +4,9 @@ use Rattle.std.proofs.Common.{sym, ◌∙◌, ap, subst, inl, inr, arith, le-leb
 use Rattle.std.proofs.lemmas.Bool.{lt-leb}
 use Rattle.route_list.specs.Listing.{most, saturated}
 use Rattle.code_flat.specs.Machine.{room, Res, Pos}
-use Rattle.code_flat.specs.Runs.{Ends, run_ends}
+use Rattle.code_flat.proofs.Runs.{Ends, run_ends}
 use Rattle.code_marks.specs.Stop.{Stop, held, over, stopped, taken_up}
-use Rattle.code_marks.specs.StopLaws.{finished, stopped_law, never_stopped}
+use Rattle.code_marks.proofs.StopLaws.{finished, stopped_law, never_stopped}
 use Rattle.code_machine.specs.Halted.{stopped_end, route_to, StandsAt, Told}
 use Rattle.route_marks.specs.Marks.{mark_at, set_mark}
 use Rattle.route_marks.specs.Taken.{gone_on, stop_of, marks_after, marks_shown}

@@ -1,3 +1,2 @@
 pub mod Statement
 pub mod Steps
-pub mod StatementLaws

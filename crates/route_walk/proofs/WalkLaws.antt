@@ -9,7 +9,7 @@ use Rattle.route_completion.specs.Tree.{Stmts, nil}
 use Rattle.code_tree.specs.Labels.{name_id}
 use Rattle.table_records.specs.declared.NodeId.{NodeId}
 use Rattle.route_completion.specs.Route.{node_of, asks, end_of, route}
-use Rattle.route_completion.specs.Taken.{asks_append}
+use Rattle.route_completion.proofs.TakenLaws.{asks_append}
 use Rattle.route_list.specs.Listing.{most, next, Listing}
 use Rattle.route_list.proofs.ListingLaws.{listing_first, listing_more}
 use Rattle.route_walk.specs.declared.Run.{Run}

@@ -8,7 +8,8 @@ use Rattle.table_records.specs.Table.{count}
 use Rattle.check_diagnostics.proofs.FindingLaws.{sink_nil, sink_length}
 use Rattle.check_diagnostics.specs.Finding.{sink}
 use Rattle.check_diagnostics.proofs.Gather.{piece_place, piece_sink}
-use Rattle.check_duplicates.specs.DuplicatesLaws.{class_at, classes_from, all_start, all_turn, all_end}
+use Rattle.check_duplicates.specs.Scans.{class_at}
+use Rattle.check_duplicates.proofs.DuplicatesLaws.{classes_from, all_start, all_turn, all_end}
 use Rattle.check_duplicates.specs.Duplicates.{duplicate_elements}
 use borrow.Author.Rules.{rules}
 use Rattle.check_duplicates.proofs.check_duplicate_class_elements.Goals as goal

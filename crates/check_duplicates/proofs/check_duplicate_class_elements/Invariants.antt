@@ -3,7 +3,7 @@ use mathlib.Core.Path.{◌≡◌}
 use lib.ListN.{length}
 use Rattle.table_records.specs.Table.{count}
 use Rattle.check_diagnostics.specs.Finding.{sink}
-use Rattle.check_duplicates.specs.DuplicatesLaws.{classes_from}
+use Rattle.check_duplicates.proofs.DuplicatesLaws.{classes_from}
 use Rattle.check_duplicates.specs.Duplicates.{duplicate_elements}
 use Rattle.check_duplicates.proofs.check_duplicate_class_elements.Given as goal
 

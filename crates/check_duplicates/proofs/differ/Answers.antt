@@ -1,4 +1,4 @@
-use Rattle.check_duplicates.specs.DuplicatesLaws.{differ_true, differ_false}
+use Rattle.check_duplicates.proofs.DuplicatesLaws.{differ_true, differ_false}
 use Rattle.check_duplicates.proofs.differ.Goals as goal
 
 pub returns-then-a : goal.returns-then-a

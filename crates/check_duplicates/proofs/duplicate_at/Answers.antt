@@ -4,7 +4,8 @@ use mathlib.Core.List.{List}
 use mathlib.Core.Path.{◌≡◌, sym, ap, subst, ◌∙◌}
 use native.Mathlib.Omega.{arith}
 use Rattle.check_duplicates.specs.declared.Place.{Place}
-use Rattle.check_duplicates.specs.DuplicatesLaws.{prev_of, prev_two, prev_before, by_hit, by_fine, by_none}
+use Rattle.check_duplicates.specs.Scans.{prev_of}
+use Rattle.check_duplicates.proofs.DuplicatesLaws.{prev_two, prev_before, by_hit, by_fine, by_none}
 use Rattle.check_duplicates.specs.Duplicates.{side_of, previous_of, duplicate_by}
 use Rattle.check_duplicates.proofs.duplicate_at.Goals as goal
 

@@ -10,7 +10,8 @@ use Rattle.check_class_table.specs.Classes.{is_class_body}
 use Rattle.check_diagnostics.proofs.FindingLaws.{sink_nil}
 use Rattle.check_diagnostics.specs.Finding.{sink}
 use Rattle.check_diagnostics.specs.declared.Finding.{Finding}
-use Rattle.check_duplicates.specs.DuplicatesLaws.{class_at, class_here, class_other}
+use Rattle.check_duplicates.specs.Scans.{class_at}
+use Rattle.check_duplicates.proofs.DuplicatesLaws.{class_here, class_other}
 use Rattle.check_duplicates.proofs.duplicates_at.Goals as goal
 
 pub returns-then-k-ne-CLASS_BODY : goal.returns-then-k-ne-CLASS_BODY

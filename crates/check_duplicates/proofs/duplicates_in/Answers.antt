@@ -9,7 +9,7 @@ use Rattle.check_diagnostics.proofs.FindingLaws.{sink_nil, sink_length}
 use Rattle.check_diagnostics.specs.Finding.{listed, sink}
 use Rattle.check_diagnostics.specs.declared.Raised.{Raised}
 use Rattle.check_diagnostics.proofs.Gather.{listed_one, piece_place, piece_sink}
-use Rattle.check_duplicates.specs.DuplicatesLaws.{duplicates_from, from_start_lem, from_turn, from_end_lem, from_out}
+use Rattle.check_duplicates.proofs.DuplicatesLaws.{duplicates_from, from_start_lem, from_turn, from_end_lem, from_out}
 use Rattle.check_duplicates.specs.Duplicates.{duplicates_in}
 use borrow.Author.Rules.{rules}
 use Rattle.check_duplicates.proofs.duplicates_in.Goals as goal

@@ -3,7 +3,7 @@ use mathlib.Core.Path.{◌≡◌}
 use lib.ListN.{length}
 use Rattle.table_records.specs.Table.{count}
 use Rattle.check_diagnostics.specs.Finding.{sink}
-use Rattle.check_duplicates.specs.DuplicatesLaws.{duplicates_from}
+use Rattle.check_duplicates.proofs.DuplicatesLaws.{duplicates_from}
 use Rattle.check_duplicates.specs.Duplicates.{duplicates_in}
 use Rattle.check_duplicates.proofs.duplicates_in.Given as goal
 

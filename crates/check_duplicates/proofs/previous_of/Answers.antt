@@ -1,6 +1,6 @@
 use native.Mathlib.Omega.{arith}
 use Rattle.check_class_table.specs.Elements.{is_private, element_name}
-use Rattle.check_duplicates.specs.DuplicatesLaws.{scan_turn, scan_end, scan_places}
+use Rattle.check_duplicates.proofs.DuplicatesLaws.{scan_turn, scan_end, scan_places}
 use borrow.Author.Rules.{rules}
 use Rattle.check_duplicates.proofs.previous_of.Goals as goal
 

@@ -2,7 +2,7 @@ use Prim.Native.Nat.{◌≤◌, ◌-◌}
 use mathlib.Core.List.{◌∷◌, []}
 use mathlib.Core.Path.{◌≡◌}
 use Rattle.check_class_table.specs.Elements.{is_private, element_name}
-use Rattle.check_duplicates.specs.DuplicatesLaws.{scan}
+use Rattle.check_duplicates.proofs.DuplicatesLaws.{scan}
 use Rattle.check_duplicates.specs.Duplicates.{previous_on}
 use Rattle.check_duplicates.proofs.previous_of.Given as goal
 

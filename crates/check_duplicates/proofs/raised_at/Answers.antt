@@ -1,4 +1,4 @@
-use Rattle.check_duplicates.specs.DuplicatesLaws.{raised_at}
+use Rattle.check_duplicates.specs.Scans.{raised_at}
 use Rattle.check_duplicates.proofs.raised_at.Goals as goal
 
 pub returns-then-is_compared_element : goal.returns-then-is_compared_element

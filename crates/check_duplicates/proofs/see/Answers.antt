@@ -1,4 +1,4 @@
-use Rattle.check_duplicates.specs.DuplicatesLaws.{see}
+use Rattle.check_duplicates.specs.Scans.{see}
 use Rattle.check_duplicates.proofs.see.Goals as goal
 
 pub returns-then-is_named : goal.returns-then-is_named

@@ -6,7 +6,7 @@ use mathlib.Core.Bool.{true, false}
 use Rattle.code_widths.proofs.WidthsLaws.{root_small}
 use Rattle.code_tree.specs.Statements.{body_of}
 use Rattle.code_layout.specs.Widths.{width_at}
-use Rattle.code_layout.specs.LayoutLaws.{in_root}
+use Rattle.code_layout.proofs.LayoutLaws.{in_root}
 use Rattle.code_flat.specs.Code.{unit}
 use Rattle.code_assemble.proofs.code_by.Goals as goal
 

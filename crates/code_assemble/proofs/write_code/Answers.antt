@@ -5,7 +5,7 @@ use mathlib.Core.Path.{◌≡◌, refl, ap, ◌∙◌}
 use mathlib.Core.Bool.{true, false}
 use lib.ListN.{get_or}
 use Rattle.code_layout.specs.Widths.{width_at}
-use Rattle.code_layout.specs.LayoutLaws.{in_root}
+use Rattle.code_layout.proofs.LayoutLaws.{in_root}
 use Rattle.code_branch.proofs.JumpLaws as array
 use Rattle.code_assemble.proofs.write_code.Goals as goal
 

@@ -7,7 +7,7 @@ use Rattle.code_flat.specs.Code.{at}
 use Rattle.code_targets.specs.Targets.{target}
 use Rattle.code_layout.specs.Widths.{in_unit}
 use Rattle.code_layout.proofs.Stands.{in_from}
-use Rattle.code_layout.specs.LayoutLaws.{in_root}
+use Rattle.code_layout.proofs.LayoutLaws.{in_root}
 use Rattle.code_contexts.proofs.PlacesLaws.{above_in_lem}
 use Rattle.code_branch.proofs.JumpLaws.{width_is_lem, end_small, jump_is, end_is_lem}
 use Rattle.code_branch.proofs.BranchLaws.{jump_on, jump_stop}

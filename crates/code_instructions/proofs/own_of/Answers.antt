@@ -1,4 +1,4 @@
-use Rattle.code_layout.specs.LayoutLaws.{own_width_on}
+use Rattle.code_layout.proofs.LayoutLaws.{own_width_on}
 use Rattle.code_contexts.proofs.PlacesLaws.{try_is}
 use native.Mathlib.Omega.{arith}
 use mathlib.Core.Path.{◌≡◌, sym, ap, ◌∙◌}

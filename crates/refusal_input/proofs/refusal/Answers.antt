@@ -1,6 +1,6 @@
 use Rattle.refusal_input.specs.Input.{tables_or, input_refusal}
 use Rattle.refusal_fields.proofs.FieldsLaws.{sizes_of}
-use Rattle.refusal_scopes.specs.ScopesLaws.{chained_of, scoped_of}
+use Rattle.refusal_scopes.proofs.ScopesLaws.{chained_of, scoped_of}
 use Rattle.refusal_tree.proofs.TreeLaws.{tree_of}
 use mathlib.Core.Path.{sym, ◌∙◌}
 use Rattle.refusal_input.proofs.refusal.Goals as goal

@@ -1,4 +1,4 @@
-use Rattle.refusal_scopes.specs.ScopesLaws.{deep_start, deep_more}
+use Rattle.refusal_scopes.proofs.ScopesLaws.{deep_start, deep_more}
 use Rattle.table_records.specs.Table.{count_scopes}
 use lib.ListN.{length, length-set}
 use native.Mathlib.Omega.{arith}

@@ -1,4 +1,4 @@
-use Rattle.refusal_scopes.specs.ScopesLaws.{Deep}
+use Rattle.refusal_scopes.specs.OwnScopes.{Deep}
 use lib.ListN.{length}
 use mathlib.Core.Path.{◌≡◌}
 use Prim.Native.Nat.{◌≤◌, ◌-◌}

@@ -1,4 +1,4 @@
-use Rattle.refusal_scopes.specs.ScopesLaws.{meets_left, meets_right, meets_second, meets_first, meets_apart}
+use Rattle.refusal_scopes.proofs.ScopesLaws.{meets_left, meets_right, meets_second, meets_first, meets_apart}
 use Rattle.table_records.specs.Table.{count}
 use borrow.Author.Tests.{ltb-true, ltb-false, not-true, not-false}
 use mathlib.Core.Path.{sym, ◌∙◌}

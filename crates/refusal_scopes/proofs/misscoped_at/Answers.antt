@@ -1,4 +1,4 @@
-use Rattle.refusal_scopes.specs.ScopesLaws.{mis_missing, mis_extra, mis_chain}
+use Rattle.refusal_scopes.proofs.ScopesLaws.{mis_missing, mis_extra, mis_chain}
 use native.Mathlib.Omega.{arith}
 use Rattle.refusal_scopes.proofs.misscoped_at.Goals as goal
 

@@ -13,7 +13,7 @@ use Rattle.table_records.specs.declared.Found.TheVariants.{At, Nothing}
 use Rattle.route_completion.specs.Tree.{Stmt}
 use Rattle.route_completion.specs.Sem.{Out, out, plain, more, normal, is_normal, is_throw, is_spent, is_yes, pick, turn, rounds, loops, loop_continues, unbreak, unlabel, exec, execs}
 use Rattle.route_completion.proofs.Laws.{rounds_law}
-use Rattle.route_completion.specs.Rest.{exec_rest}
+use Rattle.route_completion.proofs.RestLaws.{exec_rest}
 use Rattle.code_tree.specs.Labels.{id_at}
 use Rattle.code_tree.specs.Parts.{up_of, parts}
 use Rattle.code_tree.specs.Statements.{test_at, list_of, one_of}
@@ -23,7 +23,7 @@ use Rattle.route_steps.specs.Statement.{is_labeled, labels_of, statement as stat
 use Rattle.route_steps.specs.Steps.{First, part_of, branch_of, cases_from, role_in, ran_of, caught_by, finally_by}
 use Rattle.route_steps.proofs.StepsLaws.{first_low_lem, from_part}
 use Rattle.route_walk.proofs.WalkLaws.{still, then, goes, stays, asks_on, asks_none, lasts, lasts_spent}
-use Rattle.route_steps.specs.StatementLaws.{labels_on, labels_off, leaf_is, class_is, block_is_lem, case_is, with_is_lem, label_is_lem, loop_is, catch_is, if_is, switch_is, try_is, list_on_lem, list_end, one_on, one_end}
+use Rattle.route_steps.proofs.StatementLaws.{labels_on, labels_off, leaf_is, class_is, block_is_lem, case_is, with_is_lem, label_is_lem, loop_is, catch_is, if_is, switch_is, try_is, list_on_lem, list_end, one_on, one_end}
 use Prim.Native.Nat.{ℕ}
 use Rattle.route_walk.proofs.+walk.Goals as goal
 

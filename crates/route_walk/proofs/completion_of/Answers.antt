@@ -1,6 +1,6 @@
 use mathlib.Core.Path.{sym, ◌∙◌}
 use Rattle.table_records.specs.declared.Found.TheVariants.{At, Nothing}
-use Rattle.route_steps.specs.StatementLaws.{comp_break, comp_continue, comp_return, comp_throw, comp_normal}
+use Rattle.route_steps.proofs.StatementLaws.{comp_break, comp_continue, comp_return, comp_throw, comp_normal}
 use Rattle.route_walk.proofs.completion_of.Goals as goal
 
 pub returns-in_default : goal.returns-in_default

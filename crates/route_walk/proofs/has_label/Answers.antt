@@ -5,7 +5,7 @@ use Rattle.code_tree.specs.Labels.{name_id}
 use Rattle.code_tree.specs.Parts.{shape_at}
 use Rattle.route_completion.specs.Sem.{elem}
 use Rattle.route_steps.specs.Statement.{is_labeled, labels_of}
-use Rattle.route_steps.specs.StatementLaws.{labels_hit, labels_next, labels_stop, labeled_inner}
+use Rattle.route_steps.proofs.StatementLaws.{labels_hit, labels_next, labels_stop, labeled_inner}
 use Rattle.route_walk.proofs.has_label.Goals as goal
 
 pub loop-l-init : goal.loop-l-init

@@ -9,7 +9,7 @@ use Rattle.route_walk.specs.declared.Completion.TheVariants as how
 use Rattle.route_walk.specs.Walk.{Shows}
 use Rattle.route_steps.specs.Statement.{is_labeled}
 use Rattle.route_walk.proofs.WalkLaws.{whole, whole_none}
-use Rattle.route_steps.specs.StatementLaws.{labels_off, unit_is_lem, unit_none}
+use Rattle.route_steps.proofs.StatementLaws.{labels_off, unit_is_lem, unit_none}
 use Rattle.route_walk.proofs.walk_unit.Goals as goal
 
 -- The route of statements that are the unit's.

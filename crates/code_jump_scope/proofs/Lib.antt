@@ -1,0 +1,4 @@
+pub mod Labels
+pub mod Reach
+pub mod ScopeAt
+pub mod UnitScopedLaws

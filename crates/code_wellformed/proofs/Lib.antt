@@ -1,0 +1,5 @@
+pub mod Kinds
+pub mod Parts
+pub mod Holder
+pub mod HolderReady
+pub mod ReadyLaws
