@@ -9,7 +9,8 @@ use Rattle.std.proofs.lemmas.Bool.{lt-leb}
 use Rattle.base_common.proofs.Bools.{never}
 use Rattle.table_records.specs.Table.{count}
 use Rattle.code_flat.specs.Code.{unit, ends}
-use Rattle.code_flat.proofs.Correct.{Has, has_right, has_self}
+use Rattle.code_flat.proofs.Correct.{has_right, has_self}
+use Rattle.code_flat.specs.Has.{Has}
 use Rattle.route_list.specs.Over.{over}
 use Rattle.code_tree.specs.Statements.{body_of}
 use Rattle.code_layout.specs.Widths.{in_unit, own_width, width_at}

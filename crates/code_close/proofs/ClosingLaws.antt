@@ -11,8 +11,9 @@ use Rattle.std.proofs.Math.Decide.{dec_lt}
 use Rattle.route_completion.specs.Sem.{pick, elem}
 use Rattle.code_flat.specs.Opcodes as op
 use Rattle.code_flat.specs.Machine.{Instr, LIST, LEAVE, ASK, SELECT, OPEN, END, CASE, decode, fetch}
-use Rattle.code_flat.proofs.Runs.{is_none}
-use Rattle.code_flat.proofs.Correct.{Has, has_left, has_right, has_self}
+use Rattle.code_flat.specs.Machine.{is_none}
+use Rattle.code_flat.proofs.Correct.{has_left, has_right, has_self}
+use Rattle.code_flat.specs.Has.{Has}
 use Rattle.code_valid.specs.Instrs.{len, words, flat, find, names}
 use Rattle.code_valid.proofs.ReadingLaws.{decode_none}
 use Rattle.code_shorten.specs.Short.{moved, relocate, kept, close_up}

@@ -18,7 +18,8 @@ use Rattle.table_records.specs.declared.Found.TheVariants.{At, Nothing}
 use Rattle.table_children.specs.Children.{first_node, is_child, first_child}
 use Rattle.table_children.proofs.ChildrenLaws.{node_on, node_stop, found_child}
 use Rattle.code_tree.specs.Parts.{up_of, shape_at, is_part, part_by, parts, order_by, order, entered_by}
-use Rattle.code_tree.proofs.PartsLaws.{All, Part, parts_end, parts_turn, parts_all, order_all_lem}
+use Rattle.code_tree.proofs.PartsLaws.{All, parts_end, parts_turn, parts_all, order_all_lem}
+use Rattle.code_tree.specs.Parts.{Part}
 use Rattle.code_tree.specs.declared.Shape.{Shape}
 use Rattle.code_tree.specs.declared.Shape.TheVariants.{Leaf, Class, If, With, Block, Label, Loop, Switch, Case, Try, Catch}
 use Rattle.code_layout.specs.Widths.{sum, has_role, is_try, own_width, own_width_by, width_at}

@@ -3,7 +3,7 @@ use Rattle.std.specs.Prelude.{ℕ, ◌+◌, ◌-◌, ◌≤◌, ◌<◌, ◌≡�
 use Rattle.std.proofs.Common.{ap, sym, ◌∙◌, subst, arith}
 use Rattle.table_records.specs.Table.{role_of, count}
 use Rattle.code_tree.specs.Parts.{up_of, shape_at, parts}
-use Rattle.code_tree.proofs.PartsLaws.{Part}
+use Rattle.code_tree.specs.Parts.{Part}
 use Rattle.code_tree.specs.declared.Shape.TheVariants.{Try}
 use Rattle.code_layout.specs.Widths.{sum, is_try, in_unit, own_width, width_at}
 use Rattle.code_layout.specs.Context.{offset_at}

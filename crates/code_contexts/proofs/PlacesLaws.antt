@@ -11,7 +11,8 @@ use Rattle.table_children.specs.Children.{first_child}
 use Rattle.route_completion.specs.Sem.{normal}
 use Rattle.code_flat.specs.Code.{at}
 use Rattle.code_tree.specs.Parts.{up_of, shape_at, parts, order}
-use Rattle.code_tree.proofs.PartsLaws.{All, Part, order_all_lem}
+use Rattle.code_tree.proofs.PartsLaws.{All, order_all_lem}
+use Rattle.code_tree.specs.Parts.{Part}
 use Rattle.code_tree.specs.declared.Shape.{Shape}
 use Rattle.code_tree.specs.declared.Shape.TheVariants.{Leaf, Class, If, With, Block, Label, Loop, Switch, Case, Try, Catch}
 use Rattle.code_layout.specs.Widths.{sum, has_role, is_try, in_unit, own_width, width_at}

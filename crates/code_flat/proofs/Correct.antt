@@ -16,11 +16,7 @@ use Rattle.code_flat.proofs.Steps.{run_step, run_pos, resume}
 use Rattle.route_completion.specs.Rest.{Shrinks}
 use Rattle.route_completion.proofs.RestLaws.{exec_rest}
 use Rattle.code_flat.proofs.Size.{code_length, codes_length, size_pos}
-
--- The code C has l at the place o.
-abbrev pub Has : List ℕ → ℕ → List ℕ → Type 0
-Has C o [] = Unit {0}
-Has C o (x ∷ l) = (get_or C o 0 ≡ x) × Has C (suc o) l
+use Rattle.code_flat.specs.Has.{Has}
 
 pub has_left : (C : List ℕ) (o : ℕ) (a b : List ℕ) → Has C o (a ++ b) → Has C o a
 has_left C o [] b h = tt

@@ -4,7 +4,8 @@ use Rattle.std.specs.Prelude.{ℕ, zero, suc, ◌+◌, ◌-◌, ◌≤◌, ◌<�
 use Rattle.std.proofs.Common.{sym, ◌∙◌, ap, ltb-true, arith}
 use Rattle.route_completion.specs.Sem.{plain, asked, pick, is_yes}
 use Rattle.code_flat.specs.Machine.{Res, res, pre, Instr, NONE, LIST, LEAVE, ASK, SELECT, OPEN, END, CASE, fetch, Frame, open', Pos, is_zero, unwind, chase, pass, jump, step, run}
-use Rattle.code_flat.proofs.Runs.{is_none, inside, run_step}
+use Rattle.code_flat.proofs.Runs.{inside, run_step}
+use Rattle.code_flat.specs.Machine.{is_none}
 use Rattle.code_flat.specs.Forward.{ask_now, behind, forward, measure, step as stepF, run as runF}
 use Rattle.code_flat.proofs.Steps.{run_step as runStepF}
 

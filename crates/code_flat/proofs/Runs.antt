@@ -5,21 +5,12 @@ use Rattle.std.proofs.Math.ListN.{get_or-eq_default}
 use Rattle.std.proofs.Math.Decide.{dec_lt}
 use Rattle.route_completion.specs.Sem.{plain, asked, pick, is_yes}
 use Rattle.code_flat.specs.Machine.{Res, res, pre, Instr, NONE, LIST, LEAVE, ASK, SELECT, OPEN, END, CASE, decode, fetch, Frame, open', Pos, is_zero, unwind, chase, pass, jump, step, runs, measure, run}
+use Rattle.code_flat.specs.Machine.{is_none}
 
 -- Past the code stands no instruction.
 pub past : (C : List ℕ) (pc : ℕ) → length C ≤ pc → fetch C pc ≡ NONE
 unfolding fetch
 past C pc h = ap (λ x. decode x (get_or C (suc pc) 0) (get_or C (suc (suc pc)) 0) (get_or C (suc (suc (suc pc))) 0)) (get_or-eq_default C 0 h)
-
-abbrev pub is_none : Instr → Bool
-is_none NONE = true
-is_none (LIST n) = false
-is_none (LEAVE t d) = false
-is_none (ASK n y z) = false
-is_none (SELECT n m d) = false
-is_none (OPEN f) = false
-is_none (END e) = false
-is_none (CASE c t d) = false
 
 pub inside : (C : List ℕ) (pc : ℕ) → is_none (fetch C pc) ≡ false → pc < length C
 inside C pc h = go (dec_lt pc (length C))

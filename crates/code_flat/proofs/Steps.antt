@@ -4,7 +4,8 @@ use Rattle.std.proofs.Common.{ap, ltb-true, arith}
 use Rattle.route_completion.specs.Sem.{plain, asked, pick}
 use Rattle.code_flat.specs.Code.{Stat, at, ended}
 use Rattle.code_flat.specs.Machine.{Res, res, pre, Instr, NONE, LIST, LEAVE, ASK, SELECT, OPEN, END, CASE, fetch, Frame, open', Pos, unwind}
-use Rattle.code_flat.proofs.Runs.{is_none, inside}
+use Rattle.code_flat.proofs.Runs.{inside}
+use Rattle.code_flat.specs.Machine.{is_none}
 use Rattle.code_flat.specs.Forward.{ask_now, behind, forward, step, runs, measure, run}
 
 module _ (C : List ℕ) (k k' : ℕ → List Frame → List ℕ → Res) (pc : ℕ) (qs : List ℕ)

@@ -5,3 +5,4 @@ pub mod Own
 pub mod Claims
 pub mod Forward
 pub mod Leg
+pub mod Has

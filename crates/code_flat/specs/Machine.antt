@@ -29,6 +29,16 @@ pub data Instr : Type 0 where
   END : ℕ → Instr
   CASE : ℕ → ℕ → ℕ → Instr
 
+abbrev pub is_none : Instr → Bool
+is_none NONE = true
+is_none (LIST n) = false
+is_none (LEAVE t d) = false
+is_none (ASK n y z) = false
+is_none (SELECT n m d) = false
+is_none (OPEN f) = false
+is_none (END e) = false
+is_none (CASE c t d) = false
+
 -- What a number and its operands say.
 abbrev pub decode : ℕ → ℕ → ℕ → ℕ → Instr
 decode x a b c =

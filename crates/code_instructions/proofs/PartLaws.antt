@@ -13,7 +13,8 @@ use Rattle.table_records.specs.Roles as role
 use Rattle.table_records.specs.declared.Found.TheVariants.{At, Nothing}
 use Rattle.table_children.specs.Children.{first_child}
 use Rattle.code_tree.specs.Parts.{up_of, shape_at, is_part, parts, order}
-use Rattle.code_tree.proofs.PartsLaws.{All, Part, parts_end, parts_turn, order_all_lem}
+use Rattle.code_tree.proofs.PartsLaws.{All, parts_end, parts_turn, order_all_lem}
+use Rattle.code_tree.specs.Parts.{Part}
 use Rattle.code_tree.specs.Statements.{default_at}
 use Rattle.code_tree.specs.declared.Shape.{Shape}
 use Rattle.code_tree.specs.declared.Shape.TheVariants.{Leaf, Class, If, With, Block, Label, Loop, Switch, Case, Try, Catch}

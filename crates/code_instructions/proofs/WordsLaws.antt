@@ -5,7 +5,7 @@ use Rattle.std.proofs.Common.{sym, ◌∙◌}
 use Rattle.table_records.specs.Roles as role
 use Rattle.route_completion.specs.Sem.{normal, pick, comp_of}
 use Rattle.code_flat.specs.Code.{Stat, at, place_of, depth_of}
-use Rattle.code_flat.proofs.Correct.{Has}
+use Rattle.code_flat.specs.Has.{Has}
 use Rattle.code_flat.specs.Opcodes as op
 use Rattle.code_tree.specs.Parts.{up_of, shape_at, order}
 use Rattle.code_tree.specs.Statements.{leaf_at, before_at, test_at}

@@ -6,7 +6,7 @@ ghost use Rattle.table_records.specs.Table.{count};
 ghost use Rattle.table_records.specs.Facts.{Tree};
 ghost use Rattle.route_completion.specs.Sem.{normal, pick};
 ghost use Rattle.code_flat.specs.Code.{at};
-ghost use Rattle.code_flat.proofs.Correct.{Has};
+ghost use Rattle.code_flat.specs.Has.{Has};
 ghost use Rattle.code_flat.specs.Opcodes as op;
 ghost use Rattle.code_tree.specs.Parts.{up_of, shape_at, is_part, parts, order};
 ghost use Rattle.code_tree.specs.declared.Shape.TheVariants.{Leaf, Class, If, With, Block, Loop, Switch, Case, Try};

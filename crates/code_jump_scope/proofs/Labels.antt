@@ -21,7 +21,7 @@ use Rattle.refusal_standing.specs.Standing.{Placed}
 use Rattle.code_tree.specs.Labels.{name_id, id_at}
 use Rattle.code_tree.proofs.LabelLaws.{named_as, id_test}
 use Rattle.code_tree.specs.Parts.{entered_by, up_of, shape_by, shape_at, is_part, part_by}
-use Rattle.code_tree.proofs.PartsLaws.{Part}
+use Rattle.code_tree.specs.Parts.{Part}
 use Rattle.code_tree.specs.declared.Shape.{Shape}
 use Rattle.code_tree.specs.declared.Shape.TheVariants.{Leaf as Single, Class, If, With, Block, Label, Loop, Switch, Case, Try, Catch}
 use Rattle.code_layout.specs.Shaped.{is_one, Good}

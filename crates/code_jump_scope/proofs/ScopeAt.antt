@@ -12,7 +12,7 @@ use Rattle.route_completion.specs.Sem.{Comp, no_break}
 use Rattle.route_completion.specs.Route.{top_scope, loop_scope, label_scope}
 use Rattle.code_tree.specs.Labels.{id_at}
 use Rattle.code_tree.specs.Parts.{up_of, shape_at}
-use Rattle.code_tree.proofs.PartsLaws.{Part}
+use Rattle.code_tree.specs.Parts.{Part}
 use Rattle.code_tree.specs.declared.Shape.{Shape}
 use Rattle.code_tree.specs.declared.Shape.TheVariants.{Leaf as Single, Class, If, With, Block, Label, Loop, Switch, Case, Try, Catch}
 use Rattle.code_layout.specs.Widths.{in_unit}

@@ -23,7 +23,8 @@ use Rattle.route_completion.specs.Route.{Scoped, ScopedAll, ScopedCases, top_sco
 use Rattle.code_tree.specs.Labels.{id_at, lab_at}
 use Rattle.code_tree.specs.Parts.{shape_at, order}
 use Rattle.code_tree.specs.Statements.{leaf_at, list_of, one_of, if_of, try_of, class_of, cases_of, build, stmt_at, body_of, holder_of, unit_by, unit_of}
-use Rattle.code_tree.proofs.PartsLaws.{All, Part, order_all_lem}
+use Rattle.code_tree.proofs.PartsLaws.{All, order_all_lem}
+use Rattle.code_tree.specs.Parts.{Part}
 use Rattle.code_tree.specs.declared.Shape.{Shape}
 use Rattle.code_tree.specs.declared.Shape.TheVariants.{Leaf as Single, Class, If, With, Block, Label, Loop, Switch, Case, Try, Catch}
 use Rattle.code_layout.specs.Shaped.{is_switch, Two, Three, Good}

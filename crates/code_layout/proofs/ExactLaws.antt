@@ -17,7 +17,8 @@ use Rattle.code_flat.specs.Code.{unit}
 use Rattle.code_flat.proofs.Correct.{unit_length}
 use Rattle.code_tree.specs.Parts.{up_of, shape_at, is_part, part_by, parts, with_role, order_by, order}
 use Rattle.code_tree.specs.Statements.{body_of}
-use Rattle.code_tree.proofs.PartsLaws.{All, Part, parts_all, order_all_lem}
+use Rattle.code_tree.proofs.PartsLaws.{All, parts_all, order_all_lem}
+use Rattle.code_tree.specs.Parts.{Part}
 use Rattle.code_tree.proofs.BoundLaws.{all_map}
 use Rattle.code_tree.specs.declared.Shape.{Shape}
 use Rattle.code_tree.specs.declared.Shape.TheVariants.{Leaf as Single, Class, If, With, Block, Label, Loop, Switch, Case, Try, Catch}

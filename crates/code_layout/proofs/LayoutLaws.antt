@@ -13,7 +13,8 @@ use Rattle.base_walk.proofs.AboveLaws.{fold_up}
 use Rattle.table_records.specs.Table.{count}
 use Rattle.table_records.specs.Roles as role
 use Rattle.code_tree.specs.Parts.{up_of, shape_at, is_part, order}
-use Rattle.code_tree.proofs.PartsLaws.{All, Part, order_all_lem}
+use Rattle.code_tree.proofs.PartsLaws.{All, order_all_lem}
+use Rattle.code_tree.specs.Parts.{Part}
 use Rattle.code_tree.proofs.BoundLaws.{all_map}
 use Rattle.code_tree.specs.declared.Shape.{Shape}
 use Rattle.code_tree.specs.declared.Shape.TheVariants.{Leaf as Single, Class, If, With, Block, Label, Loop, Switch, Case, Try, Catch}

@@ -4,7 +4,8 @@ use Rattle.std.proofs.Math.Path.{ap}
 use Rattle.std.proofs.Common.{sym, ◌∙◌, subst, add-zero, arith}
 use Rattle.table_records.specs.Table.{count}
 use Rattle.code_flat.specs.Code.{sizes, codes, top, unit, ends}
-use Rattle.code_flat.proofs.Correct.{Has, has_left, has_of, has_self}
+use Rattle.code_flat.proofs.Correct.{has_left, has_of, has_self}
+use Rattle.code_flat.specs.Has.{Has}
 use Rattle.code_tree.specs.Statements.{body_of}
 use Rattle.code_layout.specs.Widths.{in_unit, width_at}
 use Rattle.code_layout.specs.Context.{offset_at}

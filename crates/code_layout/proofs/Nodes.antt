@@ -14,7 +14,8 @@ use Rattle.route_completion.specs.Sem.{Comp, normal, pick, no_break, default_at 
 use Rattle.code_flat.specs.Code.{Stat, at, goto, case_to, next, in_try, first, link, through, place, size, sizes, size_cases, code, codes, code_cases, top}
 use Rattle.code_tree.specs.Parts.{up_of, shape_at, is_part, part_by, order}
 use Rattle.code_tree.specs.Statements.{default_at, list_of, cases_of, try_of, build, stmt_at, body_of}
-use Rattle.code_tree.proofs.PartsLaws.{All, Part, order_all_lem}
+use Rattle.code_tree.proofs.PartsLaws.{All, order_all_lem}
+use Rattle.code_tree.specs.Parts.{Part}
 use Rattle.code_tree.proofs.BoundLaws.{all_map}
 use Rattle.code_tree.proofs.ClassLaws.{class_code, class_size}
 use Rattle.code_tree.specs.declared.Shape.{Shape}

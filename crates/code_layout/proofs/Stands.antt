@@ -9,9 +9,11 @@ use Rattle.std.proofs.Math.Decide.{dec_lt}
 use native.Mathlib.Omega.{arith}
 use Rattle.std.proofs.lemmas.Bool.{eqb-false}
 use Rattle.table_records.specs.Table.{count}
-use Rattle.code_flat.proofs.Correct.{Has, has_left, has_right}
+use Rattle.code_flat.proofs.Correct.{has_left, has_right}
+use Rattle.code_flat.specs.Has.{Has}
 use Rattle.code_tree.specs.Parts.{up_of, shape_at, order}
-use Rattle.code_tree.proofs.PartsLaws.{All, Part, order_all_lem}
+use Rattle.code_tree.proofs.PartsLaws.{All, order_all_lem}
+use Rattle.code_tree.specs.Parts.{Part}
 use Rattle.code_tree.proofs.BoundLaws.{all_map}
 use Rattle.code_tree.specs.declared.Shape.{Shape}
 use Rattle.code_tree.specs.declared.Shape.TheVariants.{Leaf as Single, Class, If, With, Block, Label, Loop, Switch, Case, Try, Catch}

@@ -10,7 +10,8 @@ use Rattle.table_records.specs.Table.{kind_of, role_of, count}
 use Rattle.table_records.specs.Roles as role
 use Rattle.table_children.specs.Children.{keep}
 use Rattle.code_tree.specs.Parts.{up_of, shape_at, is_part, part_by, parts, with_role, order_by, order}
-use Rattle.code_tree.proofs.PartsLaws.{All, Part, parts_end, parts_turn}
+use Rattle.code_tree.proofs.PartsLaws.{All, parts_end, parts_turn}
+use Rattle.code_tree.specs.Parts.{Part}
 use Rattle.code_tree.proofs.BoundLaws.{all_map}
 use Rattle.code_tree.specs.declared.Shape.{Shape}
 use Rattle.code_tree.specs.declared.Shape.TheVariants.{Leaf as Single, Class, If, With, Block, Label, Loop, Switch, Case, Try, Catch}

@@ -30,7 +30,7 @@ use Rattle.refusal_counts.specs.Counts.{Counted}
 use Rattle.code_flat.specs.Code.{unit, sizes}
 use Rattle.code_flat.proofs.Correct.{unit_length}
 use Rattle.code_tree.specs.Parts.{entered_by, up_of, shape_at, is_part, part_by}
-use Rattle.code_tree.proofs.PartsLaws.{Part}
+use Rattle.code_tree.specs.Parts.{Part}
 use Rattle.code_tree.specs.Statements.{holder_of, unit_by, unit_of}
 use Rattle.code_tree.proofs.UpLaws.{up_falls}
 use Rattle.code_tree.specs.declared.Shape.TheVariants.{Class}

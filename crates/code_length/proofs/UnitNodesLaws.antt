@@ -22,7 +22,8 @@ use Rattle.route_completion.specs.Route.{node_of, Mem}
 use Rattle.route_completion.specs.Entries.{Lists, ListsAll, ListsCases}
 use Rattle.route_completion.proofs.EntriesLaws.{lists_all_as}
 use Rattle.code_tree.specs.Parts.{shape_at, order}
-use Rattle.code_tree.proofs.PartsLaws.{All, Part, order_all_lem}
+use Rattle.code_tree.proofs.PartsLaws.{All, order_all_lem}
+use Rattle.code_tree.specs.Parts.{Part}
 use Rattle.code_tree.proofs.BoundLaws.{all_map}
 use Rattle.code_tree.proofs.UpLaws.{up_falls}
 use Rattle.code_tree.specs.Statements.{list_of, one_of, if_of, try_of, class_of, cases_of, build, stmt_at, body_of, holder_of, unit_by, unit_of}

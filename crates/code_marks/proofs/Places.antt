@@ -7,7 +7,8 @@ use Rattle.route_completion.specs.Sem.{Comp, no_break, no_label}
 use Rattle.code_flat.specs.Opcodes as op
 use Rattle.code_flat.specs.Code.{Stat, at, next, in_try, in_loop, first, through, size, sizes, size_cases, code, codes, code_cases}
 use Rattle.code_flat.proofs.Size.{code_length, codes_length}
-use Rattle.code_flat.proofs.Correct.{Has, has_left, has_right}
+use Rattle.code_flat.proofs.Correct.{has_left, has_right}
+use Rattle.code_flat.specs.Has.{Has}
 use Rattle.code_marks.specs.Begins.{width, offset, Begins}
 
 -- From instruction to instruction the start of the code leads to x.

@@ -12,7 +12,8 @@ use Rattle.code_flat.specs.Opcodes as op
 use Rattle.code_flat.specs.Code.{Stat, at, place_of, depth_of, goto, next, in_try, in_loop, first, link, through, size, sizes, size_cases, place, code, codes, code_cases, top, ends, unit}
 use Rattle.code_flat.specs.Machine.{Instr, NONE, LIST, LEAVE, ASK, SELECT, OPEN, END, CASE, decode, fetch}
 use Rattle.code_flat.proofs.Size.{code_length, codes_length}
-use Rattle.code_flat.proofs.Correct.{Has, has_left, has_right, has_self, unit_length}
+use Rattle.code_flat.proofs.Correct.{has_left, has_right, has_self, unit_length}
+use Rattle.code_flat.specs.Has.{Has}
 use Rattle.code_marks.specs.Begins.{width, offset, Begins}
 use Rattle.code_marks.proofs.Places.{Path, hop, move_p, move_h, begins, seven, walk, walks, begin}
 

@@ -2,7 +2,7 @@
 use Rattle.std.specs.Prelude.{ℕ, zero, suc, ◌+◌, ◌-◌, ◌≤◌, ◌<◌, ◌≡◌, refl, ◌⊎◌, List, [], ◌∷◌, length, get_or, set}
 use Rattle.std.proofs.Common.{ap, sym, ◌∙◌, subst, inl, inr, length-set, get_or-set_same, get_or-set_other, ext_get_or, eq-or-lt_of_le, add-zero, arith}
 use Rattle.std.proofs.Math.Decide.{dec_lt}
-use Rattle.code_flat.proofs.Correct.{Has}
+use Rattle.code_flat.specs.Has.{Has}
 use Rattle.code_put.specs.Put.{Put, Done}
 
 module _ (f : List ℕ) (o : ℕ) (words : List ℕ) where

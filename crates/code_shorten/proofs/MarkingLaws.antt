@@ -14,7 +14,8 @@ use Rattle.std.proofs.Math.Decide.{dec_lt}
 use Rattle.route_completion.specs.Sem.{pick, elem}
 use Rattle.code_flat.specs.Opcodes as op
 use Rattle.code_flat.specs.Machine.{Instr, NONE, LIST, LEAVE, ASK, SELECT, OPEN, END, CASE, decode, fetch}
-use Rattle.code_flat.proofs.Runs.{is_none, inside}
+use Rattle.code_flat.proofs.Runs.{inside}
+use Rattle.code_flat.specs.Machine.{is_none}
 use Rattle.code_valid.specs.Instrs.{len, flat, find, leads}
 use Rattle.code_valid.proofs.ReadingLaws.{decode_none}
 use Rattle.code_shorten.specs.Short.{reached}

@@ -12,7 +12,7 @@ use native.Mathlib.Omega.{arith}
 use Rattle.route_completion.specs.Sem.{pick}
 use Rattle.code_flat.specs.Opcodes as op
 use Rattle.code_flat.specs.Machine.{Instr, NONE, LIST, LEAVE, ASK, SELECT, OPEN, END, CASE, decode, fetch, is_zero}
-use Rattle.code_flat.proofs.Runs.{is_none}
+use Rattle.code_flat.specs.Machine.{is_none}
 use Rattle.code_valid.specs.Instrs.{len, words, flat, parse, find, names}
 use Rattle.code_valid.specs.Valid.{Valid}
 use Rattle.code_valid.specs.Reading.{standing}

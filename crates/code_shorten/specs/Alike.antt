@@ -7,7 +7,8 @@ use Rattle.std.proofs.Math.Bool.{true, false}
 use Rattle.std.proofs.Math.ListN.{get_or}
 use Rattle.route_completion.specs.Sem.{plain, asked, pick, is_yes}
 use Rattle.code_flat.specs.Machine.{Res, res, pre, Instr, NONE, LIST, LEAVE, ASK, SELECT, OPEN, END, CASE, decode, fetch, Frame, open', Pos, pos, is_zero, unwind, is_case, chase}
-use Rattle.code_flat.proofs.Runs.{is_none, inside}
+use Rattle.code_flat.proofs.Runs.{inside}
+use Rattle.code_flat.specs.Machine.{is_none}
 use Rattle.code_flat.specs.Forward.{ask_now, behind, forward, measure, step, run}
 use Rattle.code_flat.proofs.Steps.{run_step}
 use Rattle.code_valid.proofs.ReadingLaws.{decode_none}

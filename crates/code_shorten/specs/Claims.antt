@@ -6,7 +6,7 @@ use Rattle.route_completion.specs.Sem.{Comp, normal, breaks, continues, returns,
 use Rattle.route_completion.specs.Route.{end_of, route_of, route}
 use Rattle.code_flat.specs.Code.{unit, RoomAll}
 use Rattle.code_flat.specs.Machine.{Instr, room, started, code_route, result}
-use Rattle.code_flat.proofs.Runs.{is_none}
+use Rattle.code_flat.specs.Machine.{is_none}
 use Rattle.code_flat.proofs.Correct.{unit_correct}
 use Rattle.code_flat.proofs.ClaimsLaws.{unit_runs}
 use Rattle.code_valid.specs.Instrs.{parse, find}

@@ -9,7 +9,7 @@ use Rattle.std.proofs.Math.Logic.{inl, inr}
 use native.Mathlib.Omega.{arith}
 use Rattle.route_completion.specs.Sem.{pick, elem}
 use Rattle.code_flat.specs.Machine.{Instr}
-use Rattle.code_flat.proofs.Runs.{is_none}
+use Rattle.code_flat.specs.Machine.{is_none}
 use Rattle.code_valid.specs.Instrs.{len, find, names, runs_on, leads}
 use Rattle.code_shorten.specs.Short.{named, round, rounds, reached}
 use Rattle.code_shorten.specs.Sound.{Some, Begin, All, Sound, dec_eq, and_left, and_right, find_here, find_there, none_in}

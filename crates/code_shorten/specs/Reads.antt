@@ -3,8 +3,9 @@ use Rattle.std.specs.Prelude.{ℕ, ◌+◌, ◌≡◌, refl, Bool, true, false, 
 use Rattle.std.proofs.Common.{subst, true≢false, eqb-true, arith}
 use Rattle.route_completion.specs.Sem.{pick}
 use Rattle.code_flat.specs.Machine.{Instr, NONE, LIST, LEAVE, ASK, SELECT, OPEN, END, CASE, fetch}
-use Rattle.code_flat.proofs.Runs.{is_none}
-use Rattle.code_flat.proofs.Correct.{Has, has_left, has_right, has_self}
+use Rattle.code_flat.specs.Machine.{is_none}
+use Rattle.code_flat.proofs.Correct.{has_left, has_right, has_self}
+use Rattle.code_flat.specs.Has.{Has}
 use Rattle.code_valid.specs.Instrs.{len, words, flat, find}
 use Rattle.code_shorten.specs.Longer.{words_length}
 

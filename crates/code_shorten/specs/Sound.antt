@@ -7,7 +7,7 @@ use mathlib.Core.List.{List, [], ◌∷◌}
 use Rattle.std.proofs.lemmas.Bool.{eqb-false}
 use Rattle.route_completion.specs.Sem.{pick}
 use Rattle.code_flat.specs.Machine.{Instr, NONE, LIST, LEAVE, ASK, SELECT, OPEN, END, CASE}
-use Rattle.code_flat.proofs.Runs.{is_none}
+use Rattle.code_flat.specs.Machine.{is_none}
 use Rattle.code_valid.specs.Instrs.{len, flat, parse, find, begins, names, runs_on}
 use Rattle.code_valid.specs.declared.Verdict.TheVariants.{Good as good, BadAt as badAt}
 use Rattle.code_valid.specs.Valid.{all_begin, is_last, sound, first_bad, judge, check, Valid}

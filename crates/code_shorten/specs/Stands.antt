@@ -4,7 +4,7 @@ use Rattle.std.proofs.Common.{sym, ◌∙◌, true≢false, inl, inr, eqb-true, 
 use Rattle.std.proofs.Math.Path.{ap, subst}
 use Rattle.route_completion.specs.Sem.{pick, elem}
 use Rattle.code_flat.specs.Machine.{Instr, NONE, LIST, LEAVE, ASK, SELECT, OPEN, END, CASE}
-use Rattle.code_flat.proofs.Runs.{is_none}
+use Rattle.code_flat.specs.Machine.{is_none}
 use Rattle.code_valid.specs.Instrs.{len, find, names, runs_on, leads}
 use Rattle.code_shorten.specs.Short.{named, rounds, reached, moved, relocate, kept, close_up}
 use Rattle.code_shorten.specs.Longer.{relocate_length}

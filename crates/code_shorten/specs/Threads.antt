@@ -4,7 +4,7 @@ use Rattle.std.proofs.Math.Path.{sym, ap, subst}
 use Rattle.std.proofs.Common.{◌∙◌, true≢false, arith}
 use Rattle.route_completion.specs.Sem.{pick}
 use Rattle.code_flat.specs.Machine.{Instr, NONE, LIST, LEAVE, ASK, SELECT, OPEN, END, CASE, fetch, is_zero}
-use Rattle.code_flat.proofs.Runs.{is_none}
+use Rattle.code_flat.specs.Machine.{is_none}
 use Rattle.code_flat.specs.Forward.{run}
 use Rattle.code_valid.specs.Instrs.{len, flat, find, names, runs_on}
 use Rattle.code_shorten.specs.declared.Aim.{Aim}

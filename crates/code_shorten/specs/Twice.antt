@@ -6,7 +6,7 @@ use Rattle.std.proofs.Common.{◌∙◌, subst, arith}
 use Rattle.std.proofs.Math.Bool.{true, false}
 use Rattle.route_completion.specs.Sem.{pick}
 use Rattle.code_flat.specs.Machine.{Instr, NONE, LIST, LEAVE, ASK, SELECT, OPEN, END, CASE, is_zero}
-use Rattle.code_flat.proofs.Runs.{is_none}
+use Rattle.code_flat.specs.Machine.{is_none}
 use Rattle.code_valid.specs.Instrs.{len, flat, parse, find, begins, names, runs_on}
 use Rattle.code_valid.specs.Valid.{is_last, Valid}
 use Rattle.code_shorten.specs.declared.Aim.{Aim}

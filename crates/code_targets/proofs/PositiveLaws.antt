@@ -11,7 +11,8 @@ use Rattle.route_completion.specs.Sem.{Comp, normal, breaks, continues, returns,
 use Rattle.code_flat.specs.Code.{Stat, at, place_of, depth_of, next, in_try, in_loop, top}
 use Rattle.code_tree.specs.Labels.{id_at}
 use Rattle.code_tree.specs.Parts.{up_of, shape_at, order}
-use Rattle.code_tree.proofs.PartsLaws.{All, Part, order_all_lem}
+use Rattle.code_tree.proofs.PartsLaws.{All, order_all_lem}
+use Rattle.code_tree.specs.Parts.{Part}
 use Rattle.code_tree.specs.declared.Shape.{Shape}
 use Rattle.code_tree.specs.declared.Shape.TheVariants.{Leaf, Class, If, With, Block, Label, Loop, Switch, Case, Try, Catch}
 use Rattle.code_layout.specs.Widths.{has_role, is_try, sum, in_unit, own_width, own_width_by, width_at, number_by}

@@ -9,7 +9,8 @@ use Rattle.code_tree.specs.Statements.{before_at, test_at, default_at, list_of, 
 use Rattle.code_tree.specs.Labels.{id_at}
 use Rattle.code_tree.specs.declared.Shape.{Shape}
 use Rattle.code_tree.specs.declared.Shape.TheVariants.{Leaf as Single, Class, If, With, Block, Label, Loop, Switch, Case, Try, Catch}
-use Rattle.code_tree.proofs.PartsLaws.{All, Part, order_all_lem}
+use Rattle.code_tree.proofs.PartsLaws.{All, order_all_lem}
+use Rattle.code_tree.specs.Parts.{Part}
 
 -- Two functions that agree on the parts, and on theirs, build one statement.
 module _ (ns names : List ℕ) (S T : ℕ → Stmt) where

@@ -11,6 +11,7 @@ use Rattle.table_children.specs.Children.{keep}
 use Rattle.code_tree.specs.declared.Shape.{Shape}
 use Rattle.code_tree.specs.declared.Shape.TheVariants.{Leaf as Single, Class, If, With, Block, Label, Loop, Switch, Case, Try, Catch}
 use Rattle.code_tree.specs.Parts.{up_of, shape_at, is_part, parts, with_role, order_by, order}
+use Rattle.code_tree.specs.Parts.{Part}
 
 -- What holds of each of a list.
 abbrev pub All : (ℕ → Type 0) → List ℕ → Type 0
@@ -29,13 +30,6 @@ all_keep P q (j ∷ a) x = go (q j) (all_keep P q a x.1)
     go : (t : Bool) → All P (keep q a) → All P (cond t (j ∷ keep q a) (keep q a))
     go true r = (x.0, r)
     go false r = r
-
--- c is a part of p.
-pub record Part (ns : List ℕ) (p c : ℕ) : Type 0 where
-  pub behind : p < c
-  pub inside : c < count ns
-  pub parent : up_of ns c ≡ p
-  pub part : is_part ns c ≡ true
 
 module _ (ns : List ℕ) (p : ℕ) where
   pub parts_end : (i : ℕ) → count ns ≤ i → parts ns p i ≡ []

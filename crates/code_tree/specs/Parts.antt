@@ -9,6 +9,7 @@ use Rattle.table_records.specs.NodeFlag as flag
 use Rattle.table_children.specs.Children.{keep}
 use Rattle.code_tree.specs.declared.Shape.{Shape}
 use Rattle.code_tree.specs.declared.Shape.TheVariants.{Leaf, Class, If, With, Block, Label, Loop, Switch, Case, Try, Catch}
+use Rattle.std.specs.Prelude.{true}
 
 -- A class, and an export, which may declare one.
 abbrev pub is_class : ℕ → Bool
@@ -75,3 +76,10 @@ order_by ns Catch ps = ps
 
 unfoldable pub order : List ℕ → ℕ → List ℕ
 order ns j = order_by ns (shape_at ns j) (parts ns j (j + 1))
+
+-- c is a part of p.
+pub record Part (ns : List ℕ) (p c : ℕ) : Type 0 where
+  pub behind : p < c
+  pub inside : c < count ns
+  pub parent : up_of ns c ≡ p
+  pub part : is_part ns c ≡ true

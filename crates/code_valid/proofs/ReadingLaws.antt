@@ -14,7 +14,8 @@ use Rattle.std.proofs.Math.Decide.{dec_lt}
 use Rattle.route_completion.specs.Sem.{pick}
 use Rattle.code_flat.specs.Opcodes as op
 use Rattle.code_flat.specs.Machine.{Instr, NONE, LIST, LEAVE, ASK, SELECT, OPEN, END, CASE, decode, fetch}
-use Rattle.code_flat.proofs.Runs.{is_none, past}
+use Rattle.code_flat.proofs.Runs.{past}
+use Rattle.code_flat.specs.Machine.{is_none}
 use Rattle.code_valid.specs.declared.Verdict.TheVariants.{Good as good, BadAt as badAt}
 use Rattle.code_valid.specs.Instrs.{len, parse, begins, names, runs_on}
 use Rattle.code_valid.specs.Valid.{all_begin, is_last, sound, first_bad, judge, check}

@@ -3,7 +3,7 @@ use Rattle.std.specs.Prelude.{ℕ, zero, suc, ◌+◌, Bool, true, false, not, �
 use Rattle.route_completion.specs.Sem.{pick}
 use Rattle.code_flat.specs.Opcodes as op
 use Rattle.code_flat.specs.Machine.{Instr, NONE, LIST, LEAVE, ASK, SELECT, OPEN, END, CASE}
-use Rattle.code_flat.proofs.Runs.{is_none}
+use Rattle.code_flat.specs.Machine.{is_none}
 
 -- How many numbers it takes.
 abbrev pub len : Instr → ℕ

@@ -24,7 +24,8 @@ use Rattle.refusal_fields.specs.Fields.{Listed}
 use Rattle.refusal_standing.specs.Standing.{Placed}
 use Rattle.refusal_counts.specs.Counts.{with_role as number, Counted}
 use Rattle.code_tree.specs.Parts.{entered_by, up_of, shape_at, is_part, part_by, parts, with_role, order_by, order}
-use Rattle.code_tree.proofs.PartsLaws.{All, Part, parts_all}
+use Rattle.code_tree.proofs.PartsLaws.{All, parts_all}
+use Rattle.code_tree.specs.Parts.{Part}
 use Rattle.code_tree.proofs.UpLaws.{up_falls}
 use Rattle.code_tree.specs.declared.Shape.{Shape}
 use Rattle.code_tree.specs.declared.Shape.TheVariants.{Leaf as Single, Class, If, With, Block, Label, Loop, Switch, Case, Try, Catch}

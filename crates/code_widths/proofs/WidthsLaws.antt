@@ -13,7 +13,8 @@ use Rattle.base_common.proofs.Bools.{never}
 use Rattle.table_records.specs.Table.{count, role_of}
 use Rattle.table_records.specs.Roles as role
 use Rattle.code_tree.specs.Parts.{up_of, shape_at, is_part, parts, order_by, order}
-use Rattle.code_tree.proofs.PartsLaws.{Part, parts_end, parts_turn, parts_all}
+use Rattle.code_tree.proofs.PartsLaws.{parts_end, parts_turn, parts_all}
+use Rattle.code_tree.specs.Parts.{Part}
 use Rattle.code_tree.specs.declared.Shape.{Shape}
 use Rattle.code_tree.specs.declared.Shape.TheVariants.{Leaf, Class, If, With, Block, Label, Loop, Switch, Case, Try, Catch}
 use Rattle.code_layout.specs.Widths.{sum, in_unit, width_at, number_by, is_try, open_words}

@@ -15,30 +15,17 @@ use Rattle.check_diagnostics.proofs.Gather.{flat_same_lem}
 use Rattle.check_identifiers.specs.Identifiers.{await_finding, strict_context, check_identifier, check_binding_identifier, check_identifier_reference}
 use Rattle.check_statements.specs.Statements.{check_body, check_with_statement, check_using}
 use Rattle.check_classes.specs.ClassChecks.{private_undeclared, require_class_name, constructors, first_pair, second_by, second_constructor, check_class}
-use Rattle.check_duplicates.specs.Duplicates.{duplicate_elements}
 use Rattle.check_dispatch.specs.Findings.{findings_at, findings_of}
 use Rattle.check_dispatch.specs.Rule.{rule}
-use Rattle.check_dispatch.specs.Reported.{reported_at}
 use Rattle.ecma_dispatch.specs.WithCode.{with_code}
 use Rattle.ecma_dispatch.proofs.WithCodeLaws.{with_append, coded_none}
-use Rattle.ecma_dispatch.specs.Coded.{Coded}
 use Rattle.ecma_dispatch.specs.NodesOf.{nodes_of, raised}
 use Rattle.ecma_dispatch.proofs.NodesOfLaws.{raised_again}
 use Rattle.ecma_dispatch.specs.CheckCodes.{of_clash}
 use Rattle.ecma_dispatch.proofs.CheckCodesLaws.{with_codes, undeclared_codes, constructor_codes, duplicate_codes}
 use Rattle.ecma_dispatch.proofs.DispatchLaws.{at_code, whole_other}
 use Rattle.ecma_dispatch.proofs.OptionLaws.{at34}
-
-pub record Typescript (ns ss source names : List ℕ) : Type 0 where
-  -- at a node all codes but 8, 17 and 27 are as in a module of JavaScript, 1 at an object among them, ..
-  pub others : (c : ℕ) → member c (8 ∷ 17 ∷ 27 ∷ []) ≡ false → (n : ℕ) → with_code c (findings_at 2 ns ss source names n) ≡ with_code c (findings_at 1 ns ss source names n)
-  -- .. 27 is raised where it was, and 34 is what it was
-  pub second_constructors : (n : ℕ) → raised 27 (findings_at 2 ns ss source names n) ≡ raised 27 (findings_at 1 ns ss source names n)
-  pub bodies : (async_bodies n : ℕ) → with_code 34 (reported_at (rule 2 async_bodies ns ss source names) n) ≡ with_code 34 (reported_at (rule 1 async_bodies ns ss source names) n)
-  -- the classes raise 1 and 35 alone
-  pub classes : Coded (1 ∷ 35 ∷ []) (duplicate_elements 2 ns names)
-  -- of the tree: all codes but 1, 8, 17, 27 and 35
-  pub whole : (c : ℕ) → member c (1 ∷ 8 ∷ 17 ∷ 27 ∷ 35 ∷ []) ≡ false → with_code c (findings_of 2 ns ss source names) ≡ with_code c (findings_of 1 ns ss source names)
+use Rattle.ecma_dispatch.specs.Typescript.{Typescript}
 
 -- a TypeScript module is a module
 same_name : (ns ss names : List ℕ) (n : ℕ) → check_identifier 2 ns ss names n ≡ check_identifier 1 ns ss names n

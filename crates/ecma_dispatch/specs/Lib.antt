@@ -5,3 +5,4 @@ pub mod Table
 pub mod Dispatch
 pub mod Option
 pub mod NodesOf
+pub mod Typescript

@@ -20,7 +20,8 @@ use Rattle.route_completion.specs.Tree.{Stmt, if2, if3, nil, try_c, try_f}
 use Rattle.route_completion.specs.Sem.{out, elem, breaks, continues, returns, throws, plain, more, normal, ask, pick, is_yes, unbreak, unlabel, loops, comp_of, and_then, exec, execs, exec_from, entry, default_at as defaultPlace, count as countCases}
 use Rattle.code_tree.specs.Labels.{lab_by, id_at}
 use Rattle.code_tree.specs.Parts.{up_of, shape_at, shape_by, parts, with_role, order_by, order}
-use Rattle.code_tree.proofs.PartsLaws.{All, Part, parts_all}
+use Rattle.code_tree.proofs.PartsLaws.{All, parts_all}
+use Rattle.code_tree.specs.Parts.{Part}
 use Rattle.code_tree.proofs.BoundLaws.{fuel_enough}
 use Rattle.code_tree.proofs.ClassLaws.{class_runs}
 use Rattle.code_tree.specs.Statements.{leaf_at, before_at, test_at, default_at, list_of, one_of, if_of, try_of, cases_of, build, stmt_at, body_of, holder_of, unit_by, unit_of}

@@ -13,7 +13,8 @@ use Rattle.table_records.specs.declared.Found.TheVariants.{At, Nothing}
 use Rattle.table_children.specs.Children.{keep}
 use Rattle.route_completion.specs.Sem.{is_yes, pick}
 use Rattle.code_tree.specs.Parts.{up_of, is_part, parts, with_role}
-use Rattle.code_tree.proofs.PartsLaws.{All, Part, parts_turn, parts_end}
+use Rattle.code_tree.proofs.PartsLaws.{All, parts_turn, parts_end}
+use Rattle.code_tree.specs.Parts.{Part}
 use Rattle.code_tree.specs.Statements.{default_at}
 use Rattle.route_steps.specs.Steps.{head_of, branch_of, from_default, cases_from, role_in}
 

@@ -7,7 +7,7 @@ use Rattle.table_records.specs.declared.Found.TheVariants.{At, Nothing}
 use Rattle.route_completion.specs.Tree.{Stmt}
 use Rattle.route_completion.specs.Sem.{Out, normal, out, is_yes, pick, catching, finally, exec}
 use Rattle.code_tree.specs.Parts.{parts, with_role}
-use Rattle.code_tree.proofs.PartsLaws.{Part}
+use Rattle.code_tree.specs.Parts.{Part}
 use Rattle.code_tree.specs.Statements.{default_at}
 
 -- What was found is the first of ps, which are parts of p in node order.

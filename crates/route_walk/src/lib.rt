@@ -9,7 +9,7 @@ ghost use Rattle.route_completion.specs.Sem.{Out, plain, asked as ask', normal, 
 ghost use Rattle.route_completion.specs.Route.{end_of, route};
 ghost use Rattle.code_tree.specs.Labels.{name_id, id_at};
 ghost use Rattle.code_tree.specs.Parts.{up_of, parts};
-ghost use Rattle.code_tree.proofs.PartsLaws.{Part};
+ghost use Rattle.code_tree.specs.Parts.{Part};
 ghost use Rattle.code_tree.specs.Statements.{leaf_at, before_at, test_at, list_of, one_of, unit_of};
 ghost use Rattle.route_walk.specs.Walk.{Walkable, Enterable, comp_at, label_in, Walked, Shows};
 ghost use Rattle.route_steps.specs.Statement.{is_labeled, labels_of, statement};

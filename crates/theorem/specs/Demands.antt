@@ -19,7 +19,8 @@ use Rattle.refusal_state.specs.Targets.{state_answer}
 use Rattle.call_renamed.specs.Same.{LabelsRenamed, Same, with_tables}
 use Rattle.call_renamed.proofs.Theorem.{labels_renamed}
 use Rattle.ecma_base.specs.Telling.{Telling}
-use Rattle.ecma_dispatch.proofs.TypescriptLaws.{Typescript, typescript}
+use Rattle.ecma_dispatch.proofs.TypescriptLaws.{typescript}
+use Rattle.ecma_dispatch.specs.Typescript.{Typescript}
 use Rattle.ecma_standard.specs.Standard.{Standard, standard262}
 use Rattle.ecma_standard.specs.Findings.{Broken, findings262}
 use Rattle.ecma_standard.specs.AsyncBodies.{OptionOn, option_on}

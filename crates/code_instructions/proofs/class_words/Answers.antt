@@ -7,7 +7,7 @@ use Rattle.code_targets.specs.Targets.{target, depth_at}
 use Rattle.code_layout.specs.Context.{ifz, head0, offset_at}
 use Rattle.code_layout.specs.Widths.{is_try, number_by}
 use Rattle.code_layout.specs.Words.{words_at}
-use Rattle.code_flat.proofs.Correct.{Has}
+use Rattle.code_flat.specs.Has.{Has}
 use Rattle.code_flat.specs.Code.{at}
 use Rattle.code_branch.specs.Branch.{stat_of}
 use Rattle.code_instructions.proofs.class_words.Goals as goal

@@ -3,7 +3,7 @@ use Prim.Native.Nat.{◌+◌, ◌-◌}
 use mathlib.Core.Path.{◌≡◌}
 use mathlib.Core.List.{◌∷◌}
 use Rattle.table_records.specs.Table.{count}
-use Rattle.code_tree.proofs.PartsLaws.{Part}
+use Rattle.code_tree.specs.Parts.{Part}
 use Rattle.code_tree.specs.Parts.{parts}
 use Rattle.code_layout.specs.Context.{offset_at}
 use Rattle.code_instructions.proofs.default_at.Given as goal

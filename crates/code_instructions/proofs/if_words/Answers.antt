@@ -10,7 +10,7 @@ use lib.ListN.{get_or}
 use Rattle.table_records.specs.Table.{role_of}
 use Rattle.code_layout.specs.Context.{offset_at}
 use Rattle.code_layout.specs.Words.{words_at}
-use Rattle.code_flat.proofs.Correct.{Has}
+use Rattle.code_flat.specs.Has.{Has}
 use Rattle.code_branch.specs.Branch.{stat_of}
 use Rattle.code_branch.proofs.JumpLaws as array
 use Rattle.code_instructions.proofs.if_words.Goals as goal

@@ -1,7 +1,7 @@
 use Rattle.code_instructions.proofs.WordsLaws.{leaf_has}
 use mathlib.Core.Path.{sym, subst}
 use Rattle.code_layout.specs.Words.{words_at}
-use Rattle.code_flat.proofs.Correct.{Has}
+use Rattle.code_flat.specs.Has.{Has}
 use Rattle.code_branch.specs.Branch.{stat_of}
 use Rattle.code_instructions.proofs.leaf_words.Goals as goal
 

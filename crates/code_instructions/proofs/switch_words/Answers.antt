@@ -9,7 +9,7 @@ use Rattle.code_tree.specs.Parts.{order}
 use Rattle.code_layout.specs.Context.{head0, offset_at}
 use Rattle.code_layout.specs.Widths.{is_try, number_by}
 use Rattle.code_layout.specs.Words.{words_at}
-use Rattle.code_flat.proofs.Correct.{Has}
+use Rattle.code_flat.specs.Has.{Has}
 use Rattle.code_branch.specs.Branch.{stat_of}
 use Rattle.code_branch.proofs.JumpLaws as array
 use Rattle.code_instructions.proofs.switch_words.Goals as goal
