@@ -1,5 +1,5 @@
 -- The parts of a node: the statements that it holds, in the order of their code.
-use Rattle.std.specs.Prelude.{ℕ, ◌+◌, List, ◌++◌, Bool, false, cond, ◌&&◌, ◌||◌, eqb}
+use Rattle.std.specs.Prelude.{ℕ, ◌<◌, ◌≡◌, ◌+◌, List, ◌++◌, Bool, true, false, cond, ◌&&◌, ◌||◌, eqb}
 use Rattle.base_common.specs.Upto.{upto}
 use Rattle.base_common.specs.Tests.{within}
 use Rattle.table_records.specs.Table.{kind_of, parent_of, role_of, flags_of, count, has_flag}
@@ -9,7 +9,6 @@ use Rattle.table_records.specs.NodeFlag as flag
 use Rattle.table_children.specs.Children.{keep}
 use Rattle.code_tree.specs.declared.Shape.{Shape}
 use Rattle.code_tree.specs.declared.Shape.TheVariants.{Leaf, Class, If, With, Block, Label, Loop, Switch, Case, Try, Catch}
-use Rattle.std.specs.Prelude.{true}
 
 -- A class, and an export, which may declare one.
 abbrev pub is_class : ℕ → Bool

@@ -1,4 +1,4 @@
--- The option on async bodies: with it on 34 is added and nothing else, of all tables. With it off, findings are the Rust's (check_dispatch/specs/ReportedLaws.antt, `off`).
+-- The option on async bodies: with it on 34 is added and nothing else, of all tables. With it off, findings are the Rust's (check_dispatch/proofs/ReportedLaws.antt, `off`).
 use Rattle.std.specs.Prelude.{ℕ, ◌≡◌, Bool, true, false, cond, ◌||◌, eqb}
 use Rattle.std.proofs.Math.Path.{refl}
 use Rattle.std.proofs.Common.{ap, sym, ◌∙◌, eqb-true}

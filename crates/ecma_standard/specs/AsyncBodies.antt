@@ -1,5 +1,5 @@
 -- THE STANDARD'S RULES WITH THE OPTION ON ASYNC AND GENERATOR BODIES ON (document 02, request 8): of well-formed tables, for every telling of the functions that are async or generators
--- that agrees with the flag 8192 on each Function. With the option off the findings are the Rust's, of all tables: `off` (crates/check_dispatch/specs/ReportedLaws.antt).
+-- that agrees with the flag 8192 on each Function. With the option off the findings are the Rust's, of all tables: `off` (crates/check_dispatch/proofs/ReportedLaws.antt).
 use Rattle.std.specs.Prelude.{ℕ, ◌<◌, ◌≡◌, refl, List, [], ◌∷◌, ◌++◌, true, false, not, ◌&&◌, ◌||◌, eqb}
 use Rattle.std.proofs.Common.{ap, sym, ◌∙◌}
 use Rattle.base_common.specs.Upto.{all}
