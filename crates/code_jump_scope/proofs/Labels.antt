@@ -26,7 +26,7 @@ use Rattle.code_tree.specs.declared.Shape.{Shape}
 use Rattle.code_tree.specs.declared.Shape.TheVariants.{Leaf as Single, Class, If, With, Block, Label, Loop, Switch, Case, Try, Catch}
 use Rattle.code_layout.specs.Shaped.{is_one, Good}
 use Rattle.code_layout.proofs.Sums.{In, in_order}
-use Rattle.code_wellformed.proofs.Kinds.{by_kind}
+use Rattle.code_wellformed.proofs.KindsLaws.{by_kind}
 
 pub shape_loop : (kind : ℕ) → is_iteration kind ≡ true → shape_by kind ≡ Loop
 unfolding shape_by

@@ -27,7 +27,7 @@ use Rattle.code_tree.specs.Parts.{up_of, shape_at}
 use Rattle.code_tree.specs.declared.Shape.{Shape}
 use Rattle.code_tree.specs.declared.Shape.TheVariants.{Leaf as Single, Class, If, With, Block, Label, Loop, Switch, Case, Try, Catch}
 use Rattle.code_layout.specs.Shaped.{Good}
-use Rattle.code_wellformed.proofs.Kinds.{switch_shape}
+use Rattle.code_wellformed.proofs.KindsLaws.{switch_shape}
 use Rattle.code_jump_scope.proofs.ScopeAt.{Scope, part_scope, scope_at, under, scope_root, scope_up, Member, member_part, member_up, climb}
 use Rattle.code_jump_scope.proofs.Labels.{shape_loop, shape_label, label_kind, up_parent, label_test, no_same, item_part, item_loop}
 

@@ -28,7 +28,7 @@ use Rattle.code_tree.specs.Parts.{Part}
 use Rattle.code_tree.specs.declared.Shape.{Shape}
 use Rattle.code_tree.specs.declared.Shape.TheVariants.{Leaf as Single, Class, If, With, Block, Label, Loop, Switch, Case, Try, Catch}
 use Rattle.code_layout.specs.Shaped.{is_switch, Two, Three, Good}
-use Rattle.code_wellformed.proofs.Kinds.{case_kind, case_shape}
+use Rattle.code_wellformed.proofs.KindsLaws.{case_kind, case_shape}
 use Rattle.code_wellformed.proofs.Parts.{good}
 use Rattle.code_wellformed.proofs.ReadyLaws.{block_shape}
 use Rattle.code_wellformed.proofs.Holder.{holder_root, holder_in_lem, holder_holds}

@@ -39,7 +39,7 @@ use Rattle.code_layout.specs.Exact.{open_at, number_at, exact_length}
 use Rattle.code_layout.proofs.ExactLaws.{sum_none, upto_all, exact_length_lem}
 use Rattle.code_layout.proofs.LayoutLaws.{in_root, in_low, in_part, in_above, in_down}
 use Rattle.code_layout.proofs.Sums.{sum_same}
-use Rattle.code_wellformed.proofs.Kinds.{switch_shape, try_shape, class_shape}
+use Rattle.code_wellformed.proofs.KindsLaws.{switch_shape, try_shape, class_shape}
 use Rattle.code_wellformed.proofs.Parts.{static_up, plain_up}
 use Rattle.code_wellformed.proofs.Holder.{Root, holder_root, holder_in_lem}
 use Rattle.code_wellformed.proofs.HolderReady.{holder_ready}

@@ -1,4 +1,4 @@
-pub mod Kinds
+pub mod KindsLaws
 pub mod Parts
 pub mod Holder
 pub mod HolderReady

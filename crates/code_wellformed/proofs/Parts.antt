@@ -30,7 +30,7 @@ use Rattle.code_tree.proofs.UpLaws.{up_falls}
 use Rattle.code_tree.specs.declared.Shape.{Shape}
 use Rattle.code_tree.specs.declared.Shape.TheVariants.{Leaf as Single, Class, If, With, Block, Label, Loop, Switch, Case, Try, Catch}
 use Rattle.code_layout.specs.Shaped.{is_one, is_case, is_switch, One, Two, Three, Good}
-use Rattle.code_wellformed.proofs.Kinds.{one_kind_lem, case_kind, switch_kind, if_kind, try_kind, catch_kind, try_shape, case_shape, switch_shape, body_shape, class_shape, static_shape}
+use Rattle.code_wellformed.proofs.KindsLaws.{one_kind_lem, case_kind, switch_kind, if_kind, try_kind, catch_kind, try_shape, case_shape, switch_shape, body_shape, class_shape, static_shape}
 
 -- Two tests that agree keep the same.
 keep_same : (q r : ℕ → Bool) (n f i : ℕ) → n ≤ i + f → ((j : ℕ) → i ≤ j → j < n → q j ≡ r j) → keep q (upto i n) ≡ keep r (upto i n)

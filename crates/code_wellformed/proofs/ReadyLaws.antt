@@ -15,7 +15,7 @@ use Rattle.code_tree.specs.Parts.{up_of, shape_by, shape_at, is_part, part_by}
 use Rattle.code_tree.specs.declared.Shape.TheVariants.{Block, Try}
 use Rattle.code_layout.specs.Widths.{is_try}
 use Rattle.code_contexts.specs.Contexts.{TryParts, Ready}
-use Rattle.code_wellformed.proofs.Kinds.{try_kind}
+use Rattle.code_wellformed.proofs.KindsLaws.{try_kind}
 use Rattle.code_wellformed.proofs.Parts.{static_up, plain_up, good}
 use Rattle.code_wellformed.specs.Ready.{Holds}
 
