@@ -1,4 +1,3 @@
 pub mod Calls
 pub mod Made
-pub mod CallsLaws
 pub mod Theorem

@@ -53,7 +53,7 @@ use Rattle.route_viewer.specs.Shown.{shown_answer, shown_slice}
 use Rattle.route_viewer.specs.declared.Routed.TheVariants as routed
 use Rattle.refusal_state.specs.Targets.{names_unit, seek, plain_break, named_break, plain_continue, named_continue, has_target, lost_at, state_place, unit_refusal, refused_or, state_answer}
 use Rattle.call_routes.specs.Calls.{code_refusal, route_answer, route_slice}
-use Rattle.call_routes.specs.CallsLaws.{code_route_lem}
+use Rattle.call_routes.proofs.CallsLaws.{code_route_lem}
 use Rattle.call_rows.specs.Rows.{CheckRow, RouteRow, Row, check, route, Checks, Shows, Holds, Each, rows}
 
 -- what the call does with a row that no refusal turns down

@@ -17,7 +17,7 @@ use Rattle.code_length.specs.Length.{code_length}
 use Rattle.call_routes.specs.declared.Coded.{Coded}
 use Rattle.call_routes.specs.declared.Coded.TheVariants as coded
 use Rattle.call_routes.specs.Calls.{code_refusal, code_answer, code_slice, unless}
-use Rattle.call_routes.specs.CallsLaws.{ready, code_route_lem, front_code, over_length}
+use Rattle.call_routes.proofs.CallsLaws.{ready, code_route_lem, front_code, over_length}
 use Rattle.call_shared.specs.declared.Beginning.{Beginning}
 use Rattle.call_shared.specs.declared.Beginning.TheVariants as answer
 use Rattle.call_shared.specs.Shared.{shared_length, shared_answer}

@@ -30,8 +30,8 @@ use Rattle.code_length.proofs.UnitNodesLaws.{unit_nodes_lem}
 use Rattle.code_once.proofs.Once.{unit_once}
 use Rattle.code_wellformed.proofs.Parts.{good}
 use Rattle.code_wellformed.proofs.Holder.{holder_in_lem}
-use Rattle.call_routes.specs.CallsLaws.{unit_kind_lem}
-use Rattle.call_routes.specs.Theorem.{routes}
+use Rattle.call_routes.proofs.CallsLaws.{unit_kind_lem}
+use Rattle.call_routes.proofs.TheoremLaws.{routes}
 
 -- What holds of the unit u.
 pub record OneAnswerChanged (ns names : List ℕ) (u : ℕ) : Type 0 where

@@ -6,7 +6,7 @@ use Rattle.check_dispatch.specs.Rule.{rule}
 use Rattle.code_assemble.specs.Ready.{Ready}
 use Rattle.route_walk.specs.Walk.{Enterable}
 use Rattle.call_routes.specs.Calls.{code_refusal}
-use Rattle.call_routes.specs.CallsLaws.{ready}
+use Rattle.call_routes.proofs.CallsLaws.{ready}
 
 -- What can be coded can be walked.
 pub ready_enterable : (ns names : List ℕ) (u : ℕ) → Ready ns names u → Enterable ns names u

@@ -18,7 +18,7 @@ use Rattle.code_tree.specs.Statements.{unit_of}
 use Rattle.code_length.specs.Length.{code_length}
 use Rattle.check_dispatch.specs.Rule.{Rule}
 use Rattle.call_routes.specs.Calls.{code_refusal, unless, if_room, route_answer, route_slice}
-use Rattle.call_routes.specs.CallsLaws.{code_route_lem, ready}
+use Rattle.call_routes.proofs.CallsLaws.{code_route_lem, ready}
 use Rattle.call_walk.specs.Walked.{walk_answer, walk_slice}
 
 -- What holds of a rule, a unit and a list of answers, refused or not.

@@ -25,10 +25,12 @@ use Rattle.ecma_standard.specs.Standard.{Standard, standard262}
 use Rattle.ecma_standard.specs.Findings.{Broken, findings262}
 use Rattle.ecma_standard.specs.AsyncBodies.{OptionOn, option_on}
 use Rattle.code_jump_scope.specs.UnitScoped.{Targeted}
-use Rattle.call_routes.specs.Theorem.{Routes, routes, targeted}
+use Rattle.call_routes.specs.Theorem.{Routes}
+use Rattle.call_routes.proofs.TheoremLaws.{routes, targeted}
 use Rattle.call_shared.specs.Theorem.{OneAnswerChanged, one_answer_changed_lem}
 use Rattle.call_walk.specs.Theorem.{BothEngines, both_engines}
-use Rattle.call_marks.specs.Theorem.{History, TakenUp, marks_in_a_route}
+use Rattle.call_marks.specs.Theorem.{History, TakenUp}
+use Rattle.call_marks.proofs.TheoremLaws.{marks_in_a_route}
 use Rattle.call_rows.specs.Rows.{rows, Each, Holds}
 use Rattle.call_rows.proofs.RowsHold.{rows_hold_lem}
 use Rattle.call_labels.specs.Written.{nodes_renamed, names_renamed}

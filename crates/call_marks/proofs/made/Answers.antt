@@ -1,7 +1,7 @@
 use Rattle.call_marks.specs.Made.{shown_or, list_or, marks_or}
 use Rattle.call_marks.specs.Marked.{seventeen_of}
-use Rattle.call_marks.specs.MarkedLaws.{made_room, list_room_lem, marks_room, made_short, list_short, marks_short}
-use Rattle.call_routes.specs.CallsLaws.{front_code, over_length, told_code, told_short, slice_over}
+use Rattle.call_marks.proofs.MarkedLaws.{made_room, list_room_lem, marks_room, made_short, list_short, marks_short}
+use Rattle.call_routes.proofs.CallsLaws.{front_code, over_length, told_code, told_short, slice_over}
 use Rattle.route_marks.specs.Taken.{stop_of}
 use Rattle.route_viewer.specs.declared.Routed.TheVariants as routed
 use Rattle.code_tree.specs.Statements.{unit_of}

@@ -1,5 +1,5 @@
 use Rattle.call_marks.specs.Marked.{code_of, sixteen_of, seventeen_of}
-use Rattle.call_marks.specs.MarkedLaws.{refused_answer, refused_code, refused_slice, refused_marks, unit_ready, mark_ready, passed_answer, passed_code, passed_slice, passed_marks}
+use Rattle.call_marks.proofs.MarkedLaws.{refused_answer, refused_code, refused_slice, refused_marks, unit_ready, mark_ready, passed_answer, passed_code, passed_slice, passed_marks}
 use Rattle.route_marks.specs.Taken.{stop_of}
 use Rattle.check_dispatch.specs.Rule.{rule}
 use lib.ListN.{length}

@@ -1,5 +1,5 @@
 use Rattle.call_marks.specs.Marked.{code_of, from_refusal, place_refusal, mark_answer, mark_code, mark_slice, marks_left}
-use Rattle.call_marks.specs.MarkedLaws.{sixteen_same, never_set}
+use Rattle.call_marks.proofs.MarkedLaws.{sixteen_same, never_set}
 use Rattle.route_marks.proofs.TakenLaws.{resumed_is}
 use Rattle.route_marks.specs.Marks.{mark_at}
 use Rattle.code_flat.specs.Machine.{room}

@@ -1,5 +1,5 @@
 use Rattle.call_routes.specs.declared.Coded.TheVariants as coded
-use Rattle.call_routes.specs.CallsLaws.{ready, exact, coded_by_lem, by_room}
+use Rattle.call_routes.proofs.CallsLaws.{ready, exact, coded_by_lem, by_room}
 use Rattle.call_routes.specs.Calls.{unless, if_room, code_refusal, code_answer, code_slice}
 use Rattle.call_routes.specs.Made.{coded_by}
 use Rattle.check_dispatch.specs.Rule.{rule}

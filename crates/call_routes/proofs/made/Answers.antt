@@ -1,4 +1,4 @@
-use Rattle.call_routes.specs.CallsLaws.{code_route_lem, front_code, over_length, told_code, told_short, slice_over, made_room, kept_room, made_short, kept_short}
+use Rattle.call_routes.proofs.CallsLaws.{code_route_lem, front_code, over_length, told_code, told_short, slice_over, made_room, kept_room, made_short, kept_short}
 use Rattle.route_viewer.specs.Shown.{shown_answer, shown_slice}
 use Rattle.route_viewer.specs.declared.Routed.TheVariants as routed
 use Rattle.code_tree.specs.Statements.{unit_of}

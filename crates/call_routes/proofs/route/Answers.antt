@@ -1,7 +1,7 @@
 use Rattle.route_viewer.specs.declared.Routed.TheVariants as routed
 use Rattle.route_viewer.specs.Shown.{shown_answer, shown_slice}
 use Rattle.route_completion.specs.Route.{route}
-use Rattle.call_routes.specs.CallsLaws.{ready, exact, by_room}
+use Rattle.call_routes.proofs.CallsLaws.{ready, exact, by_room}
 use Rattle.call_routes.specs.Calls.{unless, if_room, code_refusal, route_answer, code_slice, route_slice}
 use Rattle.call_routes.specs.Made.{made_answer, made_slice}
 use Rattle.check_dispatch.specs.Rule.{rule}

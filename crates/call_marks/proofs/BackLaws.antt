@@ -8,6 +8,7 @@ use Rattle.code_flat.specs.Machine.{Frame, open', pend, Pos, pos}
 use Rattle.code_machine.specs.Pending.{frame_by}
 use Rattle.route_marks.specs.Marks.{marks, part_at, first_of, is_set, ends_at, mark_at, end_numbers, ends_numbers, mark_numbers, set_mark}
 use Rattle.route_marks.proofs.MarksLaws.{numbers_length}
+use Rattle.call_marks.specs.Theorem.{all_parts}
 
 sets_before : (vs M : List ℕ) (o k : ℕ) → k < o → get_or (sets M o vs) k 0 ≡ get_or M k 0
 sets_before [] M o k h = refl
@@ -50,10 +51,6 @@ ends_back (f ∷ K) A o h = λ i. (both ∙ frame_back f) i ∷ ends_back K A o 
         let e : o + length K * 2 + 1 ≡ o + (length K * 2 + 1) = omega arith in
         let d : o + length K * 2 ≡ o + (length K * 2 + 0) = omega arith in
         λ i. frame_by ((ap (λ k. get_or A k 0) e ∙ number 1 (omega arith)) i) ((ap (λ k. get_or A k 0) d ∙ number 0 (omega arith)) i)
-
--- An array of all eight parts.
-abbrev pub all_parts : ℕ
-all_parts = 8208
 
 module _ (M : List ℕ) (m : ℕ) (p : Pos) (whole : length M ≡ all_parts) (one : m < marks) (room : length p.stack ≤ 512) where
   stored : (i : ℕ) → i < length (mark_numbers p) → get_or (set_mark M m p) (part_at m + i) 0 ≡ get_or (mark_numbers p) i 0

@@ -25,7 +25,7 @@ use Rattle.route_marks.proofs.TakenLaws.{none_set}
 use Rattle.route_marks.specs.declared.Begin.{Begin}
 use Rattle.route_marks.specs.declared.Begin.TheVariants.{Start, Mark}
 use Rattle.call_routes.specs.Calls.{code_refusal, unless, if_room}
-use Rattle.call_routes.specs.CallsLaws.{both, ready, exact, by_room}
+use Rattle.call_routes.proofs.CallsLaws.{both, ready, exact, by_room}
 use Rattle.call_marks.specs.Marked.{to_refusal, from_refusal, sixteen_of, seventeen_of, code_of, mark_answer, mark_code, mark_slice, marks_left}
 use Rattle.call_marks.specs.Made.{shown_or, list_or, marks_or, made_answer, made_slice, made_marks}
 

@@ -1,0 +1,3 @@
+pub mod MarkedLaws
+pub mod TheoremLaws
+pub mod BackLaws

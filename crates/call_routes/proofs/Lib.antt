@@ -1,0 +1,2 @@
+pub mod CallsLaws
+pub mod TheoremLaws
