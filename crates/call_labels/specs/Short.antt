@@ -25,7 +25,7 @@ short_names =
     foldr (λ x r. cond (is_short_word x) r (x ∷ r)) []
     (map (λ i. (letter_a + i) ∷ []) (upto 0 letters) ++ flat_map (λ i. map (λ j. (letter_a + i) ∷ (letter_a + j) ∷ []) (upto 0 letters)) (upto 0 letters))
 
--- the k-th of them by itself (ShortLaws.short-names): the pair has the number k − 26 among all pairs, and one more for each word left out (do 92, if 213, in 221)
+-- the k-th of them by itself (ShortLaws.short_names_lem): the pair has the number k − 26 among all pairs, and one more for each word left out (do 92, if 213, in 221)
 abbrev pub pair_of : ℕ → ℕ
 pair_of m = cond (ltb m 92) m (cond (ltb m 212) (m + 1) (cond (ltb m 219) (m + 2) (m + 3)))
 

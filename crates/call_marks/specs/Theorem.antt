@@ -6,7 +6,6 @@ use mathlib.Core.List.{List, [], ◌++◌, map}
 use Rattle.std.proofs.Math.Bool.{true}
 use Rattle.std.proofs.Math.Dec.{leb}
 use Rattle.check_dispatch.specs.Rule.{Rule}
-use Rattle.refusal_verdict.specs.Refusals as refusal
 use Rattle.refusal_verdict.specs.declared.Verdict.{Verdict}
 use Rattle.refusal_verdict.specs.declared.Verdict.TheVariants.{Passed}
 use Rattle.refusal_state.specs.Targets.{refused_or}

@@ -34,7 +34,8 @@ use Rattle.route_viewer.specs.declared.Routed.TheVariants as routed
 use Rattle.check_jumps.specs.Jumps.{is_unit}
 use Rattle.check_dispatch.specs.Rule.{rule}
 use Rattle.refusal_state.specs.Targets.{refused_or, state_answer}
-use Rattle.refusal_state.proofs.TargetsLaws.{Sound, state_passed}
+use Rattle.refusal_state.proofs.TargetsLaws.{state_passed}
+use Rattle.refusal_state.specs.Targets.{Sound}
 use Rattle.call_routes.specs.declared.Coded.TheVariants as coded
 use Rattle.call_routes.specs.Calls.{code_refusal, unless}
 use Rattle.call_routes.specs.Made.{coded_by, made_answer, made_slice}

@@ -9,7 +9,6 @@ use Rattle.refusal_verdict.specs.declared.Verdict.{Verdict}
 use Rattle.refusal_verdict.specs.declared.Verdict.TheVariants.{Refused, Passed}
 use Rattle.route_completion.specs.Route.{Route, route}
 use Rattle.route_viewer.specs.Shown.{shown_answer, shown_slice}
-use Rattle.route_viewer.specs.declared.Routed.{Routed}
 use Rattle.route_viewer.specs.declared.Routed.TheVariants as routed
 use Rattle.route_list.specs.Listing.{saturated}
 use Rattle.code_flat.specs.Code.{unit}

@@ -41,7 +41,7 @@ unfoldable pub runs : ℕ → ℕ → List ℕ → ℕ → List Frame → List �
 runs lim zero C pc K qs = res [] 6 qs
 runs lim (suc f) C pc K qs = step lim C (runs lim f C) (fetch C pc) pc K qs
 
--- What is left of a run at most, in steps: the bound is never met (Steps.runStep).
+-- What is left of a run at most, in steps: the bound is never met (Steps.run_step).
 abbrev pub measure : List ℕ → ℕ → List ℕ → ℕ
 measure C pc qs = length qs * suc (length C) + (length C - pc)
 

@@ -2,7 +2,6 @@
 use Prim.Native.Nat.{ℕ, suc}
 use Rattle.std.specs.Prelude.{◌≡◌, get_or}
 use mathlib.Core.List.{List, [], ◌∷◌}
-use Rattle.code_flat.specs.Opcodes as op
 
 -- The code C has l at the place o.
 abbrev pub Has : List ℕ → ℕ → List ℕ → Type 0

@@ -107,7 +107,7 @@ step lim C k (OPEN f) b pc K qs = pick (ltb (length K) lim) (pass b (λ r. k r (
 step lim C k (END e) b pc K qs = res [] (end_as e) qs
 step lim C k (CASE c t d) b pc K qs = jump k b (unwind K t d) qs
 
--- The second number bounds the steps. It is never met (Runs.runStep).
+-- The second number bounds the steps. It is never met (Runs.run_step).
 unfoldable pub runs : ℕ → ℕ → List ℕ → ℕ → ℕ → List Frame → List ℕ → Res
 runs lim zero C b pc K qs = res [] 5 qs
 runs lim (suc f) C b pc K qs = step lim C (runs lim f C) (fetch C pc) b pc K qs

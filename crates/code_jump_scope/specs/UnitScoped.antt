@@ -6,7 +6,6 @@ use mathlib.Core.List.{List}
 use Rattle.std.proofs.Math.Bool.{true}
 use Rattle.table_records.specs.Table.{kind_of, count}
 use Rattle.table_records.specs.Kinds as k
-use Rattle.table_records.specs.Roles as role
 use Rattle.refusal_state.specs.Targets.{has_target}
 
 -- Every Break and Continue of the tree has its target inside its nearest unit.

@@ -13,7 +13,7 @@ use Rattle.base_common.proofs.Bools.{never, either, in_range_lem, range_of}
 use Rattle.table_records.specs.Table.{kind_of, parent_of, extra_of, count, scope_of, scope_parent_of, scope_node_of}
 use Rattle.table_records.specs.Facts.{Tree}
 use Rattle.table_records.specs.Kinds as k
-use Rattle.ecma_base.specs.Scopes.{makes_scope, may_make_scope, same_scope, new_scope, follows_at, iff, implies, block_scope, function_scope, arrow_scope, top_scope, scope_kind, flagged_at, class_at, scopes_follow}
+use Rattle.ecma_base.specs.Scopes.{makes_scope, may_make_scope, same_scope, new_scope, follows_at, iff, implies, block_scope, function_scope, arrow_scope, top_scope, scope_kind, flagged_at, class_at, scopes_follow, Made}
 
 pub not_program : (ns : List ℕ) → Tree ns → (i : ℕ) → (kind_of ns i ≡ 0 → ⊥) → 0 < i
 not_program ns t i n = ⊎_elim (λ (q : 0 ≡ i). absurd (n (ap (λ (x : ℕ). kind_of ns x) (sym q) ∙ t.root))) (λ (h : 0 < i). h) (eq-or-lt_of_le (omega arith))
@@ -31,12 +31,6 @@ no_function a e = (ne_eqb a 3 (λ q. never (sym (in_range_lem a 1 3 (omega arith
     go : (x : Bool) → within a 1 2 ≡ x → x ≡ false
     go true q = let r = range_of a 1 2 q in let r0 = r.0 in let r1 = r.1 in never (sym (in_range_lem a 1 3 r0 (omega arith)) ∙ e)
     go false q = refl
-
--- a scope that the parent p of i makes
-pub record Made (ns ss : List ℕ) (i : ℕ) : Type 0 where
-  pub later : 0 < scope_of ns i
-  pub around : scope_parent_of ss (scope_of ns i) ≡ scope_of ns (parent_of ns i)
-  pub whose : scope_node_of ss (scope_of ns i) ≡ parent_of ns i
 
 module _ (ns ss : List ℕ) (t : Tree ns) (w : scopes_follow ns ss ≡ true) where
   abbrev start : Bool

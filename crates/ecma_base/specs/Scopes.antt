@@ -1,5 +1,5 @@
 -- Tables whose scopes follow the tree, as tree makers write them (docs/TREES.md): the condition under which rules that go by scopes are the standard's, which go by the tree.
-use Rattle.std.specs.Prelude.{ℕ, List, Bool, cond, not, ◌&&◌, ◌||◌, eqb, ltb}
+use Rattle.std.specs.Prelude.{ℕ, List, Bool, cond, not, ◌&&◌, ◌||◌, eqb, ltb, ◌<◌, ◌≡◌}
 use Rattle.base_common.specs.Upto.{upto, all}
 use Rattle.base_common.specs.Tests.{within}
 use Rattle.table_records.specs.Table.{kind_of, parent_of, count, extra_of, scope_of, scope_parent_of, scope_flags_of, scope_node_of, has_flag}
@@ -64,3 +64,9 @@ unfoldable pub scopes_follow : List ℕ → List ℕ → Bool
 scopes_follow ns ss =
     (eqb (scope_of ns 0) 0 && eqb (scope_node_of ss 0) 0)
     && (all (flagged_at ns ss) (upto 0 (count ns)) && (all (follows_at ns ss) (upto 1 (count ns)) && all (class_at ns ss) (upto 1 (count ns))))
+
+-- a scope that the parent p of i makes
+pub record Made (ns ss : List ℕ) (i : ℕ) : Type 0 where
+  pub later : 0 < scope_of ns i
+  pub around : scope_parent_of ss (scope_of ns i) ≡ scope_of ns (parent_of ns i)
+  pub whose : scope_node_of ss (scope_of ns i) ≡ parent_of ns i

@@ -46,7 +46,8 @@ use Rattle.ecma_privates.proofs.PrivateTwiceLaws.{some_kept, flat_alike, private
 use Rattle.ecma_privates.proofs.PrivateNamesLaws.{invalid_at, invalid_list, valid_none, private_outside_lem, outside_invalid, private_undeclared_lem, invalid_same, class_above_lem, body_of_class}
 use Rattle.ecma_base.specs.Telling.{Telling, ordinary}
 use Rattle.ecma_base.specs.Scopes.{scopes_follow}
-use Rattle.ecma_supers.proofs.ScopesFitLaws.{ScopesFit, fit_of}
+use Rattle.ecma_supers.proofs.ScopesFitLaws.{fit_of}
+use Rattle.ecma_supers.specs.ScopesFit.{ScopesFit}
 use Rattle.ecma_supers.proofs.SupersLaws.{unit_is_lem, super_bare_lem, super_call_lem, super_property_lem, bare_same, stray_same, property_rule_same, super_same}
 use Rattle.ecma_supers.proofs.SupersByScopesLaws.{bare_by_scopes_lem, stray_by_scopes_lem, property_by_scopes_lem}
 use Rattle.ecma_classes.specs.FirstConstructorLaws.{one_here, first_same}

@@ -7,7 +7,6 @@ use Rattle.base_common.specs.Upto.{upto, all}
 use Rattle.base_common.specs.Tests.{within}
 use Rattle.base_walk.specs.On.{member}
 use Rattle.table_records.specs.Table.{kind_of, count}
-use Rattle.table_records.specs.Kinds as k
 use Rattle.check_diagnostics.specs.declared.Finding.{Finding}
 use Rattle.check_diagnostics.specs.Finding.{listed}
 use Rattle.check_statements.specs.Statements.{check_body, check_consequent, check_alternate, check_function_declaration_in_labeled_statement}

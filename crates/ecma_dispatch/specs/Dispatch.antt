@@ -1,7 +1,6 @@
 -- The codes of the checker that is ported. What is proved of the dispatch is in proofs/Dispatch.antt, its table, and proofs/DispatchLaws.antt.
 use Rattle.std.specs.Prelude.{ℕ}
 use mathlib.Core.List.{List, [], ◌∷◌}
-use Rattle.table_records.specs.Kinds as k
 
 -- the codes that document 01 lists
 abbrev pub listed_codes : List ℕ

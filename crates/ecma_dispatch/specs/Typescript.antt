@@ -2,7 +2,6 @@
 use Rattle.std.specs.Prelude.{ℕ, ◌≡◌, false}
 use mathlib.Core.List.{List, [], ◌∷◌}
 use Rattle.base_walk.specs.On.{member}
-use Rattle.table_records.specs.Kinds as k
 use Rattle.check_duplicates.specs.Duplicates.{duplicate_elements}
 use Rattle.check_dispatch.specs.Findings.{findings_at, findings_of}
 use Rattle.check_dispatch.specs.Rule.{rule}

@@ -20,7 +20,7 @@ use Rattle.ecma_base.specs.Nodes.{of_check}
 use Rattle.ecma_base.specs.Strict.{strict_code}
 use Rattle.ecma_base.proofs.NodesLaws.{if_only}
 use Rattle.ecma_names.specs.Parameters.{goal_module}
-use Rattle.ecma_names.specs.Identifiers.{identifier, strict_reserved, use_strict_directive, simple_parameters, use_strict_there}
+use Rattle.ecma_names.specs.Identifiers.{identifier, strict_reserved, use_strict_directive, simple_parameters, use_strict_there, DirectiveScope}
 use Rattle.ecma_names.specs.Changed.{reserved_name, await_name_scoped, use_strict_scoped}
 
 -- `await` is none of the words that are reserved in strict code
@@ -88,11 +88,6 @@ use_strict_is ns ss names n q =
     rw (eq-eqb (kind_of ns n) k.Directive q)
     (if_only 12 (span_start_of ns n) (span_end_of ns n) n context.none
     (name_is ns names n word.use_strict && (has_flag (scope_flags_of ss (scope_of ns n)) scope.FunctionScope && is_not_simple ns (scope_node_of ss (scope_of ns n)))))
-
--- a directive in the body of a function has that function's scope, and no other directive has one of a function
-pub record DirectiveScope (ns ss : List ℕ) (n : ℕ) : Type 0 where
-  pub function : has_flag (scope_flags_of ss (scope_of ns n)) scope.FunctionScope ≡ eqb (kind_of ns (parent_of ns n)) k.FunctionBody
-  pub whose : kind_of ns (parent_of ns n) ≡ k.FunctionBody → scope_node_of ss (scope_of ns n) ≡ parent_of ns (parent_of ns n)
 
 pub use_strict_agrees : (ns ss names : List ℕ) (n : ℕ) → DirectiveScope ns ss n → use_strict_scoped ns ss names n ≡ use_strict_there ns names n
 unfolding use_strict_scoped use_strict_there

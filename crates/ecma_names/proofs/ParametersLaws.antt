@@ -17,8 +17,8 @@ use Rattle.ecma_trees.proofs.TrailLaws.{handed_law, handed_root}
 use Rattle.ecma_base.specs.Telling.{Telling}
 use Rattle.ecma_base.specs.Contains.{initializer}
 use Rattle.ecma_base.proofs.ContainsLaws.{upward}
-use Rattle.ecma_base.specs.Scopes.{makes_scope, scopes_follow, block_scope}
-use Rattle.ecma_base.proofs.ScopesLaws.{not_program, Made, block_flag, made, same_or_made, same_only, made_kind, class_body, root_kind, root}
+use Rattle.ecma_base.specs.Scopes.{makes_scope, scopes_follow, block_scope, Made}
+use Rattle.ecma_base.proofs.ScopesLaws.{not_program, block_flag, made, same_or_made, same_only, made_kind, class_body, root_kind, root}
 use Rattle.ecma_names.specs.Parameters.{goal_module, Parameters, of_goal, hands_on, parameters_of, yield_parameter, await_parameter}
 use Rattle.ecma_names.specs.Changed.{own_edge, givers, in_generator, in_async, in_block, AwaitTold}
 

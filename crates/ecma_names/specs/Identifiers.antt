@@ -1,8 +1,8 @@
 -- ECMA-262: 13.1.1 Static Semantics: Early Errors (Identifiers); 8.6.4 Static Semantics: AssignmentTargetType; 11.2.1 Directive Prologues and the Use Strict Directive; 15.1.3 IsSimpleParameterList; 15.2.1 Early Errors (Function Definitions); 15.2.2 FunctionBodyContainsUseStrict.
-use Rattle.std.specs.Prelude.{ℕ, List, [], ◌∷◌, Bool, not, ◌&&◌, ◌||◌, eqb}
+use Rattle.std.specs.Prelude.{ℕ, List, [], ◌∷◌, Bool, not, ◌&&◌, ◌||◌, eqb, ◌≡◌}
 use Rattle.base_common.specs.Upto.{any}
 use Rattle.base_common.specs.Tests.{within}
-use Rattle.table_records.specs.Table.{kind_of, parent_of, flags_of, has_flag}
+use Rattle.table_records.specs.Table.{kind_of, parent_of, flags_of, has_flag, scope_of, scope_flags_of, scope_node_of}
 use Rattle.table_records.specs.Kinds as k
 use Rattle.table_records.specs.NodeFlag as flag
 use Rattle.table_children.specs.Children.{children}
@@ -12,6 +12,7 @@ use Rattle.ecma_base.specs.Strict.{strict_code}
 use Rattle.ecma_base.specs.Telling.{Telling}
 use Rattle.ecma_names.specs.ReservedWords.{reserved_words}
 use Rattle.ecma_names.specs.Parameters.{goal_module, yield_parameter, await_parameter}
+use Rattle.table_records.specs.ScopeFlag as scope
 
 -- 13.1: BindingIdentifier, IdentifierReference, LabelIdentifier
 abbrev pub identifier : List ℕ → ℕ → Bool
@@ -80,3 +81,8 @@ use_strict_there ns names n =
     use_strict_directive ns names n
     && (eqb (kind_of ns (parent_of ns n)) k.FunctionBody
     && (within (kind_of ns (parent_of ns (parent_of ns n))) k.Function k.Arrow && not (simple_parameters ns (parent_of ns (parent_of ns n)))))
+
+-- a directive in the body of a function has that function's scope, and no other directive has one of a function
+pub record DirectiveScope (ns ss : List ℕ) (n : ℕ) : Type 0 where
+  pub function : has_flag (scope_flags_of ss (scope_of ns n)) scope.FunctionScope ≡ eqb (kind_of ns (parent_of ns n)) k.FunctionBody
+  pub whose : kind_of ns (parent_of ns n) ≡ k.FunctionBody → scope_node_of ss (scope_of ns n) ≡ parent_of ns (parent_of ns n)

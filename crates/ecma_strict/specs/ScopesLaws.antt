@@ -13,7 +13,7 @@ use Rattle.ecma_base.specs.Scopes.{scopes_follow}
 use Rattle.ecma_base.proofs.ScopesLaws.{not_program, no_function, root, block_flag, function_flag, made, same_or_made, same_only, made_kind, root_kind}
 use Rattle.ecma_strict.specs.AgreeLaws.{ScopesTold}
 use Rattle.ecma_base.proofs.ContainsLaws.{root_only}
-use Rattle.ecma_names.proofs.IdentifiersLaws.{DirectiveScope}
+use Rattle.ecma_names.specs.Identifiers.{DirectiveScope}
 use Rattle.ecma_names.specs.Changed.{directive_placed}
 
 module _ (ns ss : List ℕ) (t : Tree ns) (w : scopes_follow ns ss ≡ true) where

@@ -73,12 +73,12 @@ module _ (t : ℕ) (ns ss source names : List ℕ) (w : WellFormed t ns ss sourc
   abbrev at : List Finding
   at = findings_at t ns ss source names n
 
-  -- 2 (changed: namesAgree): a reserved word (13.1.1)
+  -- 2 (changed: names_agree): a reserved word (13.1.1)
   pub code2 : raised 2 at ≡ only (reserved_name t ns ss names n) n
   unfolding reserved_name
   code2 = at_with 2 n at (identifier ns n) (reserved_name t ns ss names n) (check_identifier t ns ss names n) (reserved_is t ns ss names n) (λ e. rw e) (at2 t ns ss source names n)
 
-  -- 3 (changed: namesAgree, blockAgrees): `await` in a static block (13.1.1, 15.7.1)
+  -- 3 (changed: names_agree, block_agrees): `await` in a static block (13.1.1, 15.7.1)
   pub code3 : raised 3 at ≡ only (await_name_scoped t ns ss names n || (await_expression ns n && scoped_in_block ns ss n)) n
   unfolding await_name_scoped
   code3 =
@@ -97,21 +97,21 @@ module _ (t : ℕ) (ns ss source names : List ℕ) (w : WellFormed t ns ss sourc
       (λ e f. reference_is ns w.input.tree n w.shaped.placed t ss names h (eqb-true (kind_of ns n) 32 f) ∙ right (binds_eval ns ss names n) (assigns_eval ns ss names n) n (rw e))
       (λ e f. rw (e, f)) (at_code 4 t ns ss source names n)
 
-  -- 5 (changed: letAgrees): `let` bound by a lexical declaration (14.3.1.1)
+  -- 5 (changed: let_agrees): `let` bound by a lexical declaration (14.3.1.1)
   pub code5 : raised 5 at ≡ only (let_bound_said ns ss names n) n
   unfolding let_bound_said
   code5 =
       at_with 5 n at (eqb (kind_of ns n) k.BindingIdentifier) (let_bound_said ns ss names n) (check_binding_identifier t ns ss names n)
       (λ e. let_bound_is ns w.input.tree n t ss names h (eqb-true (kind_of ns n) 31 e)) (λ e. rw e) (at_code 5 t ns ss source names n)
 
-  -- 6 (changed: argumentsAgree): `arguments` in a field or a static block (15.7.1)
+  -- 6 (changed: arguments_agree): `arguments` in a field or a static block (15.7.1)
   pub code6 : raised 6 at ≡ only (arguments_said ns ss names n) n
   unfolding arguments_said
   code6 =
       at_with 6 n at (eqb (kind_of ns n) k.IdentifierReference) (arguments_said ns ss names n) (check_identifier_reference t ns ss names n)
       (λ e. arguments_said_is ns w.input.tree n w.shaped.placed t ss names h (eqb-true (kind_of ns n) 32 e)) (λ e. rw e) (at_code 6 t ns ss source names n)
 
-  -- 9 (changed: octalAgrees, octalEscapeAgrees): LegacyOctalIntegerLiteral, LegacyOctalEscapeSequence in strict code (12.9.3.1, 12.9.4.1)
+  -- 9 (changed: octal_agrees, octal_escape_agrees): LegacyOctalIntegerLiteral, LegacyOctalEscapeSequence in strict code (12.9.3.1, 12.9.4.1)
   pub code9 : raised 9 at ≡ only (told_octal ns ss source n || first_octal_escape ns ss source n) n
   unfolding told_octal first_octal_escape
   code9 =
@@ -121,35 +121,35 @@ module _ (t : ℕ) (ns ss source names : List ℕ) (w : WellFormed t ns ss sourc
       (λ e f. string_octal ns ss source n (eqb-true (kind_of ns n) 36 f) ∙ right (told_octal ns ss source n) (first_octal_escape ns ss source n) n (rw e))
       (λ e f. rw (e, f)) (at_code 9 t ns ss source names n)
 
-  -- 10 (changed: nonOctalAgrees): NonOctalDecimalIntegerLiteral in strict code (12.9.3.1)
+  -- 10 (changed: non_octal_agrees): NonOctalDecimalIntegerLiteral in strict code (12.9.3.1)
   pub code10 : raised 10 at ≡ only (told_non_octal ns ss source n) n
   unfolding told_non_octal
   code10 =
       at_with 10 n at (eqb (kind_of ns n) k.NumericLiteral) (told_non_octal ns ss source n) (check_number_literal ns ss source n)
       (λ e. number_non_octal ns ss source n (eqb-true (kind_of ns n) 35 e)) (λ e. rw e) (at_code 10 t ns ss source names n)
 
-  -- 11 (changed: nonOctalEscapeAgrees): NonOctalDecimalEscapeSequence in strict code (12.9.4.1)
+  -- 11 (changed: non_octal_escape_agrees): NonOctalDecimalEscapeSequence in strict code (12.9.4.1)
   pub code11 : raised 11 at ≡ only (first_non_octal_escape ns ss source n) n
   unfolding first_non_octal_escape
   code11 =
       at_with 11 n at (eqb (kind_of ns n) k.StringLiteral) (first_non_octal_escape ns ss source n) (check_string_literal ns ss source n)
       (λ e. string_non_octal ns ss source n (eqb-true (kind_of ns n) 36 e)) (λ e. rw e) (at_code 11 t ns ss source names n)
 
-  -- 12 (changed: useStrictAgrees): "use strict" in a function whose parameters are not simple (15.2.1 and others)
+  -- 12 (changed: use_strict_agrees): "use strict" in a function whose parameters are not simple (15.2.1 and others)
   pub code12 : raised 12 at ≡ only (use_strict_scoped ns ss names n) n
   unfolding use_strict_scoped
   code12 =
       at_listed 12 n at (eqb (kind_of ns n) k.Directive) (use_strict_scoped ns ss names n) (check_directive ns ss names n)
       (λ e. use_strict_is ns ss names n (eqb-true (kind_of ns n) 23 e)) (λ e. rw e) (at_code 12 t ns ss source names n)
 
-  -- 13 (changed: usingAgrees): using in a script (14.3.1.1)
+  -- 13 (changed: using_agrees): using in a script (14.3.1.1)
   pub code13 : raised 13 at ≡ only (top_using t ns ss n) n
   unfolding top_using
   code13 =
       at_listed 13 n at (eqb (kind_of ns n) k.VariableDeclaration) (top_using t ns ss n) (check_using t ns ss n)
       (λ e. using_is t ns ss n (eqb-true (kind_of ns n) 24 e)) (λ e. rw e) (at_code 13 t ns ss source names n)
 
-  -- 14 (changed: blockAgrees): await using in a static block (15.7.1)
+  -- 14 (changed: block_agrees): await using in a static block (15.7.1)
   pub code14 : raised 14 at ≡ only (await_using ns n && scoped_in_block ns ss n) n
   code14 =
       at_listed 14 n at (eqb (kind_of ns n) k.VariableDeclaration) (await_using ns n && scoped_in_block ns ss n) (check_await_using ns ss n)
@@ -206,7 +206,7 @@ module _ (t : ℕ) (ns ss source names : List ℕ) (w : WellFormed t ns ss sourc
       (λ x f g. body_strict ns ss n told g ∙ alone (strict_function told ns ss n) (strict_code ns ss n) (rw f))
       (λ x f g. rw (x, f, g) (and_false ns ss n (strict_code ns ss n) ∙ alone (strict_code ns ss n && false) (strict_code ns ss n) refl))
 
-  -- 16 (changed: misplacedAgrees, misplacedElseAgrees, labelledAgrees): a function in statement position, in sloppy code (14.6, 14.7, 14.11, 14.13, B.3.1, B.3.3), and a labelled one (14.6.1 and others)
+  -- 16 (changed: misplaced_agrees, misplaced_else_agrees, labelled_agrees): a function in statement position, in sloppy code (14.6, 14.7, 14.11, 14.13, B.3.1, B.3.3), and a labelled one (14.6.1 and others)
   pub code16 : raised 16 at ≡ only (sloppy_function ordinary ns ss n || labelled_function_said ns ss n) n ++ only (sloppy_function_else ordinary ns ss n) n
   unfolding function_misplaced function_misplaced_else labelled_function_said
   code16 =
@@ -227,7 +227,7 @@ module _ (t : ℕ) (ns ss source names : List ℕ) (w : WellFormed t ns ss sourc
       at_listed 17 n at (eqb (kind_of ns n) k.With) (strict_with ns ss n) (check_with_statement t ns ss n)
       (λ e. with_is t s ns ss n (eqb-true (kind_of ns n) 13 e)) (λ e. rw e) (at_code 17 t ns ss source names n)
 
-  -- 24 (changed: headAgrees): an Initializer in the head of a for-in or a for-of (14.7.5, B.3.5)
+  -- 24 (changed: head_agrees): an Initializer in the head of a for-in or a for-of (14.7.5, B.3.5)
   pub code24 : raised 24 at ≡ only (said_head ns ss n) n
   unfolding said_head
   code24 =
@@ -248,7 +248,7 @@ module _ (t : ℕ) (ns ss source names : List ℕ) (w : WellFormed t ns ss sourc
               ⊎_elim (λ (x : 8 ≡ kind_of ns n). absurd (e' (sym x))) (λ (x : 8 < kind_of ns n). absurd (eqb-false (kind_of ns n) 9 f (omega arith))) (eq-or-lt_of_le r0)
           go false q = refl
 
-  -- 25 (changed: blockAgrees): for await in a static block (15.7.1)
+  -- 25 (changed: block_agrees): for await in a static block (15.7.1)
   pub code25 : raised 25 at ≡ only (for_await ns n && scoped_in_block ns ss n) n
   code25 =
       at_listed 25 n at (eqb (kind_of ns n) k.ForOf) (for_await ns n && scoped_in_block ns ss n) (check_for_of_statement ns ss n)
@@ -261,14 +261,14 @@ module _ (t : ℕ) (ns ss source names : List ℕ) (w : WellFormed t ns ss sourc
       at_with 31 n at (eqb (kind_of ns n) k.Unary) (deletes_name ns ss n) (check_unary_expression ns ss n)
       (λ e. delete_name ns w.input.tree w.listed ss n (eqb-true (kind_of ns n) 45 e)) (λ e. rw e) (at_code 31 t ns ss source names n)
 
-  -- 32 (changed: deletePrivateAgrees): delete of a private reference (13.5.1.1)
+  -- 32 (changed: delete_private_agrees): delete of a private reference (13.5.1.1)
   pub code32 : raised 32 at ≡ only (deletes_private_anywhere ns n) n
   unfolding deletes_private_anywhere
   code32 =
       at_with 32 n at (eqb (kind_of ns n) k.Unary) (deletes_private_anywhere ns n) (check_unary_expression ns ss n)
       (λ e. delete_private ns w.input.tree w.listed ss n (eqb-true (kind_of ns n) 45 e)) (λ e. rw e) (at_code 32 t ns ss source names n)
 
-  -- 33 (changed: parameterAgrees): await or yield in parameters (15.3.1, 15.5.1, 15.6.1, 15.8.1, 15.9.1)
+  -- 33 (changed: parameter_agrees): await or yield in parameters (15.3.1, 15.5.1, 15.6.1, 15.8.1, 15.9.1)
   pub code33 : raised 33 at ≡ only (await_in_parameter_said ns n) n
   unfolding await_in_parameter_said
   code33 =

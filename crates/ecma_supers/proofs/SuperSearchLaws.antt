@@ -25,8 +25,11 @@ use Rattle.check_supers.specs.declared.ElementPart.TheVariants.{Value, Key}
 use Rattle.check_supers.specs.declared.Reach.{Reach}
 use Rattle.check_supers.specs.declared.Reach.TheVariants.{Illegal}
 use Rattle.check_supers.specs.declared.Step.TheVariants.{On}
-use Rattle.ecma_base.proofs.ScopesLaws.{Made}
-use Rattle.ecma_supers.proofs.ScopesFitLaws.{is_function_scope, is_arrow_scope, is_block_scope, Same, ScopesFit}
+use Rattle.ecma_base.specs.Scopes.{Made}
+use Rattle.ecma_supers.specs.ScopesFit.{is_block_scope}
+use Rattle.ecma_supers.specs.ScopesFit.{is_arrow_scope}
+use Rattle.ecma_supers.specs.ScopesFit.{is_function_scope}
+use Rattle.ecma_supers.specs.ScopesFit.{ScopesFit, Same}
 use Rattle.ecma_supers.specs.Supers.{begins}
 
 -- x is the value of a, in the check's words too

@@ -18,7 +18,7 @@ use Rattle.ecma_dispatch.specs.WithCode.{with_code}
 use Rattle.ecma_dispatch.proofs.DispatchLaws.{at_code}
 use Rattle.ecma_dispatch.specs.NodesOf.{nodes_of, raised}
 use Rattle.ecma_dispatch.proofs.NodesOfLaws.{raised_again}
-use Rattle.ecma_supers.proofs.ScopesFitLaws.{ScopesFit}
+use Rattle.ecma_supers.specs.ScopesFit.{ScopesFit}
 use Rattle.ecma_supers.specs.Changed.{is_table_call, is_table_property, table_bare, table_stray, table_property}
 use Rattle.ecma_supers.specs.SupersByScopes.{is_underived, is_illegal, bare_by_scopes, stray_by_scopes, property_by_scopes}
 use Rattle.ecma_supers.proofs.SupersLaws.{super_bare_lem, super_call_lem, super_property_lem}

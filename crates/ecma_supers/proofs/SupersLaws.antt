@@ -34,7 +34,7 @@ use Rattle.ecma_supers.specs.Supers.{begins, is_method, is_constructor_method, c
 use Rattle.ecma_elements.proofs.ClassElementsLaws.{range_two, names_called}
 use Rattle.ecma_supers.specs.Changed.{each_bare, is_table_call, is_table_property, table_bare, table_stray, table_property, CallStands, PropertyStands, MethodNamed, ConstructorOrdinary}
 use Rattle.ecma_elements.specs.Changed.{called_constructor, is_table_constructor}
-use Rattle.ecma_supers.proofs.ScopesFitLaws.{ScopesFit}
+use Rattle.ecma_supers.specs.ScopesFit.{ScopesFit}
 use Rattle.ecma_supers.proofs.SuperSearchLaws.{is_value, value_is, in_unit, search_is, no_root, above_other, above_body}
 
 -- a unit is the program, a function, a static block or a field

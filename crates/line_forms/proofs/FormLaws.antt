@@ -12,14 +12,10 @@ use Rattle.line_digits.specs.Number.{is_number}
 use Rattle.line_digits.specs.Hex.{is_hex}
 use Rattle.line_digits.proofs.NumberLaws.{and_no}
 use Rattle.line_digits.specs.HexLaws.{length_bytes}
-use Rattle.line_fields.specs.Split.{fields_of, before, onward, fields_in, field_of, firsts}
+use Rattle.line_fields.specs.Split.{fields_of, before, fields_in, field_of, firsts}
 use Rattle.line_fields.proofs.SplitLaws.{fields_first, fields_turn, joined_tail}
 use Rattle.line_fields.proofs.FieldLaws.{tail_some}
-use Rattle.line_forms.specs.Forms.{is_letter, lettered, rest, is_numbers, fits, is_n, name_of, is_x}
-
--- what stands behind the letter
-abbrev pub tail_of : List ℕ → List ℕ
-tail_of l = onward 44 l
+use Rattle.line_forms.specs.Forms.{is_letter, lettered, rest, is_numbers, fits, is_n, name_of, is_x, tail_of}
 
 pub rest_tail : (l : List ℕ) → rest l ≡ fields_in (tail_of l)
 rest_tail l = ap (drop 1) (fields_first l)

@@ -3,7 +3,7 @@ use Rattle.std.specs.Prelude.{ℕ, ◌*◌, Bool, false, ◌&&◌, List, [], ◌
 use Rattle.base_common.specs.Upto.{all}
 use Rattle.line_digits.specs.Number.{is_number, value_of}
 use Rattle.line_digits.specs.Hex.{is_hex, bytes_of}
-use Rattle.line_fields.specs.Split.{fields_of, joined}
+use Rattle.line_fields.specs.Split.{fields_of, joined, onward}
 
 -- the field is this one byte
 abbrev pub is_letter : ℕ → List ℕ → Bool
@@ -60,3 +60,7 @@ source_of l = bytes_of (get_or (rest l) 0 [])
 
 unfoldable pub is_x : ℕ → List ℕ → Bool
 is_x room l = lettered 88 l && (eqb (length (rest l)) 1 && (is_hex (get_or (rest l) 0 []) && fits (length (source_of l)) 1 room))
+
+-- what stands behind the letter
+abbrev pub tail_of : List ℕ → List ℕ
+tail_of l = onward 44 l

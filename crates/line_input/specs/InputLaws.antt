@@ -18,7 +18,8 @@ use Rattle.line_input.specs.declared.Input.TheVariants.{Tables, Unread}
 use Rattle.line_forms.specs.Forms.{lettered, rest, numbers_of, is_numbers, fits, kind_in, nodes_in, scopes_in, is_j, is_x, source_of}
 use Rattle.line_input.specs.Format.{nodes_of, scopes_of, names_of, Room, Reading, stopped, tables, ss_in, ns_in, x_in, read_behind, read_lines, front, Given}
 use Rattle.line_digits.proofs.NumberLaws.{and_no}
-use Rattle.line_forms.proofs.FormLaws.{tail_of, rest_tail, numbers_told, source_field, fits_told}
+use Rattle.line_forms.proofs.FormLaws.{rest_tail, numbers_told, source_field, fits_told}
+use Rattle.line_forms.specs.Forms.{tail_of}
 use Rattle.line_input.specs.ReadLaws.{first_of, nodes_nil_lem, scopes_nil, names_nil, empty_numbers}
 
 -- what the J line says

@@ -22,7 +22,8 @@ use Rattle.line_input.specs.declared.Route.TheVariants.{Asked, Unasked}
 use Rattle.line_forms.specs.Forms.{lettered, rest, numbers_of, is_numbers, fits, is_j, kind_in, nodes_in, scopes_in, is_x}
 use Rattle.line_input.specs.Format.{nodes_of, scopes_of, Room, stopped, tables, ss_in, ns_in, x_in, read_behind, read_lines, front}
 use Rattle.line_digits.proofs.NumberLaws.{and_no}
-use Rattle.line_forms.proofs.FormLaws.{tail_of, rest_tail, numbers_told, fits_told}
+use Rattle.line_forms.proofs.FormLaws.{rest_tail, numbers_told, fits_told}
+use Rattle.line_forms.specs.Forms.{tail_of}
 use Rattle.line_input.specs.ReadLaws.{first_of, scopes_sized, nodes_sized}
 use Rattle.line_input.specs.InputLaws.{head_room}
 use Rattle.line_input.specs.Route.{is_u, unit_in, is_a, Asking, unasked, lines_before, asked_by}

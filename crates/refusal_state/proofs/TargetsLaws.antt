@@ -43,7 +43,7 @@ use Rattle.check_dispatch.specs.Findings.{findings_at, findings_of}
 use Rattle.check_dispatch.specs.Rule.{rule}
 use Rattle.check_dispatch.specs.Reported.{reported}
 use Rattle.check_dispatch.proofs.ReportedLaws.{none_reported}
-use Rattle.refusal_state.specs.Targets.{names_unit, seek, plain_break, named_break, plain_continue, named_continue, break_target, continue_target, has_target, lost_at, finding_or, state_place, unit_refusal, refused_or, state_answer}
+use Rattle.refusal_state.specs.Targets.{names_unit, seek, plain_break, named_break, plain_continue, named_continue, break_target, continue_target, has_target, lost_at, finding_or, state_place, unit_refusal, refused_or, state_answer, Sound}
 
 raised : {A : Type 0} → (f : Finding) → Error f ≡ Clear → A
 raised f e = let z : ◌≡◌ {A = ℕ} 0 1 = cc in absurd (omega arith)
@@ -236,12 +236,6 @@ module _ (source_type : ℕ) (ns ss source names : List ℕ) where
         go : (l : List Finding) → (length l ≡ 0 → ⊥) → finding_or l (first (lost_at ns names) 0 (count ns)) ≡ Here (get_or (sink s 0 l) 1 0)
         go [] h = absurd (h refl)
         go (f ∷ fs) h = ap Here (sym (first_written s f fs q))
-
--- WHAT IS KNOWN WHERE NEITHER 7 NOR 9 APPLIES
-pub record Sound (source_type : ℕ) (ns ss source names : List ℕ) (u : ℕ) : Type 0 where
-  pub below : u < count ns
-  pub unit : is_unit (kind_of ns u) ≡ true
-  pub clear : findings_of source_type ns ss source names ≡ []
 
 refused_or_lem : (v r : Verdict) → refused_or v r ≡ Passed → (v ≡ Passed) × (r ≡ Passed)
 refused_or_lem (Refused number place) r e = no_pass number place e

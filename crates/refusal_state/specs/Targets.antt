@@ -1,5 +1,5 @@
 -- Refusals 7 and 9 of document 01, which the calls `code` and `route` give, and the targets of jumps.
-use Rattle.std.specs.Prelude.{ℕ, Bool, true, false, cond, not, ◌&&◌, eqb, ltb}
+use Rattle.std.specs.Prelude.{ℕ, Bool, true, false, cond, not, ◌&&◌, eqb, ltb, ◌<◌, ◌≡◌}
 use mathlib.Core.List.{List, [], ◌∷◌, foldr}
 use Rattle.base_common.specs.Tests.{within}
 use Rattle.table_records.specs.Table.{kind_of, count, ancestors}
@@ -16,6 +16,7 @@ use Rattle.check_diagnostics.specs.declared.Finding.{Finding}
 use Rattle.check_jumps.specs.Jumps.{is_unit, is_iteration, is_breakable, when_found, same_label, labeled_item}
 use Rattle.check_dispatch.specs.Rule.{Rule}
 use Rattle.check_dispatch.specs.Reported.{reported}
+use Rattle.check_dispatch.specs.Findings.{findings_of}
 
 -- 7: "The number named as unit is no node of kind 0-3."
 unfoldable pub names_unit : List ℕ → ℕ → Bool
@@ -74,3 +75,9 @@ refused_or Passed r = r
 
 unfoldable pub state_answer : Rule → ℕ → Verdict
 state_answer r u = refused_or (unit_refusal r.nodes u) (or_next refusal.Findings (state_place r) Passed)
+
+-- WHAT IS KNOWN WHERE NEITHER 7 NOR 9 APPLIES
+pub record Sound (source_type : ℕ) (ns ss source names : List ℕ) (u : ℕ) : Type 0 where
+  pub below : u < count ns
+  pub unit : is_unit (kind_of ns u) ≡ true
+  pub clear : findings_of source_type ns ss source names ≡ []

@@ -136,7 +136,7 @@ turn ls true o k r = go_on (loop_continues ls o.comp) o k
 turn ls false o k r = out [] normal r
 
 -- The turns of a loop that takes its answer next; "a `for` without a test goes on whatever it says".
--- The number bounds the turns: each takes an answer, so that where it is 0 none is left (Laws.roundsLaw).
+-- The number bounds the turns: each takes an answer, so that where it is 0 none is left (Laws.rounds_law).
 unfoldable pub turns : ℕ → Bool → List ℕ → (List ℕ → Out) → ℕ → List ℕ → Out
 turns n test ls body zero qs = out [] spent qs
 turns n test ls body (suc f) qs = ask n qs (λ a r. turn ls (is_yes a || not test) (body r) (turns n test ls body f) r)

@@ -18,7 +18,7 @@ unfoldable pub leads : List ℕ → ℕ → ℕ → ℕ → Bool
 leads C x zero o = eqb o x
 leads C x (suc n) o = eqb o x || leads C x n (o + width (get_or C o 0))
 
--- .. and one begins there. It is that of Begins (BeginsLaws.beginsIs): each takes a number at least, so that x lead as far as any.
+-- .. and one begins there. It is that of Begins (BeginsLaws.begins_is): each takes a number at least, so that x lead as far as any.
 unfoldable pub begins_at : List ℕ → ℕ → Bool
 begins_at C x = leads C x x 0 && ltb 0 (width (get_or C x 0))
 

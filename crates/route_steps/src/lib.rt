@@ -1,2 +1,2 @@
-// Specifications alone: a run that is stopped under a mark and taken up again (specs/Claims.antt).
+// Specifications alone: which part a statement goes on with.
 #![tactic(auto)]

@@ -1,5 +1,6 @@
 -- `forms::is_node` meets its contract.
-use Rattle.line_forms.proofs.FormLaws.{tail_of, node_letter, node_few, node_is}
+use Rattle.line_forms.proofs.FormLaws.{node_letter, node_few, node_is}
+use Rattle.line_forms.specs.Forms.{tail_of}
 use Rattle.line_fields.specs.Split.{fields_in}
 use lib.ListN.{length}
 use native.Mathlib.Omega.{arith}

@@ -1,6 +1,7 @@
 -- `forms::is_source` meets its contract.
 use mathlib.Core.Bool.{true, false}
-use Rattle.line_forms.proofs.FormLaws.{tail_of, source_letter, source_count, source_is}
+use Rattle.line_forms.proofs.FormLaws.{source_letter, source_count, source_is}
+use Rattle.line_forms.specs.Forms.{tail_of}
 use Rattle.line_digits.specs.Hex.{is_hex}
 use Rattle.line_fields.specs.Split.{field_of}
 use mathlib.Core.Path.{◌≡◌, ◌∙◌, sym}

@@ -1,6 +1,7 @@
 -- `lines::write_answers` meets its contract.
 use Rattle.line_input.specs.RouteLaws.{answers_told, answers_put}
-use Rattle.line_forms.proofs.FormLaws.{tail_of, rest_tail}
+use Rattle.line_forms.proofs.FormLaws.{rest_tail}
+use Rattle.line_forms.specs.Forms.{tail_of}
 use Rattle.line_fields.specs.Split.{fields_in}
 use lib.ListN.{length}
 use native.Mathlib.Omega.{arith}

@@ -1,6 +1,6 @@
 -- `lines::write_source` meets its contract.
 use Rattle.line_input.specs.InputLaws.{source_told}
-use Rattle.line_forms.proofs.FormLaws.{tail_of}
+use Rattle.line_forms.specs.Forms.{tail_of}
 use Rattle.line_forms.specs.Forms.{source_of}
 use Rattle.line_input.specs.Format.{front}
 use Rattle.line_fields.specs.Split.{field_of}
