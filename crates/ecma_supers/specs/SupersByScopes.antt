@@ -1,5 +1,5 @@
 -- CHANGED RULES BY THE SCOPES, codes 28 to 30. "Tables that no source text yields are judged by the definitions" (document 01): where a table's scopes are not the tree's, the Rust's search
--- through the scopes (crates/supers, specs/Super.antt: reach_of) decides. The rules of this file name that search, and no other definition of this crate does. Where the scopes
+-- through the scopes (crates/check_supers/specs/Super.antt: reach_of) decides. The rules of this file name that search, and no other definition of this crate does. Where the scopes
 -- follow the tree (scopes_follow), they are the rules by the tree of Changed.antt: bare_by_tree, stray_by_tree, property_by_tree.
 use Rattle.std.specs.Prelude.{ℕ, List, Bool, true, false, ◌&&◌, eqb}
 use Rattle.table_records.specs.Table.{kind_of}
