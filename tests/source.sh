@@ -1,6 +1,6 @@
 #!/usr/bin/env bash
 # What the source says of itself: the layout, no hole or axiom in a proof, no long function, shell scripts without warnings,
-# documents in short lines, the table of the code's length as it is defined, edits that can be applied.
+# documents in short lines, the table of the code's length as it is defined, edits that can be applied, laws in proofs/.
 # shellcheck source=tests/lib.bash
 source "$(dirname "$0")/lib.bash" || exit 1
 
@@ -59,6 +59,20 @@ number_changed() {
 # those that the gate leaves out too (tools/slow-edits)
 edits_stand() { tools/setup node && tools/edits; }
 
+# a file of specs/ that has laws alone makes edits of definitions unreadable; one in a copy must be told
+laws_in_proofs() { tools/laws-to-proofs --check; }
+law_in_specs() {
+    local copy tool status
+    copy=$(mktemp -d)
+    tool=$PWD/tools/laws-to-proofs
+    cp -r --parents crates/base_common/{src,specs} "$copy"
+    echo 'planted : (n : ℕ) → n ≡ n' >"$copy/crates/base_common/specs/Planted.antt"
+    (cd "$copy" && "$tool" --check) | grep -qx 'base_common: Planted'
+    status=$?
+    rm -rf "$copy"
+    return $status
+}
+
 # the calls under C names are those that the theorem speaks of: the same parameters, results and clauses
 calls_of() { sed -E 's/^pub extern "C" fn /pub fn /' "$1" | awk '/^pub fn velkunshe_/{on=1} on{print} /^\{/{on=0}' | tr -s ' \n' ' '; }
 same_calls() {
@@ -87,4 +101,6 @@ check "documents in lines of at most 120 columns" short_lines
 check "docs/CODE.md has the numbers of the definition" numbers
 check "a number changed in a copy is told" number_changed
 check "every must-fail edit changes one place of its crate" edits_stand
+check "files that have laws alone stand in proofs/" laws_in_proofs
+check "a file of laws in specs/ of a copy is told" law_in_specs
 finish
