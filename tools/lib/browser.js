@@ -7,6 +7,7 @@ const os = require('os');
 const path = require('path');
 
 const LIMIT = 30000;
+const PAUSE = 100;
 
 // a promise that fails if it takes too long
 function inTime(promise, what) {
@@ -76,7 +77,16 @@ class Browser {
     const ended = new Promise((resolve) => this.child.on('exit', resolve));
     this.child.kill('SIGKILL');
     await ended;
-    fs.rmSync(this.dir, { recursive: true, force: true });
+    // the browser's other processes end a moment later, and write to the folder until then
+    for (let tries = LIMIT / PAUSE; ; tries--) {
+      try {
+        fs.rmSync(this.dir, { recursive: true, force: true });
+        return;
+      } catch (e) {
+        if (e.code !== 'ENOTEMPTY' || tries === 0) throw e;
+        await new Promise((resolve) => setTimeout(resolve, PAUSE));
+      }
+    }
   }
 }
 
