@@ -9,15 +9,14 @@ ghost use Rattle.table_children.specs.Children.{below};
 ghost use Rattle.table_ancestry.specs.Ancestry.{nearest_of};
 
 use base_common::within;
-use refusal_verdict::Verdict;
-use table_records::{Found, NodeId};
+use table_records::NodeId;
 
 // More than any kind: a walk that looks for it goes to the root.
 const NO_KIND: u32 = 100;
 
 // The nearest ancestor with a kind from low to high, by the contract of table_ancestry::nearest. Each step asks whether there
 // is such a node by the table's size, which is a division.
-fn nearest_by_size(nodes: &[u32], n: NodeId, low: u32, high: u32) -> Found
+fn nearest_by_size(nodes: &[u32], n: NodeId, low: u32, high: u32) -> Option<NodeId>
     requires tree { Tree nodes.now }
     requires n_bound { n.0 < count nodes.now }
     ensures value { result ≡ nearest_of nodes.now low high n.0 }
@@ -28,13 +27,13 @@ fn nearest_by_size(nodes: &[u32], n: NodeId, low: u32, high: u32) -> Found
         at = table_ancestry::up(nodes, at);
         let size = table_records::size(nodes);
         if size <= at.0 {
-            return Found::Nothing;
+            return None;
         }
         if within(table_records::kind(nodes, at), low, high) {
-            return Found::At(at);
+            return Some(at);
         }
     }
-    Found::Nothing
+    None
 }
 
 // So many walks to the root, without a division. What is looked for changes from walk to walk, so that none can be left out.
@@ -42,14 +41,12 @@ fn walks_plain(nodes: &[u32], n: NodeId, walks: u32) -> u32
     requires tree { Tree nodes.now }
     requires n_bound { n.0 < count nodes.now }
 {
-    let mut done: u32 = 0;
-    while done < walks {
-        let Found::Nothing = table_ancestry::nearest(nodes, n, NO_KIND, done) else {
+    for done in 0..walks {
+        let None = table_ancestry::nearest(nodes, n, NO_KIND, done) else {
             return done;
         };
-        done += 1;
     }
-    done
+    walks
 }
 
 // The same with the division.
@@ -57,14 +54,12 @@ fn walks_divided(nodes: &[u32], n: NodeId, walks: u32) -> u32
     requires tree { Tree nodes.now }
     requires n_bound { n.0 < count nodes.now }
 {
-    let mut done: u32 = 0;
-    while done < walks {
-        let Found::Nothing = nearest_by_size(nodes, n, NO_KIND, done) else {
+    for done in 0..walks {
+        let None = nearest_by_size(nodes, n, NO_KIND, done) else {
             return done;
         };
-        done += 1;
     }
-    done
+    walks
 }
 
 fn walks_from_last(nodes: &[u32], walks: u32, divided: u32) -> u32
@@ -89,10 +84,9 @@ pub extern "C" fn bench_walks(
     walks: u32,
     divided: u32,
 ) -> u32 {
-    let verdict = refusal_input::refusal(source_type, nodes, scopes, source, names);
-    match verdict {
-        Verdict::Refused(_, _) => 0,
-        Verdict::Passed => walks_from_last(nodes, walks, divided),
+    match refusal_input::refusal(source_type, nodes, scopes, source, names) {
+        Err(_) => 0,
+        Ok(()) => walks_from_last(nodes, walks, divided),
     }
 }
 
@@ -106,9 +100,8 @@ pub extern "C" fn bench_refusal(
     source: &[u8],
     names: &[u8],
 ) -> u32 {
-    let verdict = refusal_input::refusal(source_type, nodes, scopes, source, names);
-    match verdict {
-        Verdict::Refused(number, _) => number,
-        Verdict::Passed => 0,
+    match refusal_input::refusal(source_type, nodes, scopes, source, names) {
+        Err(refused) => refused.number(),
+        Ok(()) => 0,
     }
 }

@@ -1,5 +1,5 @@
 -- The report of findings, as the code comes to it.
-use Rattle.std.specs.Prelude.{ℕ, ◌+◌, ◌*◌, ◌≤◌, ◌<◌, ◌≡◌, List}
+use Rattle.std.specs.Prelude.{ℕ, ◌+◌, ◌*◌, ◌≤◌, ◌<◌, ◌≡◌, List, Ok, Err}
 use Rattle.std.proofs.Common.{sym, ◌∙◌, le-leb}
 use native.Mathlib.Omega.{arith}
 use Rattle.std.proofs.lemmas.Bool.{lt-leb}
@@ -8,10 +8,11 @@ use Rattle.check_diagnostics.specs.declared.Finding.{Finding}
 use Rattle.check_diagnostics.specs.Finding.{flat, sink}
 use Rattle.check_diagnostics.proofs.FindingLaws.{length_flat_lem, sink_all}
 use Rattle.call_check.specs.Check.{report_answer, report_slice}
-use Rattle.call_check.specs.declared.Checked.TheVariants.{Findings, Short}
+use Rattle.refusal_verdict.specs.declared.Refusal.TheVariants as refusal
+use Rattle.refusal_verdict.specs.declared.Refused.TheVariants.{Short}
 
 module _ (fs : List Finding) (s : List ℕ) where
-  pub answer_short : length s < 7 * length fs → report_answer fs (length s) ≡ Short (7 * length fs)
+  pub answer_short : length s < 7 * length fs → report_answer fs (length s) ≡ Err (Short refusal.FindingsSlice (7 * length fs))
   unfolding report_answer
   answer_short h = rw (lt-leb (7 * length fs) (length s) h)
 
@@ -19,7 +20,7 @@ module _ (fs : List Finding) (s : List ℕ) where
   unfolding report_slice
   slice_short h = rw (lt-leb (7 * length fs) (length s) h)
 
-  pub answer_room : 7 * length fs ≤ length s → report_answer fs (length s) ≡ Findings (length fs)
+  pub answer_room : 7 * length fs ≤ length s → report_answer fs (length s) ≡ Ok (length fs)
   unfolding report_answer
   answer_room h = rw (le-leb (7 * length fs) (length s) h)
 

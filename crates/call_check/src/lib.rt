@@ -7,18 +7,9 @@ ghost use Rattle.check_dispatch.specs.Rule.{rule};
 ghost use Rattle.check_dispatch.specs.Reported.{reported};
 ghost use Rattle.call_check.specs.Check.{report_answer, report_slice, check_answer, check_slice};
 
-use refusal_verdict::Verdict;
+use refusal_verdict::{Refusal, Refused};
 
-// What a check comes to: so many findings, seven numbers each, written from the slice's start; or a refusal, with its number and place; or a slice that is too
-// short (refusal 10, place 0), with the length needed.
-#[derive(Clone, Copy)]
-pub enum Checked {
-    Findings(usize),
-    Refused(u32, u32),
-    Short(usize),
-}
-
-// The findings of well-formed tables: counted first, and written only where there is room for all.
+// How many findings well-formed tables have, seven numbers each, written from the slice's start: counted first, and written only where there is room for all.
 fn report(
     source_type: u32,
     async_bodies: u32,
@@ -27,7 +18,7 @@ fn report(
     source: &[u8],
     names: &[u8],
     findings: &mut [u32],
-) -> Checked
+) -> Result<usize, Refused>
     requires input { Input nodes.now scopes.now names.now }
     requires sourced { Sourced nodes.now source.now }
     ensures value { result ≡ report_answer (reported (rule source_type async_bodies nodes.now scopes.now source.now names.now)) (length findings.old) }
@@ -44,7 +35,7 @@ fn report(
         &mut none,
     );
     if findings.len() < needed {
-        return Checked::Short(needed);
+        return Err(Refused::Short(Refusal::FindingsSlice, needed as u64));
     }
     let written = check_dispatch::check_tree(
         source_type,
@@ -55,10 +46,10 @@ fn report(
         names,
         findings,
     );
-    Checked::Findings(written / 7)
+    Ok(written / 7)
 }
 
-// Checks the tables of a rule.
+// Checks the tables of a rule, and says how many findings it wrote.
 pub fn check(
     source_type: u32,
     async_bodies: u32,
@@ -67,21 +58,18 @@ pub fn check(
     source: &[u8],
     names: &[u8],
     findings: &mut [u32],
-) -> Checked
+) -> Result<usize, Refused>
     ensures value { result ≡ check_answer (rule source_type async_bodies nodes.now scopes.now source.now names.now) (length findings.old) }
     ensures findings_after { findings.new ≡ check_slice (rule source_type async_bodies nodes.now scopes.now source.now names.now) findings.old }
 {
-    let verdict = refusal_input::refusal(source_type, nodes, scopes, source, names);
-    match verdict {
-        Verdict::Refused(number, place) => Checked::Refused(number, place),
-        Verdict::Passed => report(
-            source_type,
-            async_bodies,
-            nodes,
-            scopes,
-            source,
-            names,
-            findings,
-        ),
-    }
+    refusal_input::refusal(source_type, nodes, scopes, source, names)?;
+    report(
+        source_type,
+        async_bodies,
+        nodes,
+        scopes,
+        source,
+        names,
+        findings,
+    )
 }

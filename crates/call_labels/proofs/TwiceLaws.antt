@@ -1,6 +1,6 @@
 -- What is written, read back; and document 02, request 12: "Renaming twice gives the bytes of renaming once."
 use Prim.Native.Nat.{ℕ, zero, suc, ◌+◌, ◌*◌, ◌≤◌, ◌<◌}
-use Rattle.std.specs.Prelude.{◌≡◌, ◌⊎◌, Bool, cond, not, ◌&&◌, ◌||◌, length, get_or, drop}
+use Rattle.std.specs.Prelude.{◌≡◌, ◌⊎◌, Bool, cond, not, ◌&&◌, ◌||◌, length, get_or, drop, None}
 use Rattle.std.proofs.Math.Path.{refl, ap}
 use Rattle.std.proofs.Common.{sym, subst, ◌∙◌, inl, inr, arith}
 use Rattle.std.proofs.Math.Logic.{⊎_elim}
@@ -15,7 +15,6 @@ use Rattle.base_common.proofs.Bools.{never, or_second}
 use Rattle.check_diagnostics.proofs.Gather.{flat_turn, flat_end}
 use Rattle.refusal_verdict.specs.First.{first}
 use Rattle.refusal_verdict.proofs.FirstLaws.{le_or_lt, first_nowhere}
-use Rattle.refusal_verdict.specs.declared.Place.TheVariants.{Nowhere}
 use Rattle.table_records.specs.Table.{count}
 use Rattle.table_names.specs.Name.{same, name_of, has}
 use Rattle.table_names.proofs.NameLaws.{same_self, same_eq}
@@ -237,7 +236,7 @@ module _ (ns names : List ℕ) (few : length (label_names ns names) ≤ most) wh
       from_pieces = sym (nodes_by ns names)
 
 -- 19 applies nowhere in what was renamed
-module _ (ns names : List ℕ) (e : first (unfit_at ns names) 0 (count ns) ≡ Nowhere) where
+module _ (ns names : List ℕ) (e : first (unfit_at ns names) 0 (count ns) ≡ None) where
   few : length (label_names ns names) ≤ most
   few = (renamable ns names e).few
 
@@ -263,5 +262,5 @@ module _ (ns names : List ℕ) (e : first (unfit_at ns names) 0 (count ns) ≡ N
           (or_second (is_reserved (name_of ns names i)) _ (fit ns names e i h l))
       go false l = rw (written_label ns names i h, l)
 
-  pub twice_fit : first (unfit_at (nodes_renamed ns names) (names_renamed ns names)) 0 (count (nodes_renamed ns names)) ≡ Nowhere
+  pub twice_fit : first (unfit_at (nodes_renamed ns names) (names_renamed ns names)) 0 (count (nodes_renamed ns names)) ≡ None
   twice_fit = first_nowhere (unfit_at (nodes_renamed ns names) (names_renamed ns names)) (count (nodes_renamed ns names)) 0 (λ j a b. fit_again j (omega (arith, written_count ns names)))

@@ -1,6 +1,6 @@
 -- What a node does to the names seen and to 19; where 19 applies nowhere there are at most 699 names, none of them reserved.
 use Prim.Native.Nat.{ℕ, zero, suc, ◌+◌, ◌≤◌, ◌<◌}
-use Rattle.std.specs.Prelude.{◌≡◌, List, [], ◌∷◌, ◌++◌, Bool, cond, not, ◌&&◌, ◌||◌}
+use Rattle.std.specs.Prelude.{◌≡◌, List, [], ◌∷◌, ◌++◌, Bool, cond, not, ◌&&◌, ◌||◌, None}
 use Rattle.std.proofs.Math.Path.{refl}
 use Rattle.std.proofs.Common.{◌∙◌, length-append}
 use Rattle.std.proofs.Math.Bool.{true, false}
@@ -12,7 +12,6 @@ use Rattle.base_common.proofs.UptoLaws.{upto_nil}
 use Rattle.base_common.proofs.Bools.{or_first, or_second}
 use Rattle.refusal_verdict.specs.First.{first}
 use Rattle.refusal_verdict.proofs.FirstLaws.{first_none}
-use Rattle.refusal_verdict.specs.declared.Place.TheVariants.{Nowhere}
 use Rattle.table_records.specs.Table.{count}
 use Rattle.table_names.specs.Name.{name_of, has}
 use Rattle.code_tree.specs.Labels.{is_label}
@@ -93,7 +92,7 @@ grows seen (b ∷ bs) h e = go (has seen (b ∷ bs)) e
     go true q = h
     go false q = let l = leb-false most (length seen) q in let s = length-append seen ((b ∷ bs) ∷ []) in omega arith
 
-module _ (ns names : List ℕ) (e : first (unfit_at ns names) 0 (count ns) ≡ Nowhere) where
+module _ (ns names : List ℕ) (e : first (unfit_at ns names) 0 (count ns) ≡ None) where
   pub fit : (i : ℕ) → i < count ns → is_label ns i ≡ true
       → (is_reserved (name_of ns names i) || (is_new (seen_before ns names i) (name_of ns names i) && leb most (length (seen_before ns names i)))) ≡ false
   unfolding unfit_at

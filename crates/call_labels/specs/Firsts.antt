@@ -1,16 +1,14 @@
 -- The first label of each different name, as the functions keep them: for each its node.
-use Rattle.std.specs.Prelude.{ℕ, ◌+◌, ◌*◌, ◌≤◌, ◌<◌, ◌≡◌, List, map, true, false, length, get_or}
+use Rattle.std.specs.Prelude.{ℕ, ◌+◌, ◌*◌, ◌≤◌, ◌<◌, ◌≡◌, List, map, true, false, length, get_or, Some, None, Result, Ok, Err}
 use Rattle.base_common.specs.Upto.{upto}
 use Rattle.refusal_verdict.specs.First.{first}
-use Rattle.refusal_verdict.specs.declared.Place.TheVariants.{Here, Nowhere}
+use Rattle.table_records.specs.declared.NodeId.{NodeId}
 use Rattle.table_records.specs.Table.{count}
 use Rattle.table_records.specs.Facts.{Tree, Named}
 use Rattle.table_names.specs.Name.{name_of}
 use Rattle.call_labels.specs.Short.{most}
 use Rattle.call_labels.specs.Order.{seen_before, label_names}
 use Rattle.call_labels.specs.Unfit.{unfit_at}
-use Rattle.call_labels.specs.declared.Labels.{Labels}
-use Rattle.call_labels.specs.declared.Labels.TheVariants.{Few, Unfit}
 
 -- the names of the nodes kept from place k on
 unfoldable pub kept_from : List ℕ → List ℕ → List ℕ → ℕ → ℕ → List (List ℕ)
@@ -28,14 +26,14 @@ pub record Firsts (ns names kept : List ℕ) (size : ℕ) (seen : List (List ℕ
   pub named : kept_from ns names kept size 0 ≡ seen
 
 -- what a node comes to: 19, or the first labels up to it
-abbrev pub Entered : List ℕ → List ℕ → ℕ → List ℕ → Labels → Type 0
-Entered ns names i kept (Unfit place) = (place ≡ i) × (unfit_at ns names i ≡ true)
-Entered ns names i kept (Few size) = (unfit_at ns names i ≡ false) × Firsts ns names kept size (seen_before ns names (i + 1))
+abbrev pub Entered : List ℕ → List ℕ → ℕ → List ℕ → Result ℕ NodeId → Type 0
+Entered ns names i kept (Err n) = (n.0 ≡ i) × (unfit_at ns names i ≡ true)
+Entered ns names i kept (Ok size) = (unfit_at ns names i ≡ false) × Firsts ns names kept size (seen_before ns names (i + 1))
 
 -- what all nodes come to
-abbrev pub Listed : List ℕ → List ℕ → List ℕ → Labels → Type 0
-Listed ns names kept (Unfit place) = first (unfit_at ns names) 0 (count ns) ≡ Here place
-Listed ns names kept (Few size) = (first (unfit_at ns names) 0 (count ns) ≡ Nowhere) × Firsts ns names kept size (label_names ns names)
+abbrev pub Listed : List ℕ → List ℕ → List ℕ → Result ℕ NodeId → Type 0
+Listed ns names kept (Err n) = first (unfit_at ns names) 0 (count ns) ≡ Some n.0
+Listed ns names kept (Ok size) = (first (unfit_at ns names) 0 (count ns) ≡ None) × Firsts ns names kept size (label_names ns names)
 
 -- the tables, with the first label of each name
 pub record Ready (ns names kept : List ℕ) (size : ℕ) : Type 0 where

@@ -14,7 +14,6 @@ ghost use Rattle.call_labels.specs.Order.{seen_before, place_in};
 ghost use Rattle.call_labels.specs.Written.{new_name_of, record_with, nodes_renamed, names_renamed};
 ghost use Rattle.call_labels.specs.Firsts.{kept_from, Nodes, Firsts, Entered, Listed, Ready};
 
-use base_common::and;
 use check_identifiers::is_strict_word;
 use table_names::{name, name_is, same_name};
 use table_records::{NodeId, kinds, roles};
@@ -26,21 +25,12 @@ const LETTERS: usize = 26;
 // How many short names there are.
 pub const MOST: usize = 699;
 
-// What the labels come to: at most 699 different names, or a label that cannot be renamed (19), by its node.
-#[derive(Clone, Copy)]
-pub enum Labels {
-    Few(usize),
-    Unfit(u32),
-}
-
 fn is_label(nodes: &[u32], n: NodeId) -> bool
     requires { n.0 < count nodes.now }
     ensures { result ≡ is_label nodes.now n.0 }
 {
-    and(
-        table_records::kind(nodes, n) == kinds::LABEL_IDENTIFIER,
-        table_records::role(nodes, n) == roles::LABEL,
-    )
+    table_records::kind(nodes, n) == kinds::LABEL_IDENTIFIER
+        && table_records::role(nodes, n) == roles::LABEL
 }
 
 // Whether the reserved-word check looks for the name of n.
@@ -62,65 +52,58 @@ fn place_in(nodes: &[u32], names: &[u8], kept: &[u32], size: usize, n: NodeId) -
     requires n_bound { n.0 < count nodes.now }
     ensures { result ≡ place_in (kept_from nodes.now names.now kept.now size 0) (name_of nodes.now names.now n.0) }
 {
-    let mut k = 0;
-    while k < size {
+    for k in 0..size {
         if same_name(nodes, names, NodeId(kept[k]), n) {
             return k;
         }
-        k += 1;
     }
     size
 }
 
-// Keeps the label i if it is the first of its name.
-fn enter(nodes: &[u32], names: &[u8], kept: &mut [u32], size: usize, i: u32) -> Labels
+// Keeps the label i if it is the first of its name, and says how many are kept; or that it cannot be renamed (19).
+fn enter(
+    nodes: &[u32],
+    names: &[u8],
+    kept: &mut [u32],
+    size: usize,
+    i: u32,
+) -> Result<usize, NodeId>
     requires named { Named nodes.now names.now }
     requires firsts { Firsts nodes.now names.now kept.old size (seen_before nodes.now names.now i) }
     requires i_bound { i < count nodes.now }
     ensures { Entered nodes.now names.now i kept.new result }
 {
     if !is_label(nodes, NodeId(i)) {
-        return Labels::Few(size);
+        return Ok(size);
     }
     if is_reserved(nodes, names, NodeId(i)) {
-        return Labels::Unfit(i);
+        return Err(NodeId(i));
     }
     if table_records::name_len(nodes, NodeId(i)) == 0 {
-        return Labels::Few(size);
+        return Ok(size);
     }
     if place_in(nodes, names, kept, size, NodeId(i)) < size {
-        return Labels::Few(size);
+        return Ok(size);
     }
     if size == MOST {
-        return Labels::Unfit(i);
+        return Err(NodeId(i));
     }
     kept[size] = i;
-    Labels::Few(size + 1)
+    Ok(size + 1)
 }
 
-// The first label of each different name, in node order.
-pub fn first_labels(nodes: &[u32], names: &[u8], kept: &mut [u32]) -> Labels
+// The first label of each different name, in node order, and how many these are; or the first that cannot be renamed.
+pub fn first_labels(nodes: &[u32], names: &[u8], kept: &mut [u32]) -> Result<usize, NodeId>
     requires tree { Tree nodes.now }
     requires named { Named nodes.now names.now }
     requires most_in_bounds { most ≤ length kept.old }
     ensures { Listed nodes.now names.now kept.new result }
 {
-    let count = table_records::size(nodes);
     let mut size: usize = 0;
-    let mut i: u32 = 0;
-    while i < count {
-        let entered = enter(nodes, names, kept, size, i);
-        match entered {
-            Labels::Unfit(_) => {
-                return Labels::Unfit(i);
-            }
-            Labels::Few(more) => {
-                size = more;
-            }
-        }
-        i += 1;
+    for i in 0..table_records::size(nodes) {
+        size = enter(nodes, names, kept, size, i)?;
     }
-    Labels::Few(size)
+    Ok(size)
 }
 
 fn letter(k: usize) -> u8
@@ -192,12 +175,9 @@ pub fn names_length(nodes: &[u32], names: &[u8], kept: &[u32], size: usize) -> u
     requires { Ready nodes.now names.now kept.now size }
     ensures { result ≡ length (names_renamed nodes.now names.now) }
 {
-    let count = table_records::size(nodes);
     let mut w: usize = 0;
-    let mut i: u32 = 0;
-    while i < count {
+    for i in 0..table_records::size(nodes) {
         w += new_length(nodes, names, kept, size, NodeId(i));
-        i += 1;
     }
     w
 }
@@ -235,9 +215,7 @@ fn put_record(nodes: &[u32], n: NodeId, start: usize, len: usize, out: &mut [u32
     requires n_in_bounds { n.0 * 10 + 10 ≤ length out.old }
     ensures { out.new ≡ put out.old (n.0 * 10) (record_with nodes.now n.0 start len) }
 {
-    table_put::put10(
-        out,
-        table_records::wide(n.0) * 10,
+    let record = [
         table_records::kind(nodes, n),
         table_records::parent(nodes, n).0,
         table_records::role(nodes, n),
@@ -248,7 +226,8 @@ fn put_record(nodes: &[u32], n: NodeId, start: usize, len: usize, out: &mut [u32
         table_records::extra(nodes, n),
         start as u32,
         len as u32,
-    );
+    ];
+    table_put::copy(&record, out, n.0 as usize * 10);
 }
 
 // Writes the node table and the names, where there is room for both.
@@ -267,14 +246,11 @@ pub fn write(
     ensures renamed_nodes_after { renamed_nodes.new ≡ over (nodes_renamed nodes.now names.now) renamed_nodes.old }
     ensures renamed_names_after { renamed_names.new ≡ over (names_renamed nodes.now names.now) renamed_names.old }
 {
-    let count = table_records::size(nodes);
     let mut w: usize = 0;
-    let mut i: u32 = 0;
-    while i < count {
+    for i in 0..table_records::size(nodes) {
         let len = new_length(nodes, names, kept, size, NodeId(i));
         put_record(nodes, NodeId(i), w, len, renamed_nodes);
         put_name(nodes, names, kept, size, NodeId(i), renamed_names, w);
         w += len;
-        i += 1;
     }
 }

@@ -1,12 +1,14 @@
 -- What is known where 16 is not given; what is made by whether there is room; and a route taken up that is not stopped again.
-use Rattle.std.specs.Prelude.{ℕ, ◌≤◌, ◌<◌, ◌≡◌, refl, List, Bool, true, false, cond, ◌&&◌, ltb, leb, length}
+use Rattle.std.specs.Prelude.{ℕ, ◌≤◌, ◌<◌, ◌≡◌, refl, List, Bool, true, false, cond, ◌&&◌, ltb, leb, length, Ok, Err}
 use Rattle.std.proofs.Math.Path.{sym}
 use Rattle.std.proofs.Common.{ap, ltb-true, le-leb}
 use Rattle.std.proofs.lemmas.Bool.{lt-leb}
 use Rattle.base_common.proofs.UptoLaws.{and_left_lem}
-use Rattle.refusal_verdict.specs.Refusals as refusal
-use Rattle.refusal_verdict.specs.declared.Verdict.{Verdict}
-use Rattle.refusal_verdict.specs.declared.Verdict.TheVariants.{Refused, Passed}
+use Rattle.refusal_verdict.specs.declared.Refusal.TheVariants as refusal
+use Rattle.refusal_verdict.specs.declared.Refusal.{Refusal}
+use Rattle.refusal_verdict.specs.declared.Refused.{Refused}
+use Rattle.refusal_verdict.specs.declared.Refused.TheVariants.{At}
+use Rattle.refusal_verdict.specs.Verdict.{Verdict, Passed, unless}
 use Rattle.refusal_verdict.proofs.VerdictLaws.{no_pass}
 use Rattle.refusal_state.specs.Targets.{refused_or}
 use Rattle.check_dispatch.specs.Rule.{Rule}
@@ -18,20 +20,20 @@ use Rattle.code_assemble.specs.Assembled.{assembled_slice}
 use Rattle.code_assemble.specs.Ready as Units
 use Rattle.route_list.specs.Over.{over as onto}
 use Rattle.route_viewer.specs.Shown.{shown_answer, shown_slice}
-use Rattle.route_viewer.specs.declared.Routed.TheVariants as routed
+use Rattle.code_assemble.specs.Assembled.{short as code_short}
 use Rattle.route_marks.specs.Marks.{marks, first_of, is_set}
 use Rattle.route_marks.specs.Taken.{Ready, stop_of, marks_shown}
 use Rattle.route_marks.proofs.TakenLaws.{none_set}
 use Rattle.route_marks.specs.declared.Begin.{Begin}
 use Rattle.route_marks.specs.declared.Begin.TheVariants.{Start, Mark}
-use Rattle.call_routes.specs.Calls.{code_refusal, unless, if_room}
+use Rattle.call_routes.specs.Calls.{code_refusal, if_room}
 use Rattle.call_routes.proofs.CallsLaws.{both, ready, exact, by_room}
 use Rattle.call_marks.specs.Marked.{to_refusal, from_refusal, sixteen_of, seventeen_of, code_of, mark_answer, mark_code, mark_slice, marks_left}
 use Rattle.call_marks.specs.Made.{shown_or, list_or, marks_or, made_answer, made_slice, made_marks}
 
-tested : (b : Bool) (k p : ℕ) → cond b Passed (Refused k p) ≡ Passed → b ≡ true
+tested : (b : Bool) (k : Refusal) (p : ℕ) → cond b Passed (Err (At k p)) ≡ Passed → b ≡ true
 tested true k p e = refl
-tested false k p e = no_pass k p e
+tested false k p e = no_pass (At k p) e
 
 -- A mark that is taken up is set, and there is one of the number under which the route is to be stopped.
 pub sixteen_passed : (M : List ℕ) (begin : Begin) (to : ℕ) → sixteen_of M begin to ≡ Passed → Ready M begin × (to < marks)
@@ -44,8 +46,8 @@ sixteen_passed M (Mark m) to e =
 pub sixteen_same : (M : List ℕ) (m : ℕ) → sixteen_of M (Mark m) m ≡ from_refusal M m
 sixteen_same M m = go (is_set M m) refl
   where
-    go : (b : Bool) → is_set M m ≡ b → refused_or (cond b Passed (Refused refusal.Mark m)) (to_refusal m) ≡ cond b Passed (Refused refusal.Mark m)
-    go true e = ap (λ x. cond x Passed (Refused refusal.Mark m)) (and_left_lem (ltb m marks) (leb 1 (first_of M m) && leb (first_of M m) 513) e)
+    go : (b : Bool) → is_set M m ≡ b → refused_or (cond b Passed (Err (At refusal.Mark m))) (to_refusal m) ≡ cond b Passed (Err (At refusal.Mark m))
+    go true e = ap (λ x. cond x Passed (Err (At refusal.Mark m))) (and_left_lem (ltb m marks) (leb 1 (first_of M m) && leb (first_of M m) 513) e)
     go false e = refl
 
 module _ (C M : List ℕ) (begin : Begin) (stop : ℕ) (qs : List ℕ) (codeLen : ℕ) where
@@ -61,7 +63,7 @@ module _ (C M : List ℕ) (begin : Begin) (stop : ℕ) (qs : List ℕ) (codeLen 
   unfolding made_marks
   marks_room h len to = rw (le-leb (length C) codeLen h)
 
-  pub made_short : codeLen < length C → (len : ℕ) → made_answer C M begin stop qs codeLen len ≡ routed.CodeShort (length C)
+  pub made_short : codeLen < length C → (len : ℕ) → made_answer C M begin stop qs codeLen len ≡ code_short (length C)
   unfolding made_answer
   made_short h len = rw (lt-leb (length C) codeLen h)
 
@@ -78,32 +80,32 @@ pub never_set : (r : Rule) (u : ℕ) (sixteen seventeen : Verdict) (x : Res) (co
 unfolding marks_left
 never_set r u sixteen seventeen x codeLen len M to = go (refused_or (code_refusal r u) sixteen) (leb (code_length r.nodes u) codeLen) seventeen
   where
-    go : (v : Verdict) (b : Bool) (w : Verdict) → unless v (λ number place. M) (cond b (unless w (λ number place. M) (marks_shown M to (over x) len)) M) ≡ M
-    go (Refused k p) b w = refl
-    go Passed false w = refl
-    go Passed true (Refused k p) = refl
-    go Passed true Passed = none_set M to len x
+    go : (v : Verdict) (b : Bool) (w : Verdict) → unless v (λ e. M) (cond b (unless w (λ e. M) (marks_shown M to (over x) len)) M) ≡ M
+    go (Err e) b w = refl
+    go (Ok v) false w = refl
+    go (Ok v) true (Err e) = refl
+    go (Ok v) true (Ok w) = none_set M to len x
 
 -- A refusal before 11.
-module _ (r : Rule) (u : ℕ) (sixteen : Verdict) (number place : ℕ) (e : refused_or (code_refusal r u) sixteen ≡ Refused number place) where
-  pub refused_answer : (seventeen : Verdict) (s : Stop) (codeLen len : ℕ) → routed.Refused number place ≡ mark_answer r u sixteen seventeen s codeLen len
+module _ (r : Rule) (u : ℕ) (sixteen : Verdict) (f : Refused) (e : Err f ≡ refused_or (code_refusal r u) sixteen) where
+  pub refused_answer : (seventeen : Verdict) (s : Stop) (codeLen len : ℕ) → Err f ≡ mark_answer r u sixteen seventeen s codeLen len
   unfolding mark_answer
   refused_answer seventeen s codeLen len =
-      sym (ap (λ (v : Verdict). unless v routed.Refused (if_room r u codeLen (unless seventeen routed.Refused (shown_answer (route_to s) len)) (routed.CodeShort (code_length r.nodes u)))) e)
+      ap (λ (v : Verdict). unless v Err (if_room r u codeLen (unless seventeen Err (shown_answer (route_to s) len)) (code_short (code_length r.nodes u)))) e
 
   pub refused_code : (k : List ℕ) → k ≡ mark_code r u sixteen k
   unfolding mark_code
-  refused_code k = sym (ap (λ (v : Verdict). unless v (λ number place. k) (if_room r u (length k) (onto (code_of r u) k) k)) e)
+  refused_code k = ap (λ (v : Verdict). unless v (λ e. k) (if_room r u (length k) (onto (code_of r u) k) k)) e
 
   pub refused_slice : (seventeen : Verdict) (s : Stop) (codeLen : ℕ) (o : List ℕ) → o ≡ mark_slice r u sixteen seventeen s codeLen o
   unfolding mark_slice
   refused_slice seventeen s codeLen o =
-      sym (ap (λ (v : Verdict). unless v (λ number place. o) (if_room r u codeLen (unless seventeen (λ number place. o) (shown_slice (route_to s) o)) o)) e)
+      ap (λ (v : Verdict). unless v (λ e. o) (if_room r u codeLen (unless seventeen (λ e. o) (shown_slice (route_to s) o)) o)) e
 
   pub refused_marks : (seventeen : Verdict) (s : Stop) (codeLen len : ℕ) (M : List ℕ) (to : ℕ) → M ≡ marks_left r u sixteen seventeen s codeLen len M to
   unfolding marks_left
   refused_marks seventeen s codeLen len M to =
-      sym (ap (λ (v : Verdict). unless v (λ number place. M) (if_room r u codeLen (unless seventeen (λ number place. M) (marks_shown M to s len)) M)) e)
+      ap (λ (v : Verdict). unless v (λ e. M) (if_room r u codeLen (unless seventeen (λ e. M) (marks_shown M to s len)) M)) e
 
 -- No refusal before 11.
 module _ (r : Rule) (u : ℕ) (M : List ℕ) (begin : Begin) (to : ℕ) (e : refused_or (code_refusal r u) (sixteen_of M begin to) ≡ Passed) where
@@ -123,25 +125,25 @@ module _ (r : Rule) (u : ℕ) (M : List ℕ) (begin : Begin) (to : ℕ) (e : ref
       → made_answer (code_of r u) M begin stop qs codeLen len ≡ mark_answer r u (sixteen_of M begin to) (seventeen_of M (code_of r u) begin) (stop_of M (code_of r u) qs begin stop) codeLen len
   unfolding made_answer mark_answer
   passed_answer stop qs codeLen len =
-      by_room (refused_or (code_refusal r u) (sixteen_of M begin to)) e (length (code_of r u)) (code_length r.nodes u) codeLen long routed.Refused
-      (shown_or (seventeen_of M (code_of r u) begin) (stop_of M (code_of r u) qs begin stop) len) routed.CodeShort
+      by_room (refused_or (code_refusal r u) (sixteen_of M begin to)) e (length (code_of r u)) (code_length r.nodes u) codeLen long Err
+      (shown_or (seventeen_of M (code_of r u) begin) (stop_of M (code_of r u) qs begin stop) len) code_short
 
   pub passed_code : (k : List ℕ) → assembled_slice (code_of r u) k ≡ mark_code r u (sixteen_of M begin to) k
   unfolding assembled_slice mark_code
   passed_code k =
-      by_room (refused_or (code_refusal r u) (sixteen_of M begin to)) e (length (code_of r u)) (code_length r.nodes u) (length k) long (λ number place. k)
+      by_room (refused_or (code_refusal r u) (sixteen_of M begin to)) e (length (code_of r u)) (code_length r.nodes u) (length k) long (λ e. k)
       (onto (code_of r u) k) (λ n. k)
 
   pub passed_slice : (stop : ℕ) (qs : List ℕ) (codeLen : ℕ) (o : List ℕ)
       → made_slice (code_of r u) M begin stop qs codeLen o ≡ mark_slice r u (sixteen_of M begin to) (seventeen_of M (code_of r u) begin) (stop_of M (code_of r u) qs begin stop) codeLen o
   unfolding made_slice mark_slice
   passed_slice stop qs codeLen o =
-      by_room (refused_or (code_refusal r u) (sixteen_of M begin to)) e (length (code_of r u)) (code_length r.nodes u) codeLen long (λ number place. o)
+      by_room (refused_or (code_refusal r u) (sixteen_of M begin to)) e (length (code_of r u)) (code_length r.nodes u) codeLen long (λ e. o)
       (list_or (seventeen_of M (code_of r u) begin) (stop_of M (code_of r u) qs begin stop) o) (λ n. o)
 
   pub passed_marks : (stop : ℕ) (qs : List ℕ) (codeLen len : ℕ)
       → made_marks (code_of r u) M begin stop qs codeLen len to ≡ marks_left r u (sixteen_of M begin to) (seventeen_of M (code_of r u) begin) (stop_of M (code_of r u) qs begin stop) codeLen len M to
   unfolding made_marks marks_left
   passed_marks stop qs codeLen len =
-      by_room (refused_or (code_refusal r u) (sixteen_of M begin to)) e (length (code_of r u)) (code_length r.nodes u) codeLen long (λ number place. M)
+      by_room (refused_or (code_refusal r u) (sixteen_of M begin to)) e (length (code_of r u)) (code_length r.nodes u) codeLen long (λ e. M)
       (marks_or (seventeen_of M (code_of r u) begin) (stop_of M (code_of r u) qs begin stop) len M to) (λ n. M)

@@ -1,6 +1,6 @@
 -- MARKS IN A ROUTE, over the calls: "For a mark taken up on the tables and unit of all its stops, the list so far followed by what comes after, if not
 -- stopped again, equals the route, its end too, for the answers taken so far joined with the further ones."
-use Rattle.std.specs.Prelude.{ℕ, ◌+◌, ◌≤◌, ◌<◌, Bool, cond, length, take}
+use Rattle.std.specs.Prelude.{ℕ, ◌+◌, ◌≤◌, ◌<◌, Bool, cond, length, take, Ok, Err}
 use Rattle.std.proofs.Math.Path.{◌≡◌, refl, ap}
 use Rattle.std.proofs.Common.{sym, subst, ◌∙◌, inl, inr, arith}
 use mathlib.Core.List.{List, [], ◌∷◌, ◌++◌, map, map-append, append-nil}
@@ -8,16 +8,17 @@ use Rattle.std.proofs.Math.Bool.{true, false}
 use Rattle.std.proofs.Math.Dec.{leb}
 use Rattle.std.proofs.Math.Seq.{take-length}
 use Rattle.check_dispatch.specs.Rule.{Rule}
-use Rattle.refusal_verdict.specs.Refusals as refusal
-use Rattle.refusal_verdict.specs.declared.Verdict.{Verdict}
-use Rattle.refusal_verdict.specs.declared.Verdict.TheVariants.{Refused, Passed}
+use Rattle.refusal_verdict.specs.declared.Refusal.TheVariants as refusal
+use Rattle.refusal_verdict.specs.declared.Refused.TheVariants.{At, Short}
+use Rattle.refusal_verdict.specs.Verdict.{Verdict, Passed, unless}
 use Rattle.refusal_state.specs.Targets.{refused_or}
 use Rattle.route_completion.specs.Sem.{Entry}
 use Rattle.route_completion.specs.Route.{asks, node_of, route}
 use Rattle.route_list.specs.Over.{over as onto}
 use Rattle.route_list.specs.Listing.{saturated}
 use Rattle.route_viewer.specs.Shown.{shown_answer, shown_slice}
-use Rattle.route_viewer.specs.declared.Routed.TheVariants as routed
+use Rattle.code_assemble.specs.Assembled.{short as code_short}
+use Rattle.route_viewer.specs.Shown.{Routed, routed}
 use Rattle.code_flat.specs.Machine.{room, Pos, pos}
 use Rattle.code_flat.proofs.Runs.{Ends, run_ends}
 use Rattle.code_tree.specs.Statements.{unit_of}
@@ -31,7 +32,7 @@ use Rattle.route_marks.specs.Marks.{marks, place_of, mark_at}
 use Rattle.route_marks.specs.Taken.{stop_of, marks_after, marks_shown}
 use Rattle.route_marks.proofs.BeginsLaws.{begins_is}
 use Rattle.route_marks.specs.declared.Begin.TheVariants.{Start, Mark}
-use Rattle.call_routes.specs.Calls.{code_refusal, unless}
+use Rattle.call_routes.specs.Calls.{code_refusal}
 use Rattle.call_routes.proofs.CallsLaws.{both, ready, front_code}
 use Rattle.call_marks.specs.Marked.{code_of, sixteen_of, seventeen_of, mark_answer, mark_slice, marks_left}
 use Rattle.call_marks.proofs.MarkedLaws.{sixteen_passed}
@@ -39,32 +40,40 @@ use Rattle.call_marks.specs.Theorem.{all_parts}
 use Rattle.call_marks.proofs.BackLaws.{set_back, mark_back, length_set}
 use Rattle.call_marks.specs.Theorem.{History, first, again, kept, Reached, HeldAt, Standing, one, TakenUp}
 
+abbrev end_is : Routed → ℕ
+end_is (Ok r) = r.end
+end_is (Err e) = 0
+
+abbrev entries_are : Routed → ℕ
+entries_are (Ok r) = r.entries
+entries_are (Err e) = 0
+
 module _ (r : Rule) (u : ℕ) (v w : Verdict) (s : Stop) (codeLen n t : ℕ) where
-  reached : (len : ℕ) → mark_answer r u v w s codeLen len ≡ routed.Route stopped_end n t → Reached r u v w s codeLen len n
+  reached : (len : ℕ) → mark_answer r u v w s codeLen len ≡ routed stopped_end n t → Reached r u v w s codeLen len n
   unfolding mark_answer shown_answer
   reached len h = go (refused_or (code_refusal r u) v) refl (leb (code_length r.nodes u) codeLen) refl w refl (leb (length (route_to s).list) len) refl h
     where
       go : (a : Verdict) → refused_or (code_refusal r u) v ≡ a → (b : Bool) → leb (code_length r.nodes u) codeLen ≡ b → (d : Verdict) → w ≡ d → (e : Bool)
           → leb (length (route_to s).list) len ≡ e
-          → unless a routed.Refused (cond b (unless d routed.Refused (cond e (routed.Route (route_to s).end (length (route_to s).list) (route_to s).taken) (routed.Short (saturated (length (route_to s).list))))) (routed.CodeShort (code_length r.nodes u)))
-          ≡ routed.Route stopped_end n t
+          → unless a Err (cond b (unless d Err (cond e (routed (route_to s).end (length (route_to s).list) (route_to s).taken) (Err (Short refusal.RouteSlice (saturated (length (route_to s).list)))))) (code_short (code_length r.nodes u)))
+          ≡ routed stopped_end n t
           → Reached r u v w s codeLen len n
-      go (Refused k p) qa b qb d qd e qe x = let z : ◌≡◌ {A = ℕ} 0 1 = cc in absurd (omega arith)
-      go Passed qa false qb d qd e qe x = let z : ◌≡◌ {A = ℕ} 0 1 = cc in absurd (omega arith)
-      go Passed qa true qb (Refused k p) qd e qe x = let z : ◌≡◌ {A = ℕ} 0 1 = cc in absurd (omega arith)
-      go Passed qa true qb Passed qd false qe x = let z : ◌≡◌ {A = ℕ} 0 1 = cc in absurd (omega arith)
-      go Passed qa true qb Passed qd true qe x = record { before = qa; roomy = qb; behind = qd; fits = qe; end = cc; many = cc }
+      go (Err f) qa b qb d qd e qe x = let z : ◌≡◌ {A = ℕ} 0 1 = cc in absurd (omega arith)
+      go (Ok p) qa false qb d qd e qe x = let z : ◌≡◌ {A = ℕ} 0 1 = cc in absurd (omega arith)
+      go (Ok p) qa true qb (Err f) qd e qe x = let z : ◌≡◌ {A = ℕ} 0 1 = cc in absurd (omega arith)
+      go (Ok p) qa true qb (Ok y) qd false qe x = let z : ◌≡◌ {A = ℕ} 0 1 = cc in absurd (omega arith)
+      go (Ok p) qa true qb (Ok y) qd true qe x = record { before = qa; roomy = qb; behind = qd; fits = qe; end = ap end_is x; many = sym (ap entries_are x) }
 
   slice_is : (o : List ℕ) → Reached r u v w s codeLen (length o) n → take n (mark_slice r u v w s codeLen o) ≡ (route_to s).list
   unfolding mark_slice shown_slice
   slice_is o k =
-      ap (take n) (λ i. unless (k.before i) (λ number place. o) (cond (k.roomy i) (unless (k.behind i) (λ number place. o) (cond (k.fits i) (onto (route_to s).list o) o)) o))
+      ap (take n) (λ i. unless (k.before i) (λ e. o) (cond (k.roomy i) (unless (k.behind i) (λ e. o) (cond (k.fits i) (onto (route_to s).list o) o)) o))
       ∙ front_code (route_to s).list o n k.many
 
   marks_is : (len : ℕ) (M : List ℕ) (to : ℕ) → Reached r u v w s codeLen len n → marks_left r u v w s codeLen len M to ≡ marks_after M to s
   unfolding marks_left marks_shown
   marks_is len M to k =
-      λ i. unless (k.before i) (λ number place. M) (cond (k.roomy i) (unless (k.behind i) (λ number place. M) (cond (k.fits i) (marks_after M to s) M)) M)
+      λ i. unless (k.before i) (λ e. M) (cond (k.roomy i) (unless (k.behind i) (λ e. M) (cond (k.fits i) (marks_after M to s) M)) M)
 
 held_by : (C : List ℕ) (p : Pos) (qs : List ℕ) (stop : ℕ) → (route_to (stopped room C stop p qs)).end ≡ stopped_end → HeldAt (stopped room C stop p qs)
 held_by C p qs stop z = go (stopped room C stop p qs) refl (stopped_law room C stop p qs) z
@@ -165,8 +174,8 @@ marks_in_a_route r u M m qs l y more =
     let k = marked_route room ss (unit_room_lem r.nodes r.names t u) (one qs ∷ []) (a.entries ++ []) (mark_at M m) [] e more in
     let g = mark_kept room ss (one qs ∷ []) (a.entries ++ []) (mark_at M m) [] e in
     record {
-      sixteen = ap (λ b. cond b Passed (Refused refusal.Mark m)) a.set;
-      seventeen = ap (λ b. cond b Passed (Refused refusal.MarkPlace m)) ((begins_is (code_of r u) (place_of M m)).1 g.place);
+      sixteen = ap (λ b. cond b Passed (Err (At refusal.Mark m))) a.set;
+      seventeen = ap (λ b. cond b Passed (Err (At refusal.MarkPlace m))) ((begins_is (code_of r u) (place_of M m)).1 g.place);
       list =
           ap (λ x. (route ss (x ++ more)).list) (sym (one_is qs)) ∙ k.list
           ∙ ap (λ x. x ++ map node_of (taken_up room (code_of r u) (mark_at M m) more).nodes) (ap (map node_of) (append-nil a.entries) ∙ a.list);

@@ -1,10 +1,10 @@
 -- The three calls by themselves: what each answers and leaves of the code slice k, the route slice o and the array of marks M. r is the rule, u the unit.
 use Rattle.std.specs.Prelude.{ℕ, List}
 use Rattle.check_dispatch.specs.Rule.{Rule}
-use Rattle.refusal_verdict.specs.declared.Verdict.{Verdict}
+use Rattle.refusal_verdict.specs.Verdict.{Verdict}
 use Rattle.refusal_state.specs.Targets.{refused_or}
 use Rattle.code_marks.specs.Stop.{Stop}
-use Rattle.route_viewer.specs.declared.Routed.{Routed}
+use Rattle.route_viewer.specs.Shown.{Routed}
 use Rattle.route_marks.specs.Taken.{stop_of, gone_on}
 use Rattle.route_marks.specs.declared.Begin.TheVariants.{Start, Mark}
 use Rattle.call_marks.specs.Marked.{code_of, to_refusal, from_refusal, place_refusal, seventeen_of, mark_answer, mark_code, mark_slice, marks_left}

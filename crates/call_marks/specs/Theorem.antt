@@ -6,12 +6,11 @@ use mathlib.Core.List.{List, [], ◌++◌, map}
 use Rattle.std.proofs.Math.Bool.{true}
 use Rattle.std.proofs.Math.Dec.{leb}
 use Rattle.check_dispatch.specs.Rule.{Rule}
-use Rattle.refusal_verdict.specs.declared.Verdict.{Verdict}
-use Rattle.refusal_verdict.specs.declared.Verdict.TheVariants.{Passed}
+use Rattle.refusal_verdict.specs.Verdict.{Verdict, Passed}
 use Rattle.refusal_state.specs.Targets.{refused_or}
 use Rattle.route_completion.specs.Sem.{Entry}
 use Rattle.route_completion.specs.Route.{node_of, route}
-use Rattle.route_viewer.specs.declared.Routed.TheVariants as routed
+use Rattle.route_viewer.specs.Shown.{routed}
 use Rattle.code_flat.specs.Machine.{room, Pos, pos}
 use Rattle.code_tree.specs.Statements.{unit_of}
 use Rattle.code_length.specs.Length.{code_length}
@@ -33,7 +32,7 @@ module _ (r : Rule) (u : ℕ) (M : List ℕ) (begin : Begin) (to stop : ℕ) (an
   -- It was stopped: end 4, with n entries.
   abbrev pub Stopped : ℕ → ℕ → Type 0
   Stopped n t =
-      mark_answer r u (sixteen_of M begin to) (seventeen_of M (code_of r u) begin) (stop_of M (code_of r u) answers begin stop) codeLen (length out) ≡ routed.Route stopped_end n t
+      mark_answer r u (sixteen_of M begin to) (seventeen_of M (code_of r u) begin) (stop_of M (code_of r u) answers begin stop) codeLen (length out) ≡ routed stopped_end n t
 
   -- The array that it leaves, and the list that it has written.
   abbrev pub array_after : List ℕ

@@ -16,26 +16,25 @@ ghost use Rattle.call_routes.specs.Calls.{code_refusal};
 ghost use Rattle.call_marks.specs.Marked.{code_of, to_refusal, from_refusal, place_refusal, sixteen_of, seventeen_of, mark_answer, mark_code, mark_slice, marks_left};
 ghost use Rattle.call_marks.specs.Made.{shown_or, list_or, marks_or, made_answer, made_slice, made_marks};
 
-use code_assemble::Assembled;
-use refusal_verdict::{Verdict, refusals};
+use refusal_verdict::{Refusal, Refused};
 use route_marks::{Begin, Marks};
-use route_viewer::Routed;
+use route_viewer::Route;
 use table_records::NodeId;
 
 const MARKS: u32 = 8;
 
 // 16 of a mark that is to be set.
-fn to_refusal(to: u32) -> Verdict
+fn to_refusal(to: u32) -> Result<(), Refused>
     ensures { result ≡ to_refusal to }
 {
     if to < MARKS {
-        return Verdict::Passed;
+        return Ok(());
     }
-    Verdict::Refused(refusals::MARK, to)
+    Err(Refused::At(Refusal::Mark, to))
 }
 
 // 16, of the mark taken up first.
-fn mark_refusal(marks: &Marks, begin: Begin, to: u32) -> Verdict
+fn mark_refusal(marks: &Marks, begin: Begin, to: u32) -> Result<(), Refused>
     ensures { result ≡ sixteen_of marks.now begin to }
 {
     match begin {
@@ -44,23 +43,23 @@ fn mark_refusal(marks: &Marks, begin: Begin, to: u32) -> Verdict
             if route_marks::is_set(marks, mark) {
                 return to_refusal(to);
             }
-            Verdict::Refused(refusals::MARK, mark)
+            Err(Refused::At(Refusal::Mark, mark))
         }
     }
 }
 
 // 17.
-fn place_refusal(marks: &Marks, begin: Begin, code: &[u32]) -> Verdict
+fn place_refusal(marks: &Marks, begin: Begin, code: &[u32]) -> Result<(), Refused>
     requires { MarkReady marks.now begin }
     ensures { result ≡ seventeen_of marks.now code.now begin }
 {
     match begin {
-        Begin::Start => Verdict::Passed,
+        Begin::Start => Ok(()),
         Begin::Mark(mark) => {
             if route_marks::begins(code, route_marks::place_at(marks, mark)) {
-                return Verdict::Passed;
+                return Ok(());
             }
-            Verdict::Refused(refusals::MARK_PLACE, mark)
+            Err(Refused::At(Refusal::MarkPlace, mark))
         }
     }
 }
@@ -74,17 +73,15 @@ fn shown(
     code: &[u32],
     answers: &[u32],
     out: &mut [u32],
-) -> Routed
+) -> Result<Route, Refused>
     requires mark_ready { MarkReady marks.old begin }
     requires to_lt_marks_many { to < marksMany }
     ensures answer { result ≡ shown_or (seventeen_of marks.old code.now begin) (stop_of marks.old code.now answers.now begin stop) (length out.old) }
     ensures list { out.new ≡ list_or (seventeen_of marks.old code.now begin) (stop_of marks.old code.now answers.now begin stop) out.old }
     ensures marks { marks.new ≡ marks_or (seventeen_of marks.old code.now begin) (stop_of marks.old code.now answers.now begin stop) (length out.old) marks.old to }
 {
-    match place_refusal(marks, begin, code) {
-        Verdict::Refused(number, place) => Routed::Refused(number, place),
-        Verdict::Passed => route_marks::show(marks, begin, to, stop, code, answers, out),
-    }
+    place_refusal(marks, begin, code)?;
+    route_marks::show(marks, begin, to, stop, code, answers, out)
 }
 
 // Makes the code of a unit that is not refused, and shows the route, where the code slice has room.
@@ -99,7 +96,7 @@ fn made(
     answers: &[u32],
     code: &mut [u32],
     out: &mut [u32],
-) -> Routed
+) -> Result<Route, Refused>
     requires ready { Ready nodes.now names.now u.0 }
     requires mark_ready { MarkReady marks.old begin }
     requires to_lt_marks_many { to < marksMany }
@@ -108,18 +105,16 @@ fn made(
     ensures list { out.new ≡ made_slice (unitCode (unit_of nodes.now names.now u.0)) marks.old begin stop answers.now (length code.old) out.old }
     ensures marks { marks.new ≡ made_marks (unitCode (unit_of nodes.now names.now u.0)) marks.old begin stop answers.now (length code.old) (length out.old) to }
 {
-    match code_assemble::code_unit(nodes, names, u, code) {
-        Assembled::Code(n) => shown(
-            marks,
-            begin,
-            to,
-            stop,
-            call_routes::front(code, n),
-            answers,
-            out,
-        ),
-        Assembled::Short(n) => Routed::CodeShort(n),
-    }
+    let n = code_assemble::code_unit(nodes, names, u, code)?;
+    shown(
+        marks,
+        begin,
+        to,
+        stop,
+        call_routes::front(code, n),
+        answers,
+        out,
+    )
 }
 
 // The refusals before 11.
@@ -134,10 +129,10 @@ fn refusal(
     marks: &Marks,
     begin: Begin,
     to: u32,
-) -> Verdict
+) -> Result<(), Refused>
     ensures { result ≡ refused_or (code_refusal (rule source_type async_bodies nodes.now scopes.now source.now names.now) unit) (sixteen_of marks.now begin to) }
 {
-    let verdict = call_routes::refusal(
+    call_routes::refusal(
         source_type,
         async_bodies,
         nodes,
@@ -145,11 +140,8 @@ fn refusal(
         source,
         names,
         unit,
-    );
-    match verdict {
-        Verdict::Refused(_, _) => verdict,
-        Verdict::Passed => mark_refusal(marks, begin, to),
-    }
+    )?;
+    mark_refusal(marks, begin, to)
 }
 
 // A route that begins anywhere and is stopped behind so many answers, under the mark `to`.
@@ -168,13 +160,13 @@ fn marked(
     marks: &mut Marks,
     code: &mut [u32],
     out: &mut [u32],
-) -> Routed
+) -> Result<Route, Refused>
     ensures answer { result ≡ mark_answer (rule source_type async_bodies nodes.now scopes.now source.now names.now) unit (sixteen_of marks.old begin to) (seventeen_of marks.old (code_of (rule source_type async_bodies nodes.now scopes.now source.now names.now) unit) begin) (stop_of marks.old (code_of (rule source_type async_bodies nodes.now scopes.now source.now names.now) unit) answers.now begin stop) (length code.old) (length out.old) }
     ensures code { code.new ≡ mark_code (rule source_type async_bodies nodes.now scopes.now source.now names.now) unit (sixteen_of marks.old begin to) code.old }
     ensures list { out.new ≡ mark_slice (rule source_type async_bodies nodes.now scopes.now source.now names.now) unit (sixteen_of marks.old begin to) (seventeen_of marks.old (code_of (rule source_type async_bodies nodes.now scopes.now source.now names.now) unit) begin) (stop_of marks.old (code_of (rule source_type async_bodies nodes.now scopes.now source.now names.now) unit) answers.now begin stop) (length code.old) out.old }
     ensures marks { marks.new ≡ marks_left (rule source_type async_bodies nodes.now scopes.now source.now names.now) unit (sixteen_of marks.old begin to) (seventeen_of marks.old (code_of (rule source_type async_bodies nodes.now scopes.now source.now names.now) unit) begin) (stop_of marks.old (code_of (rule source_type async_bodies nodes.now scopes.now source.now names.now) unit) answers.now begin stop) (length code.old) (length out.old) marks.old to }
 {
-    match refusal(
+    refusal(
         source_type,
         async_bodies,
         nodes,
@@ -185,21 +177,19 @@ fn marked(
         marks,
         begin,
         to,
-    ) {
-        Verdict::Refused(number, place) => Routed::Refused(number, place),
-        Verdict::Passed => made(
-            nodes,
-            names,
-            NodeId(unit),
-            marks,
-            begin,
-            to,
-            stop,
-            answers,
-            code,
-            out,
-        ),
-    }
+    )?;
+    made(
+        nodes,
+        names,
+        NodeId(unit),
+        marks,
+        begin,
+        to,
+        stop,
+        answers,
+        code,
+        out,
+    )
 }
 
 // From the start, stopped under `mark` behind `stop` answers.
@@ -217,7 +207,7 @@ pub fn route_stop(
     marks: &mut Marks,
     code: &mut [u32],
     out: &mut [u32],
-) -> Routed
+) -> Result<Route, Refused>
     ensures answer { result ≡ mark_answer (rule source_type async_bodies nodes.now scopes.now source.now names.now) unit (to_refusal mark) (seventeen_of marks.old (code_of (rule source_type async_bodies nodes.now scopes.now source.now names.now) unit) begins.Start) (stop_of marks.old (code_of (rule source_type async_bodies nodes.now scopes.now source.now names.now) unit) answers.now begins.Start stop) (length code.old) (length out.old) }
     ensures code { code.new ≡ mark_code (rule source_type async_bodies nodes.now scopes.now source.now names.now) unit (to_refusal mark) code.old }
     ensures list { out.new ≡ mark_slice (rule source_type async_bodies nodes.now scopes.now source.now names.now) unit (to_refusal mark) (seventeen_of marks.old (code_of (rule source_type async_bodies nodes.now scopes.now source.now names.now) unit) begins.Start) (stop_of marks.old (code_of (rule source_type async_bodies nodes.now scopes.now source.now names.now) unit) answers.now begins.Start stop) (length code.old) out.old }
@@ -255,7 +245,7 @@ pub fn route_resume(
     marks: &mut Marks,
     code: &mut [u32],
     out: &mut [u32],
-) -> Routed
+) -> Result<Route, Refused>
     ensures answer { result ≡ mark_answer (rule source_type async_bodies nodes.now scopes.now source.now names.now) unit (from_refusal marks.old mark) (place_refusal marks.old (code_of (rule source_type async_bodies nodes.now scopes.now source.now names.now) unit) mark) (gone_on marks.old (code_of (rule source_type async_bodies nodes.now scopes.now source.now names.now) unit) answers.now mark) (length code.old) (length out.old) }
     ensures code { code.new ≡ mark_code (rule source_type async_bodies nodes.now scopes.now source.now names.now) unit (from_refusal marks.old mark) code.old }
     ensures list { out.new ≡ mark_slice (rule source_type async_bodies nodes.now scopes.now source.now names.now) unit (from_refusal marks.old mark) (place_refusal marks.old (code_of (rule source_type async_bodies nodes.now scopes.now source.now names.now) unit) mark) (gone_on marks.old (code_of (rule source_type async_bodies nodes.now scopes.now source.now names.now) unit) answers.now mark) (length code.old) out.old }
@@ -295,7 +285,7 @@ pub fn route_resume_stop(
     marks: &mut Marks,
     code: &mut [u32],
     out: &mut [u32],
-) -> Routed
+) -> Result<Route, Refused>
     ensures answer { result ≡ mark_answer (rule source_type async_bodies nodes.now scopes.now source.now names.now) unit (refused_or (from_refusal marks.old from) (to_refusal to)) (place_refusal marks.old (code_of (rule source_type async_bodies nodes.now scopes.now source.now names.now) unit) from) (stop_of marks.old (code_of (rule source_type async_bodies nodes.now scopes.now source.now names.now) unit) answers.now (begins.Mark from) stop) (length code.old) (length out.old) }
     ensures code { code.new ≡ mark_code (rule source_type async_bodies nodes.now scopes.now source.now names.now) unit (refused_or (from_refusal marks.old from) (to_refusal to)) code.old }
     ensures list { out.new ≡ mark_slice (rule source_type async_bodies nodes.now scopes.now source.now names.now) unit (refused_or (from_refusal marks.old from) (to_refusal to)) (place_refusal marks.old (code_of (rule source_type async_bodies nodes.now scopes.now source.now names.now) unit) from) (stop_of marks.old (code_of (rule source_type async_bodies nodes.now scopes.now source.now names.now) unit) answers.now (begins.Mark from) stop) (length code.old) out.old }

@@ -1,30 +1,27 @@
 -- What a call of `rename` comes to, as its functions meet it.
-use Rattle.std.specs.Prelude.{ℕ, ◌≤◌, ◌<◌, ◌≡◌, refl, List, Bool, true, false, ◌&&◌, leb, length}
+use Rattle.std.specs.Prelude.{ℕ, ◌≤◌, ◌<◌, ◌≡◌, refl, List, Bool, true, false, ◌&&◌, leb, length, Option, Some, None, Result, Ok, Err}
 use Rattle.std.proofs.Math.Path.{ap}
-use Rattle.std.proofs.Common.{subst}
+use Rattle.std.proofs.Common.{subst, sym}
 use borrow.Author.Tests.{le-leb, lt-leb}
+use Rattle.table_records.specs.declared.NodeId.{NodeId}
 use Rattle.table_records.specs.Table.{count}
-use Rattle.refusal_verdict.specs.declared.Place.{Place}
-use Rattle.refusal_verdict.specs.declared.Place.TheVariants.{Here, Nowhere}
-use Rattle.refusal_verdict.specs.declared.Verdict.{Verdict}
-use Rattle.refusal_verdict.specs.declared.Verdict.TheVariants as verdict
+use Rattle.refusal_verdict.specs.declared.Refused.{Refused}
+use Rattle.refusal_verdict.specs.declared.Refused.TheVariants.{At, Short}
+use Rattle.refusal_verdict.specs.Verdict.{Verdict, Passed}
 use Rattle.refusal_verdict.specs.First.{first}
-use Rattle.refusal_verdict.specs.Refusals as refusal
+use Rattle.refusal_verdict.specs.declared.Refusal.TheVariants as refusal
 use Rattle.refusal_input.specs.Input.{input_refusal}
 use Rattle.refusal_input.proofs.InputLaws.{input_well_formed}
 use Rattle.route_list.specs.Over.{over}
 use Rattle.call_labels.specs.Unfit.{unfit_at}
 use Rattle.call_labels.specs.Order.{label_names}
 use Rattle.call_labels.specs.Firsts.{Firsts, Listed, Ready}
-use Rattle.call_labels.specs.declared.Labels.{Labels}
-use Rattle.call_labels.specs.declared.Labels.TheVariants.{Few, Unfit}
 use Rattle.call_labels.specs.Written.{nodes_renamed, names_renamed}
-use Rattle.call_rename.specs.declared.Relabelled.TheVariants.{Names, Refused, Short}
 use Rattle.call_rename.specs.Rename.{Renaming, most_bytes, written, labelled, renaming, after_unfit, after_input}
 use Rattle.call_rename.specs.Sized.{Sized}
 
 module _ (t : ℕ) (ns ss source names : List ℕ) where
-  pub sized : input_refusal t ns ss source names ≡ verdict.Passed → Sized ns names
+  pub sized : input_refusal t ns ss source names ≡ Passed → Sized ns names
   sized e =
       let w = input_well_formed t ns ss source names e in
       record { tree = w.input.tree; within = w.input.named; whole = w.sizes.whole; small = w.sizes.name_bytes }
@@ -33,11 +30,11 @@ pub ready : (ns names kept : List ℕ) (size : ℕ) → Sized ns names → First
 ready ns names kept size w f = record { tree = w.tree; within = w.within; whole = w.whole; small = w.small; firsts = f }
 
 -- by what the first labels came to
-module _ (ns names kept : List ℕ) (r : Labels) where
-  pub listed_unfit : (place : ℕ) → Listed ns names kept r → r ≡ Unfit place → first (unfit_at ns names) 0 (count ns) ≡ Here place
-  listed_unfit place l q = let w : Listed ns names kept (Unfit place) = subst (Listed ns names kept) q l in w
+module _ (ns names kept : List ℕ) (r : Result ℕ NodeId) where
+  pub listed_unfit : (n : NodeId) → Listed ns names kept r → r ≡ Err n → first (unfit_at ns names) 0 (count ns) ≡ Some n.0
+  listed_unfit n l q = let w : Listed ns names kept (Err n) = subst (Listed ns names kept) q l in w
 
-  pub listed_few : (size : ℕ) → Listed ns names kept r → r ≡ Few size → (first (unfit_at ns names) 0 (count ns) ≡ Nowhere) × Firsts ns names kept size (label_names ns names)
+  pub listed_few : (size : ℕ) → Listed ns names kept r → r ≡ Ok size → (first (unfit_at ns names) 0 (count ns) ≡ None) × Firsts ns names kept size (label_names ns names)
   listed_few size l q = subst (Listed ns names kept) q l
 
 and_none : (a : Bool) → (a && false) ≡ false
@@ -47,10 +44,10 @@ and_none false = refl
 -- BY THE SLICES
 module _ (ns names s t : List ℕ) where
   abbrev pub short : Renaming
-  short = record { answer = Short (length (names_renamed ns names)); nodes = s; names = t }
+  short = record { answer = Err (Short refusal.RenamedSlices (length (names_renamed ns names))); nodes = s; names = t }
 
   abbrev pub full : Renaming
-  full = record { answer = Names (length (names_renamed ns names)); nodes = over (nodes_renamed ns names) s; names = over (names_renamed ns names) t }
+  full = record { answer = Ok (length (names_renamed ns names)); nodes = over (nodes_renamed ns names) s; names = over (names_renamed ns names) t }
 
   pub short_nodes : length s < length (nodes_renamed ns names) → written ns names s t ≡ short
   unfolding written
@@ -71,21 +68,21 @@ module _ (ns names s t : List ℕ) where
       rw (le-leb (length (nodes_renamed ns names)) (length s) a, le-leb (length (names_renamed ns names)) (length t) b, le-leb (length (names_renamed ns names)) most_bytes c)
 
   -- BY 19
-  pub labelled_unfit : (place : ℕ) → first (unfit_at ns names) 0 (count ns) ≡ Here place → labelled ns names s t ≡ record { answer = Refused refusal.Label place; nodes = s; names = t }
+  pub labelled_unfit : (place : ℕ) → first (unfit_at ns names) 0 (count ns) ≡ Some place → labelled ns names s t ≡ record { answer = Err (At refusal.Label place); nodes = s; names = t }
   unfolding labelled
-  labelled_unfit place e = ap (λ (p : Place). after_unfit p s t (written ns names s t)) e
+  labelled_unfit place e = ap (λ (p : Option ℕ). after_unfit p s t (written ns names s t)) e
 
-  pub labelled_fit : first (unfit_at ns names) 0 (count ns) ≡ Nowhere → labelled ns names s t ≡ written ns names s t
+  pub labelled_fit : first (unfit_at ns names) 0 (count ns) ≡ None → labelled ns names s t ≡ written ns names s t
   unfolding labelled
-  labelled_fit e = ap (λ (p : Place). after_unfit p s t (written ns names s t)) e
+  labelled_fit e = ap (λ (p : Option ℕ). after_unfit p s t (written ns names s t)) e
 
 -- BY THE REFUSALS OF THE INPUT
 module _ (k : ℕ) (ns ss source names s t : List ℕ) where
-  pub input_refused : (number place : ℕ) → input_refusal k ns ss source names ≡ verdict.Refused number place
-      → renaming k ns ss source names s t ≡ record { answer = Refused number place; nodes = s; names = t }
+  pub input_refused : (f : Refused) → Err f ≡ input_refusal k ns ss source names
+      → renaming k ns ss source names s t ≡ record { answer = Err f; nodes = s; names = t }
   unfolding renaming
-  input_refused number place e = ap (λ (v : Verdict). after_input v s t (labelled ns names s t)) e
+  input_refused f e = ap (λ (v : Verdict). after_input v s t (labelled ns names s t)) (sym e)
 
-  pub input_passed : input_refusal k ns ss source names ≡ verdict.Passed → renaming k ns ss source names s t ≡ labelled ns names s t
+  pub input_passed : input_refusal k ns ss source names ≡ Passed → renaming k ns ss source names s t ≡ labelled ns names s t
   unfolding renaming
   input_passed e = ap (λ (v : Verdict). after_input v s t (labelled ns names s t)) e

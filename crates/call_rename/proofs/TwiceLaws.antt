@@ -1,15 +1,12 @@
 -- What success of the call says, and document 02, request 12/13: "Renaming twice gives the bytes of renaming once."
-use Rattle.std.specs.Prelude.{ℕ, ◌≤◌, ◌≡◌, refl, List, Bool, false, cond, ◌&&◌, length}
+use Rattle.std.specs.Prelude.{ℕ, ◌≤◌, ◌≡◌, refl, List, Bool, false, cond, ◌&&◌, length, Option, Some, None, Ok, Err}
 use Rattle.std.proofs.Common.{◌∙◌, arith}
 use Rattle.std.proofs.Math.Bool.{true}
 use borrow.Author.Tests.{leb-true}
 use Rattle.std.proofs.Math.Dec.{leb}
 use Rattle.base_common.proofs.UptoLaws.{and_right_lem}
 use Rattle.table_records.specs.Table.{count}
-use Rattle.refusal_verdict.specs.declared.Place.{Place}
-use Rattle.refusal_verdict.specs.declared.Place.TheVariants.{Here, Nowhere}
-use Rattle.refusal_verdict.specs.declared.Verdict.{Verdict}
-use Rattle.refusal_verdict.specs.declared.Verdict.TheVariants as verdict
+use Rattle.refusal_verdict.specs.Verdict.{Verdict, Passed}
 use Rattle.refusal_verdict.specs.First.{first}
 use Rattle.refusal_input.specs.Input.{input_refusal}
 use Rattle.route_list.specs.Over.{over}
@@ -17,27 +14,26 @@ use Rattle.call_labels.specs.Unfit.{unfit_at}
 use Rattle.call_labels.proofs.UnfitLaws.{renamable}
 use Rattle.call_labels.specs.Written.{nodes_renamed, names_renamed}
 use Rattle.call_labels.proofs.TwiceLaws.{twice_nodes, twice_names, twice_fit}
-use Rattle.call_rename.specs.declared.Relabelled.TheVariants.{Names}
 use Rattle.call_rename.specs.Rename.{most_bytes, fits, written, labelled, renaming, after_unfit, after_input}
 use Rattle.call_rename.proofs.RenameLaws.{short, full, room, labelled_fit, input_passed}
 
 -- nothing was refused
 pub record Done (t : ℕ) (ns ss source names s u : List ℕ) (n : ℕ) : Type 0 where
-  pub passed : input_refusal t ns ss source names ≡ verdict.Passed
-  pub fit : first (unfit_at ns names) 0 (count ns) ≡ Nowhere
+  pub passed : input_refusal t ns ss source names ≡ Passed
+  pub fit : first (unfit_at ns names) 0 (count ns) ≡ None
   pub bytes : n ≡ length (names_renamed ns names)
   pub small : length (names_renamed ns names) ≤ most_bytes
-  pub left : renaming t ns ss source names s u ≡ record { answer = Names n; nodes = over (nodes_renamed ns names) s; names = over (names_renamed ns names) u }
+  pub left : renaming t ns ss source names s u ≡ record { answer = Ok n; nodes = over (nodes_renamed ns names) s; names = over (names_renamed ns names) u }
 
 module _ (t : ℕ) (ns ss source names s u : List ℕ) (n : ℕ) where
-  by_parts : (v : Verdict) (p : Place) (b : Bool) → (after_input v s u (after_unfit p s u (cond b (full ns names s u) (short ns names s u)))).answer ≡ Names n
-      → (v ≡ verdict.Passed) × (p ≡ Nowhere) × (b ≡ true) × (n ≡ length (names_renamed ns names))
-  by_parts (verdict.Refused k q) p b e = let z : ◌≡◌ {A = ℕ} 0 1 = cc in absurd (omega arith)
-  by_parts verdict.Passed (Here q) b e = let z : ◌≡◌ {A = ℕ} 0 1 = cc in absurd (omega arith)
-  by_parts verdict.Passed Nowhere true e = (refl, refl, refl, cc)
-  by_parts verdict.Passed Nowhere false e = let z : ◌≡◌ {A = ℕ} 0 1 = cc in absurd (omega arith)
+  by_parts : (v : Verdict) (p : Option ℕ) (b : Bool) → (after_input v s u (after_unfit p s u (cond b (full ns names s u) (short ns names s u)))).answer ≡ Ok n
+      → (v ≡ Passed) × (p ≡ None) × (b ≡ true) × (n ≡ length (names_renamed ns names))
+  by_parts (Err f) p b e = let z : ◌≡◌ {A = ℕ} 0 1 = cc in absurd (omega arith)
+  by_parts (Ok v) (Some q) b e = let z : ◌≡◌ {A = ℕ} 0 1 = cc in absurd (omega arith)
+  by_parts (Ok v) None true e = (refl, refl, refl, cc)
+  by_parts (Ok v) None false e = let z : ◌≡◌ {A = ℕ} 0 1 = cc in absurd (omega arith)
 
-  pub done : (renaming t ns ss source names s u).answer ≡ Names n → Done t ns ss source names s u n
+  pub done : (renaming t ns ss source names s u).answer ≡ Ok n → Done t ns ss source names s u n
   unfolding renaming labelled written
   done e =
       let w = by_parts (input_refusal t ns ss source names) (first (unfit_at ns names) 0 (count ns)) (fits ns names (length s) (length u)) e in
@@ -51,9 +47,9 @@ module _ (t : ℕ) (ns ss source names s u : List ℕ) (n : ℕ) where
       }
 
   -- the second call, where what the first wrote is well-formed
-  pub twice : (renaming t ns ss source names s u).answer ≡ Names n → input_refusal t (nodes_renamed ns names) ss source (names_renamed ns names) ≡ verdict.Passed
+  pub twice : (renaming t ns ss source names s u).answer ≡ Ok n → input_refusal t (nodes_renamed ns names) ss source (names_renamed ns names) ≡ Passed
       → (a b : List ℕ) → length (nodes_renamed ns names) ≤ length a → length (names_renamed ns names) ≤ length b
-      → renaming t (nodes_renamed ns names) ss source (names_renamed ns names) a b ≡ record { answer = Names n; nodes = over (nodes_renamed ns names) a; names = over (names_renamed ns names) b }
+      → renaming t (nodes_renamed ns names) ss source (names_renamed ns names) a b ≡ record { answer = Ok n; nodes = over (nodes_renamed ns names) a; names = over (names_renamed ns names) b }
   twice e p a b h g =
       let d = done e in
       let few = (renamable ns names d.fit).few in

@@ -6,22 +6,13 @@ ghost use Rattle.call_labels.specs.Firsts.{Ready};
 ghost use Rattle.call_rename.specs.Rename.{written, labelled, renaming};
 ghost use Rattle.call_rename.specs.Sized.{Sized};
 
-use call_labels::{Labels, MOST};
-use refusal_verdict::{Verdict, refusals};
+use call_labels::MOST;
+use refusal_verdict::{Refusal, Refused};
 
 // The names of a table, as document 01 bounds them.
 const MOST_BYTES: usize = 1048576;
 
-// What renaming comes to: so many bytes of names, written with the node table from each slice's start; or a refusal, with its number and place; or a slice
-// that is too short, or too many names (refusal 20, place 0), with the names length needed.
-#[derive(Clone, Copy)]
-pub enum Relabelled {
-    Names(usize),
-    Refused(u32, u32),
-    Short(usize),
-}
-
-// The lengths first, so that nothing is written where either slice is too short.
+// How many bytes of names are written, with the node table, from each slice's start. The lengths first, so that nothing is written where either slice is too short.
 fn write_all(
     nodes: &[u32],
     names: &[u8],
@@ -29,7 +20,7 @@ fn write_all(
     size: usize,
     renamed_nodes: &mut [u32],
     renamed_names: &mut [u8],
-) -> Relabelled
+) -> Result<usize, Refused>
     requires { Ready nodes.now names.now kept.now size }
     ensures value { result ≡ (written nodes.now names.now renamed_nodes.old renamed_names.old).answer }
     ensures renamed_nodes_after { renamed_nodes.new ≡ (written nodes.now names.now renamed_nodes.old renamed_names.old).nodes }
@@ -37,16 +28,16 @@ fn write_all(
 {
     let needed = call_labels::names_length(nodes, names, kept, size);
     if renamed_nodes.len() < nodes.len() {
-        return Relabelled::Short(needed);
+        return Err(Refused::Short(Refusal::RenamedSlices, needed as u64));
     }
     if renamed_names.len() < needed {
-        return Relabelled::Short(needed);
+        return Err(Refused::Short(Refusal::RenamedSlices, needed as u64));
     }
     if MOST_BYTES < needed {
-        return Relabelled::Short(needed);
+        return Err(Refused::Short(Refusal::RenamedSlices, needed as u64));
     }
     call_labels::write(nodes, names, kept, size, renamed_nodes, renamed_names);
-    Relabelled::Names(needed)
+    Ok(needed)
 }
 
 // 19, or else the labels renamed.
@@ -55,7 +46,7 @@ fn labels(
     names: &[u8],
     renamed_nodes: &mut [u32],
     renamed_names: &mut [u8],
-) -> Relabelled
+) -> Result<usize, Refused>
     requires { Sized nodes.now names.now }
     ensures value { result ≡ (labelled nodes.now names.now renamed_nodes.old renamed_names.old).answer }
     ensures renamed_nodes_after { renamed_nodes.new ≡ (labelled nodes.now names.now renamed_nodes.old renamed_names.old).nodes }
@@ -64,8 +55,8 @@ fn labels(
     let mut kept: [u32; MOST] = [0; MOST];
     let found = call_labels::first_labels(nodes, names, &mut kept);
     match found {
-        Labels::Unfit(place) => Relabelled::Refused(refusals::LABEL, place),
-        Labels::Few(size) => write_all(nodes, names, &kept, size, renamed_nodes, renamed_names),
+        Err(n) => Err(Refused::At(Refusal::Label, n.0)),
+        Ok(size) => write_all(nodes, names, &kept, size, renamed_nodes, renamed_names),
     }
 }
 
@@ -78,14 +69,11 @@ pub fn rename(
     names: &[u8],
     renamed_nodes: &mut [u32],
     renamed_names: &mut [u8],
-) -> Relabelled
+) -> Result<usize, Refused>
     ensures value { result ≡ (renaming source_type nodes.now scopes.now source.now names.now renamed_nodes.old renamed_names.old).answer }
     ensures renamed_nodes_after { renamed_nodes.new ≡ (renaming source_type nodes.now scopes.now source.now names.now renamed_nodes.old renamed_names.old).nodes }
     ensures renamed_names_after { renamed_names.new ≡ (renaming source_type nodes.now scopes.now source.now names.now renamed_nodes.old renamed_names.old).names }
 {
-    let verdict = refusal_input::refusal(source_type, nodes, scopes, source, names);
-    match verdict {
-        Verdict::Refused(number, place) => Relabelled::Refused(number, place),
-        Verdict::Passed => labels(nodes, names, renamed_nodes, renamed_names),
-    }
+    refusal_input::refusal(source_type, nodes, scopes, source, names)?;
+    labels(nodes, names, renamed_nodes, renamed_names)
 }

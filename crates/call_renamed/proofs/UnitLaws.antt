@@ -1,14 +1,13 @@
 -- THE STATEMENTS OF A UNIT ARE THE SAME TERM in two tables that differ in labels alone.
+use Rattle.table_records.specs.declared.NodeId.{NodeId}
 use Prim.Native.Nat.{ℕ, zero, suc, ◌+◌}
-use Rattle.std.specs.Prelude.{◌≡◌, true}
+use Rattle.std.specs.Prelude.{◌≡◌, true, Option, Some, None}
 use Rattle.std.proofs.Math.Path.{refl, ap, fun_ext}
 use Rattle.std.proofs.Common.{◌∙◌}
 use mathlib.Core.List.{List, [], ◌∷◌, foldr}
 use Rattle.std.proofs.Math.Bool.{cond}
 use Rattle.base_common.specs.Upto.{upto}
 use Rattle.table_records.specs.Table.{count}
-use Rattle.table_records.specs.declared.Found.{Found}
-use Rattle.table_records.specs.declared.Found.TheVariants.{At, Nothing}
 use Rattle.table_names.specs.Name.{same_name}
 use Rattle.route_completion.specs.Tree.{Stmt, named}
 use Rattle.code_tree.specs.declared.Shape.{Shape}
@@ -108,9 +107,9 @@ module _ (ns names ms mnames : List ℕ) (r : Alike ns names ms mnames) where
   unfolding body_of
   body_of_lem b = rw (stmt_at_lem (count ns)) (simp (tables, its_order, r.fields))
 
-  unit_by_lem : (f : Found) → unit_by ns names f ≡ unit_by ms mnames f
-  unit_by_lem (At b) = body_of_lem b.0
-  unit_by_lem Nothing = refl
+  unit_by_lem : (f : Option NodeId) → unit_by ns names f ≡ unit_by ms mnames f
+  unit_by_lem (Some b) = body_of_lem b.0
+  unit_by_lem None = refl
 
   pub same_unit_lem : (u : ℕ) → unit_of ns names u ≡ unit_of ms mnames u
   unfolding unit_of holder_of

@@ -1,5 +1,5 @@
 -- What the renaming call writes, where 19 and 20 don't apply, is the rule with its labels renamed: so every call answers and writes for it what it did.
-use Rattle.std.specs.Prelude.{ℕ, ◌+◌, ◌*◌, ◌≤◌, ◌<◌, ◌≡◌, true, false}
+use Rattle.std.specs.Prelude.{ℕ, ◌+◌, ◌*◌, ◌≤◌, ◌<◌, ◌≡◌, true, false, None}
 use Rattle.std.proofs.Math.Path.{refl, ap}
 use Rattle.std.proofs.Common.{sym, ◌∙◌, arith}
 use mathlib.Core.List.{List, ◌++◌, flat_map}
@@ -13,8 +13,7 @@ use Rattle.table_names.specs.Words as word
 use Rattle.check_identifiers.specs.Identifiers.{is_strict_word}
 use Rattle.check_dispatch.specs.Rule.{Rule}
 use Rattle.refusal_verdict.specs.First.{first}
-use Rattle.refusal_verdict.specs.declared.Place.TheVariants.{Nowhere}
-use Rattle.refusal_verdict.specs.declared.Verdict.TheVariants.{Passed}
+use Rattle.refusal_verdict.specs.Verdict.{Passed}
 use Rattle.refusal_input.proofs.InputLaws.{input_well_formed}
 use Rattle.code_tree.specs.Labels.{is_label}
 use Rattle.call_labels.specs.Reserved.{is_reserved}
@@ -89,7 +88,7 @@ module _ (ns names : List ℕ) where
         let f = sym (written_label ns names i l) ∙ e in
         ap is_reserved (label_written i l f) ∙ new_free (label_names ns names) few (name_of ns names i) (label_known ns names i l f)
 
-module _ (x : Rule) (formed : refused_input x ≡ Passed) (fit : first (unfit_at x.nodes x.names) 0 (count x.nodes) ≡ Nowhere)
+module _ (x : Rule) (formed : refused_input x ≡ Passed) (fit : first (unfit_at x.nodes x.names) 0 (count x.nodes) ≡ None)
     (small : length (names_renamed x.nodes x.names) ≤ 1048576)
   where
     pub labels_written : LabelsRenamed x (nodes_renamed x.nodes x.names) (names_renamed x.nodes x.names)

@@ -2,8 +2,7 @@
 use Rattle.std.specs.Prelude.{ℕ, ◌≡◌, List}
 use Rattle.check_dispatch.specs.Rule.{Rule, rule}
 use Rattle.check_dispatch.specs.Reported.{reported}
-use Rattle.refusal_verdict.specs.declared.Verdict.{Verdict}
-use Rattle.refusal_verdict.specs.declared.Verdict.TheVariants.{Passed}
+use Rattle.refusal_verdict.specs.Verdict.{Verdict, Passed}
 use Rattle.refusal_input.specs.Input.{input_refusal}
 use Rattle.code_tree.specs.Statements.{unit_of}
 use Rattle.code_length.specs.Length.{code_length}

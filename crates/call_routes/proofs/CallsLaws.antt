@@ -1,5 +1,5 @@
 -- What is known where no refusal is given.
-use Rattle.std.specs.Prelude.{ℕ, ◌≤◌, ◌<◌, List, Bool, take, drop}
+use Rattle.std.specs.Prelude.{ℕ, ◌≤◌, ◌<◌, List, Bool, take, drop, Ok, Err}
 use Rattle.std.proofs.Math.Path.{◌≡◌, refl}
 use Rattle.std.proofs.Common.{sym, arith, length-append, take_at}
 use Rattle.std.proofs.Math.Bool.{true, false, cond}
@@ -10,8 +10,11 @@ use Rattle.base_common.proofs.UptoLaws.{and_right_lem}
 use Rattle.table_records.specs.Table.{kind_of, count}
 use Rattle.table_records.specs.Kinds as k
 use Rattle.table_records.specs.Facts.{Tree}
-use Rattle.refusal_verdict.specs.declared.Verdict.{Verdict}
-use Rattle.refusal_verdict.specs.declared.Verdict.TheVariants.{Refused, Passed}
+use Rattle.refusal_verdict.specs.declared.Refusal.TheVariants as refusal
+use Rattle.refusal_verdict.specs.declared.Refused.{Refused}
+use Rattle.refusal_verdict.specs.declared.Refused.TheVariants.{Short}
+use Rattle.refusal_verdict.specs.Verdict.{Verdict, Passed, unless}
+use Rattle.refusal_verdict.proofs.VerdictLaws.{no_pass}
 use Rattle.refusal_input.specs.WellFormed.{WellFormed}
 use Rattle.refusal_input.specs.Input.{input_refusal}
 use Rattle.refusal_input.proofs.InputLaws.{input_well_formed}
@@ -26,26 +29,20 @@ use Rattle.code_tree.proofs.RoomLaws.{unit_room_lem}
 use Rattle.code_wellformed.proofs.HolderReady.{holder_ready}
 use Rattle.code_length.specs.Length.{code_length}
 use Rattle.code_length.proofs.LengthLaws.{code_length_lem}
-use Rattle.code_assemble.specs.declared.Assembled.TheVariants.{Code, Short}
-use Rattle.code_assemble.specs.Assembled.{assembled, assembled_slice}
+use Rattle.code_assemble.specs.Assembled.{short, assembled, assembled_slice}
 use Rattle.code_assemble.specs.Ready.{Ready}
 use Rattle.route_viewer.specs.Shown.{shown_answer, shown_slice}
-use Rattle.route_viewer.specs.declared.Routed.TheVariants as routed
 use Rattle.check_jumps.specs.Jumps.{is_unit}
 use Rattle.check_dispatch.specs.Rule.{rule}
 use Rattle.refusal_state.specs.Targets.{refused_or, state_answer}
 use Rattle.refusal_state.proofs.TargetsLaws.{state_passed}
 use Rattle.refusal_state.specs.Targets.{Sound}
-use Rattle.call_routes.specs.declared.Coded.TheVariants as coded
-use Rattle.call_routes.specs.Calls.{code_refusal, unless}
-use Rattle.call_routes.specs.Made.{coded_by, made_answer, made_slice}
+use Rattle.call_routes.specs.Calls.{code_refusal}
+use Rattle.call_routes.specs.Made.{made_answer, made_slice}
 
 pub both : (v w : Verdict) → refused_or v w ≡ Passed → (v ≡ Passed) × (w ≡ Passed)
-both (Refused k p) w e = (e, refused_never k p w e)
-  where
-    refused_never : (k p : ℕ) (w : Verdict) → Refused k p ≡ Passed → w ≡ Passed
-    refused_never k p w e = let z : ◌≡◌ {A = ℕ} 0 1 = cc in absurd (omega arith)
-both Passed w e = (refl, e)
+both (Err f) w e = no_pass f e
+both (Ok u) w e = (refl, e)
 
 pub unit_kind_lem : (kind : ℕ) → is_unit kind ≡ true → kind ≤ 3
 unit_kind_lem kind e = leb-true kind 3 (and_right_lem (leb 0 kind) (leb kind 3) e)
@@ -84,22 +81,22 @@ pub code_route_lem : (ns names : List ℕ) (t : Tree ns) (u : ℕ) (answers : Li
 code_route_lem ns names t u answers = (claims (unit_of ns names u) (unit_room_lem ns names t u) answers).same
 
 -- What the maker answered says of the code and the slice.
-module _ (c : List ℕ) (len n : ℕ) where
-  pub told_code : Code n ≡ assembled c len → (n ≡ length c) × (length c ≤ len)
+module _ (c : List ℕ) (len : ℕ) where
+  pub told_code : (n : ℕ) → Ok n ≡ assembled c len → (n ≡ length c) × (length c ≤ len)
   unfolding assembled
-  told_code = go (leb (length c) len) refl
+  told_code n = go (leb (length c) len) refl
     where
-      go : (x : Bool) → leb (length c) len ≡ x → Code n ≡ cond x (Code (length c)) (Short (length c)) → (n ≡ length c) × (length c ≤ len)
+      go : (x : Bool) → leb (length c) len ≡ x → Ok n ≡ cond x (Ok (length c)) (short (length c)) → (n ≡ length c) × (length c ≤ len)
       go true q e = (cc, leb-true (length c) len q)
       go false q e = let z : ◌≡◌ {A = ℕ} 0 1 = cc in absurd (omega arith)
 
-  pub told_short : Short n ≡ assembled c len → (n ≡ length c) × (len < length c)
+  pub told_short : (e : Refused) → Err e ≡ assembled c len → (e ≡ Short refusal.CodeSlice (length c)) × (len < length c)
   unfolding assembled
-  told_short = go (leb (length c) len) refl
+  told_short e = go (leb (length c) len) refl
     where
-      go : (x : Bool) → leb (length c) len ≡ x → Short n ≡ cond x (Code (length c)) (Short (length c)) → (n ≡ length c) × (len < length c)
-      go true q e = let z : ◌≡◌ {A = ℕ} 0 1 = cc in absurd (omega arith)
-      go false q e = (cc, leb-false (length c) len q)
+      go : (x : Bool) → leb (length c) len ≡ x → Err e ≡ cond x (Ok (length c)) (short (length c)) → (e ≡ Short refusal.CodeSlice (length c)) × (len < length c)
+      go true q f = let z : ◌≡◌ {A = ℕ} 0 1 = cc in absurd (omega arith)
+      go false q f = (cc, leb-false (length c) len q)
 
 pub slice_over : (c s : List ℕ) → length c ≤ length s → assembled_slice c s ≡ over c s
 unfolding assembled_slice
@@ -115,7 +112,7 @@ module _ (ss : Stmts) (answers : List ℕ) (codeLen : ℕ) where
   unfolding made_slice
   kept_room h s = rw (le-leb (length (unit ss)) codeLen h)
 
-  pub made_short : codeLen < length (unit ss) → (len : ℕ) → made_answer ss answers codeLen len ≡ routed.CodeShort (length (unit ss))
+  pub made_short : codeLen < length (unit ss) → (len : ℕ) → made_answer ss answers codeLen len ≡ short (length (unit ss))
   unfolding made_answer
   made_short h len = rw (lt-leb (length (unit ss)) codeLen h)
 
@@ -123,18 +120,10 @@ module _ (ss : Stmts) (answers : List ℕ) (codeLen : ℕ) where
   unfolding made_slice
   kept_short h s = rw (lt-leb (length (unit ss)) codeLen h)
 
-pub coded_by_lem : (c : List ℕ) (len : ℕ) → coded_by (assembled c len) ≡ cond (leb (length c) len) (coded.Code (length c)) (coded.Short (length c))
-unfolding assembled
-coded_by_lem c len = go (leb (length c) len)
-  where
-    go : (x : Bool) → coded_by (cond x (Code (length c)) (Short (length c))) ≡ cond x (coded.Code (length c)) (coded.Short (length c))
-    go true = refl
-    go false = refl
-
 -- An answer, or a slice, where there is no refusal before 11: n is the code's length, l the sum.
-pub by_room : {A : Type 0} (v : Verdict) → v ≡ Passed → (n l len : ℕ) → n ≡ l → (f : ℕ → ℕ → A) (a : A) (short : ℕ → A)
-    → cond (leb n len) a (short n) ≡ unless v f (cond (leb l len) a (short l))
-by_room v e n l len q f a short = λ i. unless (sym e i) f (cond (leb (q i) len) a (short (q i)))
+pub by_room : {A : Type 0} (v : Verdict) → v ≡ Passed → (n l len : ℕ) → n ≡ l → (f : Refused → A) (a : A) (s : ℕ → A)
+    → cond (leb n len) a (s n) ≡ unless v f (cond (leb l len) a (s l))
+by_room v e n l len q f a s = λ i. unless (sym e i) f (cond (leb (q i) len) a (s (q i)))
 
 -- The front of a slice that has the code.
 pub front_code : (l s : List ℕ) (n : ℕ) → n ≡ length l → take n (over l s) ≡ l
@@ -142,3 +131,7 @@ front_code l s n h = take_at l (drop (length l) s) n (sym h)
 
 pub over_length : (l s : List ℕ) → length l ≤ length (over l s)
 over_length l s = omega (arith, length-append l (drop (length l) s))
+
+pub coded_by_lem : (c : List ℕ) (len : ℕ) → assembled c len ≡ cond (leb (length c) len) (Ok (length c)) (short (length c))
+unfolding assembled
+coded_by_lem c len = refl

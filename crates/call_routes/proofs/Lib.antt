@@ -1,2 +1,3 @@
 pub mod CallsLaws
 pub mod TheoremLaws
+pub mod PlacedLaws

@@ -3,20 +3,11 @@ use Rattle.std.specs.Prelude.{ℕ, List, cond, leb, length}
 use Rattle.route_completion.specs.Tree.{Stmts}
 use Rattle.route_completion.specs.Route.{route}
 use Rattle.code_flat.specs.Code.{unit}
-use Rattle.code_assemble.specs.declared.Assembled.{Assembled}
-use Rattle.code_assemble.specs.declared.Assembled.TheVariants.{Code, Short}
-use Rattle.route_viewer.specs.Shown.{shown_answer, shown_slice}
-use Rattle.route_viewer.specs.declared.Routed.{Routed}
-use Rattle.route_viewer.specs.declared.Routed.TheVariants as routed
-use Rattle.call_routes.specs.declared.Coded.{Coded}
-use Rattle.call_routes.specs.declared.Coded.TheVariants as coded
-
-abbrev pub coded_by : Assembled → Coded
-coded_by (Code n) = coded.Code n
-coded_by (Short n) = coded.Short n
+use Rattle.code_assemble.specs.Assembled.{short as code_short}
+use Rattle.route_viewer.specs.Shown.{Routed, shown_answer, shown_slice}
 
 unfoldable pub made_answer : Stmts → List ℕ → ℕ → ℕ → Routed
-made_answer ss answers codeLen len = cond (leb (length (unit ss)) codeLen) (shown_answer (route ss answers) len) (routed.CodeShort (length (unit ss)))
+made_answer ss answers codeLen len = cond (leb (length (unit ss)) codeLen) (shown_answer (route ss answers) len) (code_short (length (unit ss)))
 
 unfoldable pub made_slice : Stmts → List ℕ → ℕ → List ℕ → List ℕ
 made_slice ss answers codeLen s = cond (leb (length (unit ss)) codeLen) (shown_slice (route ss answers) s) s

@@ -8,21 +8,11 @@ ghost use Rattle.code_assemble.specs.Assembled.{assembled_slice};
 ghost use Rattle.code_assemble.specs.Ready.{Ready};
 ghost use Rattle.check_dispatch.specs.Rule.{rule};
 ghost use Rattle.call_routes.specs.Calls.{code_refusal, code_answer, code_slice, route_answer, route_slice};
-ghost use Rattle.call_routes.specs.Made.{coded_by, made_answer, made_slice};
+ghost use Rattle.call_routes.specs.Made.{made_answer, made_slice};
 
-use code_assemble::Assembled;
-use refusal_verdict::Verdict;
-use route_viewer::Routed;
+use refusal_verdict::Refused;
+use route_viewer::Route;
 use table_records::NodeId;
-
-// What `code` comes to: so many numbers of code from the slice's start; or a refusal, with its number and place; or a code slice that is too short
-// (refusal 11, place 0), with the length needed.
-#[derive(Clone, Copy)]
-pub enum Coded {
-    Code(usize),
-    Refused(u32, u32),
-    Short(usize),
-}
 
 // The refusals of both calls before 11, of the walk and of the calls of marks.
 pub fn refusal(
@@ -33,35 +23,22 @@ pub fn refusal(
     source: &[u8],
     names: &[u8],
     unit: u32,
-) -> Verdict
+) -> Result<(), Refused>
     ensures { result ≡ code_refusal (rule source_type async_bodies nodes.now scopes.now source.now names.now) unit }
 {
-    let verdict = refusal_input::refusal(source_type, nodes, scopes, source, names);
-    match verdict {
-        Verdict::Refused(_, _) => verdict,
-        Verdict::Passed => refusal_state::state_refusal(
-            source_type,
-            async_bodies,
-            nodes,
-            scopes,
-            source,
-            names,
-            unit,
-        ),
-    }
+    refusal_input::refusal(source_type, nodes, scopes, source, names)?;
+    refusal_state::state_refusal(
+        source_type,
+        async_bodies,
+        nodes,
+        scopes,
+        source,
+        names,
+        unit,
+    )
 }
 
-// The answer of `code` by what the maker comes to.
-fn answered(assembled: Assembled) -> Coded
-    ensures { result ≡ coded_by assembled }
-{
-    match assembled {
-        Assembled::Code(n) => Coded::Code(n),
-        Assembled::Short(n) => Coded::Short(n),
-    }
-}
-
-// Makes the flat code of a unit.
+// Makes the flat code of a unit, and says how many numbers it wrote.
 pub fn code(
     source_type: u32,
     async_bodies: u32,
@@ -71,11 +48,11 @@ pub fn code(
     names: &[u8],
     unit: u32,
     code: &mut [u32],
-) -> Coded
+) -> Result<usize, Refused>
     ensures value { result ≡ code_answer (rule source_type async_bodies nodes.now scopes.now source.now names.now) unit (length code.old) }
     ensures code_after { code.new ≡ code_slice (rule source_type async_bodies nodes.now scopes.now source.now names.now) unit code.old }
 {
-    match refusal(
+    refusal(
         source_type,
         async_bodies,
         nodes,
@@ -83,10 +60,8 @@ pub fn code(
         source,
         names,
         unit,
-    ) {
-        Verdict::Refused(number, place) => Coded::Refused(number, place),
-        Verdict::Passed => answered(code_assemble::code_unit(nodes, names, NodeId(unit), code)),
-    }
+    )?;
+    code_assemble::code_unit(nodes, names, NodeId(unit), code)
 }
 
 // The first n numbers.
@@ -105,16 +80,14 @@ fn made(
     answers: &[u32],
     code: &mut [u32],
     out: &mut [u32],
-) -> Routed
+) -> Result<Route, Refused>
     requires { Ready nodes.now names.now u.0 }
     ensures value { result ≡ made_answer (unit_of nodes.now names.now u.0) answers.now (length code.old) (length out.old) }
     ensures code_after { code.new ≡ assembled_slice (code_of (unit_of nodes.now names.now u.0)) code.old }
     ensures out_after { out.new ≡ made_slice (unit_of nodes.now names.now u.0) answers.now (length code.old) out.old }
 {
-    match code_assemble::code_unit(nodes, names, u, code) {
-        Assembled::Code(n) => route_viewer::show(front(code, n), answers, out),
-        Assembled::Short(n) => Routed::CodeShort(n),
-    }
+    let n = code_assemble::code_unit(nodes, names, u, code)?;
+    route_viewer::show(front(code, n), answers, out)
 }
 
 // Makes the flat code of a unit, runs it over the answers, and shows the route.
@@ -129,12 +102,12 @@ pub fn route(
     answers: &[u32],
     code: &mut [u32],
     out: &mut [u32],
-) -> Routed
+) -> Result<Route, Refused>
     ensures value { result ≡ route_answer (rule source_type async_bodies nodes.now scopes.now source.now names.now) unit answers.now (length code.old) (length out.old) }
     ensures code_after { code.new ≡ code_slice (rule source_type async_bodies nodes.now scopes.now source.now names.now) unit code.old }
     ensures out_after { out.new ≡ route_slice (rule source_type async_bodies nodes.now scopes.now source.now names.now) unit answers.now (length code.old) out.old }
 {
-    match refusal(
+    refusal(
         source_type,
         async_bodies,
         nodes,
@@ -142,8 +115,6 @@ pub fn route(
         source,
         names,
         unit,
-    ) {
-        Verdict::Refused(number, place) => Routed::Refused(number, place),
-        Verdict::Passed => made(nodes, names, NodeId(unit), answers, code, out),
-    }
+    )?;
+    made(nodes, names, NodeId(unit), answers, code, out)
 }

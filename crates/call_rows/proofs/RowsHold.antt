@@ -1,5 +1,5 @@
 -- Every row of document 01's table holds.
-use Rattle.std.specs.Prelude.{ℕ, ◌*◌, ◌/◌, ◌≤◌, ◌≡◌, refl, drop}
+use Rattle.std.specs.Prelude.{ℕ, ◌*◌, ◌/◌, ◌≤◌, ◌≡◌, refl, drop, Ok, Err}
 use Rattle.std.proofs.Math.Path.{ap}
 use Rattle.std.proofs.Common.{sym, ◌∙◌}
 use mathlib.Core.List.{List, [], ◌∷◌, ◌++◌, flat_map}
@@ -37,11 +37,9 @@ use Rattle.check_dispatch.specs.Rule.{Rule, rule}
 use Rattle.check_dispatch.specs.Reported.{reported_at, reported}
 use Rattle.check_diagnostics.proofs.FindingLaws.{length_flat_lem}
 use Rattle.check_diagnostics.specs.declared.Finding.{Finding}
-use Rattle.refusal_verdict.specs.declared.Verdict.{Verdict}
-use Rattle.refusal_verdict.specs.declared.Verdict.TheVariants.{Passed}
-use Rattle.call_check.specs.Check.{report_answer, report_slice, answer_by, slice_by, check_answer, check_slice}
+use Rattle.refusal_verdict.specs.Verdict.{Verdict, Passed, unless}
+use Rattle.call_check.specs.Check.{report_answer, report_slice, check_answer, check_slice}
 use Rattle.call_check.proofs.CheckLaws.{answer_room}
-use Rattle.call_check.specs.declared.Checked.TheVariants.{Findings}
 use Rattle.table_records.specs.Facts.{Tree}
 use Rattle.route_completion.specs.Sem.{exec, turns, rounds}
 use Rattle.route_completion.specs.Route.{Route, asks, route as ruledRoute}
@@ -50,7 +48,7 @@ use Rattle.code_tree.specs.Labels.{name_id}
 use Rattle.code_tree.specs.Parts.{up_of, shape_by, is_part, parts, order}
 use Rattle.code_tree.specs.Statements.{leaf_at, stmt_at, body_of, holder_of, unit_of}
 use Rattle.route_viewer.specs.Shown.{shown_answer, shown_slice}
-use Rattle.route_viewer.specs.declared.Routed.TheVariants as routed
+use Rattle.route_viewer.specs.Shown.{routed}
 use Rattle.refusal_state.specs.Targets.{names_unit, seek, plain_break, named_break, plain_continue, named_continue, has_target, lost_at, state_place, unit_refusal, refused_or, state_answer}
 use Rattle.call_routes.specs.Calls.{code_refusal, route_answer, route_slice}
 use Rattle.call_routes.proofs.CallsLaws.{code_route_lem}
@@ -66,19 +64,19 @@ module _ (r : CheckRow) (passed : input_refusal r.source_type r.nodes r.scopes r
     many : length r.finds ≡ 7 * length fs
     many = ap length (sym found) ∙ length_flat_lem fs
 
-    answers : (s : List ℕ) → length r.finds ≤ length s → check_answer (rule r.source_type 0 r.nodes r.scopes r.source r.names) (length s) ≡ Findings (length r.finds / 7)
+    answers : (s : List ℕ) → length r.finds ≤ length s → check_answer (rule r.source_type 0 r.nodes r.scopes r.source r.names) (length s) ≡ Ok (length r.finds / 7)
     unfolding check_answer
     answers s h =
         let m = many in
         let e : length fs ≡ length r.finds / 7 = omega arith in
-        ap (λ (v : Verdict). answer_by v (report_answer fs (length s))) passed ∙ answer_room fs s (omega arith) ∙ ap (λ (n : ℕ). Findings n) e
+        ap (λ (v : Verdict). unless v Err (report_answer fs (length s))) passed ∙ answer_room fs s (omega arith) ∙ (λ i. Ok (e i))
 
     writes : (s : List ℕ) → length r.finds ≤ length s → check_slice (rule r.source_type 0 r.nodes r.scopes r.source r.names) s ≡ r.finds ++ drop (length r.finds) s
     unfolding check_slice report_slice
     writes s h =
         let m = many in
         let room : 7 * length fs ≤ length s = omega arith in
-        ap (λ (v : Verdict). slice_by v s (report_slice fs s)) passed ∙ rw (le-leb (7 * length fs) (length s) room, found, ← m)
+        ap (λ (v : Verdict). unless v (λ e. s) (report_slice fs s)) passed ∙ rw (le-leb (7 * length fs) (length s) room, found, ← m)
 
     checks : Checks r
     checks = record { found = found; answer = answers; slice = writes }
@@ -96,7 +94,7 @@ module _ (r : RouteRow) (passed : input_refusal r.source_type r.nodes r.scopes r
     unrefused = ap (λ (v : Verdict). refused_or v (state_answer given r.unit)) passed ∙ sound
 
     told : (c s : List ℕ) → code_length r.nodes r.unit ≤ length c → length r.shows.list ≤ length s
-        → route_answer given r.unit r.answers (length c) (length s) ≡ routed.Route r.shows.end (length r.shows.list) r.shows.taken
+        → route_answer given r.unit r.answers (length c) (length s) ≡ routed r.shows.end (length r.shows.list) r.shows.taken
     unfolding route_answer shown_answer
     told c s h g =
         rw (unrefused, le-leb (code_length r.nodes r.unit) (length c) h)

@@ -1,18 +1,17 @@
 -- Document 01, "Rows to prove": "a table proved by a lone statement". A row is a whole input as a tree maker gives it; `rows_hold_lem` (RowsHold.antt) is the statement.
-use Rattle.std.specs.Prelude.{ℕ, ◌/◌, ◌≤◌, ◌≡◌, List, [], ◌∷◌, ◌++◌, length, drop}
+use Rattle.std.specs.Prelude.{ℕ, ◌/◌, ◌≤◌, ◌≡◌, List, [], ◌∷◌, ◌++◌, length, drop, Ok}
 use Prim.Native.Char.{code}
 use Prim.Native.String.{String, [] as []ˢ, ◌∷◌ as ◌∷ˢ◌}
 use Rattle.check_diagnostics.specs.Finding.{flat}
 use Rattle.check_dispatch.specs.Rule.{rule}
 use Rattle.check_dispatch.specs.Reported.{reported}
 use Rattle.call_check.specs.Check.{check_answer, check_slice}
-use Rattle.call_check.specs.declared.Checked.TheVariants.{Findings}
 use Rattle.route_completion.specs.Route.{Route, route as ruledRoute}
 use Rattle.code_flat.specs.Code.{unit}
 use Rattle.code_flat.specs.Machine.{code_route}
 use Rattle.code_tree.specs.Statements.{unit_of}
 use Rattle.code_length.specs.Length.{code_length}
-use Rattle.route_viewer.specs.declared.Routed.TheVariants as Routed
+use Rattle.route_viewer.specs.Shown.{routed}
 use Rattle.call_routes.specs.Calls.{route_answer, route_slice}
 
 -- a text as bytes; each of its characters is one
@@ -47,7 +46,7 @@ pub data Row : Type 0 where
 -- these are the findings, the option on async bodies off; the call refuses nothing where it has room, answers how many there are, and writes them from the slice's start
 pub record Checks (r : CheckRow) : Type 0 where
   pub found : flat (reported (rule r.source_type 0 r.nodes r.scopes r.source r.names)) ≡ r.finds
-  pub answer : (s : List ℕ) → length r.finds ≤ length s → check_answer (rule r.source_type 0 r.nodes r.scopes r.source r.names) (length s) ≡ Findings (length r.finds / 7)
+  pub answer : (s : List ℕ) → length r.finds ≤ length s → check_answer (rule r.source_type 0 r.nodes r.scopes r.source r.names) (length s) ≡ Ok (length r.finds / 7)
   pub slice : (s : List ℕ) → length r.finds ≤ length s → check_slice (rule r.source_type 0 r.nodes r.scopes r.source r.names) s ≡ r.finds ++ drop (length r.finds) s
 
 -- this is the route by the completion rules and by the flat code; the call refuses nothing where it has room, answers with it, and writes its list from the slice's start
@@ -56,7 +55,7 @@ pub record Shows (r : RouteRow) : Type 0 where
   pub coded : code_route (unit (unit_of r.nodes r.names r.unit)) r.answers ≡ r.shows
   pub answer : (c s : List ℕ) → code_length r.nodes r.unit ≤ length c → length r.shows.list ≤ length s
       → route_answer (rule r.source_type 0 r.nodes r.scopes r.source r.names) r.unit r.answers (length c) (length s)
-      ≡ Routed.Route r.shows.end (length r.shows.list) r.shows.taken
+      ≡ routed r.shows.end (length r.shows.list) r.shows.taken
   pub slice : (c s : List ℕ) → code_length r.nodes r.unit ≤ length c → length r.shows.list ≤ length s
       → route_slice (rule r.source_type 0 r.nodes r.scopes r.source r.names) r.unit r.answers (length c) s ≡ r.shows.list ++ drop (length r.shows.list) s
 

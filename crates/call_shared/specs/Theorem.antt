@@ -7,7 +7,7 @@ use Rattle.std.proofs.lemmas.List.{length-map}
 use Rattle.code_flat.specs.Code.{unit}
 use Rattle.code_flat.specs.Machine.{code_route}
 use Rattle.table_records.specs.Table.{kind_of}
-use Rattle.refusal_verdict.specs.declared.Verdict.TheVariants.{Passed}
+use Rattle.refusal_verdict.specs.Verdict.{Passed}
 use Rattle.refusal_input.specs.Input.{input_refusal}
 use Rattle.refusal_input.proofs.InputLaws.{input_well_formed}
 use Rattle.refusal_state.specs.Targets.{state_answer}

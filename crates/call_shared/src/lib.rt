@@ -7,16 +7,7 @@ ghost use Rattle.route_shared.specs.Shared.{shared_entries};
 ghost use Rattle.call_routes.specs.Calls.{code_slice};
 ghost use Rattle.call_shared.specs.Shared.{shared_answer};
 
-use call_routes::Coded;
-
-// What `shared` comes to: so many entries; or a refusal, with its number and place; or a code slice that is too short (refusal 11, place 0), with the
-// length needed.
-#[derive(Clone, Copy)]
-pub enum Beginning {
-    Entries(u64),
-    Refused(u32, u32),
-    Short(usize),
-}
+use refusal_verdict::Refused;
 
 // What is shared on the code that the first n numbers are.
 fn shared_front(code: &[u32], n: usize, first: &[u32], second: &[u32]) -> u64
@@ -38,11 +29,11 @@ pub fn shared(
     first: &[u32],
     second: &[u32],
     code: &mut [u32],
-) -> Beginning
+) -> Result<u64, Refused>
     ensures value { result ≡ shared_answer (rule source_type async_bodies nodes.now scopes.now source.now names.now) unit first.now second.now (length code.old) }
     ensures code_after { code.new ≡ code_slice (rule source_type async_bodies nodes.now scopes.now source.now names.now) unit code.old }
 {
-    match call_routes::code(
+    let n = call_routes::code(
         source_type,
         async_bodies,
         nodes,
@@ -51,9 +42,6 @@ pub fn shared(
         names,
         unit,
         code,
-    ) {
-        Coded::Code(n) => Beginning::Entries(shared_front(code, n, first, second)),
-        Coded::Refused(number, place) => Beginning::Refused(number, place),
-        Coded::Short(needed) => Beginning::Short(needed),
-    }
+    )?;
+    Ok(shared_front(code, n, first, second))
 }

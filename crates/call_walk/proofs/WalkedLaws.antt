@@ -1,6 +1,6 @@
 -- A unit that is not refused can be walked; what the whole walk showed.
 use Rattle.std.specs.Prelude.{ℕ, ◌≡◌, List}
-use Rattle.refusal_verdict.specs.declared.Verdict.TheVariants.{Passed}
+use Rattle.refusal_verdict.specs.Verdict.{Passed}
 use Rattle.check_dispatch.specs.Rule.{rule}
 use Rattle.code_assemble.specs.Ready.{Ready}
 use Rattle.route_walk.specs.Walk.{Enterable}

@@ -9,12 +9,18 @@ ghost use Rattle.code_tree.specs.Statements.{unit_of};
 ghost use Rattle.check_dispatch.specs.Rule.{rule};
 ghost use Rattle.call_walk.specs.Walked.{walk_answer, walk_slice};
 
-use refusal_verdict::Verdict;
-use route_viewer::Routed;
+use refusal_verdict::{Refusal, Refused};
+use route_viewer::Route;
 use table_records::NodeId;
 
 // Walks a unit that is not refused: counts its list first, and writes it only where there is room for all of it.
-fn shown(nodes: &[u32], names: &[u8], u: NodeId, answers: &[u32], out: &mut [u32]) -> Routed
+fn shown(
+    nodes: &[u32],
+    names: &[u8],
+    u: NodeId,
+    answers: &[u32],
+    out: &mut [u32],
+) -> Result<Route, Refused>
     requires { Enterable nodes.now names.now u.0 }
     ensures value { result ≡ shown_answer (route (unit_of nodes.now names.now u.0) answers.now) (length out.old) }
     ensures out_after { out.new ≡ shown_slice (route (unit_of nodes.now names.now u.0) answers.now) out.old }
@@ -22,12 +28,16 @@ fn shown(nodes: &[u32], names: &[u8], u: NodeId, answers: &[u32], out: &mut [u32
     let mut none: [u32; 1] = [0; 1];
     let counted = route_walk::walk_unit(nodes, names, answers, &mut none, u);
     if (out.len() as u64) < counted.entries {
-        return Routed::Short(counted.entries);
+        return Err(Refused::Short(Refusal::RouteSlice, counted.entries));
     }
     let walked = route_walk::walk_unit(nodes, names, answers, out, u);
-    let how = walked.how;
-    let end = route_walk::end_of(how);
-    Routed::Route(end, walked.entries as usize, walked.taken as u64)
+    let end = route_walk::end_of(walked.how);
+    let route = Route {
+        end,
+        entries: walked.entries as usize,
+        taken: walked.taken as u64,
+    };
+    Ok(route)
 }
 
 // Walks the statements of a unit over the answers, and shows the route.
@@ -41,11 +51,11 @@ pub fn walk(
     unit: u32,
     answers: &[u32],
     out: &mut [u32],
-) -> Routed
+) -> Result<Route, Refused>
     ensures value { result ≡ walk_answer (rule source_type async_bodies nodes.now scopes.now source.now names.now) unit answers.now (length out.old) }
     ensures out_after { out.new ≡ walk_slice (rule source_type async_bodies nodes.now scopes.now source.now names.now) unit answers.now out.old }
 {
-    match call_routes::refusal(
+    call_routes::refusal(
         source_type,
         async_bodies,
         nodes,
@@ -53,8 +63,6 @@ pub fn walk(
         source,
         names,
         unit,
-    ) {
-        Verdict::Refused(number, place) => Routed::Refused(number, place),
-        Verdict::Passed => shown(nodes, names, NodeId(unit), answers, out),
-    }
+    )?;
+    shown(nodes, names, NodeId(unit), answers, out)
 }

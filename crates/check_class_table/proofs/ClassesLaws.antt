@@ -1,6 +1,8 @@
 -- Laws of classes: where a class lies, and the classes around it one step at a time.
+use Rattle.table_records.specs.declared.ClassId.{ClassId}
+use Rattle.table_records.specs.declared.NodeId.{NodeId}
 use Prim.Native.Nat.{ℕ, zero, suc, ◌≤◌, ◌<◌}
-use Rattle.std.specs.Prelude.{◌≡◌, List, [], ◌∷◌, Bool, eqb}
+use Rattle.std.specs.Prelude.{◌≡◌, List, [], ◌∷◌, Bool, eqb, Option, Some, None}
 use Rattle.std.proofs.Math.Path.{refl}
 use Rattle.std.proofs.Common.{ap, sym, subst, ◌∙◌, eq-or-lt_of_le, eq-eqb, ne_eqb, le-leb}
 use Rattle.std.proofs.Math.Bool.{true, false}
@@ -15,19 +17,15 @@ use Rattle.base_walk.proofs.PreorderLaws.{lt_or_ge}
 use Rattle.table_records.specs.Table.{count, kind_of, parent_of, ancestors}
 use Rattle.table_records.specs.Facts.{Tree}
 use Rattle.table_records.specs.Kinds as k
-use Rattle.table_records.specs.declared.Found.{Found}
-use Rattle.table_records.specs.declared.Found.TheVariants.{At, Nothing}
 use Rattle.table_children.specs.Children.{keep, below}
 use Rattle.table_children.proofs.ChildrenLaws.{number}
 use Rattle.table_ancestry.specs.Ancestry.{nearest_of}
 use Rattle.table_ancestry.proofs.AncestryLaws.{nearest_stop, nearest_on, nearest_root}
-use Rattle.check_class_table.specs.declared.Current.{Current}
-use Rattle.check_class_table.specs.declared.Current.TheVariants.{Class, Outside}
 use Rattle.check_class_table.specs.Classes.{class_at, body_above, is_class_body, outer_classes, in_table, before}
 
-pub in_table_lem : (ns : List ℕ) (f : Found) → below ns f → in_table ns (class_at f)
-in_table_lem ns (At m) h = h
-in_table_lem ns Nothing h = h
+pub in_table_lem : (ns : List ℕ) (f : Option NodeId) → below ns f → in_table ns (class_at f)
+in_table_lem ns (Some m) h = h
+in_table_lem ns None h = h
 
 pub within_one : (x a : ℕ) → within x a a ≡ eqb x a
 within_one x a =
@@ -42,17 +40,17 @@ pub record Over (ns : List ℕ) (lo hi n m : ℕ) : Type 0 where
   pub kind : within (kind_of ns m) lo hi ≡ true
 
 module _ (ns : List ℕ) (t : Tree ns) (lo hi : ℕ) where
-  over_by : (f i m : ℕ) → i ≤ f → i < count ns → nearest_of ns lo hi i ≡ At (record { 0 = m }) → Over ns lo hi i m
+  over_by : (f i m : ℕ) → i ≤ f → i < count ns → nearest_of ns lo hi i ≡ Some (record { 0 = m }) → Over ns lo hi i m
   over_by zero i m hf hc e =
       let z : i ≡ 0 = omega arith in
-      let s : At (record { 0 = m }) ≡ Nothing = sym e ∙ ap (nearest_of ns lo hi) z ∙ nearest_root ns lo hi in
+      let s : ◌≡◌ {A = Option NodeId} (Some (record { 0 = m })) None = sym e ∙ ap (nearest_of ns lo hi) z ∙ nearest_root ns lo hi in
       let z : ◌≡◌ {A = ℕ} 0 1 = cc in absurd (omega arith)
-  over_by (suc f) i m hf hc e = ⊎_elim (λ (q : 0 ≡ i). over_by f i m (omega arith) hc e) (λ (h : 0 < i). go h (within (kind_of ns (parent_of ns i)) lo hi) refl (λ (q : nearest_of ns lo hi (parent_of ns i) ≡ At (record { 0 = m })). let p = t.falls i h hc in over_by f (parent_of ns i) m (omega arith) (omega arith) q)) (eq-or-lt_of_le (omega arith))
+  over_by (suc f) i m hf hc e = ⊎_elim (λ (q : 0 ≡ i). over_by f i m (omega arith) hc e) (λ (h : 0 < i). go h (within (kind_of ns (parent_of ns i)) lo hi) refl (λ (q : nearest_of ns lo hi (parent_of ns i) ≡ Some (record { 0 = m })). let p = t.falls i h hc in over_by f (parent_of ns i) m (omega arith) (omega arith) q)) (eq-or-lt_of_le (omega arith))
     where
-      go : 0 < i → (b : Bool) → within (kind_of ns (parent_of ns i)) lo hi ≡ b → (nearest_of ns lo hi (parent_of ns i) ≡ At (record { 0 = m }) → Over ns lo hi (parent_of ns i) m) → Over ns lo hi i m
+      go : 0 < i → (b : Bool) → within (kind_of ns (parent_of ns i)) lo hi ≡ b → (nearest_of ns lo hi (parent_of ns i) ≡ Some (record { 0 = m }) → Over ns lo hi (parent_of ns i) m) → Over ns lo hi i m
       go h true w r =
           let p = t.falls i h hc in
-          let s : At (record { 0 = parent_of ns i }) ≡ At (record { 0 = m }) = sym (nearest_stop ns t lo hi i (parent_of ns i) h hc refl w) ∙ e in
+          let s : ◌≡◌ {A = Option NodeId} (Some (record { 0 = parent_of ns i })) (Some (record { 0 = m })) = sym (nearest_stop ns t lo hi i (parent_of ns i) h hc refl w) ∙ e in
           let u : parent_of ns i ≡ m = ap number s in
           subst (λ (x : ℕ). Over ns lo hi i x) u
           (record { less = p; over = on_step (parent_of ns) (count ns) t.falls (parent_of ns i) i h hc (on_self (parent_of ns) (parent_of ns i)); kind = w })
@@ -62,17 +60,17 @@ module _ (ns : List ℕ) (t : Tree ns) (lo hi : ℕ) where
           let l = o.less in
           record { less = omega arith; over = on_step (parent_of ns) (count ns) t.falls m i h hc o.over; kind = o.kind }
 
-  pub over : (i m : ℕ) → i < count ns → nearest_of ns lo hi i ≡ At (record { 0 = m }) → Over ns lo hi i m
+  pub over : (i m : ℕ) → i < count ns → nearest_of ns lo hi i ≡ Some (record { 0 = m }) → Over ns lo hi i m
   over i m hc e = over_by i i m (omega arith) hc e
 
-pub above_before : (ns : List ℕ) → Tree ns → (n : ℕ) → n < count ns → (f : Found) → body_above ns n ≡ f → before n (class_at f)
-above_before ns t n h (At m) e = (over ns t k.ClassBody k.ClassBody n m.0 h e).less
-above_before ns t n h Nothing e = tt
+pub above_before : (ns : List ℕ) → Tree ns → (n : ℕ) → n < count ns → (f : Option NodeId) → body_above ns n ≡ f → before n (class_at f)
+above_before ns t n h (Some m) e = (over ns t k.ClassBody k.ClassBody n m.0 h e).less
+above_before ns t n h None e = tt
 
 -- the classes around one: none, or the next and those around it
-abbrev outer_by : List ℕ → Found → List ℕ
-outer_by ns (At b) = b.0 ∷ outer_classes ns b.0
-outer_by ns Nothing = []
+abbrev outer_by : List ℕ → Option NodeId → List ℕ
+outer_by ns (Some b) = b.0 ∷ outer_classes ns b.0
+outer_by ns None = []
 
 module _ (ns : List ℕ) (t : Tree ns) where
   outer_by_lem : (f i : ℕ) → i ≤ f → i < count ns → outer_classes ns i ≡ outer_by ns (body_above ns i)
@@ -88,21 +86,21 @@ module _ (ns : List ℕ) (t : Tree ns) where
       go h false w r =
           rw (above_up (parent_of ns) (count ns) t.falls i h hc, w, nearest_on ns t k.ClassBody k.ClassBody i (parent_of ns i) h hc refl (within_one (kind_of ns (parent_of ns i)) k.ClassBody ∙ w)) r
 
-  pub outer_at : (i b : ℕ) → i < count ns → body_above ns i ≡ At (record { 0 = b }) → outer_classes ns i ≡ b ∷ outer_classes ns b
+  pub outer_at : (i b : ℕ) → i < count ns → body_above ns i ≡ Some (record { 0 = b }) → outer_classes ns i ≡ b ∷ outer_classes ns b
   outer_at i b hc e = outer_by_lem i i (omega arith) hc ∙ ap (outer_by ns) e
 
-  pub outer_none : (i : ℕ) → i < count ns → body_above ns i ≡ Nothing → outer_classes ns i ≡ []
+  pub outer_none : (i : ℕ) → i < count ns → body_above ns i ≡ None → outer_classes ns i ≡ []
   outer_none i hc e = outer_by_lem i i (omega arith) hc ∙ ap (outer_by ns) e
 
-abbrev class_number : Current → ℕ
-class_number (Class c) = c.0
-class_number Outside = 0
+abbrev class_number : Option ClassId → ℕ
+class_number (Some c) = c.0
+class_number None = 0
 
 -- what the answer says of the search
-pub class_found : (f : Found) (c : ℕ) → class_at f ≡ Class (record { 0 = c }) → f ≡ At (record { 0 = c })
-class_found (At m) c e = ap (λ (x : ℕ). At (record { 0 = x })) (ap class_number e)
-class_found Nothing c e = let z : ◌≡◌ {A = ℕ} 0 1 = cc in absurd (omega arith)
+pub class_found : (f : Option NodeId) (c : ℕ) → class_at f ≡ Some (record { 0 = c }) → f ≡ Some (record { 0 = c })
+class_found (Some m) c e = ap (λ (x : ℕ). Some (record { 0 = x })) (ap class_number e)
+class_found None c e = let z : ◌≡◌ {A = ℕ} 0 1 = cc in absurd (omega arith)
 
-pub class_none : (f : Found) → class_at f ≡ Outside → f ≡ Nothing
-class_none (At m) e = let z : ◌≡◌ {A = ℕ} 0 1 = cc in absurd (omega arith)
-class_none Nothing e = refl
+pub class_none : (f : Option NodeId) → class_at f ≡ None → f ≡ None
+class_none (Some m) e = let z : ◌≡◌ {A = ℕ} 0 1 = cc in absurd (omega arith)
+class_none None e = refl

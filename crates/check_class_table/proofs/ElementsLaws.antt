@@ -1,5 +1,5 @@
 -- Laws of elements: those of a class as a scan of the nodes after its ClassBody meets them.
-use Rattle.std.specs.Prelude.{ℕ, zero, suc, ◌+◌, ◌≤◌, ◌<◌, ◌≡◌, refl, List, [], ◌∷◌, Bool, true, false, cond, ◌&&◌, ◌||◌, eqb}
+use Rattle.std.specs.Prelude.{ℕ, zero, suc, ◌+◌, ◌≤◌, ◌<◌, ◌≡◌, refl, List, [], ◌∷◌, Bool, true, false, cond, ◌&&◌, ◌||◌, eqb, Some, None}
 use Rattle.std.proofs.Common.{ap, ◌∙◌, ⊎_elim, arith, ne_eqb}
 use Rattle.std.proofs.Math.Path.{sym}
 use Rattle.base_common.specs.Upto.{upto, any}
@@ -7,7 +7,6 @@ use Rattle.base_common.proofs.UptoLaws.{fold_turn, fold_end}
 use Rattle.base_walk.proofs.PreorderLaws.{no_child, lt_or_ge}
 use Rattle.table_records.specs.Table.{count, parent_of}
 use Rattle.table_records.specs.Facts.{Tree}
-use Rattle.table_records.specs.declared.Found.TheVariants.{At, Nothing}
 use Rattle.table_names.specs.Name.{same}
 use Rattle.table_children.specs.Children.{keep, children}
 use Rattle.table_children.proofs.ChildrenLaws.{keep_keep}
@@ -121,10 +120,10 @@ module _ (t : ℕ) (ns names : List ℕ) (w : Tree ns) (name : List ℕ) (c : �
   unfolding is_declared
   declared_here e = rw e
 
-  pub declared_outer : (d : ℕ) → has_private t ns names c name ≡ false → body_above ns c ≡ At (record { 0 = d }) → is_declared t ns names c name ≡ is_declared t ns names d name
+  pub declared_outer : (d : ℕ) → has_private t ns names c name ≡ false → body_above ns c ≡ Some (record { 0 = d }) → is_declared t ns names c name ≡ is_declared t ns names d name
   unfolding is_declared
   declared_outer d e b = rw (e, outer_at ns w c d h b)
 
-  pub declared_none : has_private t ns names c name ≡ false → body_above ns c ≡ Nothing → is_declared t ns names c name ≡ false
+  pub declared_none : has_private t ns names c name ≡ false → body_above ns c ≡ None → is_declared t ns names c name ≡ false
   unfolding is_declared
   declared_none e b = rw (e, outer_none ns w c h b)

@@ -1,5 +1,6 @@
 -- The elements of a class: `Element` and `ClassTableBuilder::declare_class_body`. An element has the number of its node.
-use Rattle.std.specs.Prelude.{ℕ, List, [], ◌∷◌, Bool, false, cond, not, ◌&&◌, ◌||◌, eqb}
+use Rattle.table_records.specs.declared.NodeId.{NodeId}
+use Rattle.std.specs.Prelude.{ℕ, List, [], ◌∷◌, Bool, false, cond, not, ◌&&◌, ◌||◌, eqb, Option, Some, None}
 use Rattle.base_common.specs.Upto.{any}
 use Rattle.base_common.specs.Tests.{within}
 use Rattle.table_source.specs.SourceType.{is_typescript}
@@ -7,8 +8,6 @@ use Rattle.table_records.specs.Table.{kind_of, parent_of, span_start_of, span_en
 use Rattle.table_records.specs.Kinds as k
 use Rattle.table_records.specs.Extras as extra
 use Rattle.table_records.specs.NodeFlag as flag
-use Rattle.table_records.specs.declared.Found.{Found}
-use Rattle.table_records.specs.declared.Found.TheVariants.{At, Nothing}
 use Rattle.table_names.specs.Name.{same, name_of}
 use Rattle.table_children.specs.Children.{keep, children, key_of, value_of, function_body_of}
 use Rattle.table_ancestry.specs.Ancestry.{is_at}
@@ -16,28 +15,28 @@ use Rattle.check_class_table.specs.declared.Span.{Span}
 use Rattle.check_class_table.specs.Classes.{outer_classes}
 
 -- the span of a part: "a missing one has span 0,0"
-abbrev pub span_at : List ℕ → Found → Span
-span_at ns (At m) = record { start = span_start_of ns m.0; end = span_end_of ns m.0 }
-span_at ns Nothing = record { start = 0; end = 0 }
+abbrev pub span_at : List ℕ → Option NodeId → Span
+span_at ns (Some m) = record { start = span_start_of ns m.0; end = span_end_of ns m.0 }
+span_at ns None = record { start = 0; end = 0 }
 
 -- the name of a part: "Length 0 means no name"
-abbrev pub name_at : List ℕ → List ℕ → Found → List ℕ
-name_at ns names (At m) = name_of ns names m.0
-name_at ns names Nothing = []
+abbrev pub name_at : List ℕ → List ℕ → Option NodeId → List ℕ
+name_at ns names (Some m) = name_of ns names m.0
+name_at ns names None = []
 
 -- an IdentifierReference as key is that of `[a]`: a computed key gives its element no name
-abbrev pub has_name_at : List ℕ → Found → Bool
-has_name_at ns (At m) = not (eqb (kind_of ns m.0) k.IdentifierReference) && not (eqb (name_len_of ns m.0) 0)
-has_name_at ns Nothing = false
+abbrev pub has_name_at : List ℕ → Option NodeId → Bool
+has_name_at ns (Some m) = not (eqb (kind_of ns m.0) k.IdentifierReference) && not (eqb (name_len_of ns m.0) 0)
+has_name_at ns None = false
 
 -- an element's key has a name
 abbrev pub has_name : List ℕ → ℕ → Bool
 has_name ns e = has_name_at ns (key_of ns e)
 
 -- whether a function has a body
-abbrev pub has_body_at : List ℕ → Found → Bool
-has_body_at ns (At f) = is_at (function_body_of ns f.0)
-has_body_at ns Nothing = false
+abbrev pub has_body_at : List ℕ → Option NodeId → Bool
+has_body_at ns (Some f) = is_at (function_body_of ns f.0)
+has_body_at ns None = false
 
 -- an element's name, span and tests: "Elements and properties have their name at the key node"
 unfoldable pub element_name : List ℕ → List ℕ → ℕ → List ℕ

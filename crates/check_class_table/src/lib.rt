@@ -8,20 +8,12 @@ ghost use Rattle.table_children.specs.Children.{below};
 ghost use Rattle.check_class_table.specs.Classes.{class_at, current_class, parent_class, in_table, before};
 ghost use Rattle.check_class_table.specs.Elements.{span_at, element_name, element_span, is_static, is_private, is_method_of, is_getter, is_setter, is_constructor, is_definition, has_name, has_body, fixed_name, enters, has_private, is_declared, is_compared_definition, is_compared_element, is_keyed, is_definition_in, is_named};
 
-use base_common::{and, not, or, within};
 use table_ancestry::nearest;
-use table_records::{ClassId, ElementId, Found, NodeId, extras, kinds, node_flag};
+use table_records::{ClassId, ElementId, NodeId, extras, kinds, node_flag};
 use table_source::is_typescript;
 
 // Of an element in TypeScript: it has no fixed name.
 pub const NO_FIXED_NAME: u32 = 16384;
-
-// The class that is current at a node, if there is one.
-#[derive(Clone, Copy)]
-pub enum Current {
-    Class(ClassId),
-    Outside,
-}
 
 // A half-open range of bytes of the source.
 #[derive(Clone, Copy)]
@@ -31,17 +23,15 @@ pub struct Span {
 }
 
 // The class whose ClassBody was found.
-fn class_at(body: Found) -> Current
+fn class_at(body: Option<NodeId>) -> Option<ClassId>
     ensures { result ≡ class_at body }
 {
-    let Found::At(b) = body else {
-        return Current::Outside;
-    };
-    Current::Class(ClassId(b.0))
+    Some(ClassId(body?.0))
 }
 
 // The class that is current where a node is checked.
-pub fn current_class(nodes: &[u32], n: NodeId) -> Current
+#[tactic(auto, unfolding(crate::specs::Classes::current_class))]
+pub fn current_class(nodes: &[u32], n: NodeId) -> Option<ClassId>
     requires tree { Tree nodes.now }
     requires n_bound { n.0 < count nodes.now }
     ensures value { result ≡ current_class nodes.now n.0 }
@@ -52,13 +42,13 @@ pub fn current_class(nodes: &[u32], n: NodeId) -> Current
         return class_at(table_children::class_body_of(nodes, n));
     }
     if k == kinds::CLASS_BODY {
-        return Current::Class(ClassId(n.0));
+        return Some(ClassId(n.0));
     }
     class_at(nearest(nodes, n, kinds::CLASS_BODY, kinds::CLASS_BODY))
 }
 
 // The class around a class.
-pub fn parent_class(nodes: &[u32], c: ClassId) -> Current
+pub fn parent_class(nodes: &[u32], c: ClassId) -> Option<ClassId>
     requires tree { Tree nodes.now }
     requires c_bound { c.0 < count nodes.now }
     ensures value { result ≡ parent_class nodes.now c.0 }
@@ -99,7 +89,7 @@ fn is_method_of(nodes: &[u32], e: ElementId, extra: u32) -> bool
 {
     let k = table_records::kind(nodes, NodeId(e.0));
     let x = table_records::extra(nodes, NodeId(e.0));
-    and(k == kinds::METHOD_DEFINITION, x == extra)
+    k == kinds::METHOD_DEFINITION && x == extra
 }
 
 pub fn is_getter(nodes: &[u32], e: ElementId) -> bool
@@ -127,30 +117,28 @@ pub fn is_definition(nodes: &[u32], e: ElementId) -> bool
     requires { e.0 < count nodes.now }
     ensures { result ≡ is_definition nodes.now e.0 }
 {
-    within(
+    matches!(
         table_records::kind(nodes, NodeId(e.0)),
-        kinds::METHOD_DEFINITION,
-        kinds::ACCESSOR_PROPERTY,
+        kinds::METHOD_DEFINITION..=kinds::ACCESSOR_PROPERTY
     )
 }
 
 // The span of a part that was looked for.
-pub fn span_at(nodes: &[u32], part: Found) -> Span
+pub fn span_at(nodes: &[u32], part: Option<NodeId>) -> Span
     requires { below nodes.now part }
     ensures { result ≡ span_at nodes.now part }
 {
-    let Found::At(m) = part else {
+    let Some(m) = part else {
         return Span { start: 0, end: 0 };
     };
-    let start = table_records::span_start(nodes, m);
-    let end = table_records::span_end(nodes, m);
     Span {
-        start: start,
-        end: end,
+        start: table_records::span_start(nodes, m),
+        end: table_records::span_end(nodes, m),
     }
 }
 
 // The span of an element: that of its key.
+#[tactic(auto, unfolding(crate::specs::Elements::element_span))]
 pub fn element_span(nodes: &[u32], e: ElementId) -> Span
     requires tree { Tree nodes.now }
     requires e_bound { e.0 < count nodes.now }
@@ -160,13 +148,14 @@ pub fn element_span(nodes: &[u32], e: ElementId) -> Span
 }
 
 // The name of an element: that of its key.
+#[tactic(auto, unfolding(crate::specs::Elements::element_name))]
 pub fn element_name<'a>(nodes: &[u32], names: &'a [u8], e: ElementId) -> &'a [u8]
     requires tree { Tree nodes.now }
     requires named { Named nodes.now names.now }
     requires e_bound { e.0 < count nodes.now }
     ensures { result.now ≡ element_name nodes.now names.now e.0 }
 {
-    let Found::At(m) = table_children::key_of(nodes, NodeId(e.0)) else {
+    let Some(m) = table_children::key_of(nodes, NodeId(e.0)) else {
         return &names[0..0];
     };
     table_names::name(nodes, names, m)
@@ -178,87 +167,72 @@ fn has_name(nodes: &[u32], e: ElementId) -> bool
     requires e_bound { e.0 < count nodes.now }
     ensures { result ≡ has_name nodes.now e.0 }
 {
-    let Found::At(m) = table_children::key_of(nodes, NodeId(e.0)) else {
+    let Some(m) = table_children::key_of(nodes, NodeId(e.0)) else {
         return false;
     };
-    and(
-        table_records::kind(nodes, m) != kinds::IDENTIFIER_REFERENCE,
-        table_records::name_len(nodes, m) != 0,
-    )
+    table_records::kind(nodes, m) != kinds::IDENTIFIER_REFERENCE
+        && table_records::name_len(nodes, m) != 0
 }
 
 // Whether the function that is a method's value has a body.
+#[tactic(auto, unfolding(crate::specs::Elements::has_body))]
 pub fn has_body(nodes: &[u32], e: ElementId) -> bool
     requires tree { Tree nodes.now }
     requires e_bound { e.0 < count nodes.now }
     ensures { result ≡ has_body nodes.now e.0 }
 {
-    let Found::At(f) = table_children::value_of(nodes, NodeId(e.0)) else {
+    let Some(f) = table_children::value_of(nodes, NodeId(e.0)) else {
         return false;
     };
-    let Found::At(_) = table_children::function_body_of(nodes, f) else {
-        return false;
-    };
-    true
+    table_children::function_body_of(nodes, f).is_some()
 }
 
 // Whether an element has a fixed name: in TypeScript its flag alone says so.
+#[tactic(auto, unfolding(crate::specs::Elements::fixed_name))]
 pub fn has_fixed_name(source_type: u32, nodes: &[u32], e: ElementId) -> bool
     requires tree { Tree nodes.now }
     requires e_bound { e.0 < count nodes.now }
     ensures { result ≡ fixed_name source_type nodes.now e.0 }
 {
     if is_typescript(source_type) {
-        return not(table_records::has_flag(
-            table_records::flags(nodes, NodeId(e.0)),
-            NO_FIXED_NAME,
-        ));
+        return !table_records::has_flag(table_records::flags(nodes, NodeId(e.0)), NO_FIXED_NAME);
     }
     has_name(nodes, e)
 }
 
 // Constructors, bodiless methods and elements without a fixed name enter no element.
+#[tactic(auto, unfolding(crate::specs::Elements::enters))]
 pub fn enters(source_type: u32, nodes: &[u32], e: ElementId) -> bool
     requires tree { Tree nodes.now }
     requires e_bound { e.0 < count nodes.now }
     ensures { result ≡ enters source_type nodes.now e.0 }
 {
-    if is_constructor(nodes, e) {
+    let is_method = table_records::kind(nodes, NodeId(e.0)) == kinds::METHOD_DEFINITION;
+    if is_constructor(nodes, e) || is_method && !has_body(nodes, e) {
         return false;
-    }
-    let k = table_records::kind(nodes, NodeId(e.0));
-    if k == kinds::METHOD_DEFINITION {
-        if !has_body(nodes, e) {
-            return false;
-        }
-        return has_fixed_name(source_type, nodes, e);
     }
     has_fixed_name(source_type, nodes, e)
 }
 
 // Whether a node is a definition in the body of class c that is compared with others: a private one, and in TypeScript any.
+#[tactic(auto, unfolding(crate::specs::Elements::is_compared_definition))]
 fn is_compared_definition(source_type: u32, nodes: &[u32], c: ClassId, e: ElementId) -> bool
     requires { e.0 < count nodes.now }
     ensures { result ≡ is_compared_definition source_type nodes.now c.0 e.0 }
 {
-    let p = table_records::parent(nodes, NodeId(e.0));
-    if p.0 == c.0 {
-        let compared = or(is_typescript(source_type), is_private(nodes, e));
-        return and(compared, is_definition(nodes, e));
-    }
-    false
+    table_records::parent(nodes, NodeId(e.0)).0 == c.0
+        && (is_typescript(source_type) || is_private(nodes, e))
+        && is_definition(nodes, e)
 }
 
 // Whether a node is a compared element of class c.
+#[tactic(auto, unfolding(crate::specs::Elements::is_compared_element))]
 pub fn is_compared_element(source_type: u32, nodes: &[u32], c: ClassId, e: ElementId) -> bool
     requires tree { Tree nodes.now }
     requires e_bound { e.0 < count nodes.now }
     ensures { result ≡ is_compared_element source_type nodes.now c.0 e.0 }
 {
-    if is_compared_definition(source_type, nodes, c, e) {
-        return enters(source_type, nodes, e);
-    }
-    false
+    is_compared_definition(source_type, nodes, c, e) && enters(source_type, nodes, e)
 }
 
 // Public and private names belong to separate namespaces: whether an element is of the one that is asked for.
@@ -266,26 +240,22 @@ fn is_keyed(nodes: &[u32], private: bool, e: ElementId) -> bool
     requires { e.0 < count nodes.now }
     ensures { result ≡ is_keyed nodes.now private e.0 }
 {
-    let found = is_private(nodes, e);
-    if private {
-        return found;
-    }
-    !found
+    is_private(nodes, e) == private
 }
 
 // Whether a node is a definition in the body of class c, private or not.
+#[tactic(auto, unfolding(crate::specs::Elements::is_definition_in))]
 fn is_definition_in(nodes: &[u32], c: ClassId, private: bool, e: ElementId) -> bool
     requires { e.0 < count nodes.now }
     ensures { result ≡ is_definition_in nodes.now c.0 private e.0 }
 {
-    let p = table_records::parent(nodes, NodeId(e.0));
-    if p.0 == c.0 {
-        return and(is_keyed(nodes, private, e), is_definition(nodes, e));
-    }
-    false
+    table_records::parent(nodes, NodeId(e.0)).0 == c.0
+        && is_keyed(nodes, private, e)
+        && is_definition(nodes, e)
 }
 
 // Whether a node is an element of class c with this name, private or not: whether it enters is asked last, since that costs most.
+#[tactic(auto, unfolding(crate::specs::Elements::is_named))]
 pub fn is_named(
     source_type: u32,
     nodes: &[u32],
@@ -300,13 +270,9 @@ pub fn is_named(
     requires e_bound { e.0 < count nodes.now }
     ensures { result ≡ is_named source_type nodes.now names.now c.0 private name.now e.0 }
 {
-    if is_definition_in(nodes, c, private, e) {
-        if table_names::same(element_name(nodes, names, e), name) {
-            return enters(source_type, nodes, e);
-        }
-        return false;
-    }
-    false
+    is_definition_in(nodes, c, private, e)
+        && table_names::same(element_name(nodes, names, e), name)
+        && enters(source_type, nodes, e)
 }
 
 // Whether a class has a private element of this name.
@@ -323,6 +289,7 @@ pub fn has_private_definition(
     ensures { result ≡ has_private source_type nodes.now names.now c.0 name.now }
 {
     let mut i = c.0 + 1;
+    // `while`, since a range asks for the table's size: nothing that a walk up calls divides.
     while table_records::is_node(nodes, i) {
         let p = table_records::parent(nodes, NodeId(i));
         if p.0 < c.0 {
@@ -348,7 +315,7 @@ pub fn is_declared(source_type: u32, nodes: &[u32], names: &[u8], c: ClassId, na
         if has_private_definition(source_type, nodes, names, at, name) {
             return true;
         }
-        let Current::Class(outer) = parent_class(nodes, at) else {
+        let Some(outer) = parent_class(nodes, at) else {
             return false;
         };
         at = outer;

@@ -1,40 +1,36 @@
 -- What is checked at a private name and at a Class: `check_private_identifier_outside_class`, `check_private_identifier` and `check_class`.
-use Rattle.std.specs.Prelude.{ℕ, ◌+◌, Bool, false, cond, not, ◌&&◌, eqb}
+use Rattle.table_records.specs.declared.ClassId.{ClassId}
+use Rattle.table_records.specs.declared.NodeId.{NodeId}
+use Rattle.std.specs.Prelude.{ℕ, ◌+◌, Bool, false, cond, not, ◌&&◌, eqb, Option, Some, None}
 use mathlib.Core.List.{List, [], ◌∷◌, ◌++◌, flat_map}
 use Rattle.base_common.specs.Upto.{upto}
 use Rattle.base_common.specs.Tests.{within}
 use Rattle.table_records.specs.Table.{count, kind_of, parent_of, span_start_of, span_end_of, flags_of, has_flag}
 use Rattle.table_records.specs.Kinds as k
 use Rattle.table_records.specs.NodeFlag as flag
-use Rattle.table_records.specs.declared.Found.{Found}
-use Rattle.table_records.specs.declared.Found.TheVariants.{At, Nothing}
 use Rattle.table_names.specs.Name.{name_of}
 use Rattle.table_children.specs.Children.{keep, children, first_child, class_body_of}
 use Rattle.table_ancestry.specs.Ancestry.{is_at}
 use Rattle.check_diagnostics.specs.declared.Finding.{Finding}
-use Rattle.check_diagnostics.specs.declared.Raised.{Raised}
-use Rattle.check_diagnostics.specs.declared.Raised.TheVariants.{Error, Clear}
 use Rattle.check_diagnostics.specs.Finding.{listed, error_at, error_span}
 use Rattle.check_diagnostics.specs.Codes as code
 use Rattle.check_diagnostics.specs.Contexts as context
-use Rattle.check_class_table.specs.declared.Current.{Current}
-use Rattle.check_class_table.specs.declared.Current.TheVariants.{Class, Outside}
 use Rattle.check_class_table.specs.declared.Span.{Span}
 use Rattle.check_class_table.specs.Classes.{current_class}
 use Rattle.check_class_table.specs.Elements.{element_span, is_constructor, fixed_name, has_body, is_declared}
 
 -- a private name where no class is current
-abbrev pub outside_by : List ℕ → ℕ → Current → Raised
-outside_by ns n (Class c) = Clear
-outside_by ns n Outside = error_at ns code.private_not_in_class n n context.none
+abbrev pub outside_by : List ℕ → ℕ → Option ClassId → Option Finding
+outside_by ns n (Some c) = None
+outside_by ns n None = error_at ns code.private_not_in_class n n context.none
 
-abbrev pub private_outside : List ℕ → ℕ → Raised
+abbrev pub private_outside : List ℕ → ℕ → Option Finding
 private_outside ns n = outside_by ns n (current_class ns n)
 
 -- the class that is current is c
-abbrev pub is_class : ℕ → Current → Bool
-is_class c (Class d) = eqb d.0 c
-is_class c Outside = false
+abbrev pub is_class : ℕ → Option ClassId → Bool
+is_class c (Some d) = eqb d.0 c
+is_class c None = false
 
 -- a PrivateIdentifier whose parent is a member expression or a PrivateIn: `add_private_identifier_reference`
 abbrev pub is_reference : List ℕ → ℕ → Bool
@@ -45,16 +41,16 @@ unfoldable pub references : List ℕ → ℕ → List ℕ
 references ns c = keep (λ m. is_reference ns m && is_class c (current_class ns m)) (upto (c + 1) (count ns))
 
 -- a reference whose name no private element of class c or of a class around it has
-unfoldable pub undeclared_at : ℕ → List ℕ → List ℕ → ℕ → ℕ → ℕ → Raised
-undeclared_at source_type ns names n c m = cond (is_declared source_type ns names c (name_of ns names m)) Clear (error_at ns code.private_field_undeclared n m context.none)
+unfoldable pub undeclared_at : ℕ → List ℕ → List ℕ → ℕ → ℕ → ℕ → Option Finding
+undeclared_at source_type ns names n c m = cond (is_declared source_type ns names c (name_of ns names m)) None (error_at ns code.private_field_undeclared n m context.none)
 
 unfoldable pub undeclared_in : ℕ → List ℕ → List ℕ → ℕ → ℕ → List Finding
 undeclared_in source_type ns names n c = flat_map (λ m. listed (undeclared_at source_type ns names n c m)) (references ns c)
 
 -- `check_private_identifier`, raised at Class n
-abbrev pub undeclared_by : ℕ → List ℕ → List ℕ → ℕ → Current → List Finding
-undeclared_by source_type ns names n (Class c) = undeclared_in source_type ns names n c.0
-undeclared_by source_type ns names n Outside = []
+abbrev pub undeclared_by : ℕ → List ℕ → List ℕ → ℕ → Option ClassId → List Finding
+undeclared_by source_type ns names n (Some c) = undeclared_in source_type ns names n c.0
+undeclared_by source_type ns names n None = []
 
 abbrev pub private_undeclared : ℕ → List ℕ → List ℕ → ℕ → List Finding
 private_undeclared source_type ns names n = undeclared_by source_type ns names n (current_class ns n)
@@ -64,11 +60,11 @@ abbrev pub has_id : List ℕ → ℕ → Bool
 has_id ns n = is_at (first_child ns n k.BindingIdentifier k.BindingIdentifier 0 7)
 
 -- a class declaration without an id that is no `export default`; the span of the word `class`
-unfoldable pub require_class_name : List ℕ → ℕ → Raised
+unfoldable pub require_class_name : List ℕ → ℕ → Option Finding
 require_class_name ns n =
     cond (has_flag (flags_of ns n) flag.Declaration && (not (has_id ns n) && not (eqb (kind_of ns (parent_of ns n)) k.ExportDefault)))
     (error_span code.require_class_name n (span_start_of ns n) (span_start_of ns n + 5) context.none)
-    Clear
+    None
 
 -- the constructors with a body, in order
 unfoldable pub constructors : List ℕ → ℕ → List ℕ
@@ -79,9 +75,9 @@ unfoldable pub constructor_span : ℕ → List ℕ → ℕ → Span
 constructor_span source_type ns e = cond (fixed_name source_type ns e) (element_span ns e) (record { start = span_start_of ns e; end = span_end_of ns e })
 
 -- "It is a Syntax Error if PrototypePropertyNameList of ClassElementList contains more than one occurrence of "constructor"": the first pair alone
-abbrev pub duplicate_constructor : ℕ → List ℕ → ℕ → ℕ → ℕ → Raised
+abbrev pub duplicate_constructor : ℕ → List ℕ → ℕ → ℕ → ℕ → Option Finding
 duplicate_constructor source_type ns n a b =
-    Error (record {
+    Some (record {
       code = code.duplicate_constructor;
       node = record { 0 = n };
       start = (constructor_span source_type ns a).start;
@@ -91,16 +87,16 @@ duplicate_constructor source_type ns n a b =
       context = context.none;
     })
 
-abbrev pub first_pair : ℕ → List ℕ → ℕ → List ℕ → Raised
-first_pair source_type ns n [] = Clear
-first_pair source_type ns n (a ∷ []) = Clear
+abbrev pub first_pair : ℕ → List ℕ → ℕ → List ℕ → Option Finding
+first_pair source_type ns n [] = None
+first_pair source_type ns n (a ∷ []) = None
 first_pair source_type ns n (a ∷ b ∷ l) = duplicate_constructor source_type ns n a b
 
-abbrev pub second_by : ℕ → List ℕ → ℕ → Found → Raised
-second_by source_type ns n (At b) = first_pair source_type ns n (constructors ns b.0)
-second_by source_type ns n Nothing = Clear
+abbrev pub second_by : ℕ → List ℕ → ℕ → Option NodeId → Option Finding
+second_by source_type ns n (Some b) = first_pair source_type ns n (constructors ns b.0)
+second_by source_type ns n None = None
 
-abbrev pub second_constructor : ℕ → List ℕ → ℕ → Raised
+abbrev pub second_constructor : ℕ → List ℕ → ℕ → Option Finding
 second_constructor source_type ns n = second_by source_type ns n (class_body_of ns n)
 
 -- `check_class`

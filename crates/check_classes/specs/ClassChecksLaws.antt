@@ -1,5 +1,7 @@
 -- Laws of the checks at a Class: references and constructors as scans of the nodes after a ClassBody meet them.
-use Rattle.std.specs.Prelude.{ℕ, ◌+◌, ◌*◌, ◌≤◌, ◌<◌, ◌≡◌, Bool, cond, ◌&&◌, eqb, length}
+use Rattle.table_records.specs.declared.ClassId.{ClassId}
+use Rattle.table_records.specs.declared.NodeId.{NodeId}
+use Rattle.std.specs.Prelude.{ℕ, ◌+◌, ◌*◌, ◌≤◌, ◌<◌, ◌≡◌, Bool, cond, ◌&&◌, eqb, length, Option, Some, None}
 use Rattle.std.proofs.Math.Path.{refl, sym}
 use Rattle.std.proofs.Common.{ap, ◌∙◌, ne_eqb, eqb-true}
 use mathlib.Core.List.{List, [], ◌∷◌, ◌++◌, flat_map}
@@ -14,17 +16,11 @@ use Rattle.base_walk.proofs.PreorderLaws.{interval, leaves, no_child}
 use Rattle.table_records.specs.Table.{count, kind_of, parent_of}
 use Rattle.table_records.specs.Facts.{Tree}
 use Rattle.table_records.specs.Kinds as k
-use Rattle.table_records.specs.declared.Found.{Found}
-use Rattle.table_records.specs.declared.Found.TheVariants.{At, Nothing}
 use Rattle.table_children.specs.Children.{keep, children, first_node}
 use Rattle.table_children.proofs.ChildrenLaws.{keep_keep, no_node}
 use Rattle.check_diagnostics.specs.declared.Finding.{Finding}
-use Rattle.check_diagnostics.specs.declared.Raised.{Raised}
-use Rattle.check_diagnostics.specs.declared.Raised.TheVariants.{Clear}
 use Rattle.check_diagnostics.specs.Finding.{listed, sink}
 use Rattle.check_diagnostics.proofs.FindingLaws.{sink_append}
-use Rattle.check_class_table.specs.declared.Current.{Current}
-use Rattle.check_class_table.specs.declared.Current.TheVariants.{Class, Outside}
 use Rattle.check_class_table.specs.Classes.{class_at, body_above, current_class}
 use Rattle.check_class_table.proofs.ClassesLaws.{over, class_found}
 use Rattle.check_class_table.specs.Elements.{is_constructor, has_body}
@@ -36,8 +32,8 @@ unfoldable pub is_reference_of : List ℕ → ℕ → ℕ → Bool
 is_reference_of ns c m = is_reference ns m && is_class c (current_class ns m)
 
 -- what node m raises as a reference of class c
-unfoldable pub raised_at : ℕ → List ℕ → List ℕ → ℕ → ℕ → ℕ → Raised
-raised_at t ns names n c m = cond (is_reference_of ns c m) (undeclared_at t ns names n c m) Clear
+unfoldable pub raised_at : ℕ → List ℕ → List ℕ → ℕ → ℕ → ℕ → Option Finding
+raised_at t ns names n c m = cond (is_reference_of ns c m) (undeclared_at t ns names n c m) None
 
 unfoldable pub undeclared_from : ℕ → List ℕ → List ℕ → ℕ → ℕ → ℕ → List Finding
 undeclared_from t ns names n c i = flat_map (λ m. listed (raised_at t ns names n c m)) (upto i (count ns))
@@ -47,9 +43,9 @@ current_name : (ns : List ℕ) (m : ℕ) → kind_of ns m ≡ k.PrivateIdentifie
 unfolding current_class
 current_name ns m e = rw (e)
 
-is_class_lem : (c : ℕ) (r : Current) → is_class c r ≡ true → r ≡ Class (record { 0 = c })
-is_class_lem c (Class d) e = ap (λ (x : ℕ). Class (record { 0 = x })) (eqb-true d.0 c e)
-is_class_lem c Outside e = let z : ◌≡◌ {A = ℕ} 0 1 = cc in absurd (omega arith)
+is_class_lem : (c : ℕ) (r : Option ClassId) → is_class c r ≡ true → r ≡ Some (record { 0 = c })
+is_class_lem c (Some d) e = ap (λ (x : ℕ). Some (record { 0 = x })) (eqb-true d.0 c e)
+is_class_lem c None e = let z : ◌≡◌ {A = ℕ} 0 1 = cc in absurd (omega arith)
 
 -- a reference of class c is below its body
 reference_on : (ns : List ℕ) → Tree ns → (c m : ℕ) → m < count ns → is_reference_of ns c m ≡ true → on (parent_of ns) c m ≡ true
@@ -79,7 +75,7 @@ module _ (t : ℕ) (ns names : List ℕ) (n c : ℕ) where
   unfolding raised_at
   raised_none j e = go (is_reference_of ns c j) refl
     where
-      go : (b : Bool) → is_reference_of ns c j ≡ b → listed (cond b (undeclared_at t ns names n c j) Clear) ≡ []
+      go : (b : Bool) → is_reference_of ns c j ≡ b → listed (cond b (undeclared_at t ns names n c j) None) ≡ []
       go true x = absurd (e x)
       go false x = refl
 
@@ -95,7 +91,7 @@ unfoldable pub is_constructor_of : List ℕ → ℕ → ℕ → Bool
 is_constructor_of ns c e = eqb (parent_of ns e) c && (is_constructor ns e && has_body ns e)
 
 -- the first one from node i on
-abbrev pub next_constructor : List ℕ → ℕ → ℕ → Found
+abbrev pub next_constructor : List ℕ → ℕ → ℕ → Option NodeId
 next_constructor ns c i = first_node (is_constructor_of ns c) i (count ns)
 
 module _ (ns : List ℕ) (c : ℕ) where
@@ -107,18 +103,18 @@ module _ (ns : List ℕ) (c : ℕ) where
   unfolding is_constructor_of
   other j e = rw (ne_eqb (parent_of ns j) c e)
 
-  pub constructor_out : Tree ns → (i : ℕ) → c < i → i < count ns → parent_of ns i < c → next_constructor ns c i ≡ Nothing
+  pub constructor_out : Tree ns → (i : ℕ) → c < i → i < count ns → parent_of ns i < c → next_constructor ns c i ≡ None
   constructor_out t i h l u = no_node (is_constructor_of ns c) (count ns) i (λ j x y. other j (λ e. no_child (parent_of ns) (count ns) t.order c i j h u x y e))
 
 -- what the two searches say of the first pair
 module _ (t : ℕ) (ns : List ℕ) (c : ℕ) where
-  pub none_found : (n : ℕ) → next_constructor ns c (c + 1) ≡ Nothing → first_pair t ns n (constructors ns c) ≡ Clear
+  pub none_found : (n : ℕ) → next_constructor ns c (c + 1) ≡ None → first_pair t ns n (constructors ns c) ≡ None
   none_found n e = rw (constructors_scan ns c, kept_none (is_constructor_of ns c) (count ns) (c + 1) e)
 
-  pub one_found : (n a : ℕ) → next_constructor ns c (c + 1) ≡ At (record { 0 = a }) → next_constructor ns c (a + 1) ≡ Nothing → first_pair t ns n (constructors ns c) ≡ Clear
+  pub one_found : (n a : ℕ) → next_constructor ns c (c + 1) ≡ Some (record { 0 = a }) → next_constructor ns c (a + 1) ≡ None → first_pair t ns n (constructors ns c) ≡ None
   one_found n a e f = rw (constructors_scan ns c, kept_first_lem (is_constructor_of ns c) (count ns) (c + 1) a e, kept_none (is_constructor_of ns c) (count ns) (a + 1) f)
 
-  pub two_found : (n a b : ℕ) → next_constructor ns c (c + 1) ≡ At (record { 0 = a }) → next_constructor ns c (a + 1) ≡ At (record { 0 = b })
+  pub two_found : (n a b : ℕ) → next_constructor ns c (c + 1) ≡ Some (record { 0 = a }) → next_constructor ns c (a + 1) ≡ Some (record { 0 = b })
       → first_pair t ns n (constructors ns c) ≡ first_pair t ns n (a ∷ b ∷ [])
   two_found n a b e f = rw (constructors_scan ns c, kept_first_lem (is_constructor_of ns c) (count ns) (c + 1) a e, kept_first_lem (is_constructor_of ns c) (count ns) (a + 1) b f)
 

@@ -9,18 +9,17 @@ ghost use Rattle.check_diagnostics.specs.Finding.{sink};
 ghost use Rattle.check_classes.specs.ClassChecks.{private_outside, is_reference, undeclared_at, undeclared_in, private_undeclared, has_id, require_class_name, constructor_span, duplicate_constructor, second_constructor, check_class};
 ghost use Rattle.check_classes.specs.ClassChecksLaws.{is_reference_of, raised_at, is_constructor_of, next_constructor};
 
-use base_common::within;
-use check_class_table::{Current, Span};
-use check_diagnostics::{Finding, Raised, codes, contexts};
-use table_records::{ClassId, ElementId, Found, NodeId, kinds, node_flag};
+use check_class_table::Span;
+use check_diagnostics::{Finding, codes, contexts};
+use table_records::{ClassId, ElementId, NodeId, kinds, node_flag, roles};
 
-pub fn check_private_identifier_outside_class(nodes: &[u32], n: NodeId) -> Raised
+pub fn check_private_identifier_outside_class(nodes: &[u32], n: NodeId) -> Option<Finding>
     requires tree { Tree nodes.now }
     requires n_bound { n.0 < count nodes.now }
     ensures { result ≡ private_outside nodes.now n.0 }
 {
-    let Current::Outside = check_class_table::current_class(nodes, n) else {
-        return Raised::Clear;
+    let None = check_class_table::current_class(nodes, n) else {
+        return None;
     };
     check_diagnostics::error_at(nodes, codes::PRIVATE_NOT_IN_CLASS, n, n, contexts::NONE)
 }
@@ -31,33 +30,31 @@ fn is_reference(nodes: &[u32], m: NodeId) -> bool
     requires m_bound { m.0 < count nodes.now }
     ensures { result ≡ is_reference nodes.now m.0 }
 {
-    let k = table_records::kind(nodes, m);
-    if k == kinds::PRIVATE_IDENTIFIER {
-        return within(
+    table_records::kind(nodes, m) == kinds::PRIVATE_IDENTIFIER
+        && matches!(
             table_ancestry::parent_kind(nodes, m),
-            kinds::OTHER_MEMBER,
-            kinds::PRIVATE_IN,
-        );
-    }
-    false
+            kinds::OTHER_MEMBER..=kinds::PRIVATE_IN
+        )
 }
 
 // Whether a node is a private reference of class c.
+#[tactic(auto, unfolding(crate::specs::ClassChecksLaws::is_reference_of))]
 fn is_reference_of(nodes: &[u32], c: ClassId, m: NodeId) -> bool
     requires tree { Tree nodes.now }
     requires m_bound { m.0 < count nodes.now }
     ensures { result ≡ is_reference_of nodes.now c.0 m.0 }
 {
     if is_reference(nodes, m) {
-        let Current::Class(d) = check_class_table::current_class(nodes, m) else {
+        let Some(d) = check_class_table::current_class(nodes, m) else {
             return false;
         };
-        return d.0 == c.0;
+        return d == c;
     }
     false
 }
 
 // What a private reference of class c raises at node n.
+#[tactic(auto, unfolding(crate::specs::ClassChecks::undeclared_at))]
 fn undeclared_at(
     source_type: u32,
     nodes: &[u32],
@@ -65,7 +62,7 @@ fn undeclared_at(
     n: NodeId,
     c: ClassId,
     m: NodeId,
-) -> Raised
+) -> Option<Finding>
     requires tree { Tree nodes.now }
     requires named { Named nodes.now names.now }
     requires c_bound { c.0 < count nodes.now }
@@ -79,12 +76,13 @@ fn undeclared_at(
         c,
         table_names::name(nodes, names, m),
     ) {
-        return Raised::Clear;
+        return None;
     }
     check_diagnostics::error_at(nodes, codes::PRIVATE_FIELD_UNDECLARED, n, m, contexts::NONE)
 }
 
 // What a node raises as a private reference of class c.
+#[tactic(auto, unfolding(crate::specs::ClassChecksLaws::raised_at))]
 fn raised_at(
     source_type: u32,
     nodes: &[u32],
@@ -92,7 +90,7 @@ fn raised_at(
     n: NodeId,
     c: ClassId,
     m: NodeId,
-) -> Raised
+) -> Option<Finding>
     requires tree { Tree nodes.now }
     requires named { Named nodes.now names.now }
     requires c_bound { c.0 < count nodes.now }
@@ -102,7 +100,7 @@ fn raised_at(
     if is_reference_of(nodes, c, m) {
         return undeclared_at(source_type, nodes, names, n, c, m);
     }
-    Raised::Clear
+    None
 }
 
 // What the private references of class c raise at node n.
@@ -124,10 +122,8 @@ fn undeclared_in(
     ensures upper_bound { result ≤ at + 458745 }
 {
     let mut w = at;
-    let mut i = c.0 + 1;
-    while table_records::is_node(nodes, i) {
-        let p = table_records::parent(nodes, NodeId(i));
-        if p.0 < c.0 {
+    for i in c.0 + 1..table_records::size(nodes) {
+        if table_records::parent(nodes, NodeId(i)).0 < c.0 {
             return w;
         }
         w = check_diagnostics::raise(
@@ -135,7 +131,6 @@ fn undeclared_in(
             w,
             raised_at(source_type, nodes, names, n, c, NodeId(i)),
         );
-        i += 1;
     }
     w
 }
@@ -157,7 +152,7 @@ fn check_private_identifier(
     ensures findings_after { findings.new ≡ sink findings.old at (private_undeclared source_type nodes.now names.now n.0) }
     ensures upper_bound { result ≤ at + 458745 }
 {
-    let Current::Class(c) = check_class_table::current_class(nodes, n) else {
+    let Some(c) = check_class_table::current_class(nodes, n) else {
         return at;
     };
     undeclared_in(source_type, nodes, names, n, c, findings, at)
@@ -168,34 +163,33 @@ fn has_id(nodes: &[u32], n: NodeId) -> bool
     requires n_bound { n.0 < count nodes.now }
     ensures { result ≡ has_id nodes.now n.0 }
 {
-    let Found::At(_) = table_children::first_child(
+    let id = table_children::first_child(
         nodes,
         n,
         kinds::BINDING_IDENTIFIER,
         kinds::BINDING_IDENTIFIER,
-        0,
-        7,
-    ) else {
-        return false;
-    };
-    true
+        roles::OTHER,
+        roles::LEFT,
+    );
+    id.is_some()
 }
 
 // A class declaration needs an id, but for that of an `export default`.
-fn require_class_name(nodes: &[u32], n: NodeId) -> Raised
+#[tactic(auto, unfolding(crate::specs::ClassChecks::require_class_name))]
+fn require_class_name(nodes: &[u32], n: NodeId) -> Option<Finding>
     requires tree { Tree nodes.now }
     requires n_bound { n.0 < count nodes.now }
     requires n_bound_2 { span_start_of nodes.now n.0 ≤ 1048576 }
     ensures { result ≡ require_class_name nodes.now n.0 }
 {
-    if table_records::has_flag(table_records::flags(nodes, n), node_flag::DECLARATION) {
-        if has_id(nodes, n) {
-            return Raised::Clear;
-        }
-        let k = table_ancestry::parent_kind(nodes, n);
-        if k == kinds::EXPORT_DEFAULT {
-            return Raised::Clear;
-        }
+    let is_declaration = table_records::has_flag(
+        table_records::flags(nodes, n),
+        node_flag::DECLARATION,
+    );
+    if is_declaration
+        && !has_id(nodes, n)
+        && table_ancestry::parent_kind(nodes, n) != kinds::EXPORT_DEFAULT
+    {
         let start = table_records::span_start(nodes, n);
         return check_diagnostics::error(
             codes::REQUIRE_CLASS_NAME,
@@ -205,48 +199,42 @@ fn require_class_name(nodes: &[u32], n: NodeId) -> Raised
             contexts::NONE,
         );
     }
-    Raised::Clear
+    None
 }
 
 // Whether a node is a constructor of class c with a body.
+#[tactic(auto, unfolding(crate::specs::ClassChecksLaws::is_constructor_of))]
 fn is_constructor_of(nodes: &[u32], c: ClassId, e: ElementId) -> bool
     requires tree { Tree nodes.now }
     requires e_bound { e.0 < count nodes.now }
     ensures { result ≡ is_constructor_of nodes.now c.0 e.0 }
 {
-    let p = table_records::parent(nodes, NodeId(e.0));
-    if p.0 == c.0 {
-        if check_class_table::is_constructor(nodes, e) {
-            return check_class_table::has_body(nodes, e);
-        }
-        return false;
-    }
-    false
+    table_records::parent(nodes, NodeId(e.0)).0 == c.0
+        && check_class_table::is_constructor(nodes, e)
+        && check_class_table::has_body(nodes, e)
 }
 
 // The first constructor of class c with a body from node `from` on.
-fn next_constructor(nodes: &[u32], c: ClassId, from: u32) -> Found
+fn next_constructor(nodes: &[u32], c: ClassId, from: u32) -> Option<NodeId>
     requires tree { Tree nodes.now }
     requires c_lt_from { c.0 < from }
     requires from_bound { from ≤ count nodes.now }
     ensures value { result ≡ next_constructor nodes.now c.0 from }
     ensures below { below nodes.now result }
 {
-    let mut i = from;
-    while table_records::is_node(nodes, i) {
-        let p = table_records::parent(nodes, NodeId(i));
-        if p.0 < c.0 {
-            return Found::Nothing;
+    for i in from..table_records::size(nodes) {
+        if table_records::parent(nodes, NodeId(i)).0 < c.0 {
+            return None;
         }
         if is_constructor_of(nodes, c, ElementId(i)) {
-            return Found::At(NodeId(i));
+            return Some(NodeId(i));
         }
-        i += 1;
     }
-    Found::Nothing
+    None
 }
 
 // The span of a constructor: that of its key if its name is fixed.
+#[tactic(auto, unfolding(crate::specs::ClassChecks::constructor_span))]
 fn constructor_span(source_type: u32, nodes: &[u32], e: ElementId) -> Span
     requires tree { Tree nodes.now }
     requires e_bound { e.0 < count nodes.now }
@@ -255,7 +243,7 @@ fn constructor_span(source_type: u32, nodes: &[u32], e: ElementId) -> Span
     if check_class_table::has_fixed_name(source_type, nodes, e) {
         return check_class_table::element_span(nodes, e);
     }
-    check_class_table::span_at(nodes, Found::At(NodeId(e.0)))
+    check_class_table::span_at(nodes, Some(NodeId(e.0)))
 }
 
 // The finding that constructor b repeats a.
@@ -265,7 +253,7 @@ fn duplicate_constructor(
     n: NodeId,
     a: ElementId,
     b: ElementId,
-) -> Raised
+) -> Option<Finding>
     requires tree { Tree nodes.now }
     requires a_bound { a.0 < count nodes.now }
     requires b_bound { b.0 < count nodes.now }
@@ -273,7 +261,7 @@ fn duplicate_constructor(
 {
     let first = constructor_span(source_type, nodes, a);
     let second = constructor_span(source_type, nodes, b);
-    Raised::Error(Finding {
+    Some(Finding {
         code: codes::DUPLICATE_CONSTRUCTOR,
         node: n,
         start: first.start,
@@ -287,21 +275,15 @@ fn duplicate_constructor(
 // The first two constructors of a class.
 // > ClassBody : ClassElementList
 // > It is a Syntax Error if PrototypePropertyNameList of ClassElementList contains more than one occurrence of "constructor".
-fn second_constructor(source_type: u32, nodes: &[u32], n: NodeId) -> Raised
+fn second_constructor(source_type: u32, nodes: &[u32], n: NodeId) -> Option<Finding>
     requires tree { Tree nodes.now }
     requires n_bound { n.0 < count nodes.now }
     ensures { result ≡ second_constructor source_type nodes.now n.0 }
 {
-    let Found::At(body) = table_children::class_body_of(nodes, n) else {
-        return Raised::Clear;
-    };
+    let body = table_children::class_body_of(nodes, n)?;
     let c = ClassId(body.0);
-    let Found::At(a) = next_constructor(nodes, c, body.0 + 1) else {
-        return Raised::Clear;
-    };
-    let Found::At(b) = next_constructor(nodes, c, a.0 + 1) else {
-        return Raised::Clear;
-    };
+    let a = next_constructor(nodes, c, body.0 + 1)?;
+    let b = next_constructor(nodes, c, a.0 + 1)?;
     duplicate_constructor(source_type, nodes, n, ElementId(a.0), ElementId(b.0))
 }
 

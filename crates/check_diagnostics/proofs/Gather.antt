@@ -3,18 +3,16 @@ use Prim.Native.Nat.{ℕ, zero, suc, ◌+◌, ◌*◌, ◌≤◌, ◌<◌}
 use Rattle.std.proofs.Math.Path.{◌≡◌, refl, ap, sym}
 use Rattle.std.proofs.Common.{◌∙◌, arith, length-append}
 use mathlib.Core.List.{List, [], ◌∷◌, ◌++◌, flat_map}
-use Rattle.std.specs.Prelude.{Bool, length}
+use Rattle.table_records.specs.declared.NodeId.{NodeId}
+use Rattle.std.specs.Prelude.{Bool, length, Some, None, Option}
 use Rattle.std.proofs.Math.Bool.{true, false, cond}
 use Rattle.std.proofs.Math.Logic.{⊎_elim}
 use Rattle.base_common.specs.Upto.{upto}
 use Rattle.base_common.proofs.UptoLaws.{upto_nil, upto_cons}
 use Rattle.base_walk.proofs.PreorderLaws.{lt_or_ge}
-use Rattle.table_records.specs.declared.Found.TheVariants.{At, Nothing}
 use Rattle.table_children.specs.Children.{keep, first_node}
 use Rattle.table_children.proofs.ChildrenLaws.{node_on, node_stop, node_end, number}
 use Rattle.check_diagnostics.specs.declared.Finding.{Finding}
-use Rattle.check_diagnostics.specs.declared.Raised.{Raised}
-use Rattle.check_diagnostics.specs.declared.Raised.TheVariants.{Error, Clear}
 use Rattle.check_diagnostics.specs.Finding.{listed, sink}
 use Rattle.check_diagnostics.proofs.FindingLaws.{sink_append}
 
@@ -54,11 +52,11 @@ flat_same_lem f g h [] = refl
 flat_same_lem f g h (k ∷ l) = rw (h k, flat_same_lem f g h l)
 
 -- a check raises at most one finding, and none where it is not made
-pub listed_one : (r : Raised) → length (listed r) ≤ 1
-listed_one (Error f) = omega arith
-listed_one Clear = omega arith
+pub listed_one : (r : Option Finding) → length (listed r) ≤ 1
+listed_one (Some f) = omega arith
+listed_one None = omega arith
 
-pub listed_cond : (b : Bool) (r : Raised) → listed (cond b r Clear) ≡ cond b (listed r) []
+pub listed_cond : (b : Bool) (r : Option Finding) → listed (cond b r None) ≡ cond b (listed r) []
 listed_cond true r = refl
 listed_cond false r = refl
 
@@ -72,24 +70,24 @@ module _ (s s' : List ℕ) (w w' : ℕ) (all piece rest : List Finding) (e : all
 
 -- what is kept of the nodes from i up to n begins with the first that passes
 module _ (q : ℕ → Bool) (n : ℕ) where
-  kept_by_lem : (g i a : ℕ) → n ≤ i + g → first_node q i n ≡ At (record { 0 = a }) → keep q (upto i n) ≡ a ∷ keep q (upto (a + 1) n)
+  kept_by_lem : (g i a : ℕ) → n ≤ i + g → first_node q i n ≡ Some (record { 0 = a }) → keep q (upto i n) ≡ a ∷ keep q (upto (a + 1) n)
   unfolding keep
-  kept_by_lem zero i a hg e = let s : At (record { 0 = a }) ≡ Nothing = sym e ∙ node_end q i n (omega arith) in let z : ◌≡◌ {A = ℕ} 0 1 = cc in absurd (omega arith)
+  kept_by_lem zero i a hg e = let s : ◌≡◌ {A = Option NodeId} (Some (record { 0 = a })) None = sym e ∙ node_end q i n (omega arith) in let z : ◌≡◌ {A = ℕ} 0 1 = cc in absurd (omega arith)
   kept_by_lem (suc g) i a hg e =
       ⊎_elim (λ (h : i < n). go h (q i) refl (λ x. kept_by_lem g (i + 1) a (omega arith) (sym (node_on q i n h x) ∙ e)))
-      (λ (h : n ≤ i). let s : At (record { 0 = a }) ≡ Nothing = sym e ∙ node_end q i n h in let z : ◌≡◌ {A = ℕ} 0 1 = cc in absurd (omega arith)) (lt_or_ge i n)
+      (λ (h : n ≤ i). let s : ◌≡◌ {A = Option NodeId} (Some (record { 0 = a })) None = sym e ∙ node_end q i n h in let z : ◌≡◌ {A = ℕ} 0 1 = cc in absurd (omega arith)) (lt_or_ge i n)
     where
       go : i < n → (b : Bool) → q i ≡ b → (q i ≡ false → keep q (upto (i + 1) n) ≡ a ∷ keep q (upto (a + 1) n)) → keep q (upto i n) ≡ a ∷ keep q (upto (a + 1) n)
       go h true x r =
-          let s : At (record { 0 = i }) ≡ At (record { 0 = a }) = sym (node_stop q i n h x) ∙ e in
+          let s : ◌≡◌ {A = Option NodeId} (Some (record { 0 = i })) (Some (record { 0 = a })) = sym (node_stop q i n h x) ∙ e in
           let u : i ≡ a = ap number s in
           rw (upto_cons i n h, x, u)
       go h false x r = rw (upto_cons i n h, x) (r x)
 
-  pub kept_first_lem : (i a : ℕ) → first_node q i n ≡ At (record { 0 = a }) → keep q (upto i n) ≡ a ∷ keep q (upto (a + 1) n)
+  pub kept_first_lem : (i a : ℕ) → first_node q i n ≡ Some (record { 0 = a }) → keep q (upto i n) ≡ a ∷ keep q (upto (a + 1) n)
   kept_first_lem i a e = kept_by_lem n i a (omega arith) e
 
-  kept_none_by : (g i : ℕ) → n ≤ i + g → first_node q i n ≡ Nothing → keep q (upto i n) ≡ []
+  kept_none_by : (g i : ℕ) → n ≤ i + g → first_node q i n ≡ None → keep q (upto i n) ≡ []
   unfolding keep
   kept_none_by zero i hg e = rw (upto_nil i n (omega arith))
   kept_none_by (suc g) i hg e =
@@ -97,25 +95,25 @@ module _ (q : ℕ → Bool) (n : ℕ) where
       (λ (h : n ≤ i). rw (upto_nil i n h)) (lt_or_ge i n)
     where
       go : i < n → (b : Bool) → q i ≡ b → (q i ≡ false → keep q (upto (i + 1) n) ≡ []) → keep q (upto i n) ≡ []
-      go h true x r = let s : At (record { 0 = i }) ≡ Nothing = sym (node_stop q i n h x) ∙ e in let z : ◌≡◌ {A = ℕ} 0 1 = cc in absurd (omega arith)
+      go h true x r = let s : ◌≡◌ {A = Option NodeId} (Some (record { 0 = i })) None = sym (node_stop q i n h x) ∙ e in let z : ◌≡◌ {A = ℕ} 0 1 = cc in absurd (omega arith)
       go h false x r = rw (upto_cons i n h, x) (r x)
 
-  pub kept_none : (i : ℕ) → first_node q i n ≡ Nothing → keep q (upto i n) ≡ []
+  pub kept_none : (i : ℕ) → first_node q i n ≡ None → keep q (upto i n) ≡ []
   kept_none i e = kept_none_by n i (omega arith) e
 
-  from_by : (g i a : ℕ) → n ≤ i + g → first_node q i n ≡ At (record { 0 = a }) → i ≤ a
-  from_by zero i a hg e = let s : At (record { 0 = a }) ≡ Nothing = sym e ∙ node_end q i n (omega arith) in let z : ◌≡◌ {A = ℕ} 0 1 = cc in absurd (omega arith)
+  from_by : (g i a : ℕ) → n ≤ i + g → first_node q i n ≡ Some (record { 0 = a }) → i ≤ a
+  from_by zero i a hg e = let s : ◌≡◌ {A = Option NodeId} (Some (record { 0 = a })) None = sym e ∙ node_end q i n (omega arith) in let z : ◌≡◌ {A = ℕ} 0 1 = cc in absurd (omega arith)
   from_by (suc g) i a hg e =
       ⊎_elim (λ (h : i < n). go h (q i) refl (λ x. from_by g (i + 1) a (omega arith) (sym (node_on q i n h x) ∙ e)))
-      (λ (h : n ≤ i). let s : At (record { 0 = a }) ≡ Nothing = sym e ∙ node_end q i n h in let z : ◌≡◌ {A = ℕ} 0 1 = cc in absurd (omega arith)) (lt_or_ge i n)
+      (λ (h : n ≤ i). let s : ◌≡◌ {A = Option NodeId} (Some (record { 0 = a })) None = sym e ∙ node_end q i n h in let z : ◌≡◌ {A = ℕ} 0 1 = cc in absurd (omega arith)) (lt_or_ge i n)
     where
       go : i < n → (b : Bool) → q i ≡ b → (q i ≡ false → i + 1 ≤ a) → i ≤ a
       go h true x r =
-          let s : At (record { 0 = i }) ≡ At (record { 0 = a }) = sym (node_stop q i n h x) ∙ e in
+          let s : ◌≡◌ {A = Option NodeId} (Some (record { 0 = i })) (Some (record { 0 = a })) = sym (node_stop q i n h x) ∙ e in
           let u : i ≡ a = ap number s in
           omega arith
       go h false x r = let l = r x in omega arith
 
   -- what is found is not before where the search begins
-  pub found_from : (i a : ℕ) → first_node q i n ≡ At (record { 0 = a }) → i ≤ a
+  pub found_from : (i a : ℕ) → first_node q i n ≡ Some (record { 0 = a }) → i ≤ a
   found_from i a e = from_by n i a (omega arith) e

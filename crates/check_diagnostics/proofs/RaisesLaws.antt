@@ -1,9 +1,9 @@
 -- Laws of raising: nothing, one list after the other, and how many a check raises.
-use Rattle.std.specs.Prelude.{ℕ, ◌≤◌, List, [], ◌++◌, length}
-use Rattle.std.proofs.Common.{sym, ◌∙◌, arith, length-append}
+use Rattle.std.specs.Prelude.{ℕ, ◌+◌, ◌<◌, ◌≤◌, List, [], ◌∷◌, ◌++◌, ◌≡◌, length, take, get_or, Option, Some, None}
+use Rattle.std.proofs.Common.{sym, ◌∙◌, append-nil, arith, length-append}
+use Rattle.std.proofs.lemmas.List.{flat_map_more, take_more}
+use mathlib.Core.List.{flat_map}
 use Rattle.check_diagnostics.specs.declared.Finding.{Finding}
-use Rattle.check_diagnostics.specs.declared.Raised.{Raised}
-use Rattle.check_diagnostics.specs.declared.Raised.TheVariants.{Error, Clear}
 use Rattle.check_diagnostics.specs.Finding.{listed}
 use Rattle.check_diagnostics.proofs.FindingLaws.{sink_append, sink_nil}
 use Rattle.check_diagnostics.specs.Raises.{Raises}
@@ -23,6 +23,23 @@ raises_then s s' s'' at w v l m a b =
     }
 
 -- a check raises one finding at the most
-pub listed_small : (r : Raised) → length (listed r) ≤ 1
-listed_small (Error f) = omega arith
-listed_small Clear = omega arith
+pub listed_small : (r : Option Finding) → length (listed r) ≤ 1
+listed_small (Some f) = omega arith
+listed_small None = omega arith
+
+-- a loop over the results of checks raises one more
+pub raises_more : (s s' s'' : List ℕ) (at w v : ℕ) (rs : List (Option Finding)) (i : ℕ) (d : Option Finding) → i < length rs
+    → Raises s s' at w (flat_map listed (take i rs)) → Raises s' s'' w v (listed (get_or rs i d)) → Raises s s'' at v (flat_map listed (take (i + 1) rs))
+unfolding flat_map
+raises_more s s' s'' at w v rs i d h a b =
+    rw (take_more rs i d h, ← flat_map_more listed [] (take i rs) (get_or rs i d))
+    (raises_then s s' s'' at w v (flat_map listed (take i rs)) (listed (get_or rs i d)) a b)
+
+-- the findings of two results, and of three
+pub of_two : (a b : Option Finding) → flat_map listed (a ∷ b ∷ []) ≡ listed a ++ listed b
+unfolding flat_map
+of_two a b = rw append-nil
+
+pub of_three : (a b c : Option Finding) → flat_map listed (a ∷ b ∷ c ∷ []) ≡ listed a ++ (listed b ++ listed c)
+unfolding flat_map
+of_three a b c = rw append-nil

@@ -1,4 +1,5 @@
-// The codes of findings, numbered as document 01 does, under the names of diagnostics.rs.
+// The codes of findings, numbered as document 01 does, under the names of diagnostics.rs. Numbers and no enum: a finding is seven numbers in a slice that a
+// C caller lends, and nothing here asks for a finding's code again.
 // redeclaration
 pub const REDECLARATION: u32 = 1;
 // reserved word

@@ -1,4 +1,4 @@
-// The contexts of findings.
+// The contexts of findings: numbers of the lent slice, as the codes are.
 // no context
 pub const NONE: u32 = 0;
 // strict

@@ -1,7 +1,8 @@
 // A finding, and a slice that takes the findings of several checks, one after the other.
 #![tactic(auto)]
 
-ghost use Rattle.std.specs.Prelude.{◌≡◌, ◌+◌, ◌*◌, ◌<◌, ◌≤◌, length, ◌++◌};
+ghost use Rattle.std.specs.Prelude.{◌≡◌, ◌+◌, ◌*◌, ◌<◌, ◌≤◌, length};
+ghost use mathlib.Core.List.{flat_map};
 ghost use Rattle.base_common.specs.Wrote.{put};
 ghost use Rattle.table_records.specs.Table.{count, span_start_of, span_end_of};
 ghost use Rattle.check_diagnostics.specs.Finding.{numbers, listed, error_at, error_between, sink};
@@ -24,30 +25,23 @@ pub struct Finding {
     pub context: u32,
 }
 
-// What a check that raises at most one finding gives.
-#[derive(Clone, Copy)]
-pub enum Raised {
-    Error(Finding),
-    Clear,
-}
-
 // A finding with one span.
-pub fn error(code: u32, node: NodeId, start: u32, end: u32, context: u32) -> Raised
-    ensures { result ≡ Raised.Error (record { code = code; node = node; start = start; end = end; start2 = 0; end2 = 0; context = context }) }
+pub fn error(code: u32, node: NodeId, start: u32, end: u32, context: u32) -> Option<Finding>
+    ensures { result ≡ Some (record { code = code; node = node; start = start; end = end; start2 = 0; end2 = 0; context = context }) }
 {
-    Raised::Error(Finding {
-        code: code,
-        node: node,
-        start: start,
-        end: end,
+    Some(Finding {
+        code,
+        node,
+        start,
+        end,
         start2: 0,
         end2: 0,
-        context: context,
+        context,
     })
 }
 
 // A finding at the span of a node.
-pub fn error_at(nodes: &[u32], code: u32, node: NodeId, at: NodeId, context: u32) -> Raised
+pub fn error_at(nodes: &[u32], code: u32, node: NodeId, at: NodeId, context: u32) -> Option<Finding>
     requires { at.0 < count nodes.now }
     ensures { result ≡ error_at nodes.now code node.0 at.0 context }
 {
@@ -63,7 +57,7 @@ pub fn error_between(
     node: NodeId,
     first: NodeId,
     second: NodeId,
-) -> Raised
+) -> Option<Finding>
     requires first_bound { first.0 < count nodes.now }
     requires second_bound { second.0 < count nodes.now }
     ensures { result ≡ error_between nodes.now code node.0 first.0 second.0 }
@@ -72,14 +66,14 @@ pub fn error_between(
     let end = table_records::span_end(nodes, first);
     let start2 = table_records::span_start(nodes, second);
     let end2 = table_records::span_end(nodes, second);
-    Raised::Error(Finding {
-        code: code,
-        node: node,
-        start: start,
-        end: end,
-        start2: start2,
-        end2: end2,
-        context: 0,
+    Some(Finding {
+        code,
+        node,
+        start,
+        end,
+        start2,
+        end2,
+        context: contexts::NONE,
     })
 }
 
@@ -88,25 +82,22 @@ fn put(findings: &mut [u32], at: usize, f: Finding)
     requires { at + 7 ≤ length findings.old }
     ensures { findings.new ≡ put findings.old at (numbers f) }
 {
-    let node = f.node.0;
-    findings[at] = f.code;
-    findings[at + 1] = node;
-    findings[at + 2] = f.start;
-    findings[at + 3] = f.end;
-    findings[at + 4] = f.start2;
-    findings[at + 5] = f.end2;
-    findings[at + 6] = f.context;
+    let numbers = [
+        f.code, f.node.0, f.start, f.end, f.start2, f.end2, f.context,
+    ];
+    findings[at..at + 7].copy_from_slice(&numbers);
 }
 
 // Writes what was raised from `at` on, where there is room for it, and says where the next finding goes. Places stay below 900,000,000,000:
 // a tree has at most 65,535 nodes, and a check raises at most one finding for each node, 7 × 65,535 = 458,745 numbers. The bounds of
 // those over this function leave it their own findings' room, so that no sum wraps.
-pub fn raise(findings: &mut [u32], at: usize, r: Raised) -> usize
+pub fn raise(findings: &mut [u32], at: usize, r: Option<Finding>) -> usize
     requires { at ≤ 1000000000000 }
     ensures value { result ≡ at + 7 * length (listed r) }
     ensures findings_after { findings.new ≡ sink findings.old at (listed r) }
+    ensures upper_bound { result ≤ at + 7 }
 {
-    let Raised::Error(f) = r else {
+    let Some(f) = r else {
         return at;
     };
     let next = at + 7;
@@ -117,29 +108,15 @@ pub fn raise(findings: &mut [u32], at: usize, r: Raised) -> usize
     next
 }
 
-// Raises one, two or three results of checks, in their order.
-pub fn raise_one(findings: &mut [u32], at: usize, a: Raised) -> usize
-    requires { at ≤ 950000000000 }
-    ensures raises { Raises findings.old findings.new at result (listed a) }
-    ensures upper_bound { result ≤ at + 7 }
+// Raises the results of some checks, in their order.
+pub fn raise_all(findings: &mut [u32], at: usize, results: &[Option<Finding>]) -> usize
+    requires { at + 7 * length results.now ≤ 1000000000000 }
+    ensures raises { Raises findings.old findings.new at result (flat_map listed results.now) }
+    ensures upper_bound { result ≤ at + 7 * length results.now }
 {
-    raise(findings, at, a)
-}
-
-pub fn raise_two(findings: &mut [u32], at: usize, a: Raised, b: Raised) -> usize
-    requires { at ≤ 950000000000 }
-    ensures raises { Raises findings.old findings.new at result (listed a ++ listed b) }
-    ensures upper_bound { result ≤ at + 14 }
-{
-    let next = raise(findings, at, a);
-    raise(findings, next, b)
-}
-
-pub fn raise_three(findings: &mut [u32], at: usize, a: Raised, b: Raised, c: Raised) -> usize
-    requires { at ≤ 900000000000 }
-    ensures raises { Raises findings.old findings.new at result (listed a ++ (listed b ++ listed c)) }
-    ensures upper_bound { result ≤ at + 21 }
-{
-    let next = raise(findings, at, a);
-    raise_two(findings, next, b, c)
+    let mut next = at;
+    for r in results {
+        next = raise(findings, next, *r);
+    }
+    next
 }

@@ -1,5 +1,7 @@
 -- "FOR TYPES 0 AND 1 FINDINGS ARE WHAT THEY WERE" (document 02, request 13): of all tables, to the last number.
-use Rattle.std.specs.Prelude.{ℕ, ◌-◌, ◌≤◌, ◌≡◌, Bool, not, ◌&&◌, ◌||◌, ltb}
+use Rattle.table_records.specs.declared.ClassId.{ClassId}
+use Rattle.table_records.specs.declared.NodeId.{NodeId}
+use Rattle.std.specs.Prelude.{ℕ, ◌-◌, ◌≤◌, ◌≡◌, Bool, not, ◌&&◌, ◌||◌, ltb, Option, Some, None}
 use Rattle.std.proofs.Math.Path.{refl, ap, sym}
 use Rattle.std.proofs.Common.{◌∙◌, eqb-true}
 use mathlib.Core.List.{List, [], ◌∷◌, ◌++◌, foldl, flat_map}
@@ -9,22 +11,18 @@ use Rattle.base_common.specs.Upto.{upto, any}
 use Rattle.table_source.proofs.SourceTypeLaws.{no_typescript}
 use Rattle.table_records.specs.Table.{kind_of, extra_of, count}
 use Rattle.table_records.specs.Kinds as k
-use Rattle.table_records.specs.declared.Found.{Found}
-use Rattle.table_records.specs.declared.Found.TheVariants.{At, Nothing}
 use Rattle.table_names.specs.Name.{same, name_of}
 use Rattle.table_children.specs.Children.{keep, children, class_body_of}
 use Rattle.check_diagnostics.specs.declared.Finding.{Finding}
 use Rattle.check_diagnostics.specs.Finding.{listed}
 use Rattle.check_diagnostics.proofs.Gather.{flat_keep, flat_same_lem}
 use Rattle.check_statements.specs.Statements.{check_with_statement}
-use Rattle.check_class_table.specs.declared.Current.{Current}
-use Rattle.check_class_table.specs.declared.Current.TheVariants.{Class, Outside}
 use Rattle.check_class_table.specs.Classes.{current_class, outer_classes, classes_of}
 use Rattle.check_class_table.specs.Elements.{element_name, is_static, is_private, is_getter, is_setter, is_definition, fixed_name, enters, elements, privates, is_compared, compared, has_private, is_declared}
 use Rattle.check_class_table.proofs.ElementsLaws.{keep_same, any_same}
 use Rattle.check_classes.specs.ClassChecks.{references, constructors, undeclared_at, undeclared_in, undeclared_by, private_undeclared, constructor_span, first_pair, second_by, check_class}
 use Rattle.check_duplicates.specs.declared.Place.{Place}
-use Rattle.check_duplicates.specs.Duplicates.{nowhere, here, step, last_of, side_of, is_earlier, previous_on, previous_of, is_pair, clashes, clash_code, redeclaration, duplicate_by, duplicate_at, duplicates_in, duplicate_elements}
+use Rattle.check_duplicates.specs.Duplicates.{nowhere, here, number, step, last_of, side_of, is_earlier, previous_on, previous_of, is_pair, clashes, clash_code, redeclaration, duplicate_by, duplicate_at, duplicates_in, duplicate_elements}
 use Rattle.check_duplicates.proofs.DuplicatesLaws.{last_keep}
 use Rattle.check_dispatch.specs.Findings.{findings_at, findings_of}
 use Rattle.check_dispatch.specs.Former as former
@@ -98,9 +96,9 @@ module _ (t : ℕ) (s : t ≤ 1) (ns : List ℕ) where
   same_pair n (a ∷ []) = refl
   same_pair n (a ∷ b ∷ l) = rw (same_span a, same_span b)
 
-  same_second : (n : ℕ) (f : Found) → second_by t ns n f ≡ former.second_by ns n f
-  same_second n (At b) = same_pair n (constructors ns b.0)
-  same_second n Nothing = refl
+  same_second : (n : ℕ) (f : Option NodeId) → second_by t ns n f ≡ former.second_by ns n f
+  same_second n (Some b) = same_pair n (constructors ns b.0)
+  same_second n None = refl
 
   pub same_with : (ss : List ℕ) (n : ℕ) → check_with_statement t ns ss n ≡ former.check_with_statement ns ss n
   unfolding check_with_statement former.check_with_statement
@@ -119,10 +117,10 @@ module _ (t : ℕ) (s : t ≤ 1) (ns : List ℕ) where
     unfolding undeclared_at former.undeclared_at
     same_at n c m = rw (same_declared c (name_of ns names m))
 
-    same_by_lem : (n : ℕ) (c : Current) → undeclared_by t ns names n c ≡ former.undeclared_by ns names n c
+    same_by_lem : (n : ℕ) (c : Option ClassId) → undeclared_by t ns names n c ≡ former.undeclared_by ns names n c
     unfolding undeclared_in former.undeclared_in
-    same_by_lem n (Class c) = flat_same_lem (λ m. listed (undeclared_at t ns names n c.0 m)) (λ m. listed (former.undeclared_at ns names n c.0 m)) (λ m. ap listed (same_at n c.0 m)) (references ns c.0)
-    same_by_lem n Outside = refl
+    same_by_lem n (Some c) = flat_same_lem (λ m. listed (undeclared_at t ns names n c.0 m)) (λ m. listed (former.undeclared_at ns names n c.0 m)) (λ m. ap listed (same_at n c.0 m)) (references ns c.0)
+    same_by_lem n None = refl
 
     pub same_undeclared : (n : ℕ) → private_undeclared t ns names n ≡ former.private_undeclared ns names n
     same_undeclared n = same_by_lem n (current_class ns n)
@@ -164,7 +162,7 @@ module _ (t : ℕ) (s : t ≤ 1) (ns : List ℕ) where
 
       same_raised : duplicate_at t ns names c e ≡ former.duplicate_at ns names c e
       unfolding duplicate_by former.duplicate_by
-      same_raised = rw (same_previous, same_clash ns (former.previous_of ns names c e).element.0 e h, same_redeclared (former.previous_of ns names c e).element.0)
+      same_raised = rw (same_previous, same_clash ns (number (former.previous_of ns names c e)) e h, same_redeclared (number (former.previous_of ns names c e)))
 
     abbrev raises_now : ℕ → ℕ → List Finding
     raises_now c e = listed (duplicate_at t ns names c e)

@@ -9,7 +9,7 @@ ghost use Rattle.check_dispatch.specs.Findings.{findings_at};
 ghost use Rattle.check_dispatch.specs.Rule.{rule};
 ghost use Rattle.check_dispatch.specs.Reported.{reported_at, reported};
 
-use check_diagnostics::{raise_one, raise_three, raise_two};
+use check_diagnostics::{raise, raise_all};
 use table_records::{NodeId, kinds};
 
 // The findings of a node, by its kind: the `match` of mod.rs.
@@ -40,7 +40,7 @@ fn check_node(
                 names,
                 n,
             );
-            raise_two(findings, at, a, b)
+            raise_all(findings, at, &[a, b])
         }
         kinds::IDENTIFIER_REFERENCE => {
             let a = check_identifiers::check_identifier(source_type, nodes, scopes, names, n);
@@ -51,29 +51,29 @@ fn check_node(
                 names,
                 n,
             );
-            raise_two(findings, at, a, b)
+            raise_all(findings, at, &[a, b])
         }
-        kinds::LABEL_IDENTIFIER => raise_one(
+        kinds::LABEL_IDENTIFIER => raise(
             findings,
             at,
             check_identifiers::check_identifier(source_type, nodes, scopes, names, n),
         ),
-        kinds::PRIVATE_IDENTIFIER => raise_one(
+        kinds::PRIVATE_IDENTIFIER => raise(
             findings,
             at,
             check_classes::check_private_identifier_outside_class(nodes, n),
         ),
-        kinds::NUMERIC_LITERAL => raise_one(
+        kinds::NUMERIC_LITERAL => raise(
             findings,
             at,
             check_literals::check_number_literal(nodes, scopes, source, n),
         ),
-        kinds::STRING_LITERAL => raise_one(
+        kinds::STRING_LITERAL => raise(
             findings,
             at,
             check_literals::check_string_literal(nodes, scopes, source, n),
         ),
-        kinds::DIRECTIVE => raise_one(
+        kinds::DIRECTIVE => raise(
             findings,
             at,
             check_identifiers::check_directive(nodes, scopes, names, n),
@@ -81,14 +81,14 @@ fn check_node(
         kinds::WITH => {
             let a = check_statements::check_body(nodes, scopes, n);
             let b = check_statements::check_with_statement(source_type, nodes, scopes, n);
-            raise_two(findings, at, a, b)
+            raise_all(findings, at, &[a, b])
         }
-        kinds::BREAK => raise_one(
+        kinds::BREAK => raise(
             findings,
             at,
             check_jumps::check_break_statement(nodes, names, n),
         ),
-        kinds::CONTINUE => raise_one(
+        kinds::CONTINUE => raise(
             findings,
             at,
             check_jumps::check_continue_statement(nodes, names, n),
@@ -98,41 +98,42 @@ fn check_node(
             let b = check_statements::check_function_declaration_in_labeled_statement(
                 nodes, scopes, n,
             );
-            raise_two(findings, at, a, b)
+            raise_all(findings, at, &[a, b])
         }
         kinds::FOR_IN => {
             let a = check_statements::check_body(nodes, scopes, n);
             let b = check_statements::check_for_statement_left(nodes, scopes, n, true);
-            raise_two(findings, at, a, b)
+            raise_all(findings, at, &[a, b])
         }
         kinds::FOR_OF => {
             let a = check_statements::check_body(nodes, scopes, n);
             let b = check_statements::check_for_of_statement(nodes, scopes, n);
             let d = check_statements::check_for_statement_left(nodes, scopes, n, false);
-            raise_three(findings, at, a, b, d)
+            raise_all(findings, at, &[a, b, d])
         }
-        kinds::WHILE => raise_one(findings, at, check_statements::check_body(nodes, scopes, n)),
-        kinds::DO_WHILE => raise_one(findings, at, check_statements::check_body(nodes, scopes, n)),
-        kinds::FOR => raise_one(findings, at, check_statements::check_body(nodes, scopes, n)),
+        // Three arms: one arm for the three kinds was tried, and its proof did not close.
+        kinds::WHILE => raise(findings, at, check_statements::check_body(nodes, scopes, n)),
+        kinds::DO_WHILE => raise(findings, at, check_statements::check_body(nodes, scopes, n)),
+        kinds::FOR => raise(findings, at, check_statements::check_body(nodes, scopes, n)),
         kinds::IF => {
             let a = check_statements::check_consequent(nodes, scopes, n);
             let b = check_statements::check_alternate(nodes, scopes, n);
-            raise_two(findings, at, a, b)
+            raise_all(findings, at, &[a, b])
         }
         kinds::CLASS => check_classes::check_class(source_type, nodes, names, n, findings, at),
-        kinds::SUPER => raise_one(
+        kinds::SUPER => raise(
             findings,
             at,
             check_super_search::check_super(nodes, scopes, n),
         ),
         kinds::AWAIT => check_expressions::check_await_expression(nodes, scopes, n, findings, at),
         kinds::OBJECT => check_expressions::check_object_expression(nodes, names, n, findings, at),
-        kinds::UNARY => raise_one(
+        kinds::UNARY => raise(
             findings,
             at,
             check_expressions::check_unary_expression(nodes, scopes, n),
         ),
-        kinds::YIELD => raise_one(
+        kinds::YIELD => raise(
             findings,
             at,
             check_expressions::check_yield_expression(nodes, n),
@@ -140,7 +141,7 @@ fn check_node(
         kinds::VARIABLE_DECLARATION => {
             let a = check_statements::check_using(source_type, nodes, scopes, n);
             let b = check_statements::check_await_using(nodes, scopes, n);
-            raise_two(findings, at, a, b)
+            raise_all(findings, at, &[a, b])
         }
         _ => at,
     }
@@ -193,8 +194,7 @@ pub fn check_tree(
         findings,
         0,
     );
-    let mut i: u32 = 0;
-    while table_records::is_node(nodes, i) {
+    for i in 0..table_records::size(nodes) {
         at = check_node_and_bodies(
             source_type,
             async_bodies,
@@ -206,7 +206,6 @@ pub fn check_tree(
             findings,
             at,
         );
-        i += 1;
     }
     at
 }

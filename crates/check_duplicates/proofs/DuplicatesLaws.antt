@@ -1,9 +1,10 @@
 -- Laws of duplicate elements: the two places of a name as a scan of the earlier nodes fills them, and the findings as scans meet them.
-use Rattle.std.specs.Prelude.{ℕ, zero, suc, ◌+◌, ◌-◌, ◌≤◌, ◌<◌, Bool, not, ◌&&◌, ltb, set}
+use Rattle.std.specs.Prelude.{ℕ, zero, suc, ◌+◌, ◌-◌, ◌≤◌, ◌<◌, Bool, not, ◌&&◌, ltb, set, Some, None, is_some}
 use Rattle.std.proofs.Math.Path.{◌≡◌, refl, ap, sym}
 use Rattle.std.proofs.Common.{◌∙◌, ⊎_elim, arith}
 use mathlib.Core.List.{List, [], ◌∷◌, ◌++◌, foldl, flat_map}
 use Rattle.std.proofs.Math.Bool.{true, false, cond, xor}
+use mathlib.Core.Bool.{beq}
 use borrow.Author.Tests.{ltb-true, lt-ltb, le-ltb}
 use Rattle.std.proofs.Math.Dec.{eqb}
 use Rattle.base_common.specs.Upto.{upto}
@@ -11,17 +12,17 @@ use Rattle.base_common.proofs.UptoLaws.{upto_nil, upto_cons, and_left_lem}
 use Rattle.base_walk.proofs.PreorderLaws.{lt_or_ge}
 use Rattle.table_records.specs.Table.{count, parent_of}
 use Rattle.table_records.specs.Facts.{Tree}
+use Rattle.table_records.specs.declared.ElementId.{ElementId}
 use Rattle.table_names.specs.Name.{same}
 use Rattle.table_children.specs.Children.{keep}
 use Rattle.check_diagnostics.specs.declared.Finding.{Finding}
-use Rattle.check_diagnostics.specs.declared.Raised.TheVariants.{Clear}
 use Rattle.check_diagnostics.specs.Finding.{listed}
 use Rattle.check_class_table.specs.Classes.{classes_of, is_class_body}
 use Rattle.check_class_table.specs.Elements.{element_name, is_definition, is_private, is_setter, is_keyed, enters, elements, is_definition_in, is_named, is_compared_element}
 use Rattle.check_class_table.proofs.ElementsLaws.{elements_scan, compared_scan, compared_out}
 use Rattle.check_diagnostics.proofs.Gather.{flat_turn, flat_end, flat_none, flat_keep, flat_same_lem, listed_cond}
 use Rattle.check_duplicates.specs.declared.Place.{Place}
-use Rattle.check_duplicates.specs.Duplicates.{nowhere, here, step, last_of, side_of, is_earlier, previous_on, or_else, previous_of, clashes, redeclaration, duplicate_by, duplicate_at, duplicates_in, duplicate_elements}
+use Rattle.check_duplicates.specs.Duplicates.{nowhere, here, number_or, there, number, step, last_of, side_of, is_earlier, previous_on, or_else, previous_of, clashes, redeclaration, duplicate_by, duplicate_at, duplicates_in, duplicate_elements}
 use Rattle.check_duplicates.specs.Scans.{see, prev_of, raised_at, class_at}
 
 -- .. after the nodes from i up to e
@@ -45,22 +46,20 @@ side_two ns e = go (is_private ns e && is_setter ns e)
     go true = omega arith
     go false = omega arith
 
-pub differ_true : (b : Bool) → not b ≡ xor true b
+-- two tests differ
+pub differ : (a b : Bool) → not (beq a b) ≡ xor a b
 unfolding xor
-differ_true true = refl
-differ_true false = refl
-
-pub differ_false : (b : Bool) → b ≡ xor false b
-unfolding xor
-differ_false true = refl
-differ_false false = refl
+differ true true = refl
+differ true false = refl
+differ false true = refl
+differ false false = refl
 
 -- what is last passes the test
-last_by_lem : (q : ℕ → Bool) (l : List ℕ) (p : Place) → (p.there ≡ true → q p.element.0 ≡ true) → (foldl (step q) p l).there ≡ true → q (foldl (step q) p l).element.0 ≡ true
+last_by_lem : (q : ℕ → Bool) (l : List ℕ) (p : Place) → (there p ≡ true → q (number p) ≡ true) → there (foldl (step q) p l) ≡ true → q (number (foldl (step q) p l)) ≡ true
 last_by_lem q [] p h e = h e
 last_by_lem q (d ∷ l) p h e = last_by_lem q l (step q p d) (go (q d) refl) e
   where
-    go : (b : Bool) → q d ≡ b → (cond b (here d) p).there ≡ true → q (cond b (here d) p).element.0 ≡ true
+    go : (b : Bool) → q d ≡ b → there (cond b (here d) p) ≡ true → q (number (cond b (here d) p)) ≡ true
     go true x z = x
     go false x z = h z
 
@@ -147,9 +146,9 @@ module _ (t : ℕ) (ns names : List ℕ) (c e : ℕ) (h : e ≤ count ns) where
   unfolding scan see side_of
   scan_places = two key (λ d. is_private ns d && is_setter ns d) e e (c + 1) nowhere nowhere (omega arith) ∙ rw (side_scan 0, side_scan 1)
 
-  pub on_before : (s : ℕ) → (previous_on t ns names c e s).there ≡ true → (previous_on t ns names c e s).element.0 < e
+  pub on_before : (s : ℕ) → there (previous_on t ns names c e s) ≡ true → number (previous_on t ns names c e s) < e
   unfolding previous_on last_of
-  on_before s x = ltb-true _ e (and_left_lem (ltb (last_of (is_earlier ns names e s) (elements t ns c)).element.0 e) _ (last_by_lem (is_earlier ns names e s) (elements t ns c) nowhere (λ z. let z : ◌≡◌ {A = ℕ} 0 1 = cc in absurd (omega arith)) x))
+  on_before s x = ltb-true _ e (and_left_lem (ltb (number (last_of (is_earlier ns names e s) (elements t ns c))) e) _ (last_by_lem (is_earlier ns names e s) (elements t ns c) nowhere (λ z. let z : ◌≡◌ {A = ℕ} 0 1 = cc in absurd (omega arith)) x))
 
 module _ (t : ℕ) (ns names : List ℕ) (c e : ℕ) where
   pub prev_two : prev_of (previous_on t ns names c e 0 ∷ previous_on t ns names c e 1 ∷ []) (side_of ns e) ≡ previous_of t ns names c e
@@ -160,27 +159,30 @@ module _ (t : ℕ) (ns names : List ℕ) (c e : ℕ) where
       go true = refl
       go false = refl
 
-  pub prev_before : e ≤ count ns → (previous_of t ns names c e).there ≡ true → (previous_of t ns names c e).element.0 < e
+  pub prev_before : e ≤ count ns → there (previous_of t ns names c e) ≡ true → number (previous_of t ns names c e) < e
   unfolding previous_of
-  prev_before h = go (previous_on t ns names c e (side_of ns e)).there refl
+  prev_before h = go (there (previous_on t ns names c e (side_of ns e))) refl
     where
-      go : (b : Bool) → (previous_on t ns names c e (side_of ns e)).there ≡ b
-          → (cond b (previous_on t ns names c e (side_of ns e)) (previous_on t ns names c e (1 - side_of ns e))).there ≡ true
-          → (cond b (previous_on t ns names c e (side_of ns e)) (previous_on t ns names c e (1 - side_of ns e))).element.0 < e
+      go : (b : Bool) → there (previous_on t ns names c e (side_of ns e)) ≡ b
+          → there (cond b (previous_on t ns names c e (side_of ns e)) (previous_on t ns names c e (1 - side_of ns e))) ≡ true
+          → number (cond b (previous_on t ns names c e (side_of ns e)) (previous_on t ns names c e (1 - side_of ns e))) < e
       go true x z = on_before t ns names c e h (side_of ns e) x
       go false x z = on_before t ns names c e h (1 - side_of ns e) z
 
+  pub earlier : e ≤ count ns → (d : ElementId) → (previous_of t ns names c e).element ≡ Some d → d.0 < e
+  earlier h d x = let l = prev_before h (ap is_some x) in let q = ap number_or x in omega (arith, l, q)
+
 -- what an element raises, by the place to go by
 module _ (t : ℕ) (ns : List ℕ) (e : ℕ) (p : Place) where
-  pub by_hit : p.there ≡ true → clashes ns p.element.0 e ≡ true → duplicate_by t ns e p ≡ redeclaration t ns p.element.0 e
+  pub by_hit : (d : ElementId) → p.element ≡ Some d → clashes ns d.0 e ≡ true → duplicate_by t ns e p ≡ redeclaration t ns d.0 e
   unfolding duplicate_by
-  by_hit x y = rw (x, y)
+  by_hit d x y = rw (x, y)
 
-  pub by_fine : p.there ≡ true → clashes ns p.element.0 e ≡ false → duplicate_by t ns e p ≡ Clear
+  pub by_fine : (d : ElementId) → p.element ≡ Some d → clashes ns d.0 e ≡ false → duplicate_by t ns e p ≡ None
   unfolding duplicate_by
-  by_fine x y = rw (x, y)
+  by_fine d x y = rw (x, y)
 
-  pub by_none : p.there ≡ false → duplicate_by t ns e p ≡ Clear
+  pub by_none : p.element ≡ None → duplicate_by t ns e p ≡ None
   unfolding duplicate_by
   by_none x = rw x
 
@@ -234,3 +236,13 @@ module _ (t : ℕ) (ns names : List ℕ) where
   pub all_end : (i : ℕ) → count ns ≤ i → classes_from t ns names i ≡ []
   unfolding classes_from
   all_end i h = flat_end (class_at t ns names) i (count ns) h
+
+pub differ_true : (b : Bool) → not b ≡ xor true b
+unfolding xor
+differ_true true = refl
+differ_true false = refl
+
+pub differ_false : (b : Bool) → b ≡ xor false b
+unfolding xor
+differ_false true = refl
+differ_false false = refl

@@ -1,24 +1,34 @@
 -- Names declared twice in a class: `check_duplicate_class_elements`, with public names in TypeScript (document 02, request 13). One definition for both kinds of key.
-use Rattle.std.specs.Prelude.{ℕ, ◌-◌, Bool, true, false, cond, not, ◌&&◌, ◌||◌, eqb, ltb}
+use Rattle.std.specs.Prelude.{ℕ, ◌-◌, Bool, true, false, cond, not, ◌&&◌, ◌||◌, eqb, ltb, Option, Some, None, is_some}
 use mathlib.Core.List.{List, foldl, flat_map}
 use Rattle.std.specs.Bool.{xor}
 use Rattle.table_source.specs.SourceType.{is_typescript}
 use Rattle.table_names.specs.Name.{same}
 use Rattle.check_diagnostics.specs.declared.Finding.{Finding}
-use Rattle.check_diagnostics.specs.declared.Raised.{Raised}
-use Rattle.check_diagnostics.specs.declared.Raised.TheVariants.{Error, Clear}
 use Rattle.check_diagnostics.specs.Finding.{listed}
 use Rattle.check_diagnostics.specs.Codes as code
 use Rattle.check_diagnostics.specs.Contexts as context
 use Rattle.check_class_table.specs.Classes.{classes_of}
 use Rattle.check_class_table.specs.Elements.{element_name, element_span, is_static, is_private, is_getter, is_setter, is_keyed, elements, compared}
+use Rattle.table_records.specs.declared.ElementId.{ElementId}
 use Rattle.check_duplicates.specs.declared.Place.{Place}
 
 abbrev pub nowhere : Place
-nowhere = record { there = false; element = record { 0 = 0 } }
+nowhere = record { element = None }
 
 abbrev pub here : ℕ → Place
-here e = record { there = true; element = record { 0 = e } }
+here e = record { element = Some (record { 0 = e }) }
+
+-- an element is there, and which
+abbrev pub number_or : Option ElementId → ℕ
+number_or (Some e) = e.0
+number_or None = 0
+
+abbrev pub there : Place → Bool
+there p = is_some p.element
+
+abbrev pub number : Place → ℕ
+number p = number_or p.element
 
 -- the last of a list that passes a test
 abbrev pub step : (ℕ → Bool) → Place → ℕ → Place
@@ -44,7 +54,7 @@ unfoldable pub previous_on : ℕ → List ℕ → List ℕ → ℕ → ℕ → �
 previous_on source_type ns names c e side = last_of (is_earlier ns names e side) (elements source_type ns c)
 
 abbrev pub or_else : Place → Place → Place
-or_else p q = cond p.there p q
+or_else p q = cond (there p) p q
 
 -- `previous[index].or(previous[1 - index])`; of a public name "the last such of its name"
 unfoldable pub previous_of : ℕ → List ℕ → List ℕ → ℕ → ℕ → Place
@@ -70,9 +80,9 @@ unfoldable pub clash_code : ℕ → List ℕ → ℕ → ℕ → ℕ
 clash_code source_type ns d e = cond (is_typescript source_type && (is_private ns e && is_apart ns d e)) static_and_instance_private code.redeclaration
 
 -- raised at node 0, with the spans of the earlier element and of this one
-unfoldable pub redeclaration : ℕ → List ℕ → ℕ → ℕ → Raised
+unfoldable pub redeclaration : ℕ → List ℕ → ℕ → ℕ → Option Finding
 redeclaration source_type ns d e =
-    Error (record {
+    Some (record {
       code = clash_code source_type ns d e;
       node = record { 0 = 0 };
       start = (element_span ns d).start;
@@ -83,10 +93,10 @@ redeclaration source_type ns d e =
     })
 
 -- what element e of class c raises, given the earlier one
-unfoldable pub duplicate_by : ℕ → List ℕ → ℕ → Place → Raised
-duplicate_by source_type ns e p = cond (p.there && clashes ns p.element.0 e) (redeclaration source_type ns p.element.0 e) Clear
+unfoldable pub duplicate_by : ℕ → List ℕ → ℕ → Place → Option Finding
+duplicate_by source_type ns e p = cond (there p && clashes ns (number p) e) (redeclaration source_type ns (number p) e) None
 
-abbrev pub duplicate_at : ℕ → List ℕ → List ℕ → ℕ → ℕ → Raised
+abbrev pub duplicate_at : ℕ → List ℕ → List ℕ → ℕ → ℕ → Option Finding
 duplicate_at source_type ns names c e = duplicate_by source_type ns e (previous_of source_type ns names c e)
 
 -- the findings of one class, element by element, private or not, and of all classes

@@ -3,15 +3,13 @@
 #![tactic(auto)]
 
 ghost use Rattle.std.specs.Prelude.{◌≡◌, true, ◌∷◌, [], ◌+◌, ◌*◌, ◌<◌, ◌≤◌, length};
-ghost use Rattle.std.specs.Bool.{xor};
 ghost use Rattle.table_records.specs.Table.{count};
 ghost use Rattle.table_records.specs.Facts.{Tree, Named};
 ghost use Rattle.check_diagnostics.specs.Finding.{sink};
 ghost use Rattle.check_duplicates.specs.Duplicates.{side_of, previous_on, is_pair, is_apart, clashes, clash_code, redeclaration, duplicate_at, duplicates_in, duplicate_elements};
 ghost use Rattle.check_duplicates.specs.Scans.{see, prev_of, raised_at, class_at};
 
-use base_common::{and, not, or};
-use check_diagnostics::{Finding, Raised, codes, contexts};
+use check_diagnostics::{Finding, codes, contexts};
 use table_records::{ClassId, ElementId, NodeId, kinds};
 use table_source::is_typescript;
 
@@ -21,24 +19,23 @@ pub const STATIC_AND_INSTANCE_PRIVATE: u32 = 35;
 // One of the two places of a name: the last element seen there, if any.
 #[derive(Clone, Copy)]
 pub struct Place {
-    pub there: bool,
-    pub element: ElementId,
+    pub element: Option<ElementId>,
 }
 
 // The side of an element: private setters are kept apart, so that a getter and setter pair cannot hide a repeated accessor.
+#[tactic(auto, unfolding(crate::specs::Duplicates::side_of))]
 fn side(nodes: &[u32], e: ElementId) -> usize
     requires { e.0 < count nodes.now }
     ensures value { result ≡ side_of nodes.now e.0 }
     ensures upper_bound { result ≤ 1 }
 {
-    let private = check_class_table::is_private(nodes, e);
-    if and(private, check_class_table::is_setter(nodes, e)) {
-        return 1;
-    }
-    0
+    let own_side = check_class_table::is_private(nodes, e)
+        && check_class_table::is_setter(nodes, e);
+    usize::from(own_side)
 }
 
 // The two places of a key after node d.
+#[tactic(auto, unfolding(crate::specs::Scans::see))]
 fn see(
     source_type: u32,
     nodes: &[u32],
@@ -57,10 +54,7 @@ fn see(
     if check_class_table::is_named(source_type, nodes, names, c, private, name, d) {
         let i = side(nodes, d);
         let mut seen = previous;
-        seen[i] = Place {
-            there: true,
-            element: d,
-        };
+        seen[i] = Place { element: Some(d) };
         return seen;
     }
     previous
@@ -82,12 +76,9 @@ fn previous_of(
 {
     let private = check_class_table::is_private(nodes, e);
     let name = check_class_table::element_name(nodes, names, e);
-    let mut previous = [Place {
-        there: false,
-        element: ElementId(0),
-    }; 2];
-    let mut i = c.0 + 1;
-    while i < e.0 {
+    let mut previous = [Place { element: None }; 2];
+    for i in c.0 + 1..e.0 {
+        // A call whose array goes straight into `previous` was tried: the check covers none.
         let seen = see(
             source_type,
             nodes,
@@ -99,19 +90,19 @@ fn previous_of(
             ElementId(i),
         );
         previous = seen;
-        i += 1;
     }
     previous
 }
 
 // The place to go by: that of the element's own side, or else the other.
+#[tactic(auto, unfolding(crate::specs::Duplicates::side_of))]
 fn prev_element(nodes: &[u32], e: ElementId, previous: [Place; 2]) -> Place
     requires { e.0 < count nodes.now }
     ensures { result ≡ prev_of previous (side_of nodes.now e.0) }
 {
     let i = side(nodes, e);
     let own = previous[i];
-    if own.there {
+    if own.element.is_some() {
         return own;
     }
     previous[1 - i]
@@ -123,24 +114,8 @@ fn is_pair(nodes: &[u32], d: ElementId, e: ElementId) -> bool
     requires e_bound { e.0 < count nodes.now }
     ensures { result ≡ is_pair nodes.now d.0 e.0 }
 {
-    let get_set = and(
-        check_class_table::is_getter(nodes, d),
-        check_class_table::is_setter(nodes, e),
-    );
-    let set_get = and(
-        check_class_table::is_setter(nodes, d),
-        check_class_table::is_getter(nodes, e),
-    );
-    or(get_set, set_get)
-}
-
-fn differ(a: bool, b: bool) -> bool
-    ensures { result ≡ xor a b }
-{
-    if a {
-        return !b;
-    }
-    b
+    check_class_table::is_getter(nodes, d) && check_class_table::is_setter(nodes, e)
+        || check_class_table::is_setter(nodes, d) && check_class_table::is_getter(nodes, e)
 }
 
 // Whether one of two elements is static and the other is not.
@@ -149,47 +124,46 @@ fn is_apart(nodes: &[u32], d: ElementId, e: ElementId) -> bool
     requires e_bound { e.0 < count nodes.now }
     ensures { result ≡ is_apart nodes.now d.0 e.0 }
 {
-    differ(
-        check_class_table::is_static(nodes, d),
-        check_class_table::is_static(nodes, e),
-    )
+    check_class_table::is_static(nodes, d) != check_class_table::is_static(nodes, e)
 }
 
 // Whether element e clashes with d, an earlier one of its key.
 // > It is a Syntax Error if PrivateBoundIdentifiers of ClassElementList contains any duplicate entries, unless the name is used once for a getter and
 // > once for a setter and in no other entries, and the getter and setter are either both static or both non-static.
 // For TypeScript, public elements with different static status are allowed.
+#[tactic(auto, unfolding(crate::specs::Duplicates::clashes))]
 fn clashes(nodes: &[u32], d: ElementId, e: ElementId) -> bool
     requires d_bound { d.0 < count nodes.now }
     requires e_bound { e.0 < count nodes.now }
     ensures { result ≡ clashes nodes.now d.0 e.0 }
 {
     let apart = is_apart(nodes, d, e);
-    let unpaired = not(is_pair(nodes, d, e));
+    let unpaired = !is_pair(nodes, d, e);
     if check_class_table::is_private(nodes, e) {
-        return or(unpaired, apart);
+        return unpaired || apart;
     }
-    and(unpaired, not(apart))
+    unpaired && !apart
 }
 
 // The code of a clash.
+#[tactic(auto, unfolding(crate::specs::Duplicates::clash_code))]
 fn clash_code(source_type: u32, nodes: &[u32], d: ElementId, e: ElementId) -> u32
     requires d_bound { d.0 < count nodes.now }
     requires e_bound { e.0 < count nodes.now }
     ensures { result ≡ clash_code source_type nodes.now d.0 e.0 }
 {
-    let apart = and(
-        check_class_table::is_private(nodes, e),
-        is_apart(nodes, d, e),
-    );
-    if and(is_typescript(source_type), apart) {
+    if is_typescript(source_type)
+        && check_class_table::is_private(nodes, e)
+        && is_apart(nodes, d, e)
+    {
         return STATIC_AND_INSTANCE_PRIVATE;
     }
     codes::REDECLARATION
 }
 
 // The finding that element e repeats d.
-fn redeclaration(source_type: u32, nodes: &[u32], d: ElementId, e: ElementId) -> Raised
+#[tactic(auto, unfolding(crate::specs::Duplicates::redeclaration))]
+fn redeclaration(source_type: u32, nodes: &[u32], d: ElementId, e: ElementId) -> Option<Finding>
     requires tree { Tree nodes.now }
     requires d_bound { d.0 < count nodes.now }
     requires e_bound { e.0 < count nodes.now }
@@ -198,8 +172,8 @@ fn redeclaration(source_type: u32, nodes: &[u32], d: ElementId, e: ElementId) ->
     let code = clash_code(source_type, nodes, d, e);
     let first = check_class_table::element_span(nodes, d);
     let second = check_class_table::element_span(nodes, e);
-    Raised::Error(Finding {
-        code: code,
+    Some(Finding {
+        code,
         node: NodeId(0),
         start: first.start,
         end: first.end,
@@ -210,7 +184,13 @@ fn redeclaration(source_type: u32, nodes: &[u32], d: ElementId, e: ElementId) ->
 }
 
 // What element e of class c raises.
-fn duplicate_at(source_type: u32, nodes: &[u32], names: &[u8], c: ClassId, e: ElementId) -> Raised
+fn duplicate_at(
+    source_type: u32,
+    nodes: &[u32],
+    names: &[u8],
+    c: ClassId,
+    e: ElementId,
+) -> Option<Finding>
     requires tree { Tree nodes.now }
     requires named { Named nodes.now names.now }
     requires e_bound { e.0 < count nodes.now }
@@ -218,19 +198,22 @@ fn duplicate_at(source_type: u32, nodes: &[u32], names: &[u8], c: ClassId, e: El
     ensures { result ≡ duplicate_at source_type nodes.now names.now c.0 e.0 }
 {
     let previous = previous_of(source_type, nodes, names, c, e);
-    let prev = prev_element(nodes, e, previous);
-    if prev.there {
-        let d = prev.element;
-        if clashes(nodes, d, e) {
-            return redeclaration(source_type, nodes, d, e);
-        }
-        return Raised::Clear;
+    let d = prev_element(nodes, e, previous).element?;
+    if clashes(nodes, d, e) {
+        return redeclaration(source_type, nodes, d, e);
     }
-    Raised::Clear
+    None
 }
 
 // What node i raises as an element of class c.
-fn raised_at(source_type: u32, nodes: &[u32], names: &[u8], c: ClassId, i: ElementId) -> Raised
+#[tactic(auto, unfolding(crate::specs::Scans::raised_at))]
+fn raised_at(
+    source_type: u32,
+    nodes: &[u32],
+    names: &[u8],
+    c: ClassId,
+    i: ElementId,
+) -> Option<Finding>
     requires tree { Tree nodes.now }
     requires named { Named nodes.now names.now }
     requires i_bound { i.0 < count nodes.now }
@@ -240,7 +223,7 @@ fn raised_at(source_type: u32, nodes: &[u32], names: &[u8], c: ClassId, i: Eleme
     if check_class_table::is_compared_element(source_type, nodes, c, i) {
         return duplicate_at(source_type, nodes, names, c, i);
     }
-    Raised::Clear
+    None
 }
 
 // The findings of one class.
@@ -261,10 +244,8 @@ fn duplicates_in(
     ensures upper_bound { result ≤ at + 458745 }
 {
     let mut w = at;
-    let mut i = c.0 + 1;
-    while table_records::is_node(nodes, i) {
-        let p = table_records::parent(nodes, NodeId(i));
-        if p.0 < c.0 {
+    for i in c.0 + 1..table_records::size(nodes) {
+        if table_records::parent(nodes, NodeId(i)).0 < c.0 {
             return w;
         }
         w = check_diagnostics::raise(
@@ -272,12 +253,12 @@ fn duplicates_in(
             w,
             raised_at(source_type, nodes, names, c, ElementId(i)),
         );
-        i += 1;
     }
     w
 }
 
 // The findings of node i as a class.
+#[tactic(auto, unfolding(crate::specs::Scans::class_at))]
 fn duplicates_at(
     source_type: u32,
     nodes: &[u32],
@@ -294,8 +275,7 @@ fn duplicates_at(
     ensures findings_after { findings.new ≡ sink findings.old at (class_at source_type nodes.now names.now i.0) }
     ensures upper_bound { result ≤ at + 458745 }
 {
-    let k = table_records::kind(nodes, i);
-    if k != kinds::CLASS_BODY {
+    if table_records::kind(nodes, i) != kinds::CLASS_BODY {
         return at;
     }
     duplicates_in(source_type, nodes, names, ClassId(i.0), findings, at)
@@ -317,10 +297,8 @@ pub fn check_duplicate_class_elements(
     ensures upper_bound { result ≤ at + 30100000000 }
 {
     let mut w = at;
-    let mut i: u32 = 0;
-    while table_records::is_node(nodes, i) {
+    for i in 0..table_records::size(nodes) {
         w = duplicates_at(source_type, nodes, names, NodeId(i), findings, w);
-        i += 1;
     }
     w
 }

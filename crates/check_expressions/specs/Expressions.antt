@@ -1,5 +1,6 @@
 -- Object literals, `delete`, and `await` and `yield` in parameters.
-use Rattle.std.specs.Prelude.{ℕ, zero, suc, ◌+◌, Bool, true, false, cond, not, ◌&&◌, ◌||◌, eqb}
+use Rattle.table_records.specs.declared.NodeId.{NodeId}
+use Rattle.std.specs.Prelude.{ℕ, zero, suc, ◌+◌, Bool, true, false, cond, not, ◌&&◌, ◌||◌, eqb, Option, Some, None}
 use mathlib.Core.List.{List, [], ◌∷◌, ◌++◌, foldr, flat_map}
 use Rattle.base_common.specs.Upto.{upto}
 use Rattle.base_common.specs.Tests.{within}
@@ -7,8 +8,6 @@ use Rattle.table_records.specs.Table.{count, kind_of, parent_of, span_start_of, 
 use Rattle.table_records.specs.Kinds as k
 use Rattle.table_records.specs.Extras as extra
 use Rattle.table_records.specs.NodeFlag as flag
-use Rattle.table_records.specs.declared.Found.{Found}
-use Rattle.table_records.specs.declared.Found.TheVariants.{At, Nothing}
 use Rattle.table_names.specs.Name.{name_is}
 use Rattle.table_names.specs.Words as word
 use Rattle.table_children.specs.Children.{keep, is_child, first_child, key_of, value_of, inner_of}
@@ -17,8 +16,6 @@ use Rattle.check_diagnostics.specs.Finding.{listed, error_span, error_at, error_
 use Rattle.check_diagnostics.specs.Codes as code
 use Rattle.check_diagnostics.specs.Contexts as context
 use Rattle.check_diagnostics.specs.declared.Finding.{Finding}
-use Rattle.check_diagnostics.specs.declared.Raised.{Raised}
-use Rattle.check_diagnostics.specs.declared.Raised.TheVariants.{Clear}
 
 -- the properties of an object, in order
 abbrev pub properties : List ℕ → ℕ → List ℕ
@@ -29,17 +26,17 @@ abbrev pub is_plain : List ℕ → ℕ → Bool
 is_plain ns p = eqb (extra_of ns p) extra.Init && not (has_flag (flags_of ns p) flag.Method)
 
 -- a key that is called `__proto__`; an IdentifierReference as key is that of `[a]`, and a computed key has no PropName
-abbrev pub if_proto : List ℕ → List ℕ → Found → Found
-if_proto ns names (At m) = cond (eqb (kind_of ns m.0) k.IdentifierReference) Nothing (cond (name_is ns names m.0 word.proto) (At m) Nothing)
-if_proto ns names Nothing = Nothing
+abbrev pub if_proto : List ℕ → List ℕ → Option NodeId → Option NodeId
+if_proto ns names (Some m) = cond (eqb (kind_of ns m.0) k.IdentifierReference) None (cond (name_is ns names m.0 word.proto) (Some m) None)
+if_proto ns names None = None
 
 -- the key of a plain property `__proto__`
-unfoldable pub proto_key : List ℕ → List ℕ → ℕ → Found
-proto_key ns names p = cond (is_plain ns p) (if_proto ns names (key_of ns p)) Nothing
+unfoldable pub proto_key : List ℕ → List ℕ → ℕ → Option NodeId
+proto_key ns names p = cond (is_plain ns p) (if_proto ns names (key_of ns p)) None
 
-abbrev pub to_list : Found → List ℕ
-to_list (At m) = m.0 ∷ []
-to_list Nothing = []
+abbrev pub to_list : Option NodeId → List ℕ
+to_list (Some m) = m.0 ∷ []
+to_list None = []
 
 abbrev pub proto_keys : List ℕ → List ℕ → ℕ → List ℕ
 proto_keys ns names n = flat_map (λ p. to_list (proto_key ns names p)) (properties ns n)
@@ -63,9 +60,9 @@ abbrev pub is_parenthesis : List ℕ → ℕ → Bool
 is_parenthesis ns n = eqb (kind_of ns n) k.AnythingElse && eqb (extra_of ns n) extra.Parenthesis
 
 -- what is found, or else n
-abbrev pub or_else : Found → ℕ → ℕ
-or_else (At m) n = m.0
-or_else Nothing n = n
+abbrev pub or_else : Option NodeId → ℕ → ℕ
+or_else (Some m) n = m.0
+or_else None n = n
 
 -- n without one parenthesis around it
 unfoldable pub inside : List ℕ → ℕ → ℕ
@@ -81,34 +78,34 @@ unfoldable pub inner_expression : List ℕ → ℕ → ℕ
 inner_expression ns n = stripped ns (count ns) n
 
 -- the span of a part, 0,0 where it is missing
-abbrev pub error_part : List ℕ → ℕ → ℕ → Found → Raised
-error_part ns c n (At m) = error_at ns c n m.0 context.none
-error_part ns c n Nothing = error_span c n 0 0 context.none
+abbrev pub error_part : List ℕ → ℕ → ℕ → Option NodeId → Option Finding
+error_part ns c n (Some m) = error_at ns c n m.0 context.none
+error_part ns c n None = error_span c n 0 0 context.none
 
 -- the name of a private field: its first PrivateIdentifier
-abbrev pub field_of : List ℕ → ℕ → Found
+abbrev pub field_of : List ℕ → ℕ → Option NodeId
 field_of ns p = first_child ns p k.PrivateIdentifier k.PrivateIdentifier 0 7
 
 -- what a chain ends in: a private field is reported by its name
-abbrev pub chain_finding : List ℕ → ℕ → Found → Raised
-chain_finding ns n (At m) = cond (eqb (kind_of ns m.0) k.PrivateField) (error_part ns code.delete_private_field n (field_of ns m.0)) Clear
-chain_finding ns n Nothing = Clear
+abbrev pub chain_finding : List ℕ → ℕ → Option NodeId → Option Finding
+chain_finding ns n (Some m) = cond (eqb (kind_of ns m.0) k.PrivateField) (error_part ns code.delete_private_field n (field_of ns m.0)) None
+chain_finding ns n None = None
 
 -- `delete` of the expression e: a name in strict code, a private field, or a chain that ends in one
-unfoldable pub delete_of : List ℕ → List ℕ → ℕ → ℕ → Raised
+unfoldable pub delete_of : List ℕ → List ℕ → ℕ → ℕ → Option Finding
 delete_of ns ss n e =
     cond (eqb (kind_of ns e) k.IdentifierReference)
-    (cond (is_strict ns ss n) (error_at ns code.delete_of_unqualified n e context.none) Clear)
+    (cond (is_strict ns ss n) (error_at ns code.delete_of_unqualified n e context.none) None)
     (cond (eqb (kind_of ns e) k.PrivateField)
     (error_at ns code.delete_private_field n e context.none)
-    (cond (eqb (kind_of ns e) k.Chain) (chain_finding ns n (inner_of ns e)) Clear))
+    (cond (eqb (kind_of ns e) k.Chain) (chain_finding ns n (inner_of ns e)) None))
 
-abbrev pub delete_finding : List ℕ → List ℕ → ℕ → Found → Raised
-delete_finding ns ss n (At m) = delete_of ns ss n (inner_expression ns m.0)
-delete_finding ns ss n Nothing = Clear
+abbrev pub delete_finding : List ℕ → List ℕ → ℕ → Option NodeId → Option Finding
+delete_finding ns ss n (Some m) = delete_of ns ss n (inner_expression ns m.0)
+delete_finding ns ss n None = None
 
-unfoldable pub check_unary_expression : List ℕ → List ℕ → ℕ → Raised
-check_unary_expression ns ss n = cond (has_flag (flags_of ns n) flag.Delete) (delete_finding ns ss n (value_of ns n)) Clear
+unfoldable pub check_unary_expression : List ℕ → List ℕ → ℕ → Option Finding
+check_unary_expression ns ss n = cond (has_flag (flags_of ns n) flag.Delete) (delete_finding ns ss n (value_of ns n)) None
 
 -- a is a parameter, or the binding of a rest parameter
 unfoldable pub is_parameter : List ℕ → ℕ → Bool
@@ -119,15 +116,15 @@ unfoldable pub in_formal_parameters : List ℕ → ℕ → Bool
 in_formal_parameters ns n = foldr (λ a r. cond (is_parameter ns a) true (cond (within (kind_of ns a) k.Program k.Arrow) false r)) false (ancestors ns n)
 
 -- `await` or `yield` in parameters
-unfoldable pub in_parameter : List ℕ → ℕ → Raised
-in_parameter ns n = cond (in_formal_parameters ns n) (error_at ns code.await_or_yield_in_parameter n n context.none) Clear
+unfoldable pub in_parameter : List ℕ → ℕ → Option Finding
+in_parameter ns n = cond (in_formal_parameters ns n) (error_at ns code.await_or_yield_in_parameter n n context.none) None
 
 -- "if ClassStaticBlockStatementList Contains await is true": the five bytes of the word
-unfoldable pub in_block : List ℕ → List ℕ → ℕ → Raised
-in_block ns ss n = cond (in_class_static_block ns ss n) (error_span code.class_static_block_await n (span_start_of ns n) (span_start_of ns n + 5) context.none) Clear
+unfoldable pub in_block : List ℕ → List ℕ → ℕ → Option Finding
+in_block ns ss n = cond (in_class_static_block ns ss n) (error_span code.class_static_block_await n (span_start_of ns n) (span_start_of ns n + 5) context.none) None
 
 abbrev pub check_await_expression : List ℕ → List ℕ → ℕ → List Finding
 check_await_expression ns ss n = listed (in_parameter ns n) ++ listed (in_block ns ss n)
 
-abbrev pub check_yield_expression : List ℕ → ℕ → Raised
+abbrev pub check_yield_expression : List ℕ → ℕ → Option Finding
 check_yield_expression ns n = in_parameter ns n

@@ -9,12 +9,12 @@ ghost use Rattle.check_diagnostics.specs.Finding.{sink};
 ghost use Rattle.check_expressions.specs.Expressions.{proto_key, check_object_expression, is_parenthesis, inner_expression, chain_finding, delete_of, check_unary_expression, is_parameter, in_formal_parameters, in_parameter, in_block, check_await_expression, check_yield_expression};
 ghost use Rattle.check_expressions.specs.ExpressionLaws.{repeated, later};
 
-use base_common::{and, or, within};
-use check_diagnostics::{Raised, codes, contexts, error_at, raise};
-use table_records::{Found, NodeId, extras, kinds, node_flag};
+use check_diagnostics::{Finding, codes, contexts, error_at, raise};
+use table_records::{NodeId, extras, kinds, node_flag, roles};
 
 // The key of a property, where it is written `__proto__: value`.
-fn proto_key(nodes: &[u32], names: &[u8], p: NodeId) -> Found
+#[tactic(auto, unfolding(crate::specs::Expressions::proto_key))]
+fn proto_key(nodes: &[u32], names: &[u8], p: NodeId) -> Option<NodeId>
     requires tree { Tree nodes.now }
     requires named { Named nodes.now names.now }
     requires p_bound { p.0 < count nodes.now }
@@ -22,47 +22,39 @@ fn proto_key(nodes: &[u32], names: &[u8], p: NodeId) -> Found
     ensures below { below nodes.now result }
 {
     if table_records::extra(nodes, p) != extras::INIT {
-        return Found::Nothing;
+        return None;
     }
     if table_records::has_flag(table_records::flags(nodes, p), node_flag::METHOD) {
-        return Found::Nothing;
+        return None;
     }
-    let Found::At(key) = table_children::key_of(nodes, p) else {
-        return Found::Nothing;
-    };
+    let key = table_children::key_of(nodes, p)?;
     // An IdentifierReference as key is that of `[a]`: a computed key has no PropName.
     if table_records::kind(nodes, key) == kinds::IDENTIFIER_REFERENCE {
-        return Found::Nothing;
+        return None;
     }
     if table_names::name_is(nodes, names, key, b"__proto__") {
-        return Found::At(key);
+        return Some(key);
     }
-    Found::Nothing
+    None
 }
 
 // The finding for a key b, where a came before it.
-fn repeated(nodes: &[u32], n: NodeId, a: Found, b: Found) -> Raised
+fn repeated(nodes: &[u32], n: NodeId, a: Option<NodeId>, b: Option<NodeId>) -> Option<Finding>
     requires below { below nodes.now a }
     requires below_2 { below nodes.now b }
     ensures { result ≡ repeated nodes.now n.0 a b }
 {
-    let Found::At(first) = a else {
-        return Raised::Clear;
-    };
-    let Found::At(second) = b else {
-        return Raised::Clear;
+    let (Some(first), Some(second)) = (a, b) else {
+        return None;
     };
     check_diagnostics::error_between(nodes, codes::REDECLARATION, n, first, second)
 }
 
 // The key that came last.
-fn later(a: Found, b: Found) -> Found
+fn later(a: Option<NodeId>, b: Option<NodeId>) -> Option<NodeId>
     ensures { result ≡ later a b }
 {
-    let Found::At(_) = b else {
-        return a;
-    };
-    b
+    b.or(a)
 }
 
 // Of the keys `__proto__` of an object each but the first repeats the one before it.
@@ -83,15 +75,15 @@ pub fn check_object_expression(
 {
     let mut w = at;
     let mut from = n.0 + 1;
-    let mut previous = Found::Nothing;
+    let mut previous = None;
     loop {
-        let Found::At(p) = table_children::next_child(
+        let Some(p) = table_children::next_child(
             nodes,
             n,
             kinds::OBJECT_PROPERTY,
             kinds::OBJECT_PROPERTY,
-            0,
-            7,
+            roles::OTHER,
+            roles::LEFT,
             from,
         ) else {
             break w;
@@ -107,10 +99,8 @@ fn is_parenthesis(nodes: &[u32], n: NodeId) -> bool
     requires { n.0 < count nodes.now }
     ensures { result ≡ is_parenthesis nodes.now n.0 }
 {
-    and(
-        table_records::kind(nodes, n) == kinds::ANYTHING_ELSE,
-        table_records::extra(nodes, n) == extras::PARENTHESIS,
-    )
+    table_records::kind(nodes, n) == kinds::ANYTHING_ELSE
+        && table_records::extra(nodes, n) == extras::PARENTHESIS
 }
 
 // An expression without the parentheses around it.
@@ -122,7 +112,7 @@ fn get_inner_expression(nodes: &[u32], n: NodeId) -> NodeId
 {
     let mut at = n;
     while is_parenthesis(nodes, at) {
-        let Found::At(m) = table_children::inner_of(nodes, at) else {
+        let Some(m) = table_children::inner_of(nodes, at) else {
             return at;
         };
         at = m;
@@ -131,24 +121,22 @@ fn get_inner_expression(nodes: &[u32], n: NodeId) -> NodeId
 }
 
 // `delete` of the chain e: a private field that it ends in is reported by its name.
-fn delete_of_chain(nodes: &[u32], n: NodeId, e: NodeId) -> Raised
+fn delete_of_chain(nodes: &[u32], n: NodeId, e: NodeId) -> Option<Finding>
     requires tree { Tree nodes.now }
     requires e_bound { e.0 < count nodes.now }
     ensures { result ≡ chain_finding nodes.now n.0 (inner_of nodes.now e.0) }
 {
-    let Found::At(member) = table_children::inner_of(nodes, e) else {
-        return Raised::Clear;
-    };
+    let member = table_children::inner_of(nodes, e)?;
     if table_records::kind(nodes, member) != kinds::PRIVATE_FIELD {
-        return Raised::Clear;
+        return None;
     }
-    let Found::At(field) = table_children::first_child(
+    let Some(field) = table_children::first_child(
         nodes,
         member,
         kinds::PRIVATE_IDENTIFIER,
         kinds::PRIVATE_IDENTIFIER,
-        0,
-        7,
+        roles::OTHER,
+        roles::LEFT,
     ) else {
         return check_diagnostics::error(codes::DELETE_PRIVATE_FIELD, n, 0, 0, contexts::NONE);
     };
@@ -156,60 +144,54 @@ fn delete_of_chain(nodes: &[u32], n: NodeId, e: NodeId) -> Raised
 }
 
 // `delete` of the expression e.
-fn delete_of(nodes: &[u32], scopes: &[u32], n: NodeId, e: NodeId) -> Raised
+#[tactic(auto, unfolding(crate::specs::Expressions::delete_of))]
+fn delete_of(nodes: &[u32], scopes: &[u32], n: NodeId, e: NodeId) -> Option<Finding>
     requires tree { Tree nodes.now }
     requires scoped { Scoped nodes.now scopes.now }
     requires n_bound { n.0 < count nodes.now }
     requires e_bound { e.0 < count nodes.now }
     ensures { result ≡ delete_of nodes.now scopes.now n.0 e.0 }
 {
-    let k = table_records::kind(nodes, e);
-    if k == kinds::IDENTIFIER_REFERENCE {
-        if table_scoping::strict_mode(nodes, scopes, n) {
-            return error_at(nodes, codes::DELETE_OF_UNQUALIFIED, n, e, contexts::NONE);
+    match table_records::kind(nodes, e) {
+        kinds::IDENTIFIER_REFERENCE => {
+            if table_scoping::strict_mode(nodes, scopes, n) {
+                return error_at(nodes, codes::DELETE_OF_UNQUALIFIED, n, e, contexts::NONE);
+            }
+            None
         }
-        return Raised::Clear;
+        kinds::PRIVATE_FIELD => error_at(nodes, codes::DELETE_PRIVATE_FIELD, n, e, contexts::NONE),
+        kinds::CHAIN => delete_of_chain(nodes, n, e),
+        _ => None,
     }
-    if k == kinds::PRIVATE_FIELD {
-        return error_at(nodes, codes::DELETE_PRIVATE_FIELD, n, e, contexts::NONE);
-    }
-    if k == kinds::CHAIN {
-        return delete_of_chain(nodes, n, e);
-    }
-    Raised::Clear
 }
 
 // What may not be deleted.
-pub fn check_unary_expression(nodes: &[u32], scopes: &[u32], n: NodeId) -> Raised
+#[tactic(auto, unfolding(crate::specs::Expressions::check_unary_expression))]
+pub fn check_unary_expression(nodes: &[u32], scopes: &[u32], n: NodeId) -> Option<Finding>
     requires tree { Tree nodes.now }
     requires scoped { Scoped nodes.now scopes.now }
     requires n_bound { n.0 < count nodes.now }
     ensures { result ≡ check_unary_expression nodes.now scopes.now n.0 }
 {
     if !table_records::has_flag(table_records::flags(nodes, n), node_flag::DELETE) {
-        return Raised::Clear;
+        return None;
     }
-    let Found::At(argument) = table_children::value_of(nodes, n) else {
-        return Raised::Clear;
-    };
+    let argument = table_children::value_of(nodes, n)?;
     let inner = get_inner_expression(nodes, argument);
     delete_of(nodes, scopes, n, inner)
 }
 
 // Whether a is a parameter, or the binding of a rest parameter.
+#[tactic(auto, unfolding(crate::specs::Expressions::is_parameter))]
 fn is_parameter(nodes: &[u32], a: NodeId) -> bool
     requires tree { Tree nodes.now }
     requires a_bound { a.0 < count nodes.now }
     ensures { result ≡ is_parameter nodes.now a.0 }
 {
     let k = table_records::kind(nodes, a);
-    or(
-        k == kinds::FORMAL_PARAMETER,
-        and(
-            k == kinds::BINDING_REST_ELEMENT,
-            table_ancestry::parent_kind(nodes, a) == kinds::FORMAL_PARAMETER_REST,
-        ),
-    )
+    k == kinds::FORMAL_PARAMETER
+        || k == kinds::BINDING_REST_ELEMENT
+            && table_ancestry::parent_kind(nodes, a) == kinds::FORMAL_PARAMETER_REST
 }
 
 // Whether a parameter comes before a function on the way up.
@@ -227,13 +209,14 @@ fn is_in_formal_parameters(nodes: &[u32], n: NodeId) -> bool
         if is_parameter(nodes, at) {
             break true;
         }
-        if within(table_records::kind(nodes, at), kinds::PROGRAM, kinds::ARROW) {
+        if let kinds::PROGRAM..=kinds::ARROW = table_records::kind(nodes, at) {
             break false;
         }
     }
 }
 
-fn in_parameter(nodes: &[u32], n: NodeId) -> Raised
+#[tactic(auto, unfolding(crate::specs::Expressions::in_parameter))]
+fn in_parameter(nodes: &[u32], n: NodeId) -> Option<Finding>
     requires tree { Tree nodes.now }
     requires n_bound { n.0 < count nodes.now }
     ensures { result ≡ in_parameter nodes.now n.0 }
@@ -247,11 +230,12 @@ fn in_parameter(nodes: &[u32], n: NodeId) -> Raised
             contexts::NONE,
         );
     }
-    Raised::Clear
+    None
 }
 
 // `await` in a static block: the span is that of the word.
-fn in_block(nodes: &[u32], scopes: &[u32], n: NodeId) -> Raised
+#[tactic(auto, unfolding(crate::specs::Expressions::in_block))]
+fn in_block(nodes: &[u32], scopes: &[u32], n: NodeId) -> Option<Finding>
     requires chained { Chained scopes.now }
     requires scoped { Scoped nodes.now scopes.now }
     requires spanned { Spanned nodes.now }
@@ -268,7 +252,7 @@ fn in_block(nodes: &[u32], scopes: &[u32], n: NodeId) -> Raised
             contexts::NONE,
         );
     }
-    Raised::Clear
+    None
 }
 
 // `await` in parameters, and in a static block.
@@ -294,7 +278,7 @@ pub fn check_await_expression(
 }
 
 // `yield` in parameters.
-pub fn check_yield_expression(nodes: &[u32], n: NodeId) -> Raised
+pub fn check_yield_expression(nodes: &[u32], n: NodeId) -> Option<Finding>
     requires tree { Tree nodes.now }
     requires n_bound { n.0 < count nodes.now }
     ensures { result ≡ check_yield_expression nodes.now n.0 }

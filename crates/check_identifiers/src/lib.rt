@@ -6,15 +6,15 @@ ghost use Rattle.table_records.specs.Table.{count, scope_of, scope_node_of};
 ghost use Rattle.table_records.specs.Facts.{Tree, Scoped, Named, Input};
 ghost use Rattle.check_identifiers.specs.Identifiers.{strict_context, await_finding, is_strict_word, check_identifier, is_eval_or_arguments, let_bound, let_from, check_binding_identifier, is_field_value, arguments_from, is_invalid_target, check_identifier_reference, is_not_simple, check_directive};
 
-use base_common::{and, or, within};
-use check_diagnostics::{Raised, codes, contexts, error_at};
+use check_diagnostics::{Finding, codes, contexts, error_at};
 use table_ancestry::{has_ancestor, up};
 use table_names::name_is;
-use table_records::{Found, NodeId, extras, kinds, node_flag, scope_flag};
+use table_records::{NodeId, extras, kinds, node_flag, scope_flag};
 use table_scoping::{current_scope_flags, strict_mode};
 use table_source::is_module;
 
 // Why strict code has a name reserved: a class, a module, or neither.
+#[tactic(auto, unfolding(crate::specs::Identifiers::strict_context))]
 fn unexpected_identifier_assign_context(source_type: u32, nodes: &[u32], n: NodeId) -> u32
     requires tree { Tree nodes.now }
     requires n_bound { n.0 < count nodes.now }
@@ -32,7 +32,8 @@ fn unexpected_identifier_assign_context(source_type: u32, nodes: &[u32], n: Node
 // `await` as a name.
 // > It is a Syntax Error if the goal symbol of the syntactic grammar is Module and the StringValue of IdentifierName is "await".
 // > It is a Syntax Error if ClassStaticBlockStatementList Contains await is true.
-fn check_await(source_type: u32, nodes: &[u32], scopes: &[u32], n: NodeId) -> Raised
+#[tactic(auto, unfolding(crate::specs::Identifiers::await_finding))]
+fn check_await(source_type: u32, nodes: &[u32], scopes: &[u32], n: NodeId) -> Option<Finding>
     requires scoped { Scoped nodes.now scopes.now }
     requires n_bound { n.0 < count nodes.now }
     ensures { result ≡ await_finding source_type nodes.now scopes.now n.0 }
@@ -46,55 +47,38 @@ fn check_await(source_type: u32, nodes: &[u32], scopes: &[u32], n: NodeId) -> Ra
     ) {
         return error_at(nodes, codes::CLASS_STATIC_BLOCK_AWAIT, n, n, contexts::NONE);
     }
-    Raised::Clear
+    None
 }
 
 // Whether a name is reserved in strict code.
 // > It is a Syntax Error if this phrase is contained in strict mode code and the StringValue of IdentifierName is: "implements", "interface", "let",
 // > "package", "private", "protected", "public", "static", or "yield".
+#[tactic(auto, unfolding(crate::specs::Identifiers::is_strict_word))]
 pub fn is_strict_word(nodes: &[u32], names: &[u8], n: NodeId) -> bool
     requires named { Named nodes.now names.now }
     requires n_bound { n.0 < count nodes.now }
     ensures { result ≡ is_strict_word nodes.now names.now n.0 }
 {
-    if name_is(nodes, names, n, b"implements") {
-        return true;
-    }
-    if name_is(nodes, names, n, b"interface") {
-        return true;
-    }
-    if name_is(nodes, names, n, b"let") {
-        return true;
-    }
-    if name_is(nodes, names, n, b"package") {
-        return true;
-    }
-    if name_is(nodes, names, n, b"private") {
-        return true;
-    }
-    if name_is(nodes, names, n, b"protected") {
-        return true;
-    }
-    if name_is(nodes, names, n, b"public") {
-        return true;
-    }
-    if name_is(nodes, names, n, b"static") {
-        return true;
-    }
-    if name_is(nodes, names, n, b"yield") {
-        return true;
-    }
-    false
+    name_is(nodes, names, n, b"implements")
+        || name_is(nodes, names, n, b"interface")
+        || name_is(nodes, names, n, b"let")
+        || name_is(nodes, names, n, b"package")
+        || name_is(nodes, names, n, b"private")
+        || name_is(nodes, names, n, b"protected")
+        || name_is(nodes, names, n, b"public")
+        || name_is(nodes, names, n, b"static")
+        || name_is(nodes, names, n, b"yield")
 }
 
 // A reserved word is no name.
+#[tactic(auto, unfolding(crate::specs::Identifiers::check_identifier))]
 pub fn check_identifier(
     source_type: u32,
     nodes: &[u32],
     scopes: &[u32],
     names: &[u8],
     n: NodeId,
-) -> Raised
+) -> Option<Finding>
     requires input { Input nodes.now scopes.now names.now }
     requires n_bound { n.0 < count nodes.now }
     ensures { result ≡ check_identifier source_type nodes.now scopes.now names.now n.0 }
@@ -103,10 +87,10 @@ pub fn check_identifier(
         return check_await(source_type, nodes, scopes, n);
     }
     if !is_strict_word(nodes, names, n) {
-        return Raised::Clear;
+        return None;
     }
     if !strict_mode(nodes, scopes, n) {
-        return Raised::Clear;
+        return None;
     }
     let context = unexpected_identifier_assign_context(source_type, nodes, n);
     error_at(nodes, codes::RESERVED_KEYWORD, n, n, context)
@@ -117,20 +101,17 @@ fn is_eval_or_arguments(nodes: &[u32], names: &[u8], n: NodeId) -> bool
     requires n_bound { n.0 < count nodes.now }
     ensures { result ≡ is_eval_or_arguments nodes.now names.now n.0 }
 {
-    or(
-        name_is(nodes, names, n, b"eval"),
-        name_is(nodes, names, n, b"arguments"),
-    )
+    name_is(nodes, names, n, b"eval") || name_is(nodes, names, n, b"arguments")
 }
 
 // `let` as the name n that the declaration d binds: `var` may.
-fn let_bound(nodes: &[u32], n: NodeId, d: NodeId) -> Raised
+fn let_bound(nodes: &[u32], n: NodeId, d: NodeId) -> Option<Finding>
     requires n_bound { n.0 < count nodes.now }
     requires d_bound { d.0 < count nodes.now }
     ensures { result ≡ let_bound nodes.now n.0 d.0 }
 {
     if table_records::extra(nodes, d) == extras::VAR {
-        return Raised::Clear;
+        return None;
     }
     error_at(nodes, codes::INVALID_LET_DECLARATION, n, n, contexts::NONE)
 }
@@ -138,7 +119,7 @@ fn let_bound(nodes: &[u32], n: NodeId, d: NodeId) -> Raised
 // `let` as a name in sloppy code: the nearest declaration, if no function comes first, is no lexical one.
 // > LexicalDeclaration : LetOrConst BindingList ;
 // > * It is a Syntax Error if the BoundNames of BindingList contains "let".
-fn let_declared(nodes: &[u32], n: NodeId) -> Raised
+fn let_declared(nodes: &[u32], n: NodeId) -> Option<Finding>
     requires tree { Tree nodes.now }
     requires n_bound { n.0 < count nodes.now }
     ensures { result ≡ let_from nodes.now n.0 n.0 }
@@ -146,27 +127,26 @@ fn let_declared(nodes: &[u32], n: NodeId) -> Raised
     let mut at = n;
     loop {
         if at.0 == 0 {
-            break Raised::Clear;
+            break None;
         }
         at = up(nodes, at);
-        let k = table_records::kind(nodes, at);
-        if k == kinds::VARIABLE_DECLARATION {
-            break let_bound(nodes, n, at);
-        }
-        if within(k, kinds::FUNCTION, kinds::ARROW) {
-            break Raised::Clear;
+        match table_records::kind(nodes, at) {
+            kinds::VARIABLE_DECLARATION => break let_bound(nodes, n, at),
+            kinds::FUNCTION..=kinds::ARROW => break None,
+            _ => {}
         }
     }
 }
 
 // What a binding may not be called.
+#[tactic(auto, unfolding(crate::specs::Identifiers::check_binding_identifier))]
 pub fn check_binding_identifier(
     source_type: u32,
     nodes: &[u32],
     scopes: &[u32],
     names: &[u8],
     n: NodeId,
-) -> Raised
+) -> Option<Finding>
     requires input { Input nodes.now scopes.now names.now }
     requires n_bound { n.0 < count nodes.now }
     ensures { result ≡ check_binding_identifier source_type nodes.now scopes.now names.now n.0 }
@@ -176,15 +156,16 @@ pub fn check_binding_identifier(
             let context = unexpected_identifier_assign_context(source_type, nodes, n);
             return error_at(nodes, codes::UNEXPECTED_IDENTIFIER_ASSIGN, n, n, context);
         }
-        return Raised::Clear;
+        return None;
     }
     if name_is(nodes, names, n, b"let") {
         return let_declared(nodes, n);
     }
-    Raised::Clear
+    None
 }
 
 // Whether v is the initialiser of the field p.
+#[tactic(auto, unfolding(crate::specs::Identifiers::is_field_value))]
 fn is_field_value(nodes: &[u32], p: NodeId, v: NodeId) -> bool
     requires tree { Tree nodes.now }
     requires p_bound { p.0 < count nodes.now }
@@ -193,10 +174,10 @@ fn is_field_value(nodes: &[u32], p: NodeId, v: NodeId) -> bool
     if table_records::kind(nodes, p) != kinds::PROPERTY_DEFINITION {
         return false;
     }
-    let Found::At(m) = table_children::value_of(nodes, p) else {
+    let Some(m) = table_children::value_of(nodes, p) else {
         return false;
     };
-    m.0 == v.0
+    m == v
 }
 
 // `arguments` in a class: no function comes before a field's initialiser or a static block.
@@ -204,7 +185,7 @@ fn is_field_value(nodes: &[u32], p: NodeId, v: NodeId) -> bool
 // >   It is a Syntax Error if Initializer is present and ContainsArguments of Initializer is true.
 // > ClassStaticBlockBody : ClassStaticBlockStatementList
 // >   It is a Syntax Error if ContainsArguments of ClassStaticBlockStatementList is true.
-fn arguments_in_class(nodes: &[u32], n: NodeId) -> Raised
+fn arguments_in_class(nodes: &[u32], n: NodeId) -> Option<Finding>
     requires tree { Tree nodes.now }
     requires n_bound { n.0 < count nodes.now }
     ensures { result ≡ arguments_from nodes.now n.0 n.0 }
@@ -212,17 +193,14 @@ fn arguments_in_class(nodes: &[u32], n: NodeId) -> Raised
     let mut previous = n;
     loop {
         if previous.0 == 0 {
-            break Raised::Clear;
+            break None;
         }
         let at = up(nodes, previous);
         let k = table_records::kind(nodes, at);
         if k == kinds::FUNCTION {
-            break Raised::Clear;
+            break None;
         }
-        if or(
-            is_field_value(nodes, at, previous),
-            k == kinds::STATIC_BLOCK,
-        ) {
+        if k == kinds::STATIC_BLOCK || is_field_value(nodes, at, previous) {
             break error_at(nodes, codes::UNEXPECTED_ARGUMENTS, n, n, contexts::NONE);
         }
         previous = at;
@@ -236,20 +214,18 @@ fn is_invalid_target(nodes: &[u32], scopes: &[u32], names: &[u8], n: NodeId) -> 
     ensures { result ≡ is_invalid_target nodes.now scopes.now names.now n.0 }
 {
     let written = table_records::has_flag(table_records::flags(nodes, n), node_flag::WRITTEN);
-    and(
-        is_eval_or_arguments(nodes, names, n),
-        and(strict_mode(nodes, scopes, n), written),
-    )
+    written && is_eval_or_arguments(nodes, names, n) && strict_mode(nodes, scopes, n)
 }
 
 // Where `eval` and `arguments` may not be written to, and `arguments` not be named.
+#[tactic(auto, unfolding(crate::specs::Identifiers::check_identifier_reference))]
 pub fn check_identifier_reference(
     source_type: u32,
     nodes: &[u32],
     scopes: &[u32],
     names: &[u8],
     n: NodeId,
-) -> Raised
+) -> Option<Finding>
     requires input { Input nodes.now scopes.now names.now }
     requires n_bound { n.0 < count nodes.now }
     ensures { result ≡ check_identifier_reference source_type nodes.now scopes.now names.now n.0 }
@@ -259,10 +235,10 @@ pub fn check_identifier_reference(
         return error_at(nodes, codes::UNEXPECTED_IDENTIFIER_ASSIGN, n, n, context);
     }
     if !name_is(nodes, names, n, b"arguments") {
-        return Raised::Clear;
+        return None;
     }
     if !has_ancestor(nodes, n, kinds::CLASS_BODY, kinds::CLASS_BODY) {
-        return Raised::Clear;
+        return None;
     }
     arguments_in_class(nodes, n)
 }
@@ -287,30 +263,31 @@ fn is_not_simple(nodes: &[u32], f: NodeId) -> bool
         table_records::flags(nodes, f),
         node_flag::SIMPLE_PARAMETERS,
     );
-    and(
-        within(table_records::kind(nodes, f), kinds::FUNCTION, kinds::ARROW),
-        !simple,
-    )
+    matches!(
+        table_records::kind(nodes, f),
+        kinds::FUNCTION..=kinds::ARROW
+    ) && !simple
 }
 
 // A function whose parameters are not simple has no "use strict".
 // > It is a Syntax Error if FunctionBodyContainsUseStrict of AsyncFunctionBody is true and IsSimpleParameterList of FormalParameters is false.
-pub fn check_directive(nodes: &[u32], scopes: &[u32], names: &[u8], n: NodeId) -> Raised
+#[tactic(auto, unfolding(crate::specs::Identifiers::check_directive))]
+pub fn check_directive(nodes: &[u32], scopes: &[u32], names: &[u8], n: NodeId) -> Option<Finding>
     requires input { Input nodes.now scopes.now names.now }
     requires n_bound { n.0 < count nodes.now }
     ensures { result ≡ check_directive nodes.now scopes.now names.now n.0 }
 {
     if !name_is(nodes, names, n, b"use strict") {
-        return Raised::Clear;
+        return None;
     }
     if !table_records::has_flag(
         current_scope_flags(nodes, scopes, n),
         scope_flag::FUNCTION_SCOPE,
     ) {
-        return Raised::Clear;
+        return None;
     }
     if !is_not_simple(nodes, current_scope_node(nodes, scopes, n)) {
-        return Raised::Clear;
+        return None;
     }
     error_at(nodes, codes::ILLEGAL_USE_STRICT, n, n, contexts::NONE)
 }

@@ -7,36 +7,36 @@ ghost use Rattle.table_records.specs.Facts.{Tree, Named};
 ghost use Rattle.table_children.specs.Children.{below};
 ghost use Rattle.check_jumps.specs.Jumps.{is_boundary, is_unit, is_iteration, is_breakable, walk_up, same_label, labeled_item, plain_break_at, no_label, labelled_break_at, plain_continue_at, continue_to, labelled_continue_at, labeled_at, check_break_statement, check_continue_statement, check_labeled_statement};
 
-use base_common::{or, within};
-use check_diagnostics::{Raised, codes, contexts, error_at, error_between};
-use table_records::{Found, NodeId, kinds};
+use check_diagnostics::{Finding, codes, contexts, error_at, error_between};
+use table_records::{NodeId, kinds};
 
 fn is_boundary(kind: u32) -> bool
     ensures { result ≡ is_boundary kind }
 {
-    within(kind, kinds::FUNCTION, kinds::STATIC_BLOCK)
+    matches!(kind, kinds::FUNCTION..=kinds::STATIC_BLOCK)
 }
 
 fn is_unit(kind: u32) -> bool
     ensures { result ≡ is_unit kind }
 {
-    within(kind, kinds::PROGRAM, kinds::STATIC_BLOCK)
+    matches!(kind, kinds::PROGRAM..=kinds::STATIC_BLOCK)
 }
 
 fn is_iteration_statement(kind: u32) -> bool
     ensures { result ≡ is_iteration kind }
 {
-    within(kind, kinds::FOR, kinds::DO_WHILE)
+    matches!(kind, kinds::FOR..=kinds::DO_WHILE)
 }
 
 fn is_breakable(kind: u32) -> bool
     ensures { result ≡ is_breakable kind }
 {
-    or(is_iteration_statement(kind), kind == kinds::SWITCH)
+    is_iteration_statement(kind) || kind == kinds::SWITCH
 }
 
 // The label of a, where a is a Labeled with the name of this label.
-fn same_label(nodes: &[u32], names: &[u8], label: NodeId, a: NodeId) -> Found
+#[tactic(auto, unfolding(crate::specs::Jumps::same_label))]
+fn same_label(nodes: &[u32], names: &[u8], label: NodeId, a: NodeId) -> Option<NodeId>
     requires tree { Tree nodes.now }
     requires named { Named nodes.now names.now }
     requires label_bound { label.0 < count nodes.now }
@@ -46,15 +46,13 @@ fn same_label(nodes: &[u32], names: &[u8], label: NodeId, a: NodeId) -> Found
 {
     let kind = table_records::kind(nodes, a);
     if kind != kinds::LABELED {
-        return Found::Nothing;
+        return None;
     }
-    let Found::At(own) = table_children::label_of(nodes, a) else {
-        return Found::Nothing;
-    };
+    let own = table_children::label_of(nodes, a)?;
     if table_names::same_name(nodes, names, own, label) {
-        return Found::At(own);
+        return Some(own);
     }
-    Found::Nothing
+    None
 }
 
 // What a Labeled labels, through nested ones.
@@ -70,14 +68,14 @@ fn labeled_item(nodes: &[u32], labeled: NodeId) -> NodeId
         if kind != kinds::LABELED {
             break target;
         }
-        let Found::At(nested) = table_children::held_of(nodes, target) else {
+        let Some(nested) = table_children::held_of(nodes, target) else {
             break target;
         };
         target = nested;
     }
 }
 
-fn plain_break(nodes: &[u32], n: NodeId) -> Raised
+fn plain_break(nodes: &[u32], n: NodeId) -> Option<Finding>
     requires tree { Tree nodes.now }
     requires n_bound { n.0 < count nodes.now }
     ensures { result ≡ walk_up nodes.now (plain_break_at nodes.now n.0) n.0 }
@@ -85,7 +83,7 @@ fn plain_break(nodes: &[u32], n: NodeId) -> Raised
     let mut at = n;
     loop {
         if at.0 == 0 {
-            break Raised::Clear;
+            break None;
         }
         at = table_ancestry::up(nodes, at);
         let kind = table_records::kind(nodes, at);
@@ -93,13 +91,14 @@ fn plain_break(nodes: &[u32], n: NodeId) -> Raised
             break error_at(nodes, codes::INVALID_BREAK, n, n, contexts::NONE);
         }
         if is_breakable(kind) {
-            break Raised::Clear;
+            break None;
         }
     }
 }
 
 // A jump whose label is not found up to a unit of this kind.
-fn no_label(nodes: &[u32], n: NodeId, label: NodeId, kind: u32) -> Raised
+#[tactic(auto, unfolding(crate::specs::Jumps::no_label))]
+fn no_label(nodes: &[u32], n: NodeId, label: NodeId, kind: u32) -> Option<Finding>
     requires { label.0 < count nodes.now }
     ensures { result ≡ no_label nodes.now n.0 label.0 kind }
 {
@@ -115,7 +114,7 @@ fn no_label(nodes: &[u32], n: NodeId, label: NodeId, kind: u32) -> Raised
     )
 }
 
-fn labelled_break(nodes: &[u32], names: &[u8], n: NodeId, label: NodeId) -> Raised
+fn labelled_break(nodes: &[u32], names: &[u8], n: NodeId, label: NodeId) -> Option<Finding>
     requires tree { Tree nodes.now }
     requires named { Named nodes.now names.now }
     requires n_bound { n.0 < count nodes.now }
@@ -125,36 +124,37 @@ fn labelled_break(nodes: &[u32], names: &[u8], n: NodeId, label: NodeId) -> Rais
     let mut at = n;
     loop {
         if at.0 == 0 {
-            break Raised::Clear;
+            break None;
         }
         at = table_ancestry::up(nodes, at);
         let kind = table_records::kind(nodes, at);
         if is_unit(kind) {
             break no_label(nodes, n, label, kind);
         }
-        let Found::At(_) = same_label(nodes, names, label, at) else {
+        let Some(_) = same_label(nodes, names, label, at) else {
             continue;
         };
-        break Raised::Clear;
+        break None;
     }
 }
 
 // A break has a target: without a label the nearest loop or switch, with one the nearest Labeled of that name.
 // > It is a Syntax Error if this BreakStatement is not nested, directly or indirectly (but not crossing function or static initialization block
 // > boundaries), within an IterationStatement or a SwitchStatement.
-pub fn check_break_statement(nodes: &[u32], names: &[u8], n: NodeId) -> Raised
+pub fn check_break_statement(nodes: &[u32], names: &[u8], n: NodeId) -> Option<Finding>
     requires tree { Tree nodes.now }
     requires named { Named nodes.now names.now }
     requires n_bound { n.0 < count nodes.now }
     ensures { result ≡ check_break_statement nodes.now names.now n.0 }
 {
-    let Found::At(label) = table_children::label_of(nodes, n) else {
+    let Some(label) = table_children::label_of(nodes, n) else {
         return plain_break(nodes, n);
     };
     labelled_break(nodes, names, n, label)
 }
 
-fn plain_continue(nodes: &[u32], n: NodeId) -> Raised
+// Not one function with plain_break: it would take the test and the code as parameters, and be no plainer.
+fn plain_continue(nodes: &[u32], n: NodeId) -> Option<Finding>
     requires tree { Tree nodes.now }
     requires n_bound { n.0 < count nodes.now }
     ensures { result ≡ walk_up nodes.now (plain_continue_at nodes.now n.0) n.0 }
@@ -162,7 +162,7 @@ fn plain_continue(nodes: &[u32], n: NodeId) -> Raised
     let mut at = n;
     loop {
         if at.0 == 0 {
-            break Raised::Clear;
+            break None;
         }
         at = table_ancestry::up(nodes, at);
         let kind = table_records::kind(nodes, at);
@@ -170,13 +170,20 @@ fn plain_continue(nodes: &[u32], n: NodeId) -> Raised
             break error_at(nodes, codes::INVALID_CONTINUE, n, n, contexts::NONE);
         }
         if is_iteration_statement(kind) {
-            break Raised::Clear;
+            break None;
         }
     }
 }
 
 // A continue at the Labeled of its label's name, whose own label is `outer`.
-fn continue_to(nodes: &[u32], n: NodeId, label: NodeId, labeled: NodeId, outer: NodeId) -> Raised
+#[tactic(auto, unfolding(crate::specs::Jumps::continue_to))]
+fn continue_to(
+    nodes: &[u32],
+    n: NodeId,
+    label: NodeId,
+    labeled: NodeId,
+    outer: NodeId,
+) -> Option<Finding>
     requires tree { Tree nodes.now }
     requires label_bound { label.0 < count nodes.now }
     requires labeled_bound { labeled.0 < count nodes.now }
@@ -185,12 +192,12 @@ fn continue_to(nodes: &[u32], n: NodeId, label: NodeId, labeled: NodeId, outer: 
 {
     let target = labeled_item(nodes, labeled);
     if is_iteration_statement(table_records::kind(nodes, target)) {
-        return Raised::Clear;
+        return None;
     }
     error_between(nodes, codes::INVALID_LABEL_NON_ITERATION, n, outer, label)
 }
 
-fn labelled_continue(nodes: &[u32], names: &[u8], n: NodeId, label: NodeId) -> Raised
+fn labelled_continue(nodes: &[u32], names: &[u8], n: NodeId, label: NodeId) -> Option<Finding>
     requires tree { Tree nodes.now }
     requires named { Named nodes.now names.now }
     requires n_bound { n.0 < count nodes.now }
@@ -200,14 +207,14 @@ fn labelled_continue(nodes: &[u32], names: &[u8], n: NodeId, label: NodeId) -> R
     let mut at = n;
     loop {
         if at.0 == 0 {
-            break Raised::Clear;
+            break None;
         }
         at = table_ancestry::up(nodes, at);
         let kind = table_records::kind(nodes, at);
         if is_unit(kind) {
             break no_label(nodes, n, label, kind);
         }
-        let Found::At(outer) = same_label(nodes, names, label, at) else {
+        let Some(outer) = same_label(nodes, names, label, at) else {
             continue;
         };
         break continue_to(nodes, n, label, at, outer);
@@ -217,19 +224,19 @@ fn labelled_continue(nodes: &[u32], names: &[u8], n: NodeId, label: NodeId) -> R
 // A continue has a target: the nearest loop, with a label the loop that the nearest Labeled of that name labels.
 // > It is a Syntax Error if this ContinueStatement is not nested, directly or indirectly (but not crossing function or static initialization block
 // > boundaries), within an IterationStatement.
-pub fn check_continue_statement(nodes: &[u32], names: &[u8], n: NodeId) -> Raised
+pub fn check_continue_statement(nodes: &[u32], names: &[u8], n: NodeId) -> Option<Finding>
     requires tree { Tree nodes.now }
     requires named { Named nodes.now names.now }
     requires n_bound { n.0 < count nodes.now }
     ensures { result ≡ check_continue_statement nodes.now names.now n.0 }
 {
-    let Found::At(label) = table_children::label_of(nodes, n) else {
+    let Some(label) = table_children::label_of(nodes, n) else {
         return plain_continue(nodes, n);
     };
     labelled_continue(nodes, names, n, label)
 }
 
-fn redeclared_label(nodes: &[u32], names: &[u8], n: NodeId, label: NodeId) -> Raised
+fn redeclared_label(nodes: &[u32], names: &[u8], n: NodeId, label: NodeId) -> Option<Finding>
     requires tree { Tree nodes.now }
     requires named { Named nodes.now names.now }
     requires n_bound { n.0 < count nodes.now }
@@ -239,13 +246,13 @@ fn redeclared_label(nodes: &[u32], names: &[u8], n: NodeId, label: NodeId) -> Ra
     let mut at = n;
     loop {
         if at.0 == 0 {
-            break Raised::Clear;
+            break None;
         }
         at = table_ancestry::up(nodes, at);
         if is_boundary(table_records::kind(nodes, at)) {
-            break Raised::Clear;
+            break None;
         }
-        let Found::At(outer) = same_label(nodes, names, label, at) else {
+        let Some(outer) = same_label(nodes, names, label, at) else {
             continue;
         };
         break error_between(nodes, codes::LABEL_REDECLARATION, n, outer, label);
@@ -253,14 +260,12 @@ fn redeclared_label(nodes: &[u32], names: &[u8], n: NodeId, label: NodeId) -> Ra
 }
 
 // A label does not stand within a Labeled of the same name.
-pub fn check_labeled_statement(nodes: &[u32], names: &[u8], n: NodeId) -> Raised
+pub fn check_labeled_statement(nodes: &[u32], names: &[u8], n: NodeId) -> Option<Finding>
     requires tree { Tree nodes.now }
     requires named { Named nodes.now names.now }
     requires n_bound { n.0 < count nodes.now }
     ensures { result ≡ check_labeled_statement nodes.now names.now n.0 }
 {
-    let Found::At(label) = table_children::label_of(nodes, n) else {
-        return Raised::Clear;
-    };
+    let label = table_children::label_of(nodes, n)?;
     redeclared_label(nodes, names, n, label)
 }

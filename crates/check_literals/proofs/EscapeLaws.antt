@@ -1,6 +1,6 @@
 -- Laws of the scan, as a loop over the places meets it.
 use Prim.Native.Nat.{ℕ, zero, suc, ◌+◌, ◌-◌, ◌≤◌, ◌<◌}
-use Rattle.std.specs.Prelude.{◌≡◌, refl, List, [], ◌∷◌, Bool, true, false, cond, ◌&&◌, eqb, get_or, drop}
+use Rattle.std.specs.Prelude.{Option, Some, None, ◌≡◌, refl, List, [], ◌∷◌, Bool, true, false, cond, ◌&&◌, eqb, get_or, drop}
 use Rattle.std.proofs.Common.{◌∙◌, length-take, length-drop}
 use borrow.Author.Tests.{eq-eqb, ne_eqb}
 use Rattle.std.proofs.Math.ListN.{length}
@@ -11,7 +11,7 @@ use Rattle.table_records.specs.Table.{span_start_of, span_end_of}
 use Rattle.check_literals.specs.Escapes.{backslash, digit_next, is_digit, is_legacy_octal, is_non_octal_decimal, is_fine, escape_of, or_else, bad_escape}
 use Rattle.check_literals.specs.Literals.{source_text, leading_zero}
 use Rattle.check_literals.specs.declared.Escape.{Escape}
-use Rattle.check_literals.specs.declared.Escape.TheVariants.{LegacyOctal, NonOctalDecimal, Fine}
+use Rattle.check_literals.specs.declared.Escape.TheVariants.{LegacyOctal, NonOctalDecimal}
 
 nothing_left : (i : ℕ) (l : List ℕ) → length l ≤ i → drop i l ≡ []
 nothing_left zero [] h = refl
@@ -38,10 +38,10 @@ module _ (l : List ℕ) (i : ℕ) where
   scan_escape h e = rw (two h, eq-eqb (get_or l i 0) backslash e)
 
   -- .. and stops the scan, or its two bytes are passed over
-  pub scan_stop : i + 1 < length l → get_or l i 0 ≡ backslash → (e : Escape) → e ≡ escape_of i (get_or l (i + 1) 0) (drop (i + 2) l) → is_fine e ≡ false → bad_escape i (drop i l) ≡ e
+  pub scan_stop : i + 1 < length l → get_or l i 0 ≡ backslash → (e : Option Escape) → e ≡ escape_of i (get_or l (i + 1) 0) (drop (i + 2) l) → is_fine e ≡ false → bad_escape i (drop i l) ≡ e
   scan_stop h b e q f = scan_escape h b ∙ rw (← q, f)
 
-  pub scan_on : i + 1 < length l → get_or l i 0 ≡ backslash → (e : Escape) → e ≡ escape_of i (get_or l (i + 1) 0) (drop (i + 2) l) → is_fine e ≡ true → bad_escape i (drop i l) ≡ bad_escape (i + 2) (drop (i + 2) l)
+  pub scan_on : i + 1 < length l → get_or l i 0 ≡ backslash → (e : Option Escape) → e ≡ escape_of i (get_or l (i + 1) 0) (drop (i + 2) l) → is_fine e ≡ true → bad_escape i (drop i l) ≡ bad_escape (i + 2) (drop (i + 2) l)
   scan_on h b e q f = scan_escape h b ∙ rw (← q, f)
 
   pub digit_here : i < length l → digit_next (drop i l) ≡ is_digit (get_or l i 0)
@@ -50,35 +50,35 @@ module _ (l : List ℕ) (i : ℕ) where
   pub digit_none : length l ≤ i → digit_next (drop i l) ≡ false
   digit_none h = rw (nothing_left i l h)
 
-short : (i : ℕ) (m : List ℕ) → length m ≤ 1 → bad_escape i m ≡ Fine
+short : (i : ℕ) (m : List ℕ) → length m ≤ 1 → bad_escape i m ≡ None
 unfolding bad_escape
 short i [] h = refl
 short i (b ∷ []) h = refl
 short i (b ∷ c ∷ l) h = absurd (omega arith)
 
 -- where fewer than two bytes are left there is no escape
-pub scan_end : (l : List ℕ) (i : ℕ) → length l ≤ i + 1 → bad_escape i (drop i l) ≡ Fine
+pub scan_end : (l : List ℕ) (i : ℕ) → length l ≤ i + 1 → bad_escape i (drop i l) ≡ None
 scan_end l i h = short i (drop i l) (omega (arith, length-drop i l))
 
 -- an escape ends within m bytes
-abbrev Ends : ℕ → Escape → Type 0
-Ends m (LegacyOctal j) = j + 2 ≤ m
-Ends m (NonOctalDecimal j) = j + 2 ≤ m
-Ends m Fine = Unit {0}
+abbrev Ends : ℕ → Option Escape → Type 0
+Ends m (Some (LegacyOctal j)) = j + 2 ≤ m
+Ends m (Some (NonOctalDecimal j)) = j + 2 ≤ m
+Ends m None = Unit {0}
 
-ends_or : (i m : ℕ) (x y : Bool) (rest : Escape) → i + 2 ≤ m → Ends m rest → Ends m (or_else (cond x (LegacyOctal i) (cond y (NonOctalDecimal i) Fine)) rest)
+ends_or : (i m : ℕ) (x y : Bool) (rest : Option Escape) → i + 2 ≤ m → Ends m rest → Ends m (or_else (cond x (Some (LegacyOctal i)) (cond y (Some (NonOctalDecimal i)) None)) rest)
 ends_or i m true y rest h r = h
 ends_or i m false true rest h r = h
 ends_or i m false false rest h r = r
 
-ends_if : (x : Bool) (m : ℕ) (e f : Escape) → Ends m e → Ends m f → Ends m (cond x e f)
+ends_if : (x : Bool) (m : ℕ) (e f : Option Escape) → Ends m e → Ends m f → Ends m (cond x e f)
 ends_if true m e f a b = a
 ends_if false m e f a b = b
 
-ends_by : (m k : ℕ) (e : Escape) → k ≡ m → Ends k e → Ends m e
-ends_by m k (LegacyOctal j) q h = omega arith
-ends_by m k (NonOctalDecimal j) q h = omega arith
-ends_by m k Fine q h = h
+ends_by : (m k : ℕ) (e : Option Escape) → k ≡ m → Ends k e → Ends m e
+ends_by m k (Some (LegacyOctal j)) q h = omega arith
+ends_by m k (Some (NonOctalDecimal j)) q h = omega arith
+ends_by m k None q h = h
 
 bad_ends : (i : ℕ) (l : List ℕ) → Ends (i + length l) (bad_escape i l)
 unfolding bad_escape escape_of
@@ -91,22 +91,22 @@ bad_ends i (b ∷ c ∷ l) =
     (ends_by m (i + 1 + length (c ∷ l)) (bad_escape (i + 1) (c ∷ l)) (omega arith) (bad_ends (i + 1) (c ∷ l)))
 
 -- the escape of a string ends within its span
-abbrev pub Spanned : List ℕ → ℕ → Escape → Type 0
-Spanned ns n (LegacyOctal i) = span_start_of ns n + i + 2 ≤ span_end_of ns n
-Spanned ns n (NonOctalDecimal i) = span_start_of ns n + i + 2 ≤ span_end_of ns n
-Spanned ns n Fine = Unit {0}
+abbrev pub Spanned : List ℕ → ℕ → Option Escape → Type 0
+Spanned ns n (Some (LegacyOctal i)) = span_start_of ns n + i + 2 ≤ span_end_of ns n
+Spanned ns n (Some (NonOctalDecimal i)) = span_start_of ns n + i + 2 ≤ span_end_of ns n
+Spanned ns n None = Unit {0}
 
-pub escape_spanned : (ns source : List ℕ) (n : ℕ) (e : Escape) → e ≡ bad_escape 0 (source_text ns source n) → Spanned ns n e
+pub escape_spanned : (ns source : List ℕ) (n : ℕ) (e : Option Escape) → e ≡ bad_escape 0 (source_text ns source n) → Spanned ns n e
 unfolding source_text
 escape_spanned ns source n e q = go e (rw (← q) at (bad_ends 0 (source_text ns source n)))
   where
     short : length (source_text ns source n) ≤ span_end_of ns n - span_start_of ns n
     short = omega (arith, length-take (span_end_of ns n - span_start_of ns n) (drop (span_start_of ns n) source))
 
-    go : (e : Escape) → Ends (0 + length (source_text ns source n)) e → Spanned ns n e
-    go (LegacyOctal i) h = omega (arith, short)
-    go (NonOctalDecimal i) h = omega (arith, short)
-    go Fine h = h
+    go : (e : Option Escape) → Ends (0 + length (source_text ns source n)) e → Spanned ns n e
+    go (Some (LegacyOctal i)) h = omega (arith, short)
+    go (Some (NonOctalDecimal i)) h = omega (arith, short)
+    go None h = h
 
 -- a leading zero, by places
 pub zero_short : (l : List ℕ) → length l < 2 → leading_zero l ≡ false

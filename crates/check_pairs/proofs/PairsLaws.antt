@@ -1,5 +1,5 @@
 -- EACH CLASH, AND NOTHING ELSE, GIVES ITS ONE FINDING: of every class of all tables, by one argument over both kinds of key.
-use Rattle.std.specs.Prelude.{ℕ, ◌+◌, ◌-◌, ◌<◌, ◌≡◌, Bool, cond, ◌&&◌, ◌||◌, length}
+use Rattle.std.specs.Prelude.{ℕ, ◌+◌, ◌-◌, ◌<◌, ◌≡◌, Bool, cond, ◌&&◌, ◌||◌, length, None}
 use Rattle.std.proofs.Math.Path.{refl, ap, sym}
 use Rattle.std.proofs.Common.{subst, ◌∙◌, arith, lt-ltb, le-ltb}
 use mathlib.Core.List.{List, [], ◌∷◌, foldl, flat_map}
@@ -12,39 +12,38 @@ use Rattle.table_names.specs.Name.{same}
 use Rattle.table_children.specs.Children.{keep}
 use Rattle.table_children.proofs.ChildrenLaws.{keep_keep}
 use Rattle.table_lists.proofs.ListLaws.{keep_alike, any_alike, keep_second, Rising, keep_rising, upto_rising}
-use Rattle.check_diagnostics.specs.declared.Raised.TheVariants.{Clear}
 use Rattle.check_diagnostics.specs.Finding.{listed}
 use Rattle.check_diagnostics.proofs.Gather.{flat_same_lem}
 use Rattle.check_class_table.specs.Elements.{element_name, is_private, is_setter, elements, compared}
 use Rattle.check_class_table.proofs.ElementsLaws.{keep_same, any_same, elements_scan}
 use Rattle.check_duplicates.specs.declared.Place.{Place}
-use Rattle.check_duplicates.specs.Duplicates.{nowhere, here, step, last_of, side_of, is_earlier, previous_on, or_else, previous_of, clashes, redeclaration, duplicate_by, duplicates_in, duplicate_elements}
+use Rattle.check_duplicates.specs.Duplicates.{nowhere, here, there, number, step, last_of, side_of, is_earlier, previous_on, or_else, previous_of, clashes, redeclaration, duplicate_by, duplicates_in, duplicate_elements}
 use Rattle.check_class_table.specs.Classes.{classes_of}
 use Rattle.check_pairs.specs.Pairs.{is_last, is_paired, clashing, clash_findings}
 
 -- none, or the one that is kept
 abbrev pub placed : Place → List ℕ
-placed p = cond p.there (p.element.0 ∷ []) []
+placed p = cond (there p) (number p ∷ []) []
 
 -- the last of a list, where another was seen before
 last_else : (q : ℕ → Bool) (l : List ℕ) (p : Place) → foldl (step q) p l ≡ or_else (foldl (step q) nowhere l) p
 last_else q [] p = refl
 last_else q (d ∷ l) p =
     last_else q l (step q p d)
-    ∙ go (q d) (foldl (step q) nowhere l).there refl
+    ∙ go (q d) (there (foldl (step q) nowhere l)) refl
     ∙ sym (ap (λ (x : Place). or_else x p) (last_else q l (step q nowhere d)))
   where
-    go : (x b : Bool) → (foldl (step q) nowhere l).there ≡ b → cond b (foldl (step q) nowhere l) (cond x (here d) p) ≡ or_else (cond b (foldl (step q) nowhere l) (cond x (here d) nowhere)) p
+    go : (x b : Bool) → there (foldl (step q) nowhere l) ≡ b → cond b (foldl (step q) nowhere l) (cond x (here d) p) ≡ or_else (cond b (foldl (step q) nowhere l) (cond x (here d) nowhere)) p
     go x true h = rw h
     go true false h = refl
     go false false h = refl
 
 -- there is a last one just where some passes
-there_any : (q : ℕ → Bool) (l : List ℕ) → (foldl (step q) nowhere l).there ≡ any q l
+there_any : (q : ℕ → Bool) (l : List ℕ) → there (foldl (step q) nowhere l) ≡ any q l
 there_any q [] = refl
-there_any q (d ∷ l) = ap (λ (x : Place). x.there) (last_else q l (step q nowhere d)) ∙ go (q d) (foldl (step q) nowhere l).there refl (sym (there_any q l))
+there_any q (d ∷ l) = ap (λ (x : Place). there x) (last_else q l (step q nowhere d)) ∙ go (q d) (there (foldl (step q) nowhere l)) refl (sym (there_any q l))
   where
-    go : (x b : Bool) → (foldl (step q) nowhere l).there ≡ b → any q l ≡ b → (cond b (foldl (step q) nowhere l) (cond x (here d) nowhere)).there ≡ (x || any q l)
+    go : (x b : Bool) → there (foldl (step q) nowhere l) ≡ b → any q l ≡ b → there (cond b (foldl (step q) nowhere l) (cond x (here d) nowhere)) ≡ (x || any q l)
     go true true h a = h
     go false true h a = h ∙ sym a
     go true false h a = refl
@@ -65,17 +64,17 @@ unfolding keep
 only_last q [] r = refl
 only_last q (d ∷ l) r =
     rw (first_last q d l r.0, rest_last q d l r.0, only_last q l r.1)
-    (go (q d) (foldl (step q) nowhere l).there refl (sym (there_any q l)) ∙ ap placed (sym (last_else q l (step q nowhere d))))
+    (go (q d) (there (foldl (step q) nowhere l)) refl (sym (there_any q l)) ∙ ap placed (sym (last_else q l (step q nowhere d))))
   where
-    go : (x b : Bool) → (foldl (step q) nowhere l).there ≡ b → any q l ≡ b
-        → cond (x && not (any q l)) (d ∷ placed (foldl (step q) nowhere l)) (placed (foldl (step q) nowhere l)) ≡ placed (cond (foldl (step q) nowhere l).there (foldl (step q) nowhere l) (cond x (here d) nowhere))
+    go : (x b : Bool) → there (foldl (step q) nowhere l) ≡ b → any q l ≡ b
+        → cond (x && not (any q l)) (d ∷ placed (foldl (step q) nowhere l)) (placed (foldl (step q) nowhere l)) ≡ placed (cond (there (foldl (step q) nowhere l)) (foldl (step q) nowhere l) (cond x (here d) nowhere))
     go true true h a = ap (λ (b : Bool). cond (not b) (d ∷ placed (foldl (step q) nowhere l)) (placed (foldl (step q) nowhere l))) a ∙ sym (ap (λ (b : Bool). placed (cond b (foldl (step q) nowhere l) (here d))) h)
     go false true h a = sym (ap (λ (b : Bool). placed (cond b (foldl (step q) nowhere l) nowhere)) h)
     go true false h a =
         ap (λ (b : Bool). cond (not b) (d ∷ placed (foldl (step q) nowhere l)) (placed (foldl (step q) nowhere l))) a
-        ∙ ap (λ (b : Bool). d ∷ cond b ((foldl (step q) nowhere l).element.0 ∷ []) []) h
+        ∙ ap (λ (b : Bool). d ∷ cond b (number (foldl (step q) nowhere l) ∷ []) []) h
         ∙ sym (ap (λ (b : Bool). placed (cond b (foldl (step q) nowhere l) (here d))) h)
-    go false false h a = ap (λ (b : Bool). cond b ((foldl (step q) nowhere l).element.0 ∷ []) []) h ∙ sym (ap (λ (b : Bool). placed (cond b (foldl (step q) nowhere l) nowhere)) h)
+    go false false h a = ap (λ (b : Bool). cond b (number (foldl (step q) nowhere l) ∷ []) []) h ∙ sym (ap (λ (b : Bool). placed (cond b (foldl (step q) nowhere l) nowhere)) h)
 
 or_false_lem : (b : Bool) → (b || false) ≡ b
 or_false_lem true = refl
@@ -83,12 +82,12 @@ or_false_lem false = refl
 
 -- those of one side or, where there is none, of the other: at most one
 module _ (own other : ℕ → Bool) (l : List ℕ) (r : Rising l) where
-  side_part : (b : Bool) → (foldl (step own) nowhere l).there ≡ b → keep (λ d. is_last own l d || (not b && is_last other l d)) l ≡ placed (cond b (foldl (step own) nowhere l) (foldl (step other) nowhere l))
+  side_part : (b : Bool) → there (foldl (step own) nowhere l) ≡ b → keep (λ d. is_last own l d || (not b && is_last other l d)) l ≡ placed (cond b (foldl (step own) nowhere l) (foldl (step other) nowhere l))
   side_part true h = keep_same (λ d. is_last own l d || false) (is_last own l) (λ d. or_false_lem (is_last own l d)) l ∙ only_last own l r
   side_part false h = keep_second (is_last own l) (is_last other l) l (only_last own l r ∙ rw h) ∙ only_last other l r
 
   sides : keep (λ d. is_last own l d || (not (any own l) && is_last other l d)) l ≡ placed (or_else (foldl (step own) nowhere l) (foldl (step other) nowhere l))
-  sides = ap (λ (b : Bool). keep (λ d. is_last own l d || (not b && is_last other l d)) l) (sym (there_any own l)) ∙ side_part (foldl (step own) nowhere l).there refl
+  sides = ap (λ (b : Bool). keep (λ d. is_last own l d || (not b && is_last other l d)) l) (sym (there_any own l)) ∙ side_part (there (foldl (step own) nowhere l)) refl
 
 module _ (t : ℕ) (ns names : List ℕ) (c : ℕ) where
   rising : Rising (elements t ns c)
@@ -101,10 +100,10 @@ module _ (t : ℕ) (ns names : List ℕ) (c : ℕ) where
 
   raised_by_lem : (e : ℕ) (p : Place) → flat_map (λ d. listed (redeclaration t ns d e)) (keep (λ d. clashes ns d e) (placed p)) ≡ listed (duplicate_by t ns e p)
   unfolding duplicate_by redeclaration keep flat_map
-  raised_by_lem e p = go p.there (clashes ns p.element.0 e) refl
+  raised_by_lem e p = go (there p) (clashes ns (number p) e) refl
     where
-      go : (b x : Bool) → clashes ns p.element.0 e ≡ x
-          → flat_map (λ d. listed (redeclaration t ns d e)) (keep (λ d. clashes ns d e) (cond b (p.element.0 ∷ []) [])) ≡ listed (cond (b && x) (redeclaration t ns p.element.0 e) Clear)
+      go : (b x : Bool) → clashes ns (number p) e ≡ x
+          → flat_map (λ d. listed (redeclaration t ns d e)) (keep (λ d. clashes ns d e) (cond b (number p ∷ []) [])) ≡ listed (cond (b && x) (redeclaration t ns (number p) e) None)
       go true true h = rw h
       go true false h = rw h
       go false x h = refl

@@ -1,23 +1,20 @@
 -- The checks that ask for no name.
+use Rattle.table_records.specs.declared.ClassId.{ClassId}
+use Rattle.table_records.specs.declared.NodeId.{NodeId}
 use Prim.Native.Nat.{ℕ, zero, suc}
-use Rattle.std.specs.Prelude.{◌≡◌, Bool}
+use Rattle.std.specs.Prelude.{◌≡◌, Bool, Option, Some, None}
 use Rattle.std.proofs.Math.Path.{refl, ap, fun_ext}
 use Rattle.std.proofs.Common.{◌∙◌}
 use mathlib.Core.List.{List, [], ◌∷◌, foldr}
 use Rattle.table_records.specs.Table.{ancestors}
-use Rattle.table_records.specs.declared.Found.{Found}
-use Rattle.table_records.specs.declared.Found.TheVariants.{At, Nothing}
-use Rattle.check_diagnostics.specs.declared.Raised.TheVariants.{Clear}
 use Rattle.check_statements.specs.Statements.{check_function_declaration, check_body, check_consequent, check_alternate, labelled_function, check_labeled_item, check_function_declaration_in_labeled_statement, check_with_statement, check_initialiser, check_left, check_for_statement_left, check_for_of_statement, check_using, check_await_using}
 use Rattle.check_bodies.specs.Bodies.{check_async_body, async_bodies_at}
 use Rattle.check_literals.specs.declared.Escape.{Escape}
-use Rattle.check_literals.specs.declared.Escape.TheVariants.{LegacyOctal, NonOctalDecimal, Fine}
+use Rattle.check_literals.specs.declared.Escape.TheVariants.{LegacyOctal, NonOctalDecimal}
 use Rattle.check_literals.specs.Literals.{source_text, escape_finding, check_string_literal, check_number_literal}
 use Rattle.check_identifiers.specs.Identifiers.{strict_context, await_finding, let_at, let_from, is_field_value, arguments_at, arguments_from}
 use Rattle.check_expressions.specs.Expressions.{repeats_after, repeats, inside, stripped, inner_expression, error_part, chain_finding, delete_of, delete_finding, check_unary_expression, is_parameter, in_formal_parameters, in_parameter, in_block}
 use Rattle.check_jumps.specs.Jumps.{under, walk_up, plain_break_at, no_label, plain_continue_at, continue_to}
-use Rattle.check_class_table.specs.declared.Current.{Current}
-use Rattle.check_class_table.specs.declared.Current.TheVariants.{Class, Outside}
 use Rattle.check_class_table.specs.Classes.{current_class, is_class_body, outer_classes, classes_of}
 use Rattle.check_class_table.specs.Elements.{span_at, has_body_at, element_span, has_body}
 use Rattle.check_classes.specs.ClassChecks.{outside_by, require_class_name}
@@ -87,10 +84,10 @@ module _ (ns ms : List ℕ) (a : Fields ns ms) where
   unfolding source_text
   source_text_lem source n = simp (tables, a)
 
-  escape : (n : ℕ) (x : Escape) → escape_finding ns n x ≡ escape_finding ms n x
-  escape n (LegacyOctal i) = simp (tables, a)
-  escape n (NonOctalDecimal i) = simp (tables, a)
-  escape n Fine = refl
+  escape : (n : ℕ) (x : Option Escape) → escape_finding ns n x ≡ escape_finding ms n x
+  escape n (Some (LegacyOctal i)) = simp (tables, a)
+  escape n (Some (NonOctalDecimal i)) = simp (tables, a)
+  escape n None = refl
 
   pub string : (ss source : List ℕ) (n : ℕ) → check_string_literal ns ss source n ≡ check_string_literal ms ss source n
   unfolding check_string_literal
@@ -123,7 +120,7 @@ module _ (ns ms : List ℕ) (a : Fields ns ms) where
 
   pub arguments_from_lem : (n i : ℕ) → arguments_from ns n i ≡ arguments_from ms n i
   unfolding arguments_from
-  arguments_from_lem n i = ap (λ g. foldr g Clear (i ∷ ancestors ns i)) (arguments_at_lem n) ∙ simp (tables, a)
+  arguments_from_lem n i = ap (λ g. foldr g None (i ∷ ancestors ns i)) (arguments_at_lem n) ∙ simp (tables, a)
 
   -- EXPRESSIONS
   repeats_after_lem : (n b : ℕ) (l : List ℕ) → repeats_after ns n b l ≡ repeats_after ms n b l
@@ -145,18 +142,18 @@ module _ (ns ms : List ℕ) (a : Fields ns ms) where
   strip zero n = refl
   strip (suc f) n = simp (its_inside, strip f)
 
-  error_part_lem : (c n : ℕ) (f : Found) → error_part ns c n f ≡ error_part ms c n f
-  error_part_lem c n (At m) = simp (tables, a)
-  error_part_lem c n Nothing = refl
+  error_part_lem : (c n : ℕ) (f : Option NodeId) → error_part ns c n f ≡ error_part ms c n f
+  error_part_lem c n (Some m) = simp (tables, a)
+  error_part_lem c n None = refl
 
-  chain : (n : ℕ) (f : Found) → chain_finding ns n f ≡ chain_finding ms n f
-  chain n (At m) = simp (tables, error_part_lem, a)
-  chain n Nothing = refl
+  chain : (n : ℕ) (f : Option NodeId) → chain_finding ns n f ≡ chain_finding ms n f
+  chain n (Some m) = simp (tables, error_part_lem, a)
+  chain n None = refl
 
-  delete : (ss : List ℕ) (n : ℕ) (f : Found) → delete_finding ns ss n f ≡ delete_finding ms ss n f
+  delete : (ss : List ℕ) (n : ℕ) (f : Option NodeId) → delete_finding ns ss n f ≡ delete_finding ms ss n f
   unfolding delete_of inner_expression
-  delete ss n (At m) = simp (tables, chain, strip, a)
-  delete ss n Nothing = refl
+  delete ss n (Some m) = simp (tables, chain, strip, a)
+  delete ss n None = refl
 
   pub unary : (ss : List ℕ) (n : ℕ) → check_unary_expression ns ss n ≡ check_unary_expression ms ss n
   unfolding check_unary_expression
@@ -216,25 +213,25 @@ module _ (ns ms : List ℕ) (a : Fields ns ms) where
   unfolding classes_of
   classes_of_lem = simp (tables, class_body_lem, a)
 
-  span_at_lem : (f : Found) → span_at ns f ≡ span_at ms f
-  span_at_lem (At m) = simp (tables, a)
-  span_at_lem Nothing = refl
+  span_at_lem : (f : Option NodeId) → span_at ns f ≡ span_at ms f
+  span_at_lem (Some m) = simp (tables, a)
+  span_at_lem None = refl
 
   pub element_span_lem : (e : ℕ) → element_span ns e ≡ element_span ms e
   unfolding element_span
   element_span_lem e = simp (tables, span_at_lem, a)
 
-  body_at : (f : Found) → has_body_at ns f ≡ has_body_at ms f
-  body_at (At m) = simp (tables, a)
-  body_at Nothing = refl
+  body_at : (f : Option NodeId) → has_body_at ns f ≡ has_body_at ms f
+  body_at (Some m) = simp (tables, a)
+  body_at None = refl
 
   pub has_body_lem : (e : ℕ) → has_body ns e ≡ has_body ms e
   unfolding has_body
   has_body_lem e = simp (tables, body_at, a)
 
-  pub outside_by_lem : (n : ℕ) (c : Current) → outside_by ns n c ≡ outside_by ms n c
-  outside_by_lem n (Class c) = refl
-  outside_by_lem n Outside = simp (tables, a)
+  pub outside_by_lem : (n : ℕ) (c : Option ClassId) → outside_by ns n c ≡ outside_by ms n c
+  outside_by_lem n (Some c) = refl
+  outside_by_lem n None = simp (tables, a)
 
   pub require_name : (n : ℕ) → require_class_name ns n ≡ require_class_name ms n
   unfolding require_class_name

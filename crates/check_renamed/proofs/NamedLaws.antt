@@ -1,5 +1,7 @@
 -- The checks that ask for names.
-use Rattle.std.specs.Prelude.{ℕ, ◌+◌, ◌*◌, ◌≡◌, Bool, true, false, ◌&&◌, eqb, length}
+use Rattle.table_records.specs.declared.ClassId.{ClassId}
+use Rattle.table_records.specs.declared.NodeId.{NodeId}
+use Rattle.std.specs.Prelude.{ℕ, ◌+◌, ◌*◌, ◌≡◌, Bool, true, false, ◌&&◌, eqb, length, Option, Some, None}
 use Rattle.std.proofs.Math.Path.{refl, ap, fun_ext}
 use Rattle.std.proofs.Common.{sym, ◌∙◌, arith}
 use mathlib.Core.List.{List, [], ◌∷◌, flat_map}
@@ -9,19 +11,14 @@ use Rattle.base_common.proofs.UptoLaws.{and_left_lem}
 use Rattle.table_records.specs.Table.{count, kind_of}
 use Rattle.table_records.specs.Kinds as k
 use Rattle.table_records.specs.Facts.{Named}
-use Rattle.table_records.specs.declared.Found.{Found}
-use Rattle.table_records.specs.declared.Found.TheVariants.{At, Nothing}
 use Rattle.table_names.specs.Name.{name_of, name_is, same_name}
 use Rattle.table_names.specs.Words as word
 use Rattle.table_children.specs.Children.{keep, label_of}
-use Rattle.check_diagnostics.specs.declared.Raised.TheVariants.{Clear}
 use Rattle.check_diagnostics.specs.Finding.{listed}
 use Rattle.check_diagnostics.proofs.Gather.{flat_keep, flat_same_lem}
 use Rattle.check_jumps.specs.Jumps.{when_found, walk_up, same_label, labelled_break_at, labelled_continue_at, labeled_at, check_break_statement, check_continue_statement, check_labeled_statement}
 use Rattle.check_identifiers.specs.Identifiers.{is_strict_word, check_identifier, check_binding_identifier, check_identifier_reference, check_directive}
 use Rattle.check_expressions.specs.Expressions.{if_proto, proto_key, check_object_expression}
-use Rattle.check_class_table.specs.declared.Current.{Current}
-use Rattle.check_class_table.specs.declared.Current.TheVariants.{Class, Outside}
 use Rattle.check_class_table.specs.Classes.{current_class, outer_classes}
 use Rattle.check_class_table.specs.Elements.{name_at, has_name_at, element_name, has_name, fixed_name, enters, is_definition, is_private, is_compared, elements, privates, compared, has_private, is_declared}
 use Rattle.check_class_table.proofs.ElementsLaws.{any_same}
@@ -64,9 +61,9 @@ module _ (ns names ms mnames : List ℕ) (r : Alike ns names ms mnames) where
   pub same_label_lem : (l x : ℕ) → is_label ns l ≡ true → same_label ns names l x ≡ same_label ms mnames l x
   unfolding same_label
   same_label_lem l x h =
-      cond_both (eqb (kind_of ns x) k.Labeled) (eqb (kind_of ms x) k.Labeled) _ _ Nothing Nothing (simp (tables, r.fields))
-      (λ q. when_label (λ m. cond (same_name ns names m l) (At (record { 0 = m })) Nothing) (λ m. cond (same_name ms mnames m l) (At (record { 0 = m })) Nothing)
-      Nothing Nothing x (λ m e. ap (λ b. cond b (At (record { 0 = m })) Nothing) (two_labels_lem ns names ms mnames r m l e h)) refl) refl
+      cond_both (eqb (kind_of ns x) k.Labeled) (eqb (kind_of ms x) k.Labeled) _ _ None None (simp (tables, r.fields))
+      (λ q. when_label (λ m. cond (same_name ns names m l) (Some (record { 0 = m })) None) (λ m. cond (same_name ms mnames m l) (Some (record { 0 = m })) None)
+      None None x (λ m e. ap (λ b. cond b (Some (record { 0 = m })) None) (two_labels_lem ns names ms mnames r m l e h)) refl) refl
 
   break_at : (n l : ℕ) → is_label ns l ≡ true → labelled_break_at ns names n l ≡ labelled_break_at ms mnames n l
   unfolding labelled_break_at
@@ -113,11 +110,11 @@ module _ (ns names ms mnames : List ℕ) (r : Alike ns names ms mnames) where
   element_name_lem e = at_key ns names ms mnames r (name_at ns names) (name_at ms mnames) e (λ m l h. h) refl
 
 -- THE RESERVED-WORD CHECK: it raises nothing where it finds none of its words, and so at no label
-word_clear : (t : ℕ) (ns ss names : List ℕ) (n : ℕ) → name_is ns names n word.await_word ≡ false → is_strict_word ns names n ≡ false → check_identifier t ns ss names n ≡ Clear
+word_clear : (t : ℕ) (ns ss names : List ℕ) (n : ℕ) → name_is ns names n word.await_word ≡ false → is_strict_word ns names n ≡ false → check_identifier t ns ss names n ≡ None
 unfolding check_identifier
 word_clear t ns ss names n a s = rw (a, s)
 
-label_clear : (t : ℕ) (ns ss names : List ℕ) → Unreserved ns names → length ns ≡ count ns * 10 → (n : ℕ) → is_label ns n ≡ true → check_identifier t ns ss names n ≡ Clear
+label_clear : (t : ℕ) (ns ss names : List ℕ) → Unreserved ns names → length ns ≡ count ns * 10 → (n : ℕ) → is_label ns n ≡ true → check_identifier t ns ss names n ≡ None
 label_clear t ns ss names u whole n e = word_clear t ns ss names n (u.await n (label_in_lem ns whole n e) e) (u.strict n (label_in_lem ns whole n e) e)
 
 module _ (ns names ms mnames : List ℕ) (r : Alike ns names ms mnames) (whole : length ns ≡ count ns * 10) (old : Unreserved ns names) (new : Unreserved ms mnames) where
@@ -211,9 +208,9 @@ module _ (ns names ms mnames : List ℕ) (r : Alike ns names ms mnames) (w : Nam
       (λ m q. ap listed (undeclared_at_lem n c m (name_at_kind ns names ms mnames r m k.PrivateIdentifier (λ z. omega arith) (and_left_lem _ _ (and_left_lem _ _ q)))))
       ∙ simp (size ns ms r.fields)
 
-  undeclared_by_lem : (n : ℕ) (c : Current) → undeclared_by t ns names n c ≡ undeclared_by t ms mnames n c
-  undeclared_by_lem n (Class c) = undeclared_in_lem n c.0
-  undeclared_by_lem n Outside = refl
+  undeclared_by_lem : (n : ℕ) (c : Option ClassId) → undeclared_by t ns names n c ≡ undeclared_by t ms mnames n c
+  undeclared_by_lem n (Some c) = undeclared_in_lem n c.0
+  undeclared_by_lem n None = refl
 
   its_constructors : (c : ℕ) → constructors ns c ≡ constructors ms c
   unfolding constructors
@@ -228,9 +225,9 @@ module _ (ns names ms mnames : List ℕ) (r : Alike ns names ms mnames) (w : Nam
   first_pair_lem n (a ∷ []) = refl
   first_pair_lem n (a ∷ b ∷ l) = simp constructor_span_lem
 
-  second_by_lem : (n : ℕ) (f : Found) → second_by t ns n f ≡ second_by t ms n f
-  second_by_lem n (At b) = simp (first_pair_lem, its_constructors)
-  second_by_lem n Nothing = refl
+  second_by_lem : (n : ℕ) (f : Option NodeId) → second_by t ns n f ≡ second_by t ms n f
+  second_by_lem n (Some b) = simp (first_pair_lem, its_constructors)
+  second_by_lem n None = refl
 
   pub class : (n : ℕ) → check_class t ns names n ≡ check_class t ms mnames n
   unfolding check_class

@@ -1,5 +1,6 @@
 -- The search of `super`, which asks for no name.
-use Rattle.std.specs.Prelude.{ℕ, ◌≡◌, Bool}
+use Rattle.table_records.specs.declared.NodeId.{NodeId}
+use Rattle.std.specs.Prelude.{ℕ, ◌≡◌, Bool, Option, Some, None}
 use Rattle.std.proofs.Common.{◌∙◌}
 use Rattle.std.proofs.Math.Path.{refl, ap, fun_ext}
 use Rattle.std.proofs.Math.Bool.{cond}
@@ -7,8 +8,6 @@ use mathlib.Core.List.{List, [], ◌∷◌, foldr}
 use Rattle.base_common.specs.Tests.{within}
 use Rattle.table_records.specs.Table.{kind_of, parent_of, ancestors}
 use Rattle.table_records.specs.Kinds as k
-use Rattle.table_records.specs.declared.Found.{Found}
-use Rattle.table_records.specs.declared.Found.TheVariants.{At, Nothing}
 use Rattle.check_supers.specs.declared.ElementPart.{ElementPart}
 use Rattle.check_supers.specs.declared.ElementPart.TheVariants.{NoElement}
 use Rattle.check_supers.specs.declared.Reach.{Reach}
@@ -36,36 +35,36 @@ module _ (ns ms : List ℕ) (a : Fields ns ms) where
   unfolding place_of step_of
   place_of_lem n = ap (λ (f : ℕ → ElementPart → ElementPart). foldr f NoElement (n ∷ ancestors ns n)) same_step ∙ simp (tables, a)
 
-  dummy : (n : ℕ) (f : Found) → dummy_use ns n f ≡ dummy_use ms n f
-  dummy n (At b) = simp (tables, a)
-  dummy n Nothing = refl
+  dummy : (n : ℕ) (f : Option NodeId) → dummy_use ns n f ≡ dummy_use ms n f
+  dummy n (Some b) = simp (tables, a)
+  dummy n None = refl
 
-  derived : (n : ℕ) (f : Found) → derived_use ns n f ≡ derived_use ms n f
-  derived n (At b) = simp (tables, a)
-  derived n Nothing = simp (tables, dummy, a)
+  derived : (n : ℕ) (f : Option NodeId) → derived_use ns n f ≡ derived_use ms n f
+  derived n (Some b) = simp (tables, a)
+  derived n None = simp (tables, dummy, a)
 
-  function_use_lem : (n : ℕ) (call : Bool) (class : Found) (f : ℕ) → function_use ns n call class f ≡ function_use ms n call class f
+  function_use_lem : (n : ℕ) (call : Bool) (class : Option NodeId) (f : ℕ) → function_use ns n call class f ≡ function_use ms n call class f
   unfolding function_use object_use method_use is_value_of
   function_use_lem n call class f = simp (tables, derived, a)
 
-  class_scope : (f : Found) (s : ℕ) → is_class_scope ns f s ≡ is_class_scope ms f s
-  class_scope (At b) s = simp (tables, a)
-  class_scope Nothing s = refl
+  class_scope : (f : Option NodeId) (s : ℕ) → is_class_scope ns f s ≡ is_class_scope ms f s
+  class_scope (Some b) s = simp (tables, a)
+  class_scope None s = refl
 
-  step : (ss : List ℕ) (n : ℕ) (call : Bool) (class : Found) (start s : ℕ) → step_at ns ss n call class start s ≡ step_at ms ss n call class start s
+  step : (ss : List ℕ) (n : ℕ) (call : Bool) (class : Option NodeId) (start s : ℕ) → step_at ns ss n call class start s ≡ step_at ms ss n call class start s
   unfolding step_at
   step ss n call class start s = simp (class_scope, place_of_lem, function_use_lem)
 
-  leave : (f : Found) → leave_class ns f ≡ leave_class ms f
-  leave (At b) = simp (tables, a)
-  leave Nothing = refl
+  leave : (f : Option NodeId) → leave_class ns f ≡ leave_class ms f
+  leave (Some b) = simp (tables, a)
+  leave None = refl
 
-  class_after_lem : (f : Found) (s : Step) → class_after ns f s ≡ class_after ms f s
+  class_after_lem : (f : Option NodeId) (s : Step) → class_after ns f s ≡ class_after ms f s
   class_after_lem f (Stop r) = refl
   class_after_lem f Leave = leave f
   class_after_lem f On = refl
 
-  reach_from_lem : (ss : List ℕ) (n : ℕ) (call : Bool) (l : List ℕ) (class : Found) (start : ℕ) → reach_from ns ss n call l class start ≡ reach_from ms ss n call l class start
+  reach_from_lem : (ss : List ℕ) (n : ℕ) (call : Bool) (l : List ℕ) (class : Option NodeId) (start : ℕ) → reach_from ns ss n call l class start ≡ reach_from ms ss n call l class start
   unfolding reach_from
   reach_from_lem ss n call [] class start = refl
   reach_from_lem ss n call (s ∷ l) class start = simp (step, class_after_lem, reach_from_lem ss n call l)

@@ -1,5 +1,5 @@
 -- The search for what holds a labelled function, as a walk up meets it.
-use Rattle.std.specs.Prelude.{ℕ, ◌<◌, ◌≡◌, List, true, false}
+use Rattle.std.specs.Prelude.{ℕ, ◌<◌, ◌≡◌, List, true, false, None}
 use Rattle.std.proofs.Common.{◌∙◌}
 use borrow.Author.Tests.{eq-eqb, ne_eqb}
 use Rattle.base_common.specs.Tests.{within}
@@ -10,7 +10,6 @@ use Rattle.table_ancestry.proofs.AncestryLaws.{ancestors_up, ancestors_root}
 use Rattle.check_diagnostics.specs.Codes as code
 use Rattle.check_diagnostics.specs.Contexts as context
 use Rattle.check_diagnostics.specs.Finding.{error_at}
-use Rattle.check_diagnostics.specs.declared.Raised.TheVariants.{Clear}
 use Rattle.check_statements.specs.Statements.{labelled_function}
 
 -- p is the parent of i
@@ -23,10 +22,10 @@ module _ (ns : List ℕ) (t : Tree ns) (n s i p : ℕ) (h : 0 < i) (l : i < coun
   unfolding labelled_function
   function_held w v = ancestors_up _ _ ns t i h l ∙ rw (← e, ne_eqb _ _ w, v)
 
-  pub function_free : (kind_of ns p ≡ k.Labeled → ⊥) → within (kind_of ns p) k.For k.With ≡ false → labelled_function ns n s i ≡ Clear
+  pub function_free : (kind_of ns p ≡ k.Labeled → ⊥) → within (kind_of ns p) k.For k.With ≡ false → labelled_function ns n s i ≡ None
   unfolding labelled_function
   function_free w v = ancestors_up _ _ ns t i h l ∙ rw (← e, ne_eqb _ _ w, v)
 
-pub function_root : (ns : List ℕ) (n s : ℕ) → labelled_function ns n s 0 ≡ Clear
+pub function_root : (ns : List ℕ) (n s : ℕ) → labelled_function ns n s 0 ≡ None
 unfolding labelled_function
 function_root ns n s = ancestors_root _ _ ns

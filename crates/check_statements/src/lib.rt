@@ -4,28 +4,28 @@
 ghost use Rattle.std.specs.Prelude.{◌≡◌, ◌<◌};
 ghost use Rattle.table_records.specs.Table.{count};
 ghost use Rattle.table_records.specs.Facts.{Tree, Chained, Scoped, Spanned};
-ghost use Rattle.check_statements.specs.Statements.{check_function_declaration, check_body, check_consequent, check_alternate, labelled_function, check_labeled_item, check_function_declaration_in_labeled_statement, check_with_statement, check_initialiser, check_left, check_for_statement_left, check_for_of_statement, check_using, check_await_using};
+ghost use Rattle.table_children.specs.Children.{below};
+ghost use Rattle.check_statements.specs.Statements.{check_found, check_function_declaration, check_body, check_consequent, check_alternate, labelled_function, check_labeled_item, check_function_declaration_in_labeled_statement, check_with_statement, check_initialiser, check_left, check_for_statement_left, check_for_of_statement, check_using, check_await_using};
 
-use base_common::{and, not, or, within};
-use check_diagnostics::{Raised, codes, contexts, error, error_at};
-use table_records::{Found, NodeId, extras, kinds, node_flag, roles, scope_flag};
+use check_diagnostics::{Finding, codes, contexts, error, error_at};
+use table_records::{NodeId, extras, kinds, node_flag, roles, scope_flag};
 
 // A function declaration as the statement that n holds.
+#[tactic(auto, unfolding(crate::specs::Statements::check_function_declaration))]
 pub fn check_function_declaration(
     nodes: &[u32],
     scopes: &[u32],
     n: NodeId,
     stmt: NodeId,
     is_if_stmt_or_labeled_stmt: bool,
-) -> Raised
+) -> Option<Finding>
     requires scoped { Scoped nodes.now scopes.now }
     requires n_bound { n.0 < count nodes.now }
     requires stmt_bound { stmt.0 < count nodes.now }
     ensures { result ≡ check_function_declaration nodes.now scopes.now n.0 is_if_stmt_or_labeled_stmt stmt.0 }
 {
-    let kind = table_records::kind(nodes, stmt);
-    if kind != kinds::FUNCTION {
-        return Raised::Clear;
+    if table_records::kind(nodes, stmt) != kinds::FUNCTION {
+        return None;
     }
     if table_scoping::strict_mode(nodes, scopes, n) {
         return error_at(
@@ -37,7 +37,7 @@ pub fn check_function_declaration(
         );
     }
     if is_if_stmt_or_labeled_stmt {
-        return Raised::Clear;
+        return None;
     }
     error_at(
         nodes,
@@ -48,47 +48,61 @@ pub fn check_function_declaration(
     )
 }
 
+// The same of a statement that was looked for.
+fn check_found(
+    nodes: &[u32],
+    scopes: &[u32],
+    n: NodeId,
+    found: Option<NodeId>,
+    is_if_stmt_or_labeled_stmt: bool,
+) -> Option<Finding>
+    requires scoped { Scoped nodes.now scopes.now }
+    requires n_bound { n.0 < count nodes.now }
+    requires below { below nodes.now found }
+    ensures { result ≡ check_found found (check_function_declaration nodes.now scopes.now n.0 is_if_stmt_or_labeled_stmt) }
+{
+    check_function_declaration(nodes, scopes, n, found?, is_if_stmt_or_labeled_stmt)
+}
+
 // The body of a With or a loop.
-pub fn check_body(nodes: &[u32], scopes: &[u32], n: NodeId) -> Raised
+pub fn check_body(nodes: &[u32], scopes: &[u32], n: NodeId) -> Option<Finding>
     requires tree { Tree nodes.now }
     requires scoped { Scoped nodes.now scopes.now }
     requires n_bound { n.0 < count nodes.now }
     ensures { result ≡ check_body nodes.now scopes.now n.0 }
 {
-    let Found::At(body) = table_children::held_of(nodes, n) else {
-        return Raised::Clear;
-    };
-    check_function_declaration(nodes, scopes, n, body, false)
+    check_found(nodes, scopes, n, table_children::held_of(nodes, n), false)
 }
 
 // The consequent of an If.
-pub fn check_consequent(nodes: &[u32], scopes: &[u32], n: NodeId) -> Raised
+pub fn check_consequent(nodes: &[u32], scopes: &[u32], n: NodeId) -> Option<Finding>
     requires tree { Tree nodes.now }
     requires scoped { Scoped nodes.now scopes.now }
     requires n_bound { n.0 < count nodes.now }
     ensures { result ≡ check_consequent nodes.now scopes.now n.0 }
 {
-    let Found::At(consequent) = table_children::held_of(nodes, n) else {
-        return Raised::Clear;
-    };
-    check_function_declaration(nodes, scopes, n, consequent, true)
+    check_found(nodes, scopes, n, table_children::held_of(nodes, n), true)
 }
 
 // The alternate of an If, where it has one.
-pub fn check_alternate(nodes: &[u32], scopes: &[u32], n: NodeId) -> Raised
+pub fn check_alternate(nodes: &[u32], scopes: &[u32], n: NodeId) -> Option<Finding>
     requires tree { Tree nodes.now }
     requires scoped { Scoped nodes.now scopes.now }
     requires n_bound { n.0 < count nodes.now }
     ensures { result ≡ check_alternate nodes.now scopes.now n.0 }
 {
-    let Found::At(alternate) = table_children::alternate_of(nodes, n) else {
-        return Raised::Clear;
-    };
-    check_function_declaration(nodes, scopes, n, alternate, true)
+    check_found(
+        nodes,
+        scopes,
+        n,
+        table_children::alternate_of(nodes, n),
+        true,
+    )
 }
 
 // A labelled function in sloppy code: past nested labels, no loop, If or With holds it.
-fn labelled_function(nodes: &[u32], n: NodeId, function: NodeId) -> Raised
+#[tactic(auto, unfolding(crate::specs::Statements::labelled_function))]
+fn labelled_function(nodes: &[u32], n: NodeId, function: NodeId) -> Option<Finding>
     requires tree { Tree nodes.now }
     requires n_bound { n.0 < count nodes.now }
     requires function_bound { function.0 < count nodes.now }
@@ -97,36 +111,35 @@ fn labelled_function(nodes: &[u32], n: NodeId, function: NodeId) -> Raised
     let mut at = n;
     loop {
         if at.0 == 0 {
-            break Raised::Clear;
+            break None;
         }
         at = table_ancestry::up(nodes, at);
-        let kind = table_records::kind(nodes, at);
-        if kind == kinds::LABELED {
-            continue;
+        match table_records::kind(nodes, at) {
+            kinds::LABELED => {}
+            kinds::FOR..=kinds::WITH => {
+                break error_at(
+                    nodes,
+                    codes::FUNCTION_DECLARATION_NON_STRICT,
+                    n,
+                    function,
+                    contexts::NONE,
+                );
+            }
+            _ => break None,
         }
-        if within(kind, kinds::FOR, kinds::WITH) {
-            break error_at(
-                nodes,
-                codes::FUNCTION_DECLARATION_NON_STRICT,
-                n,
-                function,
-                contexts::NONE,
-            );
-        }
-        break Raised::Clear;
     }
 }
 
-fn check_labeled_item(nodes: &[u32], scopes: &[u32], n: NodeId, item: NodeId) -> Raised
+#[tactic(auto, unfolding(crate::specs::Statements::check_labeled_item))]
+fn check_labeled_item(nodes: &[u32], scopes: &[u32], n: NodeId, item: NodeId) -> Option<Finding>
     requires tree { Tree nodes.now }
     requires scoped { Scoped nodes.now scopes.now }
     requires n_bound { n.0 < count nodes.now }
     requires item_bound { item.0 < count nodes.now }
     ensures { result ≡ check_labeled_item nodes.now scopes.now n.0 item.0 }
 {
-    let kind = table_records::kind(nodes, item);
-    if kind != kinds::FUNCTION {
-        return Raised::Clear;
+    if table_records::kind(nodes, item) != kinds::FUNCTION {
+        return None;
     }
     if table_scoping::strict_mode(nodes, scopes, n) {
         return error_at(
@@ -146,20 +159,24 @@ pub fn check_function_declaration_in_labeled_statement(
     nodes: &[u32],
     scopes: &[u32],
     n: NodeId,
-) -> Raised
+) -> Option<Finding>
     requires tree { Tree nodes.now }
     requires scoped { Scoped nodes.now scopes.now }
     requires n_bound { n.0 < count nodes.now }
     ensures { result ≡ check_function_declaration_in_labeled_statement nodes.now scopes.now n.0 }
 {
-    let Found::At(item) = table_children::held_of(nodes, n) else {
-        return Raised::Clear;
-    };
+    let item = table_children::held_of(nodes, n)?;
     check_labeled_item(nodes, scopes, n, item)
 }
 
 // No With in strict code, nor in TypeScript.
-pub fn check_with_statement(source_type: u32, nodes: &[u32], scopes: &[u32], n: NodeId) -> Raised
+#[tactic(auto, unfolding(crate::specs::Statements::check_with_statement))]
+pub fn check_with_statement(
+    source_type: u32,
+    nodes: &[u32],
+    scopes: &[u32],
+    n: NodeId,
+) -> Option<Finding>
     requires scoped { Scoped nodes.now scopes.now }
     requires spanned { Spanned nodes.now }
     requires n_bound { n.0 < count nodes.now }
@@ -167,14 +184,15 @@ pub fn check_with_statement(source_type: u32, nodes: &[u32], scopes: &[u32], n: 
 {
     let typescript = table_source::is_typescript(source_type);
     let strict = table_scoping::strict_mode(nodes, scopes, n);
-    if or(typescript, strict) {
+    if typescript || strict {
         let start = table_records::span_start(nodes, n);
         return error(codes::WITH_STATEMENT, n, start, start + 4, contexts::NONE);
     }
-    Raised::Clear
+    None
 }
 
 // A declarator in the head of a ForIn or a ForOf, the only one of its declaration.
+#[tactic(auto, unfolding(crate::specs::Statements::check_initialiser))]
 fn check_initialiser(
     nodes: &[u32],
     scopes: &[u32],
@@ -182,7 +200,7 @@ fn check_initialiser(
     is_for_in: bool,
     decl: NodeId,
     declarator: NodeId,
-) -> Raised
+) -> Option<Finding>
     requires scoped { Scoped nodes.now scopes.now }
     requires n_bound { n.0 < count nodes.now }
     requires decl_bound { decl.0 < count nodes.now }
@@ -190,16 +208,11 @@ fn check_initialiser(
     ensures { result ≡ check_initialiser nodes.now scopes.now n.0 is_for_in decl.0 declarator.0 }
 {
     let flags = table_records::flags(nodes, declarator);
-    let strict_var = and(
-        table_scoping::strict_mode(nodes, scopes, n),
-        table_records::extra(nodes, decl) == extras::VAR,
-    );
-    let other = or(
-        not(is_for_in),
-        not(table_records::has_flag(flags, node_flag::PLAIN_NAME)),
-    );
+    let strict_var = table_scoping::strict_mode(nodes, scopes, n)
+        && table_records::extra(nodes, decl) == extras::VAR;
+    let other = !is_for_in || !table_records::has_flag(flags, node_flag::PLAIN_NAME);
     let has_init = table_records::has_flag(flags, node_flag::INITIALISER);
-    if and(has_init, or(strict_var, other)) {
+    if has_init && (strict_var || other) {
         return error_at(
             nodes,
             codes::UNEXPECTED_INITIALIZER_IN_FOR_LOOP_HEAD,
@@ -208,72 +221,83 @@ fn check_initialiser(
             contexts::NONE,
         );
     }
-    Raised::Clear
+    None
 }
 
-fn check_left(nodes: &[u32], scopes: &[u32], n: NodeId, is_for_in: bool, decl: NodeId) -> Raised
+#[tactic(auto, unfolding(crate::specs::Statements::check_left))]
+fn check_left(
+    nodes: &[u32],
+    scopes: &[u32],
+    n: NodeId,
+    is_for_in: bool,
+    decl: NodeId,
+) -> Option<Finding>
     requires tree { Tree nodes.now }
     requires scoped { Scoped nodes.now scopes.now }
     requires n_bound { n.0 < count nodes.now }
     requires decl_bound { decl.0 < count nodes.now }
     ensures { result ≡ check_left nodes.now scopes.now n.0 is_for_in decl.0 }
 {
-    let kind = table_records::kind(nodes, decl);
-    if kind != kinds::VARIABLE_DECLARATION {
-        return Raised::Clear;
+    if table_records::kind(nodes, decl) != kinds::VARIABLE_DECLARATION {
+        return None;
     }
     let declarators = table_children::how_many(
         nodes,
         decl,
         kinds::VARIABLE_DECLARATOR,
         kinds::VARIABLE_DECLARATOR,
-        0,
-        7,
+        roles::OTHER,
+        roles::LEFT,
     );
     if declarators > 1 {
-        return Raised::Clear;
+        return None;
     }
-    let Found::At(declarator) = table_children::first_child(
+    let declarator = table_children::first_child(
         nodes,
         decl,
         kinds::VARIABLE_DECLARATOR,
         kinds::VARIABLE_DECLARATOR,
-        0,
-        7,
-    ) else {
-        return Raised::Clear;
-    };
+        roles::OTHER,
+        roles::LEFT,
+    )?;
     check_initialiser(nodes, scopes, n, is_for_in, decl, declarator)
 }
 
 // The left of a ForIn or a ForOf: where its declaration may have an initialiser.
-pub fn check_for_statement_left(nodes: &[u32], scopes: &[u32], n: NodeId, is_for_in: bool) -> Raised
+pub fn check_for_statement_left(
+    nodes: &[u32],
+    scopes: &[u32],
+    n: NodeId,
+    is_for_in: bool,
+) -> Option<Finding>
     requires tree { Tree nodes.now }
     requires scoped { Scoped nodes.now scopes.now }
     requires n_bound { n.0 < count nodes.now }
     ensures { result ≡ check_for_statement_left nodes.now scopes.now n.0 is_for_in }
 {
-    let Found::At(decl) = table_children::first_child(nodes, n, 0, 55, roles::LEFT, roles::LEFT)
-    else {
-        return Raised::Clear;
-    };
+    let decl = table_children::first_child(
+        nodes,
+        n,
+        kinds::PROGRAM,
+        kinds::ANYTHING_ELSE,
+        roles::LEFT,
+        roles::LEFT,
+    )?;
     check_left(nodes, scopes, n, is_for_in, decl)
 }
 
 // No `for await` in a static block.
 // > ClassStaticBlockBody : ClassStaticBlockStatementList
 // >   It is a Syntax Error if ClassStaticBlockStatementList Contains await is true.
-pub fn check_for_of_statement(nodes: &[u32], scopes: &[u32], n: NodeId) -> Raised
+#[tactic(auto, unfolding(crate::specs::Statements::check_for_of_statement))]
+pub fn check_for_of_statement(nodes: &[u32], scopes: &[u32], n: NodeId) -> Option<Finding>
     requires chained { Chained scopes.now }
     requires scoped { Scoped nodes.now scopes.now }
     requires n_bound { n.0 < count nodes.now }
     ensures { result ≡ check_for_of_statement nodes.now scopes.now n.0 }
 {
     let waits = table_records::has_flag(table_records::flags(nodes, n), node_flag::FOR_AWAIT);
-    if and(
-        waits,
-        table_scoping::is_in_class_static_block(nodes, scopes, n),
-    ) {
+    if waits && table_scoping::is_in_class_static_block(nodes, scopes, n) {
         return error_at(
             nodes,
             codes::CLASS_STATIC_BLOCK_FOR_AWAIT,
@@ -282,25 +306,25 @@ pub fn check_for_of_statement(nodes: &[u32], scopes: &[u32], n: NodeId) -> Raise
             contexts::NONE,
         );
     }
-    Raised::Clear
+    None
 }
 
 // The first half of check_variable_declaration: no `using` at the top level of a script.
-pub fn check_using(source_type: u32, nodes: &[u32], scopes: &[u32], n: NodeId) -> Raised
+#[tactic(auto, unfolding(crate::specs::Statements::check_using))]
+pub fn check_using(source_type: u32, nodes: &[u32], scopes: &[u32], n: NodeId) -> Option<Finding>
     requires scoped { Scoped nodes.now scopes.now }
     requires n_bound { n.0 < count nodes.now }
     ensures { result ≡ check_using source_type nodes.now scopes.now n.0 }
 {
-    let using = within(
+    let using = matches!(
         table_records::extra(nodes, n),
-        extras::USING,
-        extras::AWAIT_USING,
+        extras::USING..=extras::AWAIT_USING
     );
     let top = table_records::has_flag(
         table_scoping::current_scope_flags(nodes, scopes, n),
         scope_flag::TOP,
     );
-    if and(using, and(source_type == 0, top)) {
+    if using && source_type == 0 && top {
         return error_at(
             nodes,
             codes::USING_DECLARATION_NOT_ALLOWED_IN_SCRIPT,
@@ -309,21 +333,19 @@ pub fn check_using(source_type: u32, nodes: &[u32], scopes: &[u32], n: NodeId) -
             contexts::NONE,
         );
     }
-    Raised::Clear
+    None
 }
 
 // The second half: no `await using` in a static block.
-pub fn check_await_using(nodes: &[u32], scopes: &[u32], n: NodeId) -> Raised
+#[tactic(auto, unfolding(crate::specs::Statements::check_await_using))]
+pub fn check_await_using(nodes: &[u32], scopes: &[u32], n: NodeId) -> Option<Finding>
     requires chained { Chained scopes.now }
     requires scoped { Scoped nodes.now scopes.now }
     requires n_bound { n.0 < count nodes.now }
     ensures { result ≡ check_await_using nodes.now scopes.now n.0 }
 {
     let await_using = table_records::extra(nodes, n) == extras::AWAIT_USING;
-    if and(
-        await_using,
-        table_scoping::is_in_class_static_block(nodes, scopes, n),
-    ) {
+    if await_using && table_scoping::is_in_class_static_block(nodes, scopes, n) {
         return error_at(
             nodes,
             codes::CLASS_STATIC_BLOCK_AWAIT_USING,
@@ -332,5 +354,5 @@ pub fn check_await_using(nodes: &[u32], scopes: &[u32], n: NodeId) -> Raised
             contexts::NONE,
         );
     }
-    Raised::Clear
+    None
 }

@@ -1,6 +1,8 @@
 -- The search, as its loop meets it, and that the class it names is in the table.
+use Rattle.table_records.specs.declared.ScopeId.{ScopeId}
+use Rattle.table_records.specs.declared.NodeId.{NodeId}
 use Prim.Native.Nat.{ℕ, zero, suc, ◌+◌, ◌≤◌, ◌<◌}
-use Rattle.std.specs.Prelude.{◌≡◌, refl, Bool, true, false, not, eqb}
+use Rattle.std.specs.Prelude.{◌≡◌, refl, Bool, true, false, not, eqb, Option, Some, None}
 use Rattle.std.proofs.Math.Path.{ap}
 use Rattle.std.proofs.Common.{sym, subst, ◌∙◌, eqb-true, ⊎_elim, arith}
 use mathlib.Core.List.{List, [], ◌∷◌}
@@ -16,8 +18,6 @@ use Rattle.table_records.specs.Kinds as k
 use Rattle.table_records.specs.Extras as extra
 use Rattle.table_records.specs.NodeFlag as flag
 use Rattle.table_records.specs.ScopeFlag as scope
-use Rattle.table_records.specs.declared.Found.{Found}
-use Rattle.table_records.specs.declared.Found.TheVariants.{At, Nothing}
 use Rattle.table_children.specs.Children.{first_node, below}
 use Rattle.table_children.proofs.ChildrenLaws.{node_on, node_stop, node_end, number}
 use Rattle.table_ancestry.specs.Ancestry.{nearest_of}
@@ -32,8 +32,12 @@ use Rattle.check_supers.specs.declared.Reach.TheVariants.{Legal, Illegal, Underi
 use Rattle.check_supers.specs.declared.Step.{Step}
 use Rattle.check_supers.specs.declared.Step.TheVariants.{Stop, Leave, On}
 use Rattle.check_super_search.specs.Search.{is_stop, stop_reach, underived_in, around_of, scopes_in, at_most, AroundSuper}
-use Rattle.check_super_search.specs.declared.Scopes.{Scopes}
-use Rattle.check_super_search.specs.declared.Scopes.TheVariants.{From, Spent}
+
+-- a step that is none that ends the search
+pub not_stop : (x : Step) → ((r : Reach) → x ≡ Stop r → ⊥) → is_stop x ≡ false
+not_stop (Stop r) h = absurd (h r refl)
+not_stop Leave h = refl
+not_stop On h = refl
 
 -- a step that ends the search
 stopped : (x : Step) (r : Reach) → is_stop x ≡ true → or_rest x r ≡ stop_reach x
@@ -47,7 +51,7 @@ going Leave r e = refl
 going On r e = refl
 
 -- one scope of the search; x is what it says
-module _ (ns ss : List ℕ) (n : ℕ) (call : Bool) (class : Found) (start s : ℕ) (x : Step) (e : x ≡ step_at ns ss n call class start s) where
+module _ (ns ss : List ℕ) (n : ℕ) (call : Bool) (class : Option NodeId) (start s : ℕ) (x : Step) (e : x ≡ step_at ns ss n call class start s) where
   turn : reach_from ns ss n call (s ∷ outer ss s) class start ≡ or_rest x (reach_from ns ss n call (outer ss s) (class_after ns class x) (scope_node_of ss s))
   unfolding reach_from
   turn = ap (λ (y : Step). or_rest y (reach_from ns ss n call (outer ss s) (class_after ns class y) (scope_node_of ss s))) (sym e)
@@ -77,15 +81,15 @@ step_in ns (Stop r) = underived_in ns r
 step_in ns Leave = Unit {0}
 step_in ns On = Unit {0}
 
-first_below : (q : ℕ → Bool) (n f i : ℕ) → n ≤ i + f → (r : Found) → first_node q i n ≡ r → (m : ℕ) → r ≡ At (record { 0 = m }) → m < n
-first_below q n zero i hf r e m d = let s : At (record { 0 = m }) ≡ Nothing = sym d ∙ sym e ∙ node_end q i n (omega arith) in let z : ◌≡◌ {A = ℕ} 0 1 = cc in absurd (omega arith)
+first_below : (q : ℕ → Bool) (n f i : ℕ) → n ≤ i + f → (r : Option NodeId) → first_node q i n ≡ r → (m : ℕ) → r ≡ Some (record { 0 = m }) → m < n
+first_below q n zero i hf r e m d = let s : ◌≡◌ {A = Option NodeId} (Some (record { 0 = m })) None = sym d ∙ sym e ∙ node_end q i n (omega arith) in let z : ◌≡◌ {A = ℕ} 0 1 = cc in absurd (omega arith)
 first_below q n (suc f) i hf r e m d =
     ⊎_elim (λ (h : i < n). go h (q i) refl (λ w. first_below q n f (i + 1) (omega arith) r w m d))
-    (λ (h : n ≤ i). let s : At (record { 0 = m }) ≡ Nothing = sym d ∙ sym e ∙ node_end q i n h in let z : ◌≡◌ {A = ℕ} 0 1 = cc in absurd (omega arith))
+    (λ (h : n ≤ i). let s : ◌≡◌ {A = Option NodeId} (Some (record { 0 = m })) None = sym d ∙ sym e ∙ node_end q i n h in let z : ◌≡◌ {A = ℕ} 0 1 = cc in absurd (omega arith))
     (lt_or_ge i n)
   where
     go : i < n → (x : Bool) → q i ≡ x → (first_node q (i + 1) n ≡ r → m < n) → m < n
-    go h true y w = let s : At (record { 0 = i }) ≡ At (record { 0 = m }) = sym (node_stop q i n h y) ∙ e ∙ d in let u = ap number s in omega arith
+    go h true y w = let s : ◌≡◌ {A = Option NodeId} (Some (record { 0 = i })) (Some (record { 0 = m })) = sym (node_stop q i n h y) ∙ e ∙ d in let u = ap number s in omega arith
     go h false y w = w (sym (node_on q i n h y) ∙ e)
 
 module _ (ns : List ℕ) (t : Tree ns) where
@@ -96,22 +100,22 @@ module _ (ns : List ℕ) (t : Tree ns) where
   heritage_in : (b : ℕ) → b < count ns → underived_in ns (heritage_use ns b)
   heritage_in b l = in_cond (has_flag (flags_of ns (parent_of ns b)) flag.Heritage) Legal (Underived (record { 0 = parent_of ns b })) tt (parent_in ns t b l)
 
-  dummy_in : (n : ℕ) (r : Found) → below ns r → underived_in ns (dummy_use ns n r)
-  dummy_in n (At b) l = in_cond (on (parent_of ns) (parent_of ns b.0) n) (heritage_use ns b.0) Fails (heritage_in b.0 l) tt
-  dummy_in n Nothing l = tt
+  dummy_in : (n : ℕ) (r : Option NodeId) → below ns r → underived_in ns (dummy_use ns n r)
+  dummy_in n (Some b) l = in_cond (on (parent_of ns) (parent_of ns b.0) n) (heritage_use ns b.0) Fails (heritage_in b.0 l) tt
+  dummy_in n None l = tt
 
-  first_in_lem : (r : Found) → first_class ns ≡ r → below ns r
-  first_in_lem (At b) e = first_below _ (count ns) (count ns) 0 (omega arith) (At b) e b.0 refl
-  first_in_lem Nothing e = tt
+  first_in_lem : (r : Option NodeId) → first_class ns ≡ r → below ns r
+  first_in_lem (Some b) e = first_below _ (count ns) (count ns) 0 (omega arith) (Some b) e b.0 refl
+  first_in_lem None e = tt
 
-  derived_in : (n : ℕ) (class : Found) → below ns class → underived_in ns (derived_use ns n class)
-  derived_in n (At b) l = heritage_in b.0 l
-  derived_in n Nothing l = dummy_in n (first_class ns) (first_in_lem (first_class ns) refl)
+  derived_in : (n : ℕ) (class : Option NodeId) → below ns class → underived_in ns (derived_use ns n class)
+  derived_in n (Some b) l = heritage_in b.0 l
+  derived_in n None l = dummy_in n (first_class ns) (first_in_lem (first_class ns) refl)
 
   call_in : (call : Bool) → underived_in ns (if_call call)
   call_in call = in_cond call Illegal Legal tt tt
 
-  function_in : (n : ℕ) (call : Bool) (class : Found) (f : ℕ) → below ns class → underived_in ns (function_use ns n call class f)
+  function_in : (n : ℕ) (call : Bool) (class : Option NodeId) (f : ℕ) → below ns class → underived_in ns (function_use ns n call class f)
   unfolding function_use object_use method_use
   function_in n call class f l =
       in_cond (eqb f 0) Fails (rest) tt
@@ -147,7 +151,7 @@ module _ (ns : List ℕ) (t : Tree ns) where
   step_cond true x y p q = p
   step_cond false x y p q = q
 
-  step_in_lem : (ss : List ℕ) (n : ℕ) (call : Bool) (class : Found) (start s : ℕ) → below ns class → step_in ns (step_at ns ss n call class start s)
+  step_in_lem : (ss : List ℕ) (n : ℕ) (call : Bool) (class : Option NodeId) (start s : ℕ) → below ns class → step_in ns (step_at ns ss n call class start s)
   unfolding step_at
   step_in_lem ss n call class start s l =
       step_cond (is_class_scope ns class s) (at_class call (place_of ns start)) plain (at_in call (place_of ns start))
@@ -169,7 +173,7 @@ module _ (ns : List ℕ) (t : Tree ns) where
   or_in Leave r a b = b
   or_in On r a b = b
 
-  reach_in_from : ((b : ℕ) → b < count ns → below ns (class_above ns b)) → (ss : List ℕ) (n : ℕ) (call : Bool) (l : List ℕ) (class : Found) (start : ℕ) → below ns class
+  reach_in_from : ((b : ℕ) → b < count ns → below ns (class_above ns b)) → (ss : List ℕ) (n : ℕ) (call : Bool) (l : List ℕ) (class : Option NodeId) (start : ℕ) → below ns class
       → underived_in ns (reach_from ns ss n call l class start)
   unfolding reach_from
   reach_in_from above_in_lem ss n call [] class start w = tt
@@ -177,42 +181,42 @@ module _ (ns : List ℕ) (t : Tree ns) where
       or_in (step_at ns ss n call class start s) _ (step_in_lem ss n call class start s w)
       (reach_in_from above_in_lem ss n call l (class_after ns class (step_at ns ss n call class start s)) (scope_node_of ss s) (after (step_at ns ss n call class start s) class w))
     where
-      leave : (class : Found) → below ns class → below ns (leave_class ns class)
-      leave (At b) w = above_in_lem b.0 w
-      leave Nothing w = tt
+      leave : (class : Option NodeId) → below ns class → below ns (leave_class ns class)
+      leave (Some b) w = above_in_lem b.0 w
+      leave None w = tt
 
-      after : (x : Step) (class : Found) → below ns class → below ns (class_after ns class x)
+      after : (x : Step) (class : Option NodeId) → below ns class → below ns (class_after ns class x)
       after (Stop r) class w = w
       after Leave class w = leave class w
       after On class w = w
 
   -- the nearest one of some kinds is in the table
   nearest_in : (low high f i : ℕ) → i ≤ f → i < count ns → below ns (nearest_of ns low high i)
-  nearest_in low high zero i hf l = subst (λ (r : Found). below ns r) (sym (ap (nearest_of ns low high) (let z : i ≡ 0 = omega arith in z) ∙ nearest_root ns low high)) tt
+  nearest_in low high zero i hf l = subst (λ (r : Option NodeId). below ns r) (sym (ap (nearest_of ns low high) (let z : i ≡ 0 = omega arith in z) ∙ nearest_root ns low high)) tt
   nearest_in low high (suc f) i hf l =
       ⊎_elim (λ (h : 0 < i). go h (within (kind_of ns (parent_of ns i)) low high) refl (nearest_in low high f (parent_of ns i) (let z = t.falls i h l in omega arith) (parent_in ns t i l)))
-      (λ (h : i ≤ 0). subst (λ (r : Found). below ns r) (sym (ap (nearest_of ns low high) (let z : i ≡ 0 = omega arith in z) ∙ nearest_root ns low high)) tt)
+      (λ (h : i ≤ 0). subst (λ (r : Option NodeId). below ns r) (sym (ap (nearest_of ns low high) (let z : i ≡ 0 = omega arith in z) ∙ nearest_root ns low high)) tt)
       (lt_or_ge 0 i)
     where
       go : 0 < i → (x : Bool) → within (kind_of ns (parent_of ns i)) low high ≡ x → below ns (nearest_of ns low high (parent_of ns i)) → below ns (nearest_of ns low high i)
-      go h true e w = subst (λ (r : Found). below ns r) (sym (nearest_stop ns t low high i (parent_of ns i) h l refl e)) (parent_in ns t i l)
-      go h false e w = subst (λ (r : Found). below ns r) (sym (nearest_on ns t low high i (parent_of ns i) h l refl e)) w
+      go h true e w = subst (λ (r : Option NodeId). below ns r) (sym (nearest_stop ns t low high i (parent_of ns i) h l refl e)) (parent_in ns t i l)
+      go h false e w = subst (λ (r : Option NodeId). below ns r) (sym (nearest_on ns t low high i (parent_of ns i) h l refl e)) w
 
   pub reach_in : (ss : List ℕ) (n : ℕ) → n < count ns → underived_in ns (reach_of ns ss n)
   unfolding reach_of
   reach_in ss n l =
       reach_in_from (λ b h. nearest_in k.ClassBody k.ClassBody b b (omega arith) h) ss n (is_call ns n) (scope_of ns n ∷ outer ss (scope_of ns n)) (class_above ns n) n (nearest_in k.ClassBody k.ClassBody n n (omega arith) l)
 
-spent : (ns ss : List ℕ) (n : ℕ) (call : Bool) (class : Found) (start : ℕ) → reach_from ns ss n call [] class start ≡ Illegal
+spent : (ns ss : List ℕ) (n : ℕ) (call : Bool) (class : Option NodeId) (start : ℕ) → reach_from ns ss n call [] class start ≡ Illegal
 unfolding reach_from
 spent ns ss n call class start = refl
 
 -- the scopes around s
-module _ (ss : List ℕ) (c : Chained ss) (s : ℕ) (l : s < count_scopes ss) (left : Scopes) (f : left ≡ around_of ss s) where
-  around_by : (P : Scopes → Type 0) → (s ≡ 0 → P Spent) → (0 < s → P (From (record { 0 = scope_parent_of ss s }))) → P left
+module _ (ss : List ℕ) (c : Chained ss) (s : ℕ) (l : s < count_scopes ss) (left : Option ScopeId) (f : left ≡ around_of ss s) where
+  around_by : (P : Option ScopeId → Type 0) → (s ≡ 0 → P None) → (0 < s → P (Some (record { 0 = scope_parent_of ss s }))) → P left
   around_by P p q = rw f (go (eqb s 0) refl)
     where
-      go : (t : Bool) → eqb s 0 ≡ t → P (cond t Spent (From (record { 0 = scope_parent_of ss s })))
+      go : (t : Bool) → eqb s 0 ≡ t → P (cond t None (Some (record { 0 = scope_parent_of ss s })))
       go true e = p (eqb-true s 0 e)
       go false e = q (let h = eqb-false s 0 e in omega arith)
 
@@ -223,7 +227,7 @@ module _ (ss : List ℕ) (c : Chained ss) (s : ℕ) (l : s < count_scopes ss) (l
   around_super ns n k o =
       around_by (AroundSuper ns ss n) (λ e. tt) (λ h. (omega (arith, c.falls s h l), around ss c (scope_of ns n) s (scope_parent_of ss s) k l h refl o))
 
-  next_scopes : (ns : List ℕ) (n : ℕ) (call : Bool) (class : Found) (start : ℕ) (x : Step) → x ≡ step_at ns ss n call class start s → is_stop x ≡ false
+  next_scopes : (ns : List ℕ) (n : ℕ) (call : Bool) (class : Option NodeId) (start : ℕ) (x : Step) → x ≡ step_at ns ss n call class start s → is_stop x ≡ false
       → reach_from ns ss n call (s ∷ outer ss s) class start ≡ reach_from ns ss n call (scopes_in ss left) (class_after ns class x) (scope_node_of ss s)
   next_scopes ns n call class start x e q =
       around_by (λ y. reach_from ns ss n call (s ∷ outer ss s) class start ≡ reach_from ns ss n call (scopes_in ss y) (class_after ns class x) (scope_node_of ss s))
@@ -231,7 +235,7 @@ module _ (ss : List ℕ) (c : Chained ss) (s : ℕ) (l : s < count_scopes ss) (l
       (λ h. search_on_lem ns ss n call class start s x e q c (scope_parent_of ss s) refl h l)
 
 -- a step at the class's scope, and at another
-module _ (ns ss : List ℕ) (n : ℕ) (call : Bool) (class : Found) (start s : ℕ) where
+module _ (ns ss : List ℕ) (n : ℕ) (call : Bool) (class : Option NodeId) (start s : ℕ) where
   step_class : is_class_scope ns class s ≡ true → (p : ElementPart) → place_of ns start ≡ p → step_at ns ss n call class start s ≡ at_class call p
   unfolding step_at
   step_class e p q = rw (e, q)
@@ -260,10 +264,10 @@ module _ (ns ss : List ℕ) (t : Tree ns) (c : Chained ss) (n : ℕ) (l : n < co
   pub answers : (r : Reach) → r ≡ reach_of ns ss n → Answers r
   answers r e = (e, subst (λ (x : Reach). underived_in ns x) (sym e) (reach_in ns t ss n l))
 
-  pub all_spent : (call : Bool) (class : Found) (start : ℕ) → reach_from ns ss n call [] class start ≡ reach_of ns ss n → Answers Illegal
+  pub all_spent : (call : Bool) (class : Option NodeId) (start : ℕ) → reach_from ns ss n call [] class start ≡ reach_of ns ss n → Answers Illegal
   all_spent call class start i = answers Illegal (sym (spent ns ss n call class start) ∙ i)
 
-  module _ (call : Bool) (class : Found) (start s : ℕ) (i : reach_from ns ss n call (s ∷ outer ss s) class start ≡ reach_of ns ss n) where
+  module _ (call : Bool) (class : Option NodeId) (start s : ℕ) (i : reach_from ns ss n call (s ∷ outer ss s) class start ≡ reach_of ns ss n) where
     stops : (x : Step) → x ≡ step_at ns ss n call class start s → is_stop x ≡ true → (r : Reach) → r ≡ stop_reach x → Answers r
     stops x e q r f = answers r (f ∙ sym (search_stop ns ss n call class start s x e q) ∙ i)
 
@@ -273,14 +277,14 @@ module _ (ns ss : List ℕ) (t : Tree ns) (c : Chained ss) (n : ℕ) (l : n < co
     pub class_value : is_class_scope ns class s ≡ true → place_of ns start ≡ Value → (r : Reach) → r ≡ if_call call → Answers r
     class_value e p r f = stops (Stop (if_call call)) (sym (step_class ns ss n call class start s e Value p)) refl r f
 
-    pub class_key : is_class_scope ns class s ≡ true → place_of ns start ≡ Key → s < count_scopes ss → (left : Scopes) → left ≡ around_of ss s → (k : Found) → k ≡ leave_class ns class → (b : ℕ) → b ≡ scope_node_of ss s
+    pub class_key : is_class_scope ns class s ≡ true → place_of ns start ≡ Key → s < count_scopes ss → (left : Option ScopeId) → left ≡ around_of ss s → (k : Option NodeId) → k ≡ leave_class ns class → (b : ℕ) → b ≡ scope_node_of ss s
         → reach_from ns ss n call (scopes_in ss left) k b ≡ reach_of ns ss n
     class_key e p h left f k g b d = rw (g, d) (sym (next_scopes ss c s h left f ns n call class start Leave (sym (step_class ns ss n call class start s e Key p)) refl) ∙ i)
 
     pub scope_stops : is_class_scope ns class s ≡ false → (x : Step) → x ≡ scope_step ns ss n call class s → is_stop x ≡ true → (r : Reach) → r ≡ stop_reach x → Answers r
     scope_stops e x f q r g = stops x (f ∙ sym (step_other ns ss n call class start s e)) q r g
 
-    pub scope_goes : is_class_scope ns class s ≡ false → (x : Step) → x ≡ scope_step ns ss n call class s → is_stop x ≡ false → s < count_scopes ss → (left : Scopes) → left ≡ around_of ss s → (b : ℕ) → b ≡ scope_node_of ss s
+    pub scope_goes : is_class_scope ns class s ≡ false → (x : Step) → x ≡ scope_step ns ss n call class s → is_stop x ≡ false → s < count_scopes ss → (left : Option ScopeId) → left ≡ around_of ss s → (b : ℕ) → b ≡ scope_node_of ss s
         → reach_from ns ss n call (scopes_in ss left) class b ≡ reach_of ns ss n
     scope_goes e x f q h left g b d =
         let o : scope_step ns ss n call class s ≡ On = goes_on_lem ns ss n call class start s (ap is_stop (sym f) ∙ q) in

@@ -5,51 +5,23 @@ ghost use Rattle.std.specs.Prelude.{◌≡◌, ◌<◌};
 ghost use Rattle.table_records.specs.Table.{count, count_scopes};
 ghost use Rattle.table_records.specs.Facts.{Tree, Chained, Scoped};
 ghost use Rattle.table_children.specs.Children.{below};
-ghost use Rattle.check_supers.specs.Super.{reach_of, fails_at, by_reach, check_super, is_fails};
-ghost use Rattle.check_supers.specs.declared.Step.{Step};
-ghost use Rattle.check_super_search.specs.Search.{is_stop, stop_reach, underived_in, around_of};
+ghost use Rattle.check_supers.specs.Super.{reach_of, fails_at, by_reach, check_super};
+ghost use Rattle.check_super_search.specs.Search.{underived_in, around_of};
 
-use check_diagnostics::{Raised, codes};
+use check_diagnostics::{Finding, codes, contexts, error_at};
 use check_supers::{ElementPart, Reach, Step};
-use table_records::{Found, NodeId, ScopeId, kinds};
-
-fn is_stop(step: Step) -> bool
-    ensures { result ≡ is_stop step }
-{
-    match step {
-        Step::Stop(_) => true,
-        Step::Leave => false,
-        Step::On => false,
-    }
-}
-
-fn stop_reach(step: Step) -> Reach
-    ensures { result ≡ stop_reach step }
-{
-    match step {
-        Step::Stop(r) => r,
-        Step::Leave => Reach::Illegal,
-        Step::On => Reach::Illegal,
-    }
-}
-
-// The scopes that the search still has to look at: this one and those around it, or none.
-#[derive(Clone, Copy)]
-enum Scopes {
-    From(ScopeId),
-    Spent,
-}
+use table_records::{NodeId, ScopeId, kinds};
 
 // The scopes around s.
-fn around(scopes: &[u32], s: ScopeId) -> Scopes
+fn around(scopes: &[u32], s: ScopeId) -> Option<ScopeId>
     requires chained { Chained scopes.now }
     requires s_bound { s.0 < count_scopes scopes.now }
     ensures { result ≡ around_of scopes.now s.0 }
 {
     if s.0 == 0 {
-        return Scopes::Spent;
+        return None;
     }
-    Scopes::From(table_ancestry::scope_up(scopes, s))
+    Some(table_ancestry::scope_up(scopes, s))
 }
 
 // What is found of the Super n, scope by scope outward. It is illegal too where it is in no function and no class:
@@ -68,18 +40,17 @@ pub fn reach(nodes: &[u32], scopes: &[u32], n: NodeId) -> Reach
     let call = check_supers::is_call(nodes, n);
     let mut class = check_supers::class_around(nodes, n);
     let mut start = n;
-    let mut left = Scopes::From(table_records::scope(nodes, n));
+    let mut left = Some(table_records::scope(nodes, n));
     'scopes: loop {
-        let Scopes::From(s) = left else {
+        let Some(s) = left else {
             break 'scopes Reach::Illegal;
         };
         left = around(scopes, s);
         let mut x = start;
         start = table_records::scope_node(scopes, s);
         if !check_supers::is_class_scope(nodes, class, s) {
-            let step = check_supers::scope_step(nodes, scopes, n, call, class, s);
-            if is_stop(step) {
-                break 'scopes stop_reach(step);
+            if let Step::Stop(r) = check_supers::scope_step(nodes, scopes, n, call, class, s) {
+                break 'scopes r;
             }
             continue 'scopes;
         }
@@ -103,18 +74,8 @@ pub fn reach(nodes: &[u32], scopes: &[u32], n: NodeId) -> Reach
     }
 }
 
-fn is_fails(r: Reach) -> bool
-    ensures { result ≡ is_fails r }
-{
-    match r {
-        Reach::Fails => true,
-        Reach::Legal => false,
-        Reach::Illegal => false,
-        Reach::Underived(_) => false,
-    }
-}
-
 // Whether n is a Super whose search the Rust ends in a failure.
+#[tactic(auto, unfolding(check_supers::specs::Super::fails_at))]
 pub fn fails_at(nodes: &[u32], scopes: &[u32], n: NodeId) -> bool
     requires tree { Tree nodes.now }
     requires chained { Chained scopes.now }
@@ -122,34 +83,37 @@ pub fn fails_at(nodes: &[u32], scopes: &[u32], n: NodeId) -> bool
     requires n_bound { n.0 < count nodes.now }
     ensures { result ≡ fails_at nodes.now scopes.now n.0 }
 {
-    if table_records::kind(nodes, n) != kinds::SUPER {
-        return false;
-    }
-    is_fails(reach(nodes, scopes, n))
+    table_records::kind(nodes, n) == kinds::SUPER && matches!(reach(nodes, scopes, n), Reach::Fails)
 }
 
 // The finding of an illegal `super`: the call, or the Super itself.
-fn illegal(nodes: &[u32], n: NodeId) -> Raised
+fn illegal(nodes: &[u32], n: NodeId) -> Option<Finding>
     requires tree { Tree nodes.now }
     requires n_bound { n.0 < count nodes.now }
     ensures { result ≡ by_reach nodes.now n.0 Reach.Illegal }
 {
     if check_supers::is_call(nodes, n) {
         let call = table_records::parent(nodes, n);
-        return check_diagnostics::error_at(nodes, codes::UNEXPECTED_SUPER_CALL, n, call, 0);
+        return error_at(nodes, codes::UNEXPECTED_SUPER_CALL, n, call, contexts::NONE);
     }
-    check_diagnostics::error_at(nodes, codes::UNEXPECTED_SUPER_REFERENCE, n, n, 0)
+    error_at(
+        nodes,
+        codes::UNEXPECTED_SUPER_REFERENCE,
+        n,
+        n,
+        contexts::NONE,
+    )
 }
 
 // The finding that a search gives.
-fn by_reach(nodes: &[u32], n: NodeId, r: Reach) -> Raised
+fn by_reach(nodes: &[u32], n: NodeId, r: Reach) -> Option<Finding>
     requires tree { Tree nodes.now }
     requires n_bound { n.0 < count nodes.now }
     requires underived_in { underived_in nodes.now r }
     ensures { result ≡ by_reach nodes.now n.0 r }
 {
     match r {
-        Reach::Legal => Raised::Clear,
+        Reach::Legal | Reach::Fails => None,
         Reach::Illegal => illegal(nodes, n),
         Reach::Underived(c) => check_diagnostics::error_between(
             nodes,
@@ -158,11 +122,11 @@ fn by_reach(nodes: &[u32], n: NodeId, r: Reach) -> Raised
             n,
             c,
         ),
-        Reach::Fails => Raised::Clear,
     }
 }
 
-pub fn check_super(nodes: &[u32], scopes: &[u32], n: NodeId) -> Raised
+#[tactic(auto, unfolding(check_supers::specs::Super::check_super))]
+pub fn check_super(nodes: &[u32], scopes: &[u32], n: NodeId) -> Option<Finding>
     requires tree { Tree nodes.now }
     requires chained { Chained scopes.now }
     requires scoped { Scoped nodes.now scopes.now }

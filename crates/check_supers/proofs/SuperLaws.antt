@@ -1,5 +1,6 @@
 -- The searches of check_super, as loops meet them.
-use Rattle.std.specs.Prelude.{ℕ, ◌<◌, refl, List, ◌∷◌, Bool, eqb}
+use Rattle.table_records.specs.declared.NodeId.{NodeId}
+use Rattle.std.specs.Prelude.{ℕ, ◌<◌, refl, List, ◌∷◌, Bool, eqb, Option}
 use Rattle.std.proofs.Math.Path.{◌≡◌, ap}
 use Rattle.std.proofs.Common.{sym, ◌∙◌}
 use Rattle.std.proofs.Math.Bool.{true, false, cond}
@@ -9,7 +10,6 @@ use Rattle.base_walk.proofs.AboveLaws.{above_up, above_root}
 use Rattle.table_records.specs.Table.{kind_of, parent_of, count, outer, count_scopes, scope_parent_of, scope_node_of}
 use Rattle.table_records.specs.Facts.{Tree, Chained}
 use Rattle.table_records.specs.Kinds as k
-use Rattle.table_records.specs.declared.Found.{Found}
 use Rattle.table_ancestry.proofs.AncestryLaws.{ancestors_up, ancestors_root}
 use Rattle.check_supers.specs.Super.{is_value_of, part_of, part_at, place_of, step_at, class_after, leave_class, or_rest, reach_from}
 use Rattle.check_supers.specs.declared.ElementPart.{ElementPart}
@@ -68,7 +68,7 @@ unfolding place_of
 place_root ns t = rw (t.top, t.root) (ancestors_root _ _ ns)
 
 -- the search over the scopes: one scope, and the next
-module _ (ns ss : List ℕ) (n : ℕ) (call : Bool) (class : Found) (start s : ℕ) where
+module _ (ns ss : List ℕ) (n : ℕ) (call : Bool) (class : Option NodeId) (start s : ℕ) where
   abbrev rest : List ℕ → Reach
   rest l = reach_from ns ss n call l (class_after ns class (step_at ns ss n call class start s)) (scope_node_of ss s)
 
@@ -87,6 +87,6 @@ module _ (ns ss : List ℕ) (n : ℕ) (call : Bool) (class : Found) (start s : �
 pub outer_next : (ss : List ℕ) → Chained ss → (s p : ℕ) → p ≡ scope_parent_of ss s → 0 < s → s < count_scopes ss → outer ss s ≡ p ∷ outer ss p
 outer_next ss c s p e h l = above_up (scope_parent_of ss) (count_scopes ss) c.falls s h l ∙ rw (← e)
 
-pub reach_end : (ns ss : List ℕ) (n : ℕ) (call : Bool) (class : Found) (start : ℕ) → reach_from ns ss n call (outer ss 0) class start ≡ Illegal
+pub reach_end : (ns ss : List ℕ) (n : ℕ) (call : Bool) (class : Option NodeId) (start : ℕ) → reach_from ns ss n call (outer ss 0) class start ≡ Illegal
 unfolding reach_from
 reach_end ns ss n call class start = rw (above_root (scope_parent_of ss))

@@ -1,5 +1,8 @@
 -- Where `super` may stand: check_super, as a search through the scopes from that of the Super outward. "Failing" is where the Rust ends in `unreachable!` or a failed `unwrap`.
-use Rattle.std.specs.Prelude.{ℕ, Bool, true, false, cond, not, ◌&&◌, ◌||◌, eqb}
+use Rattle.table_records.specs.declared.ClassId.{ClassId}
+use Rattle.check_diagnostics.specs.declared.Finding.{Finding}
+use Rattle.table_records.specs.declared.NodeId.{NodeId}
+use Rattle.std.specs.Prelude.{ℕ, Bool, true, false, cond, not, ◌&&◌, ◌||◌, eqb, Option, Some, None}
 use mathlib.Core.List.{List, [], ◌∷◌, foldr}
 use Rattle.base_common.specs.Tests.{within}
 use Rattle.base_walk.specs.On.{on}
@@ -8,16 +11,10 @@ use Rattle.table_records.specs.Kinds as k
 use Rattle.table_records.specs.Extras as extra
 use Rattle.table_records.specs.NodeFlag as flag
 use Rattle.table_records.specs.ScopeFlag as scope
-use Rattle.table_records.specs.declared.Found.{Found}
-use Rattle.table_records.specs.declared.Found.TheVariants.{At, Nothing}
-use Rattle.check_class_table.specs.declared.Current.{Current}
-use Rattle.check_class_table.specs.declared.Current.TheVariants.{Class, Outside}
 use Rattle.table_children.specs.Children.{value_of, first_node, is_node}
 use Rattle.table_ancestry.specs.Ancestry.{nearest_of}
 use Rattle.check_diagnostics.specs.Finding.{error_at, error_between}
 use Rattle.check_diagnostics.specs.Codes as code
-use Rattle.check_diagnostics.specs.declared.Raised.{Raised}
-use Rattle.check_diagnostics.specs.declared.Raised.TheVariants.{Clear}
 use Rattle.check_supers.specs.declared.Reach.{Reach}
 use Rattle.check_supers.specs.declared.Reach.TheVariants.{Legal, Illegal, Underived, Fails}
 use Rattle.check_supers.specs.declared.ElementPart.{ElementPart}
@@ -59,28 +56,28 @@ abbrev pub heritage_use : List ℕ → ℕ → Reach
 heritage_use ns b = cond (has_flag (flags_of ns (parent_of ns b)) flag.Heritage) Legal (Underived (record { 0 = parent_of ns b }))
 
 -- Where no class is current the Rust asks class number 0, the first of the table: if that class is not around the Super, it fails.
-abbrev pub first_class : List ℕ → Found
+abbrev pub first_class : List ℕ → Option NodeId
 first_class ns = first_node (λ j. eqb (kind_of ns j) k.ClassBody) 0 (count ns)
 
-abbrev pub dummy_use : List ℕ → ℕ → Found → Reach
-dummy_use ns n (At b) = cond (on (parent_of ns) (parent_of ns b.0) n) (heritage_use ns b.0) Fails
-dummy_use ns n Nothing = Fails
+abbrev pub dummy_use : List ℕ → ℕ → Option NodeId → Reach
+dummy_use ns n (Some b) = cond (on (parent_of ns) (parent_of ns b.0) n) (heritage_use ns b.0) Fails
+dummy_use ns n None = Fails
 
-abbrev pub derived_use : List ℕ → ℕ → Found → Reach
-derived_use ns n (At b) = heritage_use ns b.0
-derived_use ns n Nothing = dummy_use ns n (first_class ns)
+abbrev pub derived_use : List ℕ → ℕ → Option NodeId → Reach
+derived_use ns n (Some b) = heritage_use ns b.0
+derived_use ns n None = dummy_use ns n (first_class ns)
 
 -- f under a property of an object: legal in the value of a method, getter or setter, where `super` may not be called
 unfoldable pub object_use : List ℕ → Bool → ℕ → ℕ → Reach
 object_use ns call p f = cond (is_method_like ns p) (cond (is_value_of ns p f) (if_call call) Illegal) Illegal
 
 -- f under a method of a class: legal in its value, and a call only in a constructor
-unfoldable pub method_use : List ℕ → ℕ → Bool → Found → ℕ → ℕ → Reach
+unfoldable pub method_use : List ℕ → ℕ → Bool → Option NodeId → ℕ → ℕ → Reach
 method_use ns n call class p f =
     cond (is_value_of ns p f) (cond call (cond (eqb (extra_of ns p) extra.Constructor) (derived_use ns n class) Illegal) Legal) Illegal
 
 -- The Super n is in the function f: by f's parent; the program has none, and the Rust fails.
-unfoldable pub function_use : List ℕ → ℕ → Bool → Found → ℕ → Reach
+unfoldable pub function_use : List ℕ → ℕ → Bool → Option NodeId → ℕ → Reach
 function_use ns n call class f =
     cond (eqb f 0) Fails
     (cond (eqb (kind_of ns (parent_of ns f)) k.ObjectProperty) (object_use ns call (parent_of ns f) f)
@@ -88,14 +85,14 @@ function_use ns n call class f =
     Illegal))
 
 -- the ClassBody of the class that is current, if one is
-abbrev pub body_of : Current → Found
-body_of (Class c) = At (record { 0 = c.0 })
-body_of Outside = Nothing
+abbrev pub body_of : Option ClassId → Option NodeId
+body_of (Some c) = Some (record { 0 = c.0 })
+body_of None = None
 
 -- s is the scope of the class with this ClassBody
-abbrev pub is_class_scope : List ℕ → Found → ℕ → Bool
-is_class_scope ns (At b) s = eqb s (extra_of ns (parent_of ns b.0))
-is_class_scope ns Nothing s = false
+abbrev pub is_class_scope : List ℕ → Option NodeId → ℕ → Bool
+is_class_scope ns (Some b) s = eqb s (extra_of ns (parent_of ns b.0))
+is_class_scope ns None s = false
 
 -- at the class's scope: by the part of the class element that holds the node from which the search came
 abbrev pub at_class : Bool → ElementPart → Step
@@ -104,7 +101,7 @@ at_class call Key = Leave
 at_class call NoElement = Stop Fails
 
 -- at another scope: by its flags
-abbrev pub scope_step : List ℕ → List ℕ → ℕ → Bool → Found → ℕ → Step
+abbrev pub scope_step : List ℕ → List ℕ → ℕ → Bool → Option NodeId → ℕ → Step
 scope_step ns ss n call class s =
     cond (has_flag (scope_flags_of ss s) scope.StaticBlockScope) (Stop (if_call call))
     (cond (not (has_flag (scope_flags_of ss s) scope.FunctionScope)) On
@@ -112,19 +109,19 @@ scope_step ns ss n call class s =
     (Stop (function_use ns n call class (scope_node_of ss s)))))
 
 -- what scope s says; `start` is the node of the scope before it, at first the Super
-unfoldable pub step_at : List ℕ → List ℕ → ℕ → Bool → Found → ℕ → ℕ → Step
+unfoldable pub step_at : List ℕ → List ℕ → ℕ → Bool → Option NodeId → ℕ → ℕ → Step
 step_at ns ss n call class start s = cond (is_class_scope ns class s) (at_class call (place_of ns start)) (scope_step ns ss n call class s)
 
 -- the nearest ClassBody above a node
-abbrev pub class_above : List ℕ → ℕ → Found
+abbrev pub class_above : List ℕ → ℕ → Option NodeId
 class_above ns n = nearest_of ns k.ClassBody k.ClassBody n
 
 -- leaving a class, the search goes on in the class around it
-abbrev pub leave_class : List ℕ → Found → Found
-leave_class ns (At b) = class_above ns b.0
-leave_class ns Nothing = Nothing
+abbrev pub leave_class : List ℕ → Option NodeId → Option NodeId
+leave_class ns (Some b) = class_above ns b.0
+leave_class ns None = None
 
-abbrev pub class_after : List ℕ → Found → Step → Found
+abbrev pub class_after : List ℕ → Option NodeId → Step → Option NodeId
 class_after ns class Leave = leave_class ns class
 class_after ns class On = class
 class_after ns class (Stop r) = class
@@ -136,7 +133,7 @@ or_rest Leave rest = rest
 or_rest On rest = rest
 
 -- the search over scopes, nearest first; where they are spent, `super` is illegal
-unfoldable pub reach_from : List ℕ → List ℕ → ℕ → Bool → List ℕ → Found → ℕ → Reach
+unfoldable pub reach_from : List ℕ → List ℕ → ℕ → Bool → List ℕ → Option NodeId → ℕ → Reach
 reach_from ns ss n call [] class start = Illegal
 reach_from ns ss n call (s ∷ rest) class start =
     or_rest (step_at ns ss n call class start s) (reach_from ns ss n call rest (class_after ns class (step_at ns ss n call class start s)) (scope_node_of ss s))
@@ -156,11 +153,11 @@ unfoldable pub fails_at : List ℕ → List ℕ → ℕ → Bool
 fails_at ns ss n = eqb (kind_of ns n) k.Super && is_fails (reach_of ns ss n)
 
 -- the finding: 28 at the Super and its class, 29 at the call, 30 at the Super
-abbrev pub by_reach : List ℕ → ℕ → Reach → Raised
-by_reach ns n Legal = Clear
+abbrev pub by_reach : List ℕ → ℕ → Reach → Option Finding
+by_reach ns n Legal = None
 by_reach ns n Illegal = cond (is_call ns n) (error_at ns code.unexpected_super_call n (parent_of ns n) 0) (error_at ns code.unexpected_super_reference n n 0)
 by_reach ns n (Underived c) = error_between ns code.super_without_derived_class n n c.0
-by_reach ns n Fails = Clear
+by_reach ns n Fails = None
 
-unfoldable pub check_super : List ℕ → List ℕ → ℕ → Raised
+unfoldable pub check_super : List ℕ → List ℕ → ℕ → Option Finding
 check_super ns ss n = by_reach ns n (reach_of ns ss n)

@@ -7,8 +7,7 @@ ghost use Rattle.table_records.specs.Facts.{Tree};
 ghost use Rattle.table_children.specs.Children.{below};
 ghost use Rattle.check_supers.specs.Super.{is_call, if_call, part_of, part_at, is_value_of, is_method_like, heritage_use, first_class, dummy_use, derived_use, object_use, method_use, function_use, is_class_scope, scope_step, class_above, leave_class, body_of};
 
-use check_class_table::Current;
-use table_records::{ClassId, Found, NodeId, ScopeId, extras, kinds, node_flag, scope_flag};
+use table_records::{ClassId, NodeId, ScopeId, extras, kinds, node_flag, scope_flag};
 
 // What the search finds of a `super`: that it is legal, or illegal, or a call in the constructor of this class, which has no heritage; or that the Rust fails.
 #[derive(Clone, Copy)]
@@ -20,6 +19,7 @@ pub enum Reach {
 }
 
 // Where a node stands in the class element around it.
+// Not an Option of two: the search goes on in a way of its own at each of the three.
 #[derive(Clone, Copy)]
 pub enum ElementPart {
     Value,
@@ -41,10 +41,9 @@ pub fn is_call(nodes: &[u32], n: NodeId) -> bool
     requires n_bound { n.0 < count nodes.now }
     ensures { result ≡ is_call nodes.now n.0 }
 {
-    base_common::within(
+    matches!(
         table_ancestry::parent_kind(nodes, n),
-        kinds::CALL,
-        kinds::NEW,
+        kinds::CALL..=kinds::NEW
     )
 }
 
@@ -59,18 +58,20 @@ pub fn if_call(call: bool) -> Reach
 }
 
 // Whether x is the value of a.
+#[tactic(auto, unfolding(crate::specs::Super::is_value_of))]
 fn is_value_of(nodes: &[u32], a: NodeId, x: NodeId) -> bool
     requires tree { Tree nodes.now }
     requires a_bound { a.0 < count nodes.now }
     ensures { result ≡ is_value_of nodes.now a.0 x.0 }
 {
-    let Found::At(v) = table_children::value_of(nodes, a) else {
+    let Some(v) = table_children::value_of(nodes, a) else {
         return false;
     };
-    v.0 == x.0
+    v == x
 }
 
 // The part of the class element a in which its child x stands.
+#[tactic(auto, unfolding(crate::specs::Super::part_of))]
 fn part_of(nodes: &[u32], a: NodeId, x: NodeId) -> ElementPart
     requires tree { Tree nodes.now }
     requires a_bound { a.0 < count nodes.now }
@@ -86,19 +87,16 @@ fn part_of(nodes: &[u32], a: NodeId, x: NodeId) -> ElementPart
 }
 
 // The same for any node a, which may be no class element.
+#[tactic(auto, unfolding(crate::specs::Super::part_at))]
 pub fn part_at(nodes: &[u32], a: NodeId, x: NodeId) -> ElementPart
     requires tree { Tree nodes.now }
     requires a_bound { a.0 < count nodes.now }
     ensures { result ≡ part_at nodes.now a.0 x.0 }
 {
-    if base_common::within(
-        table_records::kind(nodes, a),
-        kinds::METHOD_DEFINITION,
-        kinds::ACCESSOR_PROPERTY,
-    ) {
-        return part_of(nodes, a, x);
+    match table_records::kind(nodes, a) {
+        kinds::METHOD_DEFINITION..=kinds::ACCESSOR_PROPERTY => part_of(nodes, a, x),
+        _ => ElementPart::NoElement,
     }
-    ElementPart::NoElement
 }
 
 // A call in the constructor of the class c.
@@ -120,19 +118,20 @@ fn heritage_use(nodes: &[u32], c: ClassId) -> Reach
 }
 
 // The first ClassBody of the table: class number 0.
-fn first_class(nodes: &[u32]) -> Found
+fn first_class(nodes: &[u32]) -> Option<NodeId>
     requires { Tree nodes.now }
     ensures value { result ≡ first_class nodes.now }
     ensures below { below nodes.now result }
 {
     let mut i: u32 = 0;
+    // `while`, since a range asks for the table's size: nothing that a walk up calls divides.
     while table_records::is_node(nodes, i) {
         if table_records::kind(nodes, NodeId(i)) == kinds::CLASS_BODY {
-            return Found::At(NodeId(i));
+            return Some(NodeId(i));
         }
         i += 1;
     }
-    Found::Nothing
+    None
 }
 
 // A call in a constructor while no class is current: class number 0 must be around the Super.
@@ -141,7 +140,7 @@ fn dummy_use(nodes: &[u32], n: NodeId) -> Reach
     requires n_bound { n.0 < count nodes.now }
     ensures { result ≡ dummy_use nodes.now n.0 (first_class nodes.now) }
 {
-    let Found::At(b) = first_class(nodes) else {
+    let Some(b) = first_class(nodes) else {
         return Reach::Fails;
     };
     let class = table_records::parent(nodes, b);
@@ -152,13 +151,13 @@ fn dummy_use(nodes: &[u32], n: NodeId) -> Reach
 }
 
 // A call in a constructor of the class, if one is current.
-fn derived_use(nodes: &[u32], n: NodeId, class: Current) -> Reach
+fn derived_use(nodes: &[u32], n: NodeId, class: Option<ClassId>) -> Reach
     requires tree { Tree nodes.now }
     requires n_bound { n.0 < count nodes.now }
     requires below { below nodes.now (body_of class) }
     ensures { result ≡ derived_use nodes.now n.0 (body_of class) }
 {
-    let Current::Class(c) = class else {
+    let Some(c) = class else {
         return dummy_use(nodes, n);
     };
     heritage_use(nodes, c)
@@ -169,29 +168,33 @@ fn is_method_like(nodes: &[u32], p: NodeId) -> bool
     requires { p.0 < count nodes.now }
     ensures { result ≡ is_method_like nodes.now p.0 }
 {
-    base_common::or(
-        table_records::has_flag(table_records::flags(nodes, p), node_flag::METHOD),
-        table_records::extra(nodes, p) != extras::INIT,
-    )
+    table_records::has_flag(table_records::flags(nodes, p), node_flag::METHOD)
+        || table_records::extra(nodes, p) != extras::INIT
 }
 
 // A `super` in the function f, which is the value of a property of an object, or not.
+#[tactic(auto, unfolding(crate::specs::Super::object_use))]
 fn object_use(nodes: &[u32], call: bool, p: NodeId, f: NodeId) -> Reach
     requires tree { Tree nodes.now }
     requires p_bound { p.0 < count nodes.now }
     ensures { result ≡ object_use nodes.now call p.0 f.0 }
 {
-    if is_method_like(nodes, p) {
-        if is_value_of(nodes, p, f) {
-            return if_call(call);
-        }
-        return Reach::Illegal;
+    if is_method_like(nodes, p) && is_value_of(nodes, p, f) {
+        return if_call(call);
     }
     Reach::Illegal
 }
 
 // A `super` in the function f, which is the value of a method of a class, or not.
-fn method_use(nodes: &[u32], n: NodeId, call: bool, class: Current, p: NodeId, f: NodeId) -> Reach
+#[tactic(auto, unfolding(crate::specs::Super::method_use))]
+fn method_use(
+    nodes: &[u32],
+    n: NodeId,
+    call: bool,
+    class: Option<ClassId>,
+    p: NodeId,
+    f: NodeId,
+) -> Reach
     requires tree { Tree nodes.now }
     requires n_bound { n.0 < count nodes.now }
     requires below { below nodes.now (body_of class) }
@@ -211,7 +214,8 @@ fn method_use(nodes: &[u32], n: NodeId, call: bool, class: Current, p: NodeId, f
 }
 
 // A `super` in the function f.
-fn function_use(nodes: &[u32], n: NodeId, call: bool, class: Current, f: NodeId) -> Reach
+#[tactic(auto, unfolding(crate::specs::Super::function_use))]
+fn function_use(nodes: &[u32], n: NodeId, call: bool, class: Option<ClassId>, f: NodeId) -> Reach
     requires tree { Tree nodes.now }
     requires n_bound { n.0 < count nodes.now }
     requires below { below nodes.now (body_of class) }
@@ -222,23 +226,20 @@ fn function_use(nodes: &[u32], n: NodeId, call: bool, class: Current, f: NodeId)
         return Reach::Fails;
     }
     let p = table_ancestry::up(nodes, f);
-    let k = table_records::kind(nodes, p);
-    if k == kinds::OBJECT_PROPERTY {
-        return object_use(nodes, call, p, f);
+    match table_records::kind(nodes, p) {
+        kinds::OBJECT_PROPERTY => object_use(nodes, call, p, f),
+        kinds::METHOD_DEFINITION => method_use(nodes, n, call, class, p, f),
+        _ => Reach::Illegal,
     }
-    if k == kinds::METHOD_DEFINITION {
-        return method_use(nodes, n, call, class, p, f);
-    }
-    Reach::Illegal
 }
 
 // Whether s is the scope of the class (the first of get_class_details).
-pub fn is_class_scope(nodes: &[u32], class: Current, s: ScopeId) -> bool
+pub fn is_class_scope(nodes: &[u32], class: Option<ClassId>, s: ScopeId) -> bool
     requires tree { Tree nodes.now }
     requires below { below nodes.now (body_of class) }
     ensures { result ≡ is_class_scope nodes.now (body_of class) s.0 }
 {
-    let Current::Class(c) = class else {
+    let Some(c) = class else {
         return false;
     };
     let class_node = table_records::parent(nodes, NodeId(c.0));
@@ -254,7 +255,7 @@ pub fn scope_step(
     scopes: &[u32],
     n: NodeId,
     call: bool,
-    class: Current,
+    class: Option<ClassId>,
     s: ScopeId,
 ) -> Step
     requires tree { Tree nodes.now }
@@ -268,10 +269,9 @@ pub fn scope_step(
     if table_records::has_flag(flags, scope_flag::STATIC_BLOCK_SCOPE) {
         return Step::Stop(if_call(call));
     }
-    if !table_records::has_flag(flags, scope_flag::FUNCTION_SCOPE) {
-        return Step::On;
-    }
-    if table_records::has_flag(flags, scope_flag::ARROW_SCOPE) {
+    if !table_records::has_flag(flags, scope_flag::FUNCTION_SCOPE)
+        || table_records::has_flag(flags, scope_flag::ARROW_SCOPE)
+    {
         return Step::On;
     }
     let f = table_records::scope_node(scopes, s);
@@ -279,28 +279,23 @@ pub fn scope_step(
 }
 
 // The class around a node.
-pub fn class_around(nodes: &[u32], n: NodeId) -> Current
+pub fn class_around(nodes: &[u32], n: NodeId) -> Option<ClassId>
     requires tree { Tree nodes.now }
     requires n_bound { n.0 < count nodes.now }
     ensures result_value { body_of result ≡ class_above nodes.now n.0 }
     ensures below { below nodes.now (body_of result) }
 {
-    let Found::At(b) = table_ancestry::nearest(nodes, n, kinds::CLASS_BODY, kinds::CLASS_BODY)
-    else {
-        return Current::Outside;
-    };
-    Current::Class(ClassId(b.0))
+    let b = table_ancestry::nearest(nodes, n, kinds::CLASS_BODY, kinds::CLASS_BODY)?;
+    Some(ClassId(b.0))
 }
 
 // The class around a class.
-pub fn leave_class(nodes: &[u32], class: Current) -> Current
+pub fn leave_class(nodes: &[u32], class: Option<ClassId>) -> Option<ClassId>
     requires tree { Tree nodes.now }
     requires below { below nodes.now (body_of class) }
     ensures result_value { body_of result ≡ leave_class nodes.now (body_of class) }
     ensures below_2 { below nodes.now (body_of result) }
 {
-    let Current::Class(c) = class else {
-        return Current::Outside;
-    };
+    let c = class?;
     class_around(nodes, NodeId(c.0))
 }

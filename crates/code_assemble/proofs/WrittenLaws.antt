@@ -1,12 +1,12 @@
 -- One law for each turn of the loop, and what the slice is in the end.
-use Rattle.std.specs.Prelude.{ℕ, suc, ◌+◌, ◌-◌, ◌≤◌, ◌<◌, ◌≡◌, refl, ◌⊎◌, List, Bool, true, false, length, get_or, drop}
+use Rattle.base_common.proofs.Bools.{never}
+use Rattle.std.specs.Prelude.{ℕ, suc, ◌+◌, ◌-◌, ◌≤◌, ◌<◌, ◌≡◌, refl, ◌⊎◌, List, Bool, true, false, length, get_or, drop, Result, Ok}
 use Rattle.std.proofs.Math.Path.{ap, sym}
 use Rattle.std.proofs.Common.{◌∙◌, subst, inl, inr, length-append, length-drop, ext_get_or, get_or-drop, get_or-append-add, eq-or-lt_of_le, arith, le-leb}
 use Rattle.std.proofs.Math.Bool.{cond}
 use Rattle.std.proofs.Math.ListN.{get_or-append}
 use Rattle.std.proofs.Math.Decide.{dec_lt}
 use Rattle.std.proofs.lemmas.Bool.{lt-leb}
-use Rattle.base_common.proofs.Bools.{never}
 use Rattle.table_records.specs.Table.{count}
 use Rattle.code_flat.specs.Code.{unit, ends}
 use Rattle.code_flat.proofs.Correct.{has_right, has_self}
@@ -25,23 +25,29 @@ use Rattle.code_branch.specs.Branch.{Arrays}
 use Rattle.code_branch.proofs.JumpLaws as array
 use Rattle.code_put.specs.Put.{Put, Done}
 use Rattle.code_put.proofs.PutLaws.{put_done, put_keeps}
-use Rattle.code_assemble.specs.declared.Assembled.TheVariants.{Code, Short}
-use Rattle.code_assemble.specs.Assembled.{assembled, assembled_slice}
+use Rattle.refusal_verdict.specs.declared.Refused.{Refused}
+use Rattle.code_assemble.specs.Assembled.{short, assembled, assembled_slice}
 use Rattle.code_assemble.specs.Written.{whole, Emitted, Written}
+
+abbrev coded : ℕ → Result ℕ Refused
+coded n = Ok n
+
+abbrev too_short : ℕ → Result ℕ Refused
+too_short n = short n
 
 -- The answers.
 module _ (c : List ℕ) where
-  pub fits_answer : (n : ℕ) (s : List ℕ) → n ≡ length c → n ≤ length s → Code n ≡ assembled c (length s)
+  pub fits_answer : (n : ℕ) (s : List ℕ) → n ≡ length c → n ≤ length s → Ok n ≡ assembled c (length s)
   unfolding assembled
-  fits_answer n s e h = ap Code e ∙ sym (ap (λ x. cond x (Code (length c)) (Short (length c))) (le-leb (length c) (length s) (omega arith)))
+  fits_answer n s e h = ap coded e ∙ sym (ap (λ x. cond x (Ok (length c)) (short (length c))) (le-leb (length c) (length s) (omega arith)))
 
   pub fits_slice : (n : ℕ) (s : List ℕ) → n ≡ length c → n ≤ length s → over c s ≡ assembled_slice c s
   unfolding assembled_slice
   fits_slice n s e h = sym (ap (λ x. cond x (over c s) s) (le-leb (length c) (length s) (omega arith)))
 
-  pub short_answer : (n : ℕ) (s : List ℕ) → n ≡ length c → length s < n → Short n ≡ assembled c (length s)
+  pub short_answer : (n : ℕ) (s : List ℕ) → n ≡ length c → length s < n → short n ≡ assembled c (length s)
   unfolding assembled
-  short_answer n s e h = ap Short e ∙ sym (ap (λ x. cond x (Code (length c)) (Short (length c))) (lt-leb (length c) (length s) (omega arith)))
+  short_answer n s e h = ap too_short e ∙ sym (ap (λ x. cond x (Ok (length c)) (short (length c))) (lt-leb (length c) (length s) (omega arith)))
 
   pub short_slice : (n : ℕ) (s : List ℕ) → n ≡ length c → length s < n → s ≡ assembled_slice c s
   unfolding assembled_slice
@@ -62,9 +68,6 @@ over_is c f g h e d r =
 module _ {ns names : List ℕ} {b : ℕ} (r : Ready ns names b) where
   pub length_whole : length (unit (body_of ns names b)) ≡ width_at ns b b + 8
   length_whole = ap length (sym (code_unit ns names b r.held)) ∙ length-append (code_at ns names b b) ends ∙ ap (λ k. k + 8) (code_length_lem ns names b b)
-
-  pub emit_skip : (j : ℕ) → in_unit ns b j ≡ false → (f : List ℕ) → Emitted ns names b j f f
-  emit_skip j e f = record { same = refl; done = λ u. never (sym u ∙ e); keeps = λ x d. d; behind = λ x l. refl }
 
   pub emit_fits : (j : ℕ) → j < count ns → in_unit ns b j ≡ true → offset_at ns names b j + own_width ns b j ≤ width_at ns b b
   emit_fits j l e = let f = fits ns names b r.held j l e in let w = width_is_lem ns b j l in omega arith
@@ -142,3 +145,7 @@ module _ {ns names : List ℕ} {b : ℕ} {widths levels offsets follows : List �
 
   pub level_in : (get_or levels n 0 ≡ 0 → ⊥) → in_unit ns b n ≡ true
   level_in z = (level_by (in_unit ns b n) refl).1 z
+
+module _ {ns names : List ℕ} {b : ℕ} (r : Ready ns names b) where
+  pub emit_skip : (j : ℕ) → in_unit ns b j ≡ false → (f : List ℕ) → Emitted ns names b j f f
+  emit_skip j e f = record { same = refl; done = λ u. never (sym u ∙ e); keeps = λ x d. d; behind = λ x l. refl }

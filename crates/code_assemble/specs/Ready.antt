@@ -1,12 +1,11 @@
 -- What is known of a unit that is not refused: its statements are held by a node that can be coded.
-use Rattle.std.specs.Prelude.{ℕ, ◌<◌, ◌≡◌, List}
+use Rattle.std.specs.Prelude.{ℕ, ◌<◌, ◌≡◌, List, Some}
 use Rattle.table_records.specs.Table.{count}
 use Rattle.table_records.specs.Facts.{Tree}
-use Rattle.table_records.specs.declared.Found.TheVariants.{At}
 use Rattle.code_tree.specs.Statements.{holder_of}
 use Rattle.code_contexts.specs.Contexts as contexts
 
 pub record Ready (ns names : List ℕ) (u : ℕ) : Type 0 where
   pub tree : Tree ns
   pub root : u < count ns
-  pub held : (b : ℕ) → holder_of ns u ≡ At (record { 0 = b }) → contexts.Ready ns names b
+  pub held : (b : ℕ) → holder_of ns u ≡ Some (record { 0 = b }) → contexts.Ready ns names b

@@ -7,54 +7,46 @@ ghost use Rattle.code_flat.specs.Code.{unit, ends};
 ghost use Rattle.route_list.specs.Over.{over};
 ghost use Rattle.code_tree.specs.Statements.{body_of, unit_of};
 ghost use Rattle.code_contexts.specs.Contexts as contexts;
-ghost use Rattle.code_branch.specs.Branch.{Arrays};
+ghost use Rattle.code_branch.specs.Branch.{Laid};
 ghost use Rattle.code_put.specs.Put.{Put};
 ghost use Rattle.code_assemble.specs.Ready.{Ready};
 ghost use Rattle.code_assemble.specs.Assembled.{assembled, assembled_slice};
 ghost use Rattle.code_assemble.specs.Written.{Emitted};
 
+use code_branch::Layout;
 use code_machine::opcodes;
 use code_put::put_words;
-use table_records::{Found, NodeId, wide};
+use refusal_verdict::{Refusal, Refused};
+use table_records::NodeId;
 
 // Up to how many nodes small arrays serve: they cost less to clear.
-const SMALL: u32 = 1024;
+const SMALL: usize = 1024;
+
+// More nodes than a table has.
+const LARGE: usize = 65536;
 
 // How many words the ends take.
 const END_WORDS: usize = 8;
 
-// What the maker comes to: so many numbers of code from the slice's start; or the slice is too short, and the code's length.
-#[derive(Clone, Copy)]
-pub enum Assembled {
-    Code(usize),
-    Short(usize),
-}
-
 // Writes the words of n at its place, if it is the unit's.
-fn emit_at(
-    nodes: &[u32],
-    names: &[u8],
-    b: NodeId,
-    widths: &[u32],
-    levels: &[u32],
-    offsets: &[u32],
-    follows: &[u32],
-    n: NodeId,
-    code: &mut [u32],
-)
-    requires arrays { Arrays nodes.now names.now b.0 widths.now levels.now offsets.now follows.now }
-    requires b_lt_n { b.0 < n.0 }
-    requires n_bound { n.0 < count nodes.now }
-    requires b_in_bounds { length (unit (body_of nodes.now names.now b.0)) ≤ length code.old }
-    ensures { Emitted nodes.now names.now b.0 n.0 code.old code.new }
+fn emit_at(laid: &Layout, n: NodeId, code: &mut [u32])
+    requires arrays { Laid laid.now }
+    requires b_lt_n { laid.now.body.0 < n.0 }
+    requires n_bound { n.0 < count laid.now.nodes.now }
+    requires b_in_bounds { length (unit (body_of laid.now.nodes.now laid.now.names.now laid.now.body.0)) ≤ length code.old }
+    ensures { Emitted laid.now.nodes.now laid.now.names.now laid.now.body.0 n.0 code.old code.new }
 {
-    if levels[wide(n.0)] == 0 {
+    if laid.levels[n.0 as usize] == 0 {
         return;
     }
-    let words = code_instructions::words_of(nodes, names, b, widths, levels, offsets, follows, n);
-    let own = code_instructions::own_of(nodes, names, b, n);
-    let o = offsets[wide(n.0)];
-    put_words(code, wide(o), &words, wide(own));
+    let words = code_instructions::words_of(laid, n);
+    let own = code_instructions::own_of(laid.nodes, laid.names, laid.body, n);
+    put_words(
+        code,
+        laid.offsets[n.0 as usize] as usize,
+        &words,
+        own as usize,
+    );
 }
 
 // The four ends.
@@ -76,41 +68,18 @@ fn put_ends(code: &mut [u32], o: usize)
 }
 
 // Writes the words of all nodes, and the ends.
-fn write_code(
-    nodes: &[u32],
-    names: &[u8],
-    b: NodeId,
-    widths: &[u32],
-    levels: &[u32],
-    offsets: &[u32],
-    follows: &[u32],
-    code: &mut [u32],
-)
-    requires arrays { Arrays nodes.now names.now b.0 widths.now levels.now offsets.now follows.now }
-    requires b_in_bounds { length (unit (body_of nodes.now names.now b.0)) ≤ length code.old }
-    ensures { code.new ≡ over (unit (body_of nodes.now names.now b.0)) code.old }
+fn write_code(laid: &Layout, code: &mut [u32])
+    requires arrays { Laid laid.now }
+    requires b_in_bounds { length (unit (body_of laid.now.nodes.now laid.now.names.now laid.now.body.0)) ≤ length code.old }
+    ensures { code.new ≡ over (unit (body_of laid.now.nodes.now laid.now.names.now laid.now.body.0)) code.old }
 {
-    let size = table_records::size(nodes);
-    let mut j = b.0 + 1;
-    while j < size {
-        emit_at(
-            nodes,
-            names,
-            b,
-            widths,
-            levels,
-            offsets,
-            follows,
-            NodeId(j),
-            code,
-        );
-        j += 1;
+    for j in laid.body.0 + 1..table_records::size(laid.nodes) {
+        emit_at(laid, NodeId(j), code);
     }
-    let o = widths[wide(b.0)];
-    put_ends(code, wide(o));
+    put_ends(code, laid.widths[laid.body.0 as usize] as usize);
 }
 
-// The code of the statements that b holds, by way of four arrays. The length is known before anything is written.
+// How many numbers the code of the statements that b holds has, written from the slice's start, by way of four arrays. The length is known before anything is written.
 fn code_by(
     nodes: &[u32],
     names: &[u8],
@@ -120,7 +89,7 @@ fn code_by(
     offsets: &mut [u32],
     follows: &mut [u32],
     code: &mut [u32],
-) -> Assembled
+) -> Result<usize, Refused>
     requires ready { contexts.Ready nodes.now names.now b.0 }
     requires nodes_in_bounds { count nodes.now ≤ length widths.old }
     requires nodes_in_bounds_2 { count nodes.now ≤ length levels.old }
@@ -131,47 +100,42 @@ fn code_by(
 {
     code_widths::fill_units(nodes, names, b, levels, widths);
     code_widths::fill_widths(nodes, names, b, levels, widths, offsets);
-    let words = widths[wide(b.0)];
-    let length = wide(words) + END_WORDS;
+    let length = widths[b.0 as usize] as usize + END_WORDS;
     if code.len() < length {
-        return Assembled::Short(length);
+        return Err(Refused::Short(Refusal::CodeSlice, length as u64));
     }
     code_contexts::fill_places(nodes, names, b, widths, levels, offsets, follows);
-    write_code(nodes, names, b, widths, levels, offsets, follows, code);
-    Assembled::Code(length)
-}
-
-fn code_small(nodes: &[u32], names: &[u8], b: NodeId, code: &mut [u32]) -> Assembled
-    requires ready { contexts.Ready nodes.now names.now b.0 }
-    requires nodes_bound { count nodes.now ≤ 1024 }
-    ensures value { result ≡ assembled (unit (body_of nodes.now names.now b.0)) (length code.old) }
-    ensures code_after { code.new ≡ assembled_slice (unit (body_of nodes.now names.now b.0)) code.old }
-{
-    let mut widths: [u32; 1025] = [0; 1025];
-    let mut levels: [u32; 1025] = [0; 1025];
-    let mut offsets: [u32; 1025] = [0; 1025];
-    let mut follows: [u32; 1025] = [0; 1025];
-    code_by(
+    let laid = Layout {
         nodes,
         names,
-        b,
-        &mut widths,
-        &mut levels,
-        &mut offsets,
-        &mut follows,
-        code,
-    )
+        body: b,
+        widths,
+        levels,
+        offsets,
+        follows,
+    };
+    write_code(&laid, code);
+    Ok(length)
 }
 
-fn code_large(nodes: &[u32], names: &[u8], b: NodeId, code: &mut [u32]) -> Assembled
-    requires { contexts.Ready nodes.now names.now b.0 }
+// The code of the statements that b holds, by way of arrays with room for N nodes.
+// Four arrays, and not one of structs: in the first passes they hold marks and sums in place of levels and offsets, one array to a pass.
+fn code_within<const N: usize>(
+    nodes: &[u32],
+    names: &[u8],
+    b: NodeId,
+    code: &mut [u32],
+) -> Result<usize, Refused>
+    requires ready { contexts.Ready nodes.now names.now b.0 }
+    requires nodes_bound { count nodes.now ≤ N }
+    requires size_bound { N ≤ 65536 }
     ensures value { result ≡ assembled (unit (body_of nodes.now names.now b.0)) (length code.old) }
     ensures code_after { code.new ≡ assembled_slice (unit (body_of nodes.now names.now b.0)) code.old }
 {
-    let mut widths: [u32; 65536] = [0; 65536];
-    let mut levels: [u32; 65536] = [0; 65536];
-    let mut offsets: [u32; 65536] = [0; 65536];
-    let mut follows: [u32; 65536] = [0; 65536];
+    let mut widths: [u32; N] = [0; N];
+    let mut levels: [u32; N] = [0; N];
+    let mut offsets: [u32; N] = [0; N];
+    let mut follows: [u32; N] = [0; N];
     code_by(
         nodes,
         names,
@@ -185,37 +149,37 @@ fn code_large(nodes: &[u32], names: &[u8], b: NodeId, code: &mut [u32]) -> Assem
 }
 
 // The code of the statements that b holds.
-fn code_body(nodes: &[u32], names: &[u8], b: NodeId, code: &mut [u32]) -> Assembled
+fn code_body(nodes: &[u32], names: &[u8], b: NodeId, code: &mut [u32]) -> Result<usize, Refused>
     requires { contexts.Ready nodes.now names.now b.0 }
     ensures value { result ≡ assembled (unit (body_of nodes.now names.now b.0)) (length code.old) }
     ensures code_after { code.new ≡ assembled_slice (unit (body_of nodes.now names.now b.0)) code.old }
 {
-    if table_records::is_node(nodes, SMALL) {
-        return code_large(nodes, names, b, code);
+    if table_records::is_node(nodes, SMALL as u32) {
+        return code_within::<LARGE>(nodes, names, b, code);
     }
-    code_small(nodes, names, b, code)
+    code_within::<SMALL>(nodes, names, b, code)
 }
 
 // The code of a unit without statements: the ends alone.
-fn code_none(code: &mut [u32]) -> Assembled
+fn code_none(code: &mut [u32]) -> Result<usize, Refused>
     ensures value { result ≡ assembled ends (length code.old) }
     ensures code_after { code.new ≡ assembled_slice ends code.old }
 {
     if code.len() < END_WORDS {
-        return Assembled::Short(END_WORDS);
+        return Err(Refused::Short(Refusal::CodeSlice, END_WORDS as u64));
     }
     put_ends(code, 0);
-    Assembled::Code(END_WORDS)
+    Ok(END_WORDS)
 }
 
 // The code of the unit u.
-pub fn code_unit(nodes: &[u32], names: &[u8], u: NodeId, code: &mut [u32]) -> Assembled
+pub fn code_unit(nodes: &[u32], names: &[u8], u: NodeId, code: &mut [u32]) -> Result<usize, Refused>
     requires { Ready nodes.now names.now u.0 }
     ensures value { result ≡ assembled (unit (unit_of nodes.now names.now u.0)) (length code.old) }
     ensures code_after { code.new ≡ assembled_slice (unit (unit_of nodes.now names.now u.0)) code.old }
 {
     match code_shapes::holder(nodes, u) {
-        Found::At(b) => code_body(nodes, names, b, code),
-        Found::Nothing => code_none(code),
+        Some(b) => code_body(nodes, names, b, code),
+        None => code_none(code),
     }
 }

@@ -1,15 +1,20 @@
 -- What a step of a jump's way up knows: the arrays' numbers at a node of the unit, and the unit's own node.
-use Rattle.std.specs.Prelude.{ℕ, suc, ◌+◌, ◌-◌, ◌≤◌, ◌<◌, ◌≡◌, refl, List, Bool, true, false, cond, ◌||◌, eqb, get_or}
-use Rattle.std.proofs.Math.Path.{ap}
-use Rattle.std.proofs.Common.{sym, ◌∙◌, arith, eq-eqb, ne_eqb}
-use Rattle.table_records.specs.Table.{kind_of, count}
+use Rattle.std.specs.Prelude.{Bool}
+use Rattle.std.proofs.Common.{eq-eqb, ne_eqb}
+use Rattle.table_records.specs.Table.{kind_of}
 use Rattle.table_records.specs.Kinds as k
 use Rattle.route_completion.specs.Tree.{simple, brk, con, ret, thr}
-use Rattle.route_completion.specs.Sem.{normal, breaks, continues, returns, throws, elem, comp_of}
-use Rattle.code_flat.specs.Code.{at, top}
-use Rattle.code_tree.specs.Labels.{lab_at, id_at}
-use Rattle.code_tree.specs.Parts.{up_of, shape_at}
+use Rattle.route_completion.specs.Sem.{normal, breaks, continues, returns, throws, comp_of}
+use Rattle.code_tree.specs.Labels.{lab_at}
 use Rattle.code_tree.specs.Statements.{leaf_at}
+use Rattle.std.specs.Prelude.{ℕ, suc, ◌+◌, ◌-◌, ◌≤◌, ◌<◌, ◌≡◌, refl, List, true, false, cond, ◌||◌, eqb, get_or}
+use Rattle.std.proofs.Math.Path.{ap}
+use Rattle.std.proofs.Common.{sym, ◌∙◌, arith}
+use Rattle.table_records.specs.Table.{count}
+use Rattle.route_completion.specs.Sem.{elem}
+use Rattle.code_flat.specs.Code.{at, top}
+use Rattle.code_tree.specs.Labels.{id_at}
+use Rattle.code_tree.specs.Parts.{up_of, shape_at}
 use Rattle.code_layout.specs.Widths.{in_unit, width_at}
 use Rattle.code_layout.specs.Context.{offset_at}
 use Rattle.code_layout.proofs.LayoutLaws.{context_root}
@@ -21,7 +26,7 @@ use Rattle.code_contexts.specs.Contexts.{Ready, Follow}
 use Rattle.code_branch.specs.Branch.{comp_by, end_by, is_jump, Arrays}
 use Rattle.code_branch.proofs.BranchLaws.{labels_in}
 use Rattle.code_branch.specs.declared.Jump.{Jump}
-use Rattle.code_branch.specs.declared.Jump.TheVariants.{BreakNear, BreakNamed, ContinueNear, ContinueNamed, Return, Throw}
+use Rattle.code_branch.specs.declared.Jump.TheVariants.{Break, Continue, Return, Throw}
 
 module _ {ns names : List ℕ} {b : ℕ} {widths levels offsets follows : List ℕ} (A : Arrays ns names b widths levels offsets follows) (n : ℕ) (l : n < count ns) (e : in_unit ns b n ≡ true) where
   pub low : b ≤ n
@@ -56,18 +61,14 @@ module _ {ns names : List ℕ} {b : ℕ} {widths levels offsets follows : List �
 
 module _ (ns names : List ℕ) where
   pub jump_is : (b : ℕ) (j : Jump) → is_jump ns names b (comp_by ns names j) ≡ true
-  jump_is b BreakNear = refl
-  jump_is b (BreakNamed l) = refl
-  jump_is b ContinueNear = refl
-  jump_is b (ContinueNamed l) = refl
+  jump_is b (Break l) = refl
+  jump_is b (Continue l) = refl
   jump_is b Return = refl
   jump_is b Throw = refl
 
   end_is : (m : ℕ) (j : Jump) → at (m + end_by j) 0 ≡ top m (comp_by ns names j)
-  end_is m BreakNear = refl
-  end_is m (BreakNamed l) = refl
-  end_is m ContinueNear = refl
-  end_is m (ContinueNamed l) = refl
+  end_is m (Break l) = refl
+  end_is m (Continue l) = refl
   end_is m Return = refl
   end_is m Throw = refl
 
@@ -89,7 +90,6 @@ module _ {ns names : List ℕ} {b : ℕ} (r : Ready ns names b) (n : ℕ) (h : b
   pub labels_on : is_labeled (shape_at ns (up_of ns n)) ≡ true → eqb l (id_at ns names (up_of ns n)) ≡ false → elem l (labels_at ns names b n) ≡ elem l (labels_at ns names b (up_of ns n))
   labels_on q z = labels_in ns names b r n h hc e l ∙ (λ i. cond (q i) (z i || elem l (labels_at ns names b (up_of ns n))) false)
 
--- Which completion a statement without parts has, by its kind.
 module _ (ns names : List ℕ) (n : ℕ) where
   leaf_by : (x y z w : Bool) → eqb (kind_of ns n) k.Break ≡ x → eqb (kind_of ns n) k.Continue ≡ y → eqb (kind_of ns n) k.Return ≡ z → eqb (kind_of ns n) k.Throw ≡ w
       → comp_of (cond x (brk (lab_at ns names n)) (cond y (con (lab_at ns names n)) (cond z ret (cond w thr simple)))) ≡ comp_of (leaf_at ns names n)

@@ -1,10 +1,11 @@
 -- Where a jump stops on its way up, and where it goes from there: one law for breaks, continues, returns and throws.
-use Rattle.std.specs.Prelude.{ℕ, ◌+◌, ◌≤◌, ◌<◌, List, Bool, true, false, ◌&&◌, eqb, length}
+use Rattle.std.specs.Prelude.{ℕ, ◌+◌, ◌≤◌, List, Bool, true, false, ◌&&◌, eqb, length}
 use Rattle.table_records.specs.Table.{role_of, count}
+use Rattle.table_children.specs.Children.{below}
 use Rattle.route_completion.specs.Tree.{near, named}
 use Rattle.route_completion.specs.Sem.{Comp, normal, breaks, continues, returns, throws, spent, elem}
 use Rattle.code_flat.specs.Code.{Stat, at}
-use Rattle.code_tree.specs.Labels.{name_id, id_at}
+use Rattle.code_tree.specs.Labels.{id_at, lab_by}
 use Rattle.code_tree.specs.Parts.{up_of, shape_at}
 use Rattle.code_layout.specs.Widths.{width_at}
 use Rattle.code_layout.specs.Context.{offset_at}
@@ -12,34 +13,29 @@ use Rattle.code_targets.specs.Targets.{is_loop, is_breakable, is_labeled, catche
 use Rattle.code_contexts.specs.Contexts.{Ready, Wide, Places}
 use Rattle.code_branch.specs.declared.Target.{Target}
 use Rattle.code_branch.specs.declared.Jump.{Jump}
-use Rattle.code_branch.specs.declared.Jump.TheVariants.{BreakNear, BreakNamed, ContinueNear, ContinueNamed, Return, Throw}
+use Rattle.code_branch.specs.declared.Layout.{Layout}
+use Rattle.code_branch.specs.declared.Jump.TheVariants.{Break, Continue, Return, Throw}
 
 abbrev pub stat_of : Target → Stat
 stat_of t = at t.place t.depth
 
 -- The completion of a jump: a label is known by its node.
 abbrev pub comp_by : List ℕ → List ℕ → Jump → Comp
-comp_by ns names BreakNear = breaks near
-comp_by ns names (BreakNamed l) = breaks (named (name_id ns names l.0))
-comp_by ns names ContinueNear = continues near
-comp_by ns names (ContinueNamed l) = continues (named (name_id ns names l.0))
+comp_by ns names (Break l) = breaks (lab_by ns names l)
+comp_by ns names (Continue l) = continues (lab_by ns names l)
 comp_by ns names Return = returns
 comp_by ns names Throw = throws
 
 abbrev pub LabelIn : List ℕ → Jump → Type 0
-LabelIn ns BreakNear = Unit {0}
-LabelIn ns (BreakNamed l) = l.0 < count ns
-LabelIn ns ContinueNear = Unit {0}
-LabelIn ns (ContinueNamed l) = l.0 < count ns
+LabelIn ns (Break l) = below ns l
+LabelIn ns (Continue l) = below ns l
 LabelIn ns Return = Unit {0}
 LabelIn ns Throw = Unit {0}
 
 -- How far behind the unit's words the end stands that a jump goes to where nothing in the unit stops it.
 abbrev pub end_by : Jump → ℕ
-end_by BreakNear = 6
-end_by (BreakNamed l) = 6
-end_by ContinueNear = 6
-end_by (ContinueNamed l) = 6
+end_by (Break l) = 6
+end_by (Continue l) = 6
 end_by Return = 2
 end_by Throw = 4
 
@@ -81,3 +77,7 @@ module _ (ns names : List ℕ) (b : ℕ) where
     pub long_levels : count ns ≤ length levels
     pub long_offsets : count ns ≤ length offsets
     pub long_follows : count ns ≤ length follows
+
+-- What is known of a layout: its arrays are those of the code maker.
+abbrev pub Laid : Layout → Type 0
+Laid l = Arrays l.nodes.now l.names.now l.body.0 l.widths.now l.levels.now l.offsets.now l.follows.now

@@ -1,8 +1,8 @@
 -- Laws of closing up: where an instruction comes to stand, and its numbers there.
 use Prim.Native.Nat.{ℕ, zero, suc, ◌+◌, ◌-◌, ◌≤◌, ◌<◌}
-use Rattle.std.specs.Prelude.{◌≡◌, ◌≢◌, Bool, length, drop, eqb, ltb}
+use Rattle.std.specs.Prelude.{◌≡◌, ◌≢◌, Bool, length, drop, ltb}
 use Rattle.std.proofs.Math.Path.{refl, sym, ap, subst}
-use Rattle.std.proofs.Common.{◌∙◌, inl, inr, true≢false, length-append, length-drop, get_or-drop, get_or-append-add, ext_get_or, ne_eqb, lt-ltb, le-ltb, eqb-true}
+use Rattle.std.proofs.Common.{◌∙◌, inl, inr, true≢false, length-append, length-drop, get_or-drop, get_or-append-add, ext_get_or, ne_eqb, lt-ltb, le-ltb}
 use Rattle.std.proofs.Math.Bool.{true, false}
 use mathlib.Core.List.{List, [], ◌∷◌, ◌++◌}
 use Rattle.std.proofs.Math.ListN.{get_or, get_or-append}
@@ -10,19 +10,19 @@ use native.Mathlib.Omega.{arith}
 use Rattle.std.proofs.Math.Decide.{dec_lt}
 use Rattle.route_completion.specs.Sem.{pick, elem}
 use Rattle.code_flat.specs.Opcodes as op
-use Rattle.code_flat.specs.Machine.{Instr, LIST, LEAVE, ASK, SELECT, OPEN, END, CASE, decode, fetch}
+use Rattle.code_flat.specs.Machine.{Instr, decode}
 use Rattle.code_flat.specs.Machine.{is_none}
-use Rattle.code_flat.proofs.Correct.{has_left, has_right, has_self}
+use Rattle.code_flat.proofs.Correct.{has_self}
 use Rattle.code_flat.specs.Has.{Has}
 use Rattle.code_valid.specs.Instrs.{len, words, flat, find, names}
 use Rattle.code_valid.proofs.ReadingLaws.{decode_none}
 use Rattle.code_shorten.specs.Short.{moved, relocate, kept, close_up}
 use Rattle.code_shorten.specs.Longer.{total, flat_length, words_length, relocate_length}
-use Rattle.code_shorten.specs.Reads.{fetched}
-use Rattle.code_shorten.specs.Sound.{Some, Begin, All, Sound, dec_eq, len_pos, find_here, find_there, find_low, none_in}
+use Rattle.code_shorten.specs.Reads.{find_has}
+use Rattle.code_shorten.specs.Sound.{AreInstrs, Begin, All, Sound, len_pos, find_here, find_there, find_low, none_in}
 use Rattle.code_shorten.specs.Closes.{In, moved_here, moved_there, kept_find, relocate_none}
 use Rattle.code_shorten.specs.Marking.{raise, plain, Inked}
-use Rattle.code_shorten.proofs.MarkingLaws.{size_is}
+use Rattle.code_shorten.proofs.MarkingLaws.{first_low, mark_is, decoded, size_is}
 use Rattle.code_put.specs.Put.{Put}
 use Rattle.code_close.specs.Closing.{names_first, names_second, names_third, Moving, Closing}
 
@@ -127,7 +127,7 @@ module _ (is : List Instr) (S : List ℕ) where
   abbrev φ : ℕ → ℕ
   φ = moved S is 0 0
 
-  pub moving_first : Some is → Moving is S 0 0
+  pub moving_first : AreInstrs is → Moving is S 0 0
   unfolding close_up
   moving_first s =
       record {
@@ -152,7 +152,7 @@ module _ (is : List Instr) (S : List ℕ) where
     pub moving_before : (o : ℕ) → p ≤ o → Begin is o → Begin is p
     moving_before o h b = go m.rest m.some m.stands
       where
-        go : (r : List Instr) → Some r → ((x : ℕ) → p ≤ x → find r p x ≡ find is 0 x) → Begin is p
+        go : (r : List Instr) → AreInstrs r → ((x : ℕ) → p ≤ x → find r p x ≡ find is 0 x) → Begin is p
         go [] u st = absurd (none_in p o (ap is_none (st o h) ∙ b))
         go (i ∷ r) u st = ap is_none (sym (st p (omega arith)) ∙ find_here i r p) ∙ u.0
 
@@ -160,7 +160,7 @@ module _ (is : List Instr) (S : List ℕ) where
     unfolding total
     moving_begin l = go m.rest m.some m.stands m.ends
       where
-        go : (r : List Instr) → Some r → ((x : ℕ) → p ≤ x → find r p x ≡ find is 0 x) → p + total r ≡ total is → Begin is p
+        go : (r : List Instr) → AreInstrs r → ((x : ℕ) → p ≤ x → find r p x ≡ find is 0 x) → p + total r ≡ total is → Begin is p
         go [] u st e = absurd (omega arith)
         go (i ∷ r) u st e = ap is_none (sym (st p (omega arith)) ∙ find_here i r p) ∙ u.0
 
@@ -193,7 +193,7 @@ module _ (is : List Instr) (S : List ℕ) where
     unfolding total
     moving_next b = go m.rest m.some m.stands m.left m.size m.ends
       where
-        go : (r : List Instr) → Some r → ((x : ℕ) → p ≤ x → find r p x ≡ find is 0 x) → ((x : ℕ) → p ≤ x → moved S r p q x ≡ moved S is 0 0 x)
+        go : (r : List Instr) → AreInstrs r → ((x : ℕ) → p ≤ x → find r p x ≡ find is 0 x) → ((x : ℕ) → p ≤ x → moved S r p q x ≡ moved S is 0 0 x)
             → q + total (kept φ S r p) ≡ total (close_up S is) → p + total r ≡ total is → Moving is S (p + len (find is 0 p)) (q + pick (elem p S) (len (find is 0 p)) 0)
         go [] u st lf sz en = absurd (none_in p p (ap is_none (st p (omega arith)) ∙ b))
         go (i ∷ r) u st lf sz en =
@@ -215,97 +215,22 @@ module _ (is : List Instr) (S : List ℕ) where
     unfolding total kept
     moving_end l = go m.rest m.some m.size m.ends
       where
-        go : (r : List Instr) → Some r → q + total (kept φ S r p) ≡ total (close_up S is) → p + total r ≡ total is → q ≡ total (close_up S is)
+        go : (r : List Instr) → AreInstrs r → q + total (kept φ S r p) ≡ total (close_up S is) → p + total r ≡ total is → q ≡ total (close_up S is)
         go [] u sz en = omega arith
         go (i ∷ r) u sz en = absurd (omega (arith, len_pos i u.0))
 
--- Nothing begins inside an instruction.
-find_inside : (is : List Instr) (q p k : ℕ) → Some is → is_none (find is q p) ≡ false → 0 < k → k < len (find is q p) → is_none (find is q (p + k)) ≡ false → ⊥
-find_inside [] q p k s b l m c = none_in q p b
-find_inside (i ∷ is) q p k s b l m c = go (dec_eq q p) (find_inside is (q + len i) p k s.1)
-  where
-    go : Dec (q ≡ p) → (is_none (find is (q + len i) p) ≡ false → 0 < k → k < len (find is (q + len i) p) → is_none (find is (q + len i) (p + k)) ≡ false → ⊥) → ⊥
-    go (yes e) ih =
-        let f : find (i ∷ is) q p ≡ i = ap (find (i ∷ is) q) (sym e) ∙ find_here i is q in
-        let g : find (i ∷ is) q (p + k) ≡ find is (q + len i) (p + k) = find_there i is q (p + k) (λ w. omega arith) in
-        let h : q + len i ≤ p + k = find_low is (q + len i) (p + k) (sym (ap is_none g) ∙ c) in
-        omega (arith, ap len f)
-    go (no e) ih =
-        let f : find (i ∷ is) q p ≡ find is (q + len i) p = find_there i is q p e in
-        let h : q + len i ≤ p = find_low is (q + len i) p (sym (ap is_none f) ∙ b) in
-        let g : find (i ∷ is) q (p + k) ≡ find is (q + len i) (p + k) = find_there i is q (p + k) (λ w. omega (arith, len_pos i s.0)) in
-        ih (sym (ap is_none f) ∙ b) l (subst (λ j. k < len j) f m) (sym (ap is_none g) ∙ c)
-
--- Operands that an instruction does not have say nothing.
-decode_same : (x a b c a' b' c' : ℕ) → (1 < len (decode x a b c) → a' ≡ a) → (2 < len (decode x a b c) → b' ≡ b) → (3 < len (decode x a b c) → c' ≡ c) → decode x a' b' c' ≡ decode x a b c
-decode_same zero a b c a' b' c' f g h = refl
-decode_same (suc zero) a b c a' b' c' f g h = ap LIST (f (omega arith))
-decode_same (suc (suc zero)) a b c a' b' c' f g h = λ j. LEAVE (f (omega arith) j) (g (omega arith) j)
-decode_same (suc (suc (suc zero))) a b c a' b' c' f g h = λ j. ASK (f (omega arith) j) (g (omega arith) j) (h (omega arith) j)
-decode_same (suc (suc (suc (suc zero)))) a b c a' b' c' f g h = λ j. SELECT (f (omega arith) j) (g (omega arith) j) (h (omega arith) j)
-decode_same (suc (suc (suc (suc (suc zero))))) a b c a' b' c' f g h = ap OPEN (f (omega arith))
-decode_same (suc (suc (suc (suc (suc (suc zero)))))) a b c a' b' c' f g h = ap END (f (omega arith))
-decode_same (suc (suc (suc (suc (suc (suc (suc zero))))))) a b c a' b' c' f g h = λ j. CASE (f (omega arith) j) (g (omega arith) j) (h (omega arith) j)
-decode_same (suc (suc (suc (suc (suc (suc (suc (suc k)))))))) a b c a' b' c' f g h =
-    decode_none (suc (suc (suc (suc (suc (suc (suc (suc k)))))))) a' b' c' (omega arith) ∙ sym (decode_none (suc (suc (suc (suc (suc (suc (suc (suc k)))))))) a b c (omega arith))
-
--- What is read of numbers with marks (as in code_shorten, MarkingLaws.antt, which shows less of it).
+-- What is read of numbers with marks.
 module _ (is : List Instr) (s : Sound is) (S C : List ℕ) (k : Inked is S C) where
   abbrev F : List ℕ
   F = flat is
 
   module _ (p : ℕ) (b : Begin is p) where
-    fetch_is : fetch F p ≡ find is 0 p
-    fetch_is = fetched is p b
-
-    first_low : get_or F p 0 < raise
-    unfolding fetch
-    first_low = go (dec_lt 7 (get_or F p 0))
-      where
-        go : Dec (7 < get_or F p 0) → get_or F p 0 < raise
-        go (no h) = omega arith
-        go (yes h) = absurd (true≢false (sym (ap is_none (decode_none (get_or F p 0) (get_or F (suc p) 0) (get_or F (suc (suc p)) 0) (get_or F (suc (suc (suc p))) 0) h)) ∙ ap is_none fetch_is ∙ b))
-
-    mark_is : (c : Bool) → elem p S ≡ c → get_or C p 0 ≡ get_or F p 0 + pick c raise 0
-    mark_is c e = k.each p ∙ ap (λ x. get_or F p 0 + pick x raise 0) e
-
-    operand : (n : ℕ) → 0 < n → n < len (find is 0 p) → get_or C (p + n) 0 ≡ get_or F (p + n) 0
-    operand n l m = go (elem (p + n) S) refl
-      where
-        go : (c : Bool) → elem (p + n) S ≡ c → get_or C (p + n) 0 ≡ get_or F (p + n) 0
-        go true e = absurd (find_inside is 0 p n s.some b l m (k.begun (p + n) e))
-        go false e = k.each (p + n) ∙ ap (λ x. get_or F (p + n) 0 + pick x raise 0) e ∙ (let z : get_or F (p + n) 0 + 0 ≡ get_or F (p + n) 0 = omega arith in z)
-
-    plain_is : plain (get_or C p 0) ≡ get_or F p 0
-    plain_is = go (elem p S) refl
-      where
-        go : (c : Bool) → elem p S ≡ c → plain (get_or C p 0) ≡ get_or F p 0
-        go true e =
-            let m : get_or C p 0 ≡ get_or F p 0 + 8 = mark_is true e in
-            ap (λ t. pick t (get_or C p 0) (get_or C p 0 - raise)) (le-ltb (get_or C p 0) raise (omega arith)) ∙ (let z : get_or C p 0 - 8 ≡ get_or F p 0 = omega arith in z)
-        go false e =
-            let m : get_or C p 0 ≡ get_or F p 0 + 0 = mark_is false e in
-            ap (λ t. pick t (get_or C p 0) (get_or C p 0 - raise)) (lt-ltb (get_or C p 0) raise (omega (arith, first_low))) ∙ (let z : get_or C p 0 ≡ get_or F p 0 = omega arith in z)
-
-    pub decoded : decode (plain (get_or C p 0)) (get_or C (p + 1) 0) (get_or C (p + 2) 0) (get_or C (p + 3) 0) ≡ find is 0 p
-    unfolding fetch
-    decoded =
-        let one : p + 1 ≡ suc p = omega arith in
-        let two : p + 2 ≡ suc (suc p) = omega arith in
-        let three : p + 3 ≡ suc (suc (suc p)) = omega arith in
-        ap (λ x. decode x (get_or C (p + 1) 0) (get_or C (p + 2) 0) (get_or C (p + 3) 0)) plain_is
-        ∙ decode_same (get_or F p 0) (get_or F (suc p) 0) (get_or F (suc (suc p)) 0) (get_or F (suc (suc (suc p))) 0) (get_or C (p + 1) 0) (get_or C (p + 2) 0) (get_or C (p + 3) 0)
-        (λ m. operand 1 (omega arith) (subst (λ i. 1 < len i) fetch_is m) ∙ ap (λ x. get_or F x 0) one)
-        (λ m. operand 2 (omega arith) (subst (λ i. 2 < len i) fetch_is m) ∙ ap (λ x. get_or F x 0) two)
-        (λ m. operand 3 (omega arith) (subst (λ i. 3 < len i) fetch_is m) ∙ ap (λ x. get_or F x 0) three)
-        ∙ fetch_is
-
     kept_is : (w : ℕ) → pick (ltb (get_or C p 0) raise) 0 w ≡ pick (elem p S) w 0
     kept_is w = go (elem p S) refl
       where
         go : (c : Bool) → elem p S ≡ c → pick (ltb (get_or C p 0) raise) 0 w ≡ pick c w 0
-        go true e = let m : get_or C p 0 ≡ get_or F p 0 + 8 = mark_is true e in ap (λ t. pick t 0 w) (le-ltb (get_or C p 0) raise (omega arith))
-        go false e = let m : get_or C p 0 ≡ get_or F p 0 + 0 = mark_is false e in ap (λ t. pick t 0 w) (lt-ltb (get_or C p 0) raise (omega (arith, first_low)))
+        go true e = let m : get_or C p 0 ≡ get_or F p 0 + 8 = mark_is is s p b S C k true e in ap (λ t. pick t 0 w) (le-ltb (get_or C p 0) raise (omega arith))
+        go false e = let m : get_or C p 0 ≡ get_or F p 0 + 0 = mark_is is s p b S C k false e in ap (λ t. pick t 0 w) (lt-ltb (get_or C p 0) raise (omega (arith, first_low is s p b)))
 
     -- A turn of the walk, by the numbers that it reads: w is how many the instruction takes, n how many of them are kept.
     module _ (w n : ℕ) (size : (x y z : ℕ) → w ≡ len (decode (plain (get_or C p 0)) x y z)) (keeps : n ≡ pick (ltb (get_or C p 0) raise) 0 w) where
@@ -335,13 +260,13 @@ module _ (is : List Instr) (s : Sound is) (S C : List ℕ) (k : Inked is S C) wh
           here =
               λ j h.
               u.here j h ∙ (λ t. get_or (ex t ∷ ea t ∷ ec t ∷ ed t ∷ []) j 0)
-              ∙ moved_words (moved S is 0 0) (plain (get_or C p 0)) (get_or C (p + 1) 0) (get_or C (p + 2) 0) (get_or C (p + 3) 0) j (omega (arith, ap len decoded))
-              ∙ ap (λ i. get_or (words (relocate (moved S is 0 0) i)) j 0) decoded;
+              ∙ moved_words (moved S is 0 0) (plain (get_or C p 0)) (get_or C (p + 1) 0) (get_or C (p + 2) 0) (get_or C (p + 3) 0) j (omega (arith, ap len (decoded is s p b S C k)))
+              ∙ ap (λ i. get_or (words (relocate (moved S is 0 0) i)) j 0) (decoded is s p b S C k);
           elsewhere = u.elsewhere;
         }
 
     names_begin : All (Begin is) (names (decode (plain (get_or C p 0)) (get_or C (p + 1) 0) (get_or C (p + 2) 0) (get_or C (p + 3) 0)))
-    names_begin = subst (λ i. All (Begin is) (names i)) (sym decoded) (s.named p b)
+    names_begin = subst (λ i. All (Begin is) (names i)) (sym (decoded is s p b S C k)) (s.named p b)
 
     pub begin_first : names_first (plain (get_or C p 0)) ≡ true → Begin is (get_or C (p + 1) 0)
     begin_first e = named_first (Begin is) (plain (get_or C p 0)) (get_or C (p + 1) 0) (get_or C (p + 2) 0) (get_or C (p + 3) 0) names_begin e
@@ -353,17 +278,6 @@ module _ (is : List Instr) (s : Sound is) (S C : List ℕ) (k : Inked is S C) wh
     begin_third e = named_third (Begin is) (plain (get_or C p 0)) (get_or C (p + 1) 0) (get_or C (p + 2) 0) (get_or C (p + 3) 0) names_begin e
 
 -- What stands somewhere, read number by number.
-find_has : (D : List ℕ) (is : List Instr) (p o : ℕ) → Has D p (flat is) → is_none (find is p o) ≡ false → Has D o (words (find is p o))
-unfolding flat find
-find_has D [] p o h n = absurd (true≢false n)
-find_has D (i ∷ is) p o h n =
-    go (eqb p o) refl n (find_has D is (p + len i) o (has_right D p (words i) (flat is) (p + len i) (omega (arith, words_length i)) h))
-  where
-    go : (b : Bool) → eqb p o ≡ b → is_none (pick b i (find is (p + len i) o)) ≡ false
-        → (is_none (find is (p + len i) o) ≡ false → Has D o (words (find is (p + len i) o))) → Has D o (words (pick b i (find is (p + len i) o)))
-    go true e m f = subst (λ x. Has D x (words i)) (eqb-true p o e) (has_left D p (words i) (flat is) h)
-    go false e m f = f m
-
 has_at : (D : List ℕ) (o : ℕ) (l : List ℕ) (i : ℕ) → Has D o l → i < length l → get_or D (o + i) 0 ≡ get_or l i 0
 has_at D o [] i p q = absurd (omega arith)
 has_at D o (x ∷ l) zero p q = ap (λ j. get_or D j 0) (let z : o + 0 ≡ o = omega arith in z) ∙ p.0

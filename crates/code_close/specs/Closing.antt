@@ -5,7 +5,7 @@ use Rattle.code_flat.specs.Machine.{Instr}
 use Rattle.code_valid.specs.Instrs.{flat, find}
 use Rattle.code_shorten.specs.Short.{moved, kept, close_up}
 use Rattle.code_shorten.specs.Longer.{total}
-use Rattle.code_shorten.specs.Sound.{Some}
+use Rattle.code_shorten.specs.Sound.{AreInstrs}
 
 -- Which of its operands name places, by the number that begins an instruction: `names` of code_valid, Instrs.antt.
 abbrev pub names_first : ℕ → Bool
@@ -20,7 +20,7 @@ names_third x = eqb x op.Ask || eqb x op.Select
 -- A walk over the instructions `is` stands at p, and what it keeps takes q numbers so far.
 pub record Moving (is : List Instr) (S : List ℕ) (p q : ℕ) : Type 0 where
   pub rest : List Instr
-  pub some : Some rest
+  pub some : AreInstrs rest
   pub stands : (o : ℕ) → p ≤ o → find rest p o ≡ find is 0 o
   pub left : (o : ℕ) → p ≤ o → moved S rest p q o ≡ moved S is 0 0 o
   pub size : q + total (kept (moved S is 0 0) S rest p) ≡ total (close_up S is)

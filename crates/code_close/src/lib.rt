@@ -12,64 +12,26 @@ ghost use Rattle.code_shorten.specs.Marking.{raise, plain, Inked, Reached};
 ghost use Rattle.code_put.specs.Put.{Put};
 ghost use Rattle.code_close.specs.Closing.{names_first, names_second, names_third};
 
-// What a mark adds to the number that begins an instruction.
-const RAISE: u32 = 8;
+use code_machine::{opcodes, word};
+use code_shorten::{RAISE, length_at, unmarked};
 
-fn wide(x: u32) -> usize
-    ensures { result ≡ x }
-{
-    x as usize
-}
-
-// The number at i, or 0 past the end.
-fn word(code: &[u32], i: usize) -> u32
-    ensures { result ≡ get_or code.now i 0 }
-{
-    if i < code.len() {
-        return code[i];
-    }
-    0
-}
-
-// A number without its mark.
-fn unmarked(x: u32) -> u32
-    ensures { result ≡ plain x }
-{
-    if x < RAISE {
-        return x;
-    }
-    x - RAISE
-}
-
-// How many numbers the instruction at p takes, marked or not.
-fn size_at(code: &[u32], p: usize) -> usize
-    ensures by_index { (x y z : ℕ) → result ≡ len (decode (plain (get_or code.now p 0)) x y z) }
-    ensures upper_bound { result ≤ 4 }
-{
-    let first = word(code, p);
-    code_valid::width(unmarked(first))
-}
-
-// How many of them are kept: all if it is marked, none otherwise.
+// How many numbers of the instruction at p are kept: all if it is marked, none otherwise.
 fn kept_at(code: &[u32], p: usize, size: usize) -> usize
     ensures value { result ≡ pick (ltb (get_or code.now p 0) raise) 0 size }
     ensures upper_bound { result ≤ size }
 {
-    if word(code, p) < RAISE {
-        return 0;
-    }
-    size
+    if word(code, p) < RAISE { 0 } else { size }
 }
 
 // Where the instruction at o comes to stand: behind all that is kept before it.
 fn new_place(code: &[u32], o: u32) -> u32
     ensures { (is : List Instr) → Sound is → (S : List ℕ) → Inked is S code.now → Begin is o → result ≡ moved S is 0 0 o }
 {
-    let end = wide(o);
+    let end = o as usize;
     let mut p = 0;
     let mut q = 0;
     while p < end {
-        let size = size_at(code, p);
+        let size = length_at(code, p);
         if size == 0 {
             return 0;
         }
@@ -86,43 +48,26 @@ fn new_place(code: &[u32], o: u32) -> u32
 fn names_first(x: u32) -> bool
     ensures { result ≡ names_first x }
 {
-    match x {
-        code_machine::opcodes::LEAVE => true,
-        code_machine::opcodes::OPEN => true,
-        code_machine::opcodes::CASE => true,
-        _ => false,
-    }
+    matches!(x, opcodes::LEAVE | opcodes::OPEN | opcodes::CASE)
 }
 
 fn names_second(x: u32) -> bool
     ensures { result ≡ names_second x }
 {
-    match x {
-        code_machine::opcodes::ASK => true,
-        code_machine::opcodes::SELECT => true,
-        code_machine::opcodes::CASE => true,
-        _ => false,
-    }
+    matches!(x, opcodes::ASK | opcodes::SELECT | opcodes::CASE)
 }
 
 fn names_third(x: u32) -> bool
     ensures { result ≡ names_third x }
 {
-    match x {
-        code_machine::opcodes::ASK => true,
-        code_machine::opcodes::SELECT => true,
-        _ => false,
-    }
+    matches!(x, opcodes::ASK | opcodes::SELECT)
 }
 
 // An operand of the new code: a place is moved, another number stays.
 fn new_operand(code: &[u32], o: u32, named: bool) -> u32
     ensures { (is : List Instr) → Sound is → (S : List ℕ) → Inked is S code.now → (named ≡ true → Begin is o) → result ≡ pick named (moved S is 0 0 o) o }
 {
-    if named {
-        return new_place(code, o);
-    }
-    o
+    if named { new_place(code, o) } else { o }
 }
 
 // Writes the first n numbers of the instruction at p to q, with its targets moved.
@@ -148,11 +93,8 @@ pub fn close_up(code: &[u32], out: &mut [u32]) -> usize
     let mut p = 0;
     let mut q = 0;
     while p < code.len() {
-        let size = size_at(code, p);
-        if size == 0 {
-            return q;
-        }
-        if code.len() - p < size {
+        let size = length_at(code, p);
+        if size == 0 || code.len() - p < size {
             return q;
         }
         let kept = kept_at(code, p, size);

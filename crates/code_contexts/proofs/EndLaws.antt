@@ -1,6 +1,8 @@
 -- Where a part ends within its holder.
+use Rattle.table_records.specs.declared.NodeId.{NodeId}
 use Prim.Native.Nat.{ℕ, zero, suc, ◌+◌, ◌≤◌, ◌<◌}
-use Rattle.std.specs.Prelude.{◌≡◌, ◌⊎◌, Bool, ◌&&◌, ◌||◌, eqb}
+use Rattle.std.specs.Prelude.{◌≡◌, ◌⊎◌, Bool, ◌&&◌, ◌||◌, eqb, Option, Some, None}
+use Rattle.std.specs.Option.{is_some}
 use Rattle.std.proofs.Math.Path.{refl, ap, sym, subst}
 use Rattle.std.proofs.Common.{◌∙◌, inl, inr, eq-or-lt_of_le}
 use mathlib.Core.List.{List, [], ◌∷◌}
@@ -13,8 +15,6 @@ use Rattle.base_common.proofs.UptoLaws.{and_left_lem, and_right_lem}
 use Rattle.table_records.specs.Table.{kind_of, parent_of, role_of, count}
 use Rattle.table_records.specs.Kinds as k
 use Rattle.table_records.specs.Roles as role
-use Rattle.table_records.specs.declared.Found.{Found}
-use Rattle.table_records.specs.declared.Found.TheVariants.{At, Nothing}
 use Rattle.table_children.specs.Children.{first_node, is_child, first_child}
 use Rattle.table_children.proofs.ChildrenLaws.{node_on, node_stop, found_child}
 use Rattle.code_tree.specs.Parts.{up_of, shape_at, is_part, part_by, parts, order_by, order, entered_by}
@@ -172,19 +172,15 @@ module _ (ns names : List ℕ) (b : ℕ) (g : Good ns) (p : ℕ) (hp : b ≤ p) 
   pub parts_none : (i : ℕ) → p < i → sum (counted ns b) (parts ns p i) ≡ 0 → parts ns p i ≡ []
   parts_none i h e = none_from (count ns) i (omega arith) h e
 
-abbrev pub is_at : Found → Bool
-is_at (At m) = true
-is_at Nothing = false
-
 -- What passes the test is found.
-some_found : (q : ℕ → Bool) (m n : ℕ) → m < n → q m ≡ true → (f i : ℕ) → m ≤ i + f → i ≤ m → is_at (first_node q i n) ≡ true
-some_found q m n u t zero i h l = ap is_at (node_stop q i n (omega arith) (ap q (let e : i ≡ m = omega arith in e) ∙ t))
+some_found : (q : ℕ → Bool) (m n : ℕ) → m < n → q m ≡ true → (f i : ℕ) → m ≤ i + f → i ≤ m → is_some (first_node q i n) ≡ true
+some_found q m n u t zero i h l = ap is_some (node_stop q i n (omega arith) (ap q (let e : i ≡ m = omega arith in e) ∙ t))
 some_found q m n u t (suc f) i h l = go (q i) refl (eq-or-lt_of_le l) (λ k. some_found q m n u t f (i + 1) (omega arith) k)
   where
-    go : (x : Bool) → q i ≡ x → (i ≡ m) ⊎ (i < m) → (i + 1 ≤ m → is_at (first_node q (i + 1) n) ≡ true) → is_at (first_node q i n) ≡ true
-    go true y s ih = ap is_at (node_stop q i n (omega arith) y)
+    go : (x : Bool) → q i ≡ x → (i ≡ m) ⊎ (i < m) → (i + 1 ≤ m → is_some (first_node q (i + 1) n) ≡ true) → is_some (first_node q i n) ≡ true
+    go true y s ih = ap is_some (node_stop q i n (omega arith) y)
     go false y (inl e) ih = never (sym t ∙ subst (λ k. q k ≡ false) e y)
-    go false y (inr e) ih = ap is_at (node_on q i n (omega arith) y) ∙ ih (omega arith)
+    go false y (inr e) ih = ap is_some (node_on q i n (omega arith) y) ∙ ih (omega arith)
 
 -- A node with the role x stands in a list.
 with_role_in : (ns : List ℕ) (x m : ℕ) (l : List ℕ) → In m l → role_of ns m ≡ x → has_role ns x l ≡ true
@@ -223,7 +219,7 @@ module _ (ns names : List ℕ) (b : ℕ) (r : Ready ns names b) (p : ℕ) (hl : 
   no_static x (inr (inr q)) z = let y : kind_for x ≡ 5 = ap kind_for q in omega arith
 
   -- A child of the kind for its role is a part ..
-  pub child_part : (x m : ℕ) → is_role x → first_child ns p (kind_for x) (kind_for x) x x ≡ At (record { 0 = m }) → Part ns p m × (role_of ns m ≡ x)
+  pub child_part : (x m : ℕ) → is_role x → first_child ns p (kind_for x) (kind_for x) x x ≡ Some (record { 0 = m }) → Part ns p m × (role_of ns m ≡ x)
   unfolding up_of is_part
   child_part x m i q =
       let c = found_child ns p (kind_for x) (kind_for x) x x (p + 1) m q in
@@ -238,7 +234,7 @@ module _ (ns names : List ℕ) (b : ℕ) (r : Ready ns names b) (p : ℕ) (hl : 
       (record { behind = omega arith; inside = c.below; parent = up; part = (λ t. part_by ((ap (shape_at ns) up ∙ e) t) (kind_of ns m) (ro t)) ∙ part_role x (kind_of ns m) i }, ro)
 
   -- .. and a part is such a child.
-  pub part_child : (x m : ℕ) → is_role x → Part ns p m → role_of ns m ≡ x → is_at (first_child ns p (kind_for x) (kind_for x) x x) ≡ true
+  pub part_child : (x m : ℕ) → is_role x → Part ns p m → role_of ns m ≡ x → is_some (first_child ns p (kind_for x) (kind_for x) x x) ≡ true
   unfolding is_child
   part_child x m i w ro =
       let d = r.direct m w.inside w.part (ap (shape_at ns) w.parent ∙ e) in
@@ -250,13 +246,13 @@ module _ (ns names : List ℕ) (b : ℕ) (r : Ready ns names b) (p : ℕ) (hl : 
       m (p + 1) (omega arith) (omega arith)
 
   -- Whether a Try has a part of a role.
-  pub has_found : (x : ℕ) → is_role x → (f : Found) → first_child ns p (kind_for x) (kind_for x) x x ≡ f → has_role ns x (order ns p) ≡ is_at f
-  has_found x i (At m) q = let (w, ro) = child_part x m.0 i q in with_role_in ns x m.0 (order ns p) (in_order ns p m.0 w) ro
-  has_found x i Nothing q = go (has_role ns x (order ns p)) refl
+  pub has_found : (x : ℕ) → is_role x → (f : Option NodeId) → first_child ns p (kind_for x) (kind_for x) x x ≡ f → has_role ns x (order ns p) ≡ is_some f
+  has_found x i (Some m) q = let (w, ro) = child_part x m.0 i q in with_role_in ns x m.0 (order ns p) (in_order ns p m.0 w) ro
+  has_found x i None q = go (has_role ns x (order ns p)) refl
     where
       go : (t : Bool) → has_role ns x (order ns p) ≡ t → t ≡ false
       go false z = refl
-      go true z = let (c, w, ro) = role_from ns p x (order ns p) (order_all_lem ns p) z in never (sym (part_child x c i w ro) ∙ ap is_at q)
+      go true z = let (c, w, ro) = role_from ns p x (order ns p) (order_all_lem ns p) z in never (sym (part_child x c i w ro) ∙ ap is_some q)
 
   module _ (hp : b < p) where
     pub try_own : own_width ns b p ≡ cond (has_role ns role.Finally (order ns p)) 2 0

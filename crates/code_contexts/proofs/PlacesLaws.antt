@@ -26,7 +26,8 @@ use Rattle.code_targets.specs.Targets.{some, goes_on_by, next_by, depth_at}
 use Rattle.code_targets.proofs.TargetsLaws.{target_root, depth_root, depth_up, next_self, next_up}
 use Rattle.code_widths.specs.Widths.{Units, counted}
 use Rattle.code_contexts.specs.Contexts.{Ready, goes_by, next_of, Follow, Places}
-use Rattle.code_contexts.proofs.EndLaws.{end_part, behind_some, is_at, part_child, try_places}
+use Rattle.code_contexts.proofs.EndLaws.{end_part, behind_some, part_child, try_places}
+use Rattle.std.specs.Option.{is_some}
 
 goes_is : (s : Shape) (m r : ℕ) → goes_on_by s m r ≡ goes_by s (some m) r
 goes_is Leaf m r = refl
@@ -179,13 +180,13 @@ module _ (ns names : List ℕ) (b : ℕ) (r : Ready ns names b) where
           go (inr (inl z)) = z.1 c (in_order ns (up_of ns i) c w) ro
           go (inr (inr z)) = absurd (m z.0)
 
-      pub block_found : is_at (first_child ns (up_of ns i) 5 5 3 3) ≡ true
+      pub block_found : is_some (first_child ns (up_of ns i) 5 5 3 3) ≡ true
       block_found = go (r.held.good.shaped.tries (up_of ns i) (omega (arith, above_lt)) q)
         where
-          first : (c : ℕ) (cs : List ℕ) → order ns (up_of ns i) ≡ c ∷ cs → role_of ns c ≡ 3 → is_at (first_child ns (up_of ns i) 5 5 3 3) ≡ true
+          first : (c : ℕ) (cs : List ℕ) → order ns (up_of ns i) ≡ c ∷ cs → role_of ns c ≡ 3 → is_some (first_child ns (up_of ns i) 5 5 3 3) ≡ true
           first c cs z x = part_child ns names b r (up_of ns i) (omega (arith, above_lt)) q 3 c (inl refl) (subst (All (Part ns (up_of ns i))) z (order_all_lem ns (up_of ns i))).0 x
 
-          go : Two ns (up_of ns i) 3 4 ⊎ (Two ns (up_of ns i) 3 5 ⊎ Three ns (up_of ns i)) → is_at (first_child ns (up_of ns i) 5 5 3 3) ≡ true
+          go : Two ns (up_of ns i) 3 4 ⊎ (Two ns (up_of ns i) 3 5 ⊎ Three ns (up_of ns i)) → is_some (first_child ns (up_of ns i) 5 5 3 3) ≡ true
           go (inl v) = let (c, d, z, x, y) = v in first c (d ∷ []) z x
           go (inr (inl v)) = let (c, d, z, x, y) = v in first c (d ∷ []) z x
           go (inr (inr v)) = let (c, d, f, z, x, y, w) = v in first c (d ∷ f ∷ []) z x
@@ -206,24 +207,6 @@ module _ (ns names : List ℕ) (b : ℕ) (r : Ready ns names b) where
 
   -- The turns.
   module _ (i : ℕ) (hb : b < i) (hc : i < count ns) (levels offsets follows : List ℕ) (c : Places ns names b i levels offsets follows) where
-    pub places_skip : in_unit ns b i ≡ false → Places ns names b (i + 1) levels offsets follows
-    places_skip e =
-        record {
-          level = λ j l m u. c.level j l (less j u m) u;
-          offset = λ j l m u. c.offset j l (less j u m) u;
-          follow = λ j l m u. c.follow j l (less j u m) u;
-          unit = λ j l m. c.unit j (omega arith) m;
-          after = λ j l m u. c.after j (omega arith) m u;
-          other = c.other;
-        }
-      where
-        less : (j : ℕ) → in_unit ns b j ≡ true → j < i + 1 → j < i
-        less j u m = go (eq-or-lt_of_le {n = suc j} {m = i + 1} m)
-          where
-            go : (suc j ≡ i + 1) ⊎ (suc j < i + 1) → j < i
-            go (inl q) = never (sym u ∙ ap (in_unit ns b) (let z : j ≡ i = omega arith in z) ∙ e)
-            go (inr q) = omega arith
-
     pub places_turn : in_unit ns b i ≡ true → (l o f : ℕ) → i < length levels → i < length offsets → i < length follows → l ≡ suc (depth_at ns names b i) → o ≡ offset_at ns names b i → Follow ns names b i f
         → Places ns names b (i + 1) (set levels i l) (set offsets i o) (set follows i f)
     places_turn e l o f hl ho hf el eo ef =

@@ -13,7 +13,7 @@ ghost use Rattle.code_contexts.specs.Contexts.{Ready, Wide, goes_by, Follow, Pla
 
 use code_shapes::{is_try, shape_of, up_of};
 use code_tree::Shape;
-use table_records::{Found, NodeId, kinds, roles, wide};
+use table_records::{NodeId, kinds, roles};
 
 // Whether the Try p has a finally.
 pub fn has_finally(nodes: &[u32], names: &[u8], b: NodeId, p: NodeId) -> bool
@@ -22,17 +22,15 @@ pub fn has_finally(nodes: &[u32], names: &[u8], b: NodeId, p: NodeId) -> bool
     requires p_value { shape_at nodes.now p.0 ≡ Try }
     ensures { result ≡ has_role nodes.now role.Finally (order nodes.now p.0) }
 {
-    match table_children::first_child(
+    table_children::first_child(
         nodes,
         p,
         kinds::BLOCK,
         kinds::BLOCK,
         roles::FINALLY,
         roles::FINALLY,
-    ) {
-        Found::At(_) => true,
-        Found::Nothing => false,
-    }
+    )
+    .is_some()
 }
 
 // Whether the Try p has a catch.
@@ -42,17 +40,15 @@ pub fn has_catch(nodes: &[u32], names: &[u8], b: NodeId, p: NodeId) -> bool
     requires p_value { shape_at nodes.now p.0 ≡ Try }
     ensures { result ≡ has_role nodes.now role.Alternate (order nodes.now p.0) }
 {
-    match table_children::first_child(
+    table_children::first_child(
         nodes,
         p,
         kinds::CATCH_CLAUSE,
         kinds::CATCH_CLAUSE,
         roles::ALTERNATE,
         roles::ALTERNATE,
-    ) {
-        Found::At(_) => true,
-        Found::Nothing => false,
-    }
+    )
+    .is_some()
 }
 
 // The words of the Try p itself: OPEN's, where it has a finally.
@@ -92,13 +88,13 @@ fn offset_in_try(
 {
     let r = table_records::role(nodes, n);
     if r == roles::FINALLY {
-        return o + widths[wide(p.0)] - widths[wide(n.0)];
+        return o + widths[p.0 as usize] - widths[n.0 as usize];
     }
     let start = o + own_of_try(nodes, names, b, p);
     if r == roles::HELD {
         return start;
     }
-    let Found::At(block) = table_children::first_child(
+    let Some(block) = table_children::first_child(
         nodes,
         p,
         kinds::BLOCK,
@@ -108,7 +104,7 @@ fn offset_in_try(
     ) else {
         return 0;
     };
-    start + widths[wide(block.0)]
+    start + widths[block.0 as usize]
 }
 
 // Where the words of n stand: where its holder's end, less its own width and the words behind it. o is where those of its holder p stand.
@@ -135,7 +131,7 @@ fn offset_of(
     if is_try(shape_of(nodes, p)) {
         return offset_in_try(nodes, names, b, widths, p, o, n);
     }
-    o + widths[wide(p.0)] - behind - widths[wide(n.0)]
+    o + widths[p.0 as usize] - behind - widths[n.0 as usize]
 }
 
 // Whether a part of a holder of the shape s goes on by itself; x says whether a further part follows, r is its role.
@@ -143,17 +139,10 @@ fn goes_by(s: Shape, x: bool, r: u32) -> bool
     ensures { result ≡ goes_by s x r }
 {
     match s {
-        Shape::Leaf => false,
-        Shape::Class => x,
-        Shape::If => false,
-        Shape::With => false,
-        Shape::Block => x,
-        Shape::Label => false,
+        Shape::Leaf | Shape::If | Shape::With | Shape::Label | Shape::Catch => false,
+        Shape::Class | Shape::Block | Shape::Switch | Shape::Case => x,
         Shape::Loop => true,
-        Shape::Switch => x,
-        Shape::Case => x,
         Shape::Try => r == roles::FINALLY,
-        Shape::Catch => false,
     }
 }
 
@@ -176,8 +165,11 @@ fn follow_of(
     requires follow { Follow nodes.now names.now b.0 p.0 f }
     ensures { Follow nodes.now names.now b.0 n.0 result }
 {
-    let some = base_common::not(behind == 0);
-    if goes_by(shape_of(nodes, p), some, table_records::role(nodes, n)) {
+    if goes_by(
+        shape_of(nodes, p),
+        behind != 0,
+        table_records::role(nodes, n),
+    ) {
         return n.0;
     }
     f
@@ -190,10 +182,7 @@ fn level_of(nodes: &[u32], names: &[u8], b: NodeId, p: NodeId, l: u32) -> u32
     requires l_bound { l ≤ 65536 }
     ensures { result ≡ cond (is_try (shape_at nodes.now p.0) && has_role nodes.now role.Finally (order nodes.now p.0)) (suc l) l }
 {
-    if !is_try(shape_of(nodes, p)) {
-        return l;
-    }
-    if has_finally(nodes, names, b, p) {
+    if is_try(shape_of(nodes, p)) && has_finally(nodes, names, b, p) {
         return l + 1;
     }
     l
@@ -222,13 +211,13 @@ fn lay_node(
     ensures { Places nodes.now names.now b.0 (n.0 + 1) levels.new offsets.new follows.new }
 {
     let p = up_of(nodes, n);
-    let behind = offsets[wide(n.0)];
-    let level = level_of(nodes, names, b, p, levels[wide(p.0)]);
-    let offset = offset_of(nodes, names, b, widths, p, offsets[wide(p.0)], behind, n);
-    let follow = follow_of(nodes, names, b, p, behind, follows[wide(p.0)], n);
-    levels[wide(n.0)] = level;
-    offsets[wide(n.0)] = offset;
-    follows[wide(n.0)] = follow;
+    let behind = offsets[n.0 as usize];
+    let level = level_of(nodes, names, b, p, levels[p.0 as usize]);
+    let offset = offset_of(nodes, names, b, widths, p, offsets[p.0 as usize], behind, n);
+    let follow = follow_of(nodes, names, b, p, behind, follows[p.0 as usize], n);
+    levels[n.0 as usize] = level;
+    offsets[n.0 as usize] = offset;
+    follows[n.0 as usize] = follow;
 }
 
 // One turn: a node that isn't the unit's changes nothing.
@@ -252,7 +241,7 @@ fn lay_at(
     requires places { Places nodes.now names.now b.0 n.0 levels.old offsets.old follows.old }
     ensures { Places nodes.now names.now b.0 (n.0 + 1) levels.new offsets.new follows.new }
 {
-    if levels[wide(n.0)] == 0 {
+    if levels[n.0 as usize] == 0 {
         return;
     }
     lay_node(nodes, names, b, widths, n, levels, offsets, follows);
@@ -277,12 +266,9 @@ pub fn fill_places(
     requires nodes_in_bounds_4 { count nodes.now ≤ length follows.old }
     ensures { Places nodes.now names.now b.0 (count nodes.now) levels.new offsets.new follows.new }
 {
-    let size = table_records::size(nodes);
-    offsets[wide(b.0)] = 0;
-    follows[wide(b.0)] = b.0;
-    let mut j = b.0 + 1;
-    while j < size {
+    offsets[b.0 as usize] = 0;
+    follows[b.0 as usize] = b.0;
+    for j in b.0 + 1..table_records::size(nodes) {
         lay_at(nodes, names, b, widths, NodeId(j), levels, offsets, follows);
-        j += 1;
     }
 }

@@ -1,6 +1,7 @@
 -- The entries that a unit can list, with `try` and static blocks, take an answer by their nodes' kinds.
+use Rattle.table_records.specs.declared.NodeId.{NodeId}
 use Prim.Native.Nat.{ℕ, zero, suc}
-use Rattle.std.specs.Prelude.{◌≡◌, List, [], ◌∷◌, Bool, cond, ◌||◌}
+use Rattle.std.specs.Prelude.{◌≡◌, List, [], ◌∷◌, Bool, cond, ◌||◌, Option, Some, None}
 use Rattle.std.proofs.Math.Path.{refl, sym, ap}
 use Rattle.std.proofs.Common.{◌∙◌, arith}
 use Rattle.std.proofs.Math.Bool.{true, false}
@@ -11,8 +12,6 @@ use Rattle.base_common.proofs.Bools.{never, in_range_lem, range_of}
 use Rattle.table_records.specs.Table.{kind_of, role_of, count}
 use Rattle.table_records.specs.Kinds as k
 use Rattle.table_records.specs.Roles as role
-use Rattle.table_records.specs.declared.Found.{Found}
-use Rattle.table_records.specs.declared.Found.TheVariants.{At, Nothing}
 use Rattle.route_completion.specs.Tree.{Stmt, Stmts, if2, if3, try_c, try_f, nil, cons}
 use Rattle.route_completion.specs.Entries.{Lists, ListsAll, ListsCases}
 use Rattle.code_tree.specs.Parts.{is_class, shape_by, shape_at, order}
@@ -155,6 +154,6 @@ module _ (ns names : List ℕ) where
   unfolding unit_of
   unit_by_kind u = go (holder_of ns u)
     where
-      go : (f : Found) → ListsAll (ByKind ns) (unit_by ns names f)
-      go (At b) = body_by_kind b.0
-      go Nothing = tt
+      go : (f : Option NodeId) → ListsAll (ByKind ns) (unit_by ns names f)
+      go (Some b) = body_by_kind b.0
+      go None = tt

@@ -1,5 +1,5 @@
 -- What the widths and offsets say of a node's parts: whether it has any, which is the last, where each begins.
-use Rattle.std.specs.Prelude.{ℕ, zero, suc, ◌+◌, ◌≤◌, ◌<◌, ◌≡◌, ◌⊎◌, Bool, true, false, not, ◌&&◌, eqb}
+use Rattle.std.specs.Prelude.{ℕ, zero, suc, ◌+◌, ◌-◌, ◌≤◌, ◌<◌, ◌≡◌, ◌⊎◌, Bool, true, false, not, ◌&&◌, eqb, Option, Some, None}
 use Rattle.std.proofs.Math.Path.{refl, ap, sym}
 use Rattle.std.proofs.Common.{◌∙◌, subst, inl, inr, arith, eq-eqb, ne_eqb, eqb-true}
 use mathlib.Core.List.{List, [], ◌∷◌}
@@ -10,7 +10,6 @@ use Rattle.base_common.proofs.Bools.{never}
 use Rattle.base_common.proofs.UptoLaws.{and_left_lem, and_right_lem}
 use Rattle.table_records.specs.Table.{role_of, count}
 use Rattle.table_records.specs.Roles as role
-use Rattle.table_records.specs.declared.Found.TheVariants.{At, Nothing}
 use Rattle.table_children.specs.Children.{first_child}
 use Rattle.code_tree.specs.Parts.{up_of, shape_at, is_part, parts, order}
 use Rattle.code_tree.proofs.PartsLaws.{All, parts_end, parts_turn, order_all_lem}
@@ -32,6 +31,9 @@ use Rattle.code_widths.proofs.WidthsLaws.{width_turn}
 use Rattle.code_contexts.proofs.EndLaws.{order_plain, end_part, behind_some, parts_some, parts_none, child_part, has_found, try_own}
 use Rattle.code_contexts.proofs.PlacesLaws.{part, above_in_lem, above_low, above_lt}
 use Rattle.code_branch.specs.Branch.{Arrays}
+use Rattle.code_instructions.specs.First.{first_of}
+use Rattle.std.specs.Option.{is_some}
+use Rattle.table_records.specs.declared.NodeId.{NodeId}
 use Rattle.code_branch.proofs.JumpLaws as array
 
 pub ifz_none : {A : Type 0} (m : ℕ) (x y : A) → m ≡ 0 → x ≡ ifz m x y
@@ -45,32 +47,37 @@ some_not : (m : ℕ) → some m ≡ false → m ≡ 0
 some_not zero e = refl
 some_not (suc m) e = never e
 
-pub some_zero : (m : ℕ) → some m ≡ true → m ≡ 0 → ⊥
-some_zero m e z = never (sym e ∙ ap some z)
+abbrev pub number_of : ℕ → Option NodeId → ℕ
+number_of z None = z
+number_of z (Some c) = c.0
+
+pub first_head : (l : List ℕ) (c : ℕ) → Some (record { 0 = c }) ≡ first_of l → c ≡ head0 l
+first_head [] c q = never (ap is_some q)
+first_head (x ∷ xs) c q = ap (number_of c) q
 
 -- The first part of p from i on.
 module _ (ns : List ℕ) (p : ℕ) where
-  pub part_stop : (i : ℕ) → i < count ns → (eqb (up_of ns i) p && is_part ns i) ≡ true → i ≡ head0 (parts ns p i)
-  part_stop i l q = sym (ap head0 (parts_turn ns p i l ∙ ap (λ x. cond x (i ∷ parts ns p (i + 1)) (parts ns p (i + 1))) q))
+  pub part_stop : (i : ℕ) → i < count ns → (eqb (up_of ns i) p && is_part ns i) ≡ true → Some (record { 0 = i }) ≡ first_of (parts ns p i)
+  part_stop i l q = sym (ap first_of (parts_turn ns p i l ∙ ap (λ x. cond x (i ∷ parts ns p (i + 1)) (parts ns p (i + 1))) q))
 
-  pub part_on : (i : ℕ) → i < count ns → (eqb (up_of ns i) p && is_part ns i) ≡ false → head0 (parts ns p (i + 1)) ≡ head0 (parts ns p i)
-  part_on i l q = sym (ap head0 (parts_turn ns p i l ∙ ap (λ x. cond x (i ∷ parts ns p (i + 1)) (parts ns p (i + 1))) q))
+  pub part_on : (i : ℕ) → i < count ns → (eqb (up_of ns i) p && is_part ns i) ≡ false → first_of (parts ns p (i + 1)) ≡ first_of (parts ns p i)
+  part_on i l q = sym (ap first_of (parts_turn ns p i l ∙ ap (λ x. cond x (i ∷ parts ns p (i + 1)) (parts ns p (i + 1))) q))
 
-  pub part_none : (i : ℕ) → count ns ≤ i → 0 ≡ head0 (parts ns p i)
-  part_none i l = sym (ap head0 (parts_end ns p i l))
+  pub part_none : (i : ℕ) → count ns ≤ i → None ≡ first_of (parts ns p i)
+  part_none i l = sym (ap first_of (parts_end ns p i l))
 
   pub record Next (i c : ℕ) : Type 0 where
     pub part : Part ns p c
     pub from : i ≤ c
     pub is : parts ns p i ≡ c ∷ parts ns p (c + 1)
 
-  next_from : (f i c : ℕ) → count ns ≤ i + f → p < i → c ≡ head0 (parts ns p i) → (c ≡ 0 → ⊥) → Next i c
-  next_from zero i c g h q z = absurd (z (q ∙ sym (part_none i (omega arith))))
-  next_from (suc f) i c g h q z = go (dec_lt i (count ns)) (λ u. next_from f (i + 1) c (omega arith) (omega arith) u z)
+  next_from : (f i c : ℕ) → count ns ≤ i + f → p < i → Some (record { 0 = c }) ≡ first_of (parts ns p i) → Next i c
+  next_from zero i c g h q = never (ap is_some (q ∙ sym (part_none i (omega arith))))
+  next_from (suc f) i c g h q = go (dec_lt i (count ns)) (λ u. next_from f (i + 1) c (omega arith) (omega arith) u)
     where
-      by : i < count ns → (x : Bool) → (eqb (up_of ns i) p && is_part ns i) ≡ x → (c ≡ head0 (parts ns p (i + 1)) → Next (i + 1) c) → Next i c
+      by : i < count ns → (x : Bool) → (eqb (up_of ns i) p && is_part ns i) ≡ x → (Some (record { 0 = c }) ≡ first_of (parts ns p (i + 1)) → Next (i + 1) c) → Next i c
       by u true t ih =
-          let y : i ≡ c = part_stop i u t ∙ sym q in
+          let y : i ≡ c = ap (number_of i) (part_stop i u t ∙ sym q) in
           subst (Next i) y
           (record {
             part = record { behind = h; inside = u; parent = eqb-true (up_of ns i) p (and_left_lem (eqb (up_of ns i) p) (is_part ns i) t); part = and_right_lem (eqb (up_of ns i) p) (is_part ns i) t };
@@ -81,12 +88,44 @@ module _ (ns : List ℕ) (p : ℕ) where
           let r = ih (q ∙ sym (part_on i u t)) in
           record { part = r.part; from = omega (arith, r.from); is = parts_turn ns p i u ∙ ap (λ x. cond x (i ∷ parts ns p (i + 1)) (parts ns p (i + 1))) t ∙ r.is }
 
-      go : Dec (i < count ns) → (c ≡ head0 (parts ns p (i + 1)) → Next (i + 1) c) → Next i c
+      go : Dec (i < count ns) → (Some (record { 0 = c }) ≡ first_of (parts ns p (i + 1)) → Next (i + 1) c) → Next i c
       go (yes u) ih = by u (eqb (up_of ns i) p && is_part ns i) refl ih
-      go (no u) ih = absurd (z (q ∙ sym (part_none i (omega arith))))
+      go (no u) ih = never (ap is_some (q ∙ sym (part_none i (omega arith))))
 
-  pub next_is : (i c : ℕ) → p < i → c ≡ head0 (parts ns p i) → (c ≡ 0 → ⊥) → Next i c
-  next_is i c h q z = next_from (count ns) i c (omega arith) h q z
+  pub next_is : (i c : ℕ) → p < i → Some (record { 0 = c }) ≡ first_of (parts ns p i) → Next i c
+  next_is i c h q = next_from (count ns) i c (omega arith) h q
+
+  -- What a search has before it: the part that it found, and those behind.
+  abbrev pub rest_of : Option NodeId → List ℕ
+  rest_of None = []
+  rest_of (Some c) = c.0 ∷ parts ns p (c.0 + 1)
+
+  abbrev pub IsFound : Option NodeId → Type 0
+  IsFound None = Unit {0}
+  IsFound (Some c) = Part ns p c.0
+
+  abbrev pub left_of : Option NodeId → ℕ
+  left_of None = 0
+  left_of (Some c) = count ns - c.0
+
+  pub rest_is : (i : ℕ) (m : Option NodeId) → p < i → m ≡ first_of (parts ns p i) → rest_of m ≡ parts ns p i
+  rest_is i None h q = go (parts ns p i) q
+    where
+      go : (l : List ℕ) → None ≡ first_of l → [] ≡ l
+      go [] z = refl
+      go (c ∷ cs) z = never (sym (ap is_some z))
+  rest_is i (Some c) h q = sym (next_is i c.0 h q).is
+
+  pub found_is : (i : ℕ) (m : Option NodeId) → p < i → m ≡ first_of (parts ns p i) → IsFound m
+  found_is i None h q = tt
+  found_is i (Some c) h q = (next_is i c.0 h q).part
+
+  pub left_less : (c : ℕ) → Part ns p c → (m : Option NodeId) → m ≡ first_of (parts ns p (c + 1)) → left_of m < count ns - c
+  left_less c w None q = let l = w.inside in omega arith
+  left_less c w (Some d) q =
+      let b = w.behind in
+      let x = next_is (c + 1) d.0 (omega arith) q in
+      omega (arith, w.inside, x.from, x.part.inside)
 
 module _ {ns names : List ℕ} {b : ℕ} {widths levels offsets follows : List ℕ} (A : Arrays ns names b widths levels offsets follows) (n : ℕ) (h : b < n) (l : n < count ns) (e : in_unit ns b n ≡ true) where
   wide_is : get_or widths n 0 ≡ number_by (shape_at ns n) + sum (counted ns b) (parts ns n (n + 1))
@@ -184,19 +223,31 @@ module _ {ns names : List ℕ} {b : ℕ} {widths levels offsets follows : List �
         let lo = above_low ns names b A.ready n h l e in
         parts_none ns names b A.ready.held.good p (omega arith) (omega arith) pl (n + 1) (omega arith) (eqb-true (sum (counted ns b) (parts ns p (n + 1))) 0 q)
 
+  -- An If has a part.
+  pub if_some : shape_at ns n ≡ If → None ≡ first_of (parts ns n (n + 1)) → ⊥
+  if_some q z = go (A.ready.held.good.shaped.ifs n l q)
+    where
+      is_none : (d : ℕ) (ds : List ℕ) → order ns n ≡ d ∷ ds → ⊥
+      is_none d ds x = never (sym (ap is_some (z ∙ ap first_of (sym (order_plain ns names b A.ready.held.good n (omega arith) l (ap is_try q)) ∙ x))))
+
+      go : (u : One ns n ⊎ (Two ns n 3 4 ⊎ Two ns n 4 3)) → ⊥
+      go (inl v) = let (d, z) = v in is_none d [] z
+      go (inr (inl v)) = let (d, f, z, x, y) = v in is_none d (f ∷ []) z
+      go (inr (inr v)) = let (d, f, z, x, y) = v in is_none d (f ∷ []) z
+
   -- An If: its first part c, alone or not.
   module _ (q : shape_at ns n ≡ If) (c : ℕ) (ec : c ≡ head0 (parts ns n (n + 1))) where
     if_order : order ns n ≡ parts ns n (n + 1)
     if_order = order_plain ns names b A.ready.held.good n (omega arith) l (ap is_try q)
 
-    first_of : (d : ℕ) (ds : List ℕ) → order ns n ≡ d ∷ ds → d ≡ c
-    first_of d ds z = sym (ec ∙ ap head0 (sym if_order ∙ z))
+    first_is : (d : ℕ) (ds : List ℕ) → order ns n ≡ d ∷ ds → d ≡ c
+    first_is d ds z = sym (ec ∙ ap head0 (sym if_order ∙ z))
 
     pub if_part : Part ns n c
     if_part = go (A.ready.held.good.shaped.ifs n l q)
       where
         first : (d : ℕ) (ds : List ℕ) → order ns n ≡ d ∷ ds → Part ns n c
-        first d ds z = subst (Part ns n) (first_of d ds z) (subst (All (Part ns n)) z (order_all_lem ns n)).0
+        first d ds z = subst (Part ns n) (first_is d ds z) (subst (All (Part ns n)) z (order_all_lem ns n)).0
 
         go : (u : One ns n ⊎ (Two ns n 3 4 ⊎ Two ns n 4 3)) → Part ns n c
         go (inl v) = let (d, z) = v in first d [] z
@@ -227,7 +278,7 @@ module _ {ns names : List ℕ} {b : ℕ} {widths levels offsets follows : List �
             let y = if_width ∙ ap (λ ps. 7 + sum (width_at ns b) ps) z in
             let u = array.width_is_lem A n l e in
             let v = array.width_is_lem A c if_part.inside if_in in
-            let x : width_at ns b d ≡ width_at ns b c = ap (width_at ns b) (first_of d (f ∷ []) z) in
+            let x : width_at ns b d ≡ width_at ns b c = ap (width_at ns b) (first_is d (f ∷ []) z) in
             omega arith
 
         go : One ns n ⊎ (Two ns n 3 4 ⊎ Two ns n 4 3) → Branches (o + 7) (o + 4)
@@ -249,13 +300,13 @@ module _ {ns names : List ℕ} {b : ℕ} {widths levels offsets follows : List �
             let y = if_width ∙ ap (λ ps. 7 + sum (width_at ns b) ps) z in
             let u = array.width_is_lem A n l e in
             let v = wc in
-            let x : width_at ns b d ≡ width_at ns b c = ap (width_at ns b) (first_of d [] z) in
+            let x : width_at ns b d ≡ width_at ns b c = ap (width_at ns b) (first_is d [] z) in
             w (omega arith)
 
         two : (d f : ℕ) → order ns n ≡ d ∷ f ∷ []
             → Branches (cond (eqb (role_of ns c) role.Alternate) (o + 7 + get_or widths c 0) (o + 7)) (cond (eqb (role_of ns c) role.Alternate) (o + 7) (o + 7 + get_or widths c 0))
         two d f z =
-            let x = first_of d (f ∷ []) z in (
+            let x = first_is d (f ∷ []) z in (
               (λ t. cond (eqb (role_of ns (sym x t)) role.Alternate) (eo t + 7 + (wc ∙ ap (width_at ns b) (sym x)) t) (eo t + 7)) ∙ sym (ap (λ ps. if_yes ns b ps (offset_at ns names b n)) z),
               (λ t. cond (eqb (role_of ns (sym x t)) role.Alternate) (eo t + 7) (eo t + 7 + (wc ∙ ap (width_at ns b) (sym x)) t)) ∙ sym (ap (λ ps. if_no ns b ps (offset_at ns names b n)) z),
             )
@@ -267,7 +318,7 @@ module _ {ns names : List ℕ} {b : ℕ} {widths levels offsets follows : List �
         go (inr (inr v)) = let (d, f, z, x, y) = v in two d f z
 
   -- A Try: where its finally begins.
-  module _ (q : shape_at ns n ≡ Try) (f : ℕ) (ef : first_child ns n 5 5 5 5 ≡ At (record { 0 = f })) where
+  module _ (q : shape_at ns n ≡ Try) (f : ℕ) (ef : first_child ns n 5 5 5 5 ≡ Some (record { 0 = f })) where
     pub finally_part : Part ns n f
     finally_part = (child_part ns names b A.ready n l q 5 f (inr (inr refl)) ef).0
 
@@ -278,7 +329,7 @@ module _ {ns names : List ℕ} {b : ℕ} {widths levels offsets follows : List �
     finally_in_lem = in_down ns b A.ready.held.good.falls n f (omega arith) e finally_part
 
     pub finally_has : has_role ns role.Finally (order ns n) ≡ true
-    finally_has = has_found ns names b A.ready n l q 5 (inr (inr refl)) (At (record { 0 = f })) ef
+    finally_has = has_found ns names b A.ready n l q 5 (inr (inr refl)) (Some (record { 0 = f })) ef
 
     pub finally_at : offset_at ns names b f ≡ last_from ns b (order ns n) (offset_at ns names b n + 2)
     finally_at = go (A.ready.held.good.shaped.tries n l q)
@@ -308,8 +359,8 @@ module _ {ns names : List ℕ} {b : ℕ} {widths levels offsets follows : List �
         go (inr (inl v)) = let (c, d, z, x, y) = v in subst (λ ps. offset_at ns names b f ≡ last_from ns b ps (offset_at ns names b n + 2)) (sym z) (two c d 5 x (subst (Row (width_at ns b) (λ c k m. offset_at ns names b c ≡ k) (offset_at ns names b n + 2)) z row) (subst (In f) z (in_order ns n f finally_part)))
         go (inr (inr v)) = let (c, d, g, z, x, y, w) = v in subst (λ ps. offset_at ns names b f ≡ last_from ns b ps (offset_at ns names b n + 2)) (sym z) (three c d g x y (subst (Row (width_at ns b) (λ c k m. offset_at ns names b c ≡ k) (offset_at ns names b n + 2)) z row) (subst (In f) z (in_order ns n f finally_part)))
 
-  pub finally_none : shape_at ns n ≡ Try → first_child ns n 5 5 5 5 ≡ Nothing → has_role ns role.Finally (order ns n) ≡ false
-  finally_none q ef = has_found ns names b A.ready n l q 5 (inr (inr refl)) Nothing ef
+  pub finally_none : shape_at ns n ≡ Try → first_child ns n 5 5 5 5 ≡ None → has_role ns role.Finally (order ns n) ≡ false
+  finally_none q ef = has_found ns names b A.ready n l q 5 (inr (inr refl)) None ef
 
 -- The first `default` of some cases, by its offset.
 module _ (ns names : List ℕ) (b : ℕ) where
@@ -353,19 +404,29 @@ module _ {ns names : List ℕ} {b : ℕ} {widths levels offsets follows : List �
       go (c ∷ cs) u v = let a = (subst (All (Part ns n)) u (order_all_lem ns n)).0 in absurd (omega (arith, a.behind, v))
 
   -- The turns of the search: c is a case.
-  pub case_first : (head0 (order ns n) ≡ 0 → ⊥) → (c : ℕ) → c ≡ head0 (parts ns n (n + 1)) → Next ns n (n + 1) c
-  case_first m c z = next_is ns n (n + 1) c (omega arith) z (λ y. m (ap head0 switch_order ∙ sym z ∙ y))
-
   pub case_in : (c : ℕ) → Part ns n c → in_unit ns b c ≡ true
   case_in c w = in_down ns b A.ready.held.good.falls n c (omega arith) e w
-
-  pub case_next : (c : ℕ) → Part ns n c → eqb (sum (counted ns b) (parts ns n (c + 1))) 0 ≡ false → (d : ℕ) → d ≡ head0 (parts ns n (c + 1)) → Next ns n (c + 1) d
-  case_next c w s d z =
-      let u = w.behind in
-      next_is ns n (c + 1) d (omega arith) z
-      (λ y. some_zero (head0 (parts ns n (c + 1))) (parts_some ns names b A.ready.held.good n (omega arith) l (ap is_try q) (c + 1) (omega arith) ∙ ap not s) (sym z ∙ y))
 
   pub case_last : (c : ℕ) → Part ns n c → eqb (sum (counted ns b) (parts ns n (c + 1))) 0 ≡ true → parts ns n (c + 1) ≡ []
   case_last c w s =
       let u = w.behind in
       parts_none ns names b A.ready.held.good n (omega arith) l (ap is_try q) (c + 1) (omega arith) (eqb-true (sum (counted ns b) (parts ns n (c + 1))) 0 s)
+
+pub some_zero : (m : ℕ) → some m ≡ true → m ≡ 0 → ⊥
+some_zero m e z = never (sym e ∙ ap some z)
+
+-- a first part that is no 0 is there
+first_is_head : (l : List ℕ) (c : ℕ) → c ≡ head0 l → (c ≡ 0 → ⊥) → ◌≡◌ {A = Option NodeId} (Some (record { 0 = c })) (first_of l)
+first_is_head [] c e n = absurd (n e)
+first_is_head (x ∷ l) c e n = rw e
+
+module _ {ns names : List ℕ} {b : ℕ} {widths levels offsets follows : List ℕ} (A : Arrays ns names b widths levels offsets follows) (n : ℕ) (h : b < n) (l : n < count ns) (e : in_unit ns b n ≡ true) (q : shape_at ns n ≡ Switch) where
+  -- The turns of the search: c is a case.
+  pub case_first : (head0 (order ns n) ≡ 0 → ⊥) → (c : ℕ) → c ≡ head0 (parts ns n (n + 1)) → Next ns n (n + 1) c
+  case_first m c z = next_is ns n (n + 1) c (omega arith) (first_is_head (parts ns n (n + 1)) c z (λ y. m (ap head0 (switch_order A n h l e q) ∙ sym z ∙ y)))
+
+  pub case_next : (c : ℕ) → Part ns n c → eqb (sum (counted ns b) (parts ns n (c + 1))) 0 ≡ false → (d : ℕ) → d ≡ head0 (parts ns n (c + 1)) → Next ns n (c + 1) d
+  case_next c w s d z =
+      let u = w.behind in
+      next_is ns n (c + 1) d (omega arith) (first_is_head (parts ns n (c + 1)) d z
+      (λ y. some_zero (head0 (parts ns n (c + 1))) (parts_some ns names b A.ready.held.good n (omega arith) l (ap is_try q) (c + 1) (omega arith) ∙ ap not s) (sym z ∙ y)))

@@ -8,7 +8,7 @@ ghost use Rattle.route_completion.specs.Sem.{normal, pick};
 ghost use Rattle.code_flat.specs.Code.{at};
 ghost use Rattle.code_flat.specs.Has.{Has};
 ghost use Rattle.code_flat.specs.Opcodes as op;
-ghost use Rattle.code_tree.specs.Parts.{up_of, shape_at, is_part, parts, order};
+ghost use Rattle.code_tree.specs.Parts.{up_of, shape_at, is_part, parts, order, Part};
 ghost use Rattle.code_tree.specs.declared.Shape.TheVariants.{Leaf, Class, If, With, Block, Loop, Switch, Case, Try};
 ghost use Rattle.code_layout.specs.Widths.{sum, is_try, number_by, in_unit, own_width};
 ghost use Rattle.code_layout.specs.Context.{ifz, head0, offset_at};
@@ -16,13 +16,14 @@ ghost use Rattle.code_layout.specs.Words.{default_from, words_at};
 ghost use Rattle.code_targets.specs.Targets.{target, depth_at};
 ghost use Rattle.code_widths.specs.Widths.{counted};
 ghost use Rattle.code_contexts.specs.Contexts.{Ready};
-ghost use Rattle.code_branch.specs.Branch.{stat_of, Arrays};
+ghost use Rattle.code_branch.specs.Branch.{stat_of, Laid};
+ghost use Rattle.code_instructions.specs.First.{first_of};
 
-use code_branch::{Target, leaf_target, normal_target};
+use code_branch::{Layout, Target, leaf_target, normal_target};
 use code_machine::opcodes;
 use code_shapes::{is_part, is_try, number_by, shape_of, up_of};
 use code_tree::Shape;
-use table_records::{Found, NodeId, kinds, roles, wide};
+use table_records::{NodeId, kinds, roles};
 
 // How many words stand before the jump of an If, of a Switch; before the ASK and the jump of a loop.
 const ASK_WORDS: u32 = 4;
@@ -37,15 +38,6 @@ const LOOP_OUT: u32 = 7;
 const LOOP_WORDS: u32 = 10;
 
 const SWITCH_WORDS: u32 = 7;
-
-fn choose(t: bool, x: u32, y: u32) -> u32
-    ensures { result ≡ pick t x y }
-{
-    if t {
-        return x;
-    }
-    y
-}
 
 // LIST n, and a jump.
 fn listing(n: NodeId, t: Target) -> [u32; 10]
@@ -80,31 +72,21 @@ fn asking(code: u32, n: NodeId, x: u32, y: u32, t: Target) -> [u32; 10]
 }
 
 // Where a node that holds a list goes first: into its first part, which begins behind its own words; on, if it has none.
-fn entry_of(
-    nodes: &[u32],
-    names: &[u8],
-    b: NodeId,
-    widths: &[u32],
-    levels: &[u32],
-    offsets: &[u32],
-    follows: &[u32],
-    n: NodeId,
-    own: u32,
-) -> Target
-    requires arrays { Arrays nodes.now names.now b.0 widths.now levels.now offsets.now follows.now }
-    requires b_lt_n { b.0 < n.0 }
-    requires n_bound { n.0 < count nodes.now }
-    requires n_value { in_unit nodes.now b.0 n.0 ≡ true }
-    requires n_value_2 { is_try (shape_at nodes.now n.0) ≡ false }
-    requires own_value { own ≡ number_by (shape_at nodes.now n.0) }
-    ensures { stat_of result ≡ ifz (head0 (order nodes.now n.0)) (target nodes.now names.now b.0 n.0 normal) (at (offset_at nodes.now names.now b.0 n.0 + own) (depth_at nodes.now names.now b.0 n.0)) }
+fn entry_of(laid: &Layout, n: NodeId, own: u32) -> Target
+    requires arrays { Laid laid.now }
+    requires b_lt_n { laid.now.body.0 < n.0 }
+    requires n_bound { n.0 < count laid.now.nodes.now }
+    requires n_value { in_unit laid.now.nodes.now laid.now.body.0 n.0 ≡ true }
+    requires n_value_2 { is_try (shape_at laid.now.nodes.now n.0) ≡ false }
+    requires own_value { own ≡ number_by (shape_at laid.now.nodes.now n.0) }
+    ensures { stat_of result ≡ ifz (head0 (order laid.now.nodes.now n.0)) (target laid.now.nodes.now laid.now.names.now laid.now.body.0 n.0 normal) (at (offset_at laid.now.nodes.now laid.now.names.now laid.now.body.0 n.0 + own) (depth_at laid.now.nodes.now laid.now.names.now laid.now.body.0 n.0)) }
 {
-    if widths[wide(n.0)] == own {
-        return normal_target(nodes, names, b, widths, levels, offsets, follows, n);
+    if laid.widths[n.0 as usize] == own {
+        return normal_target(laid, n);
     }
     Target {
-        place: offsets[wide(n.0)] + own,
-        depth: levels[wide(n.0)] - 1,
+        place: laid.offsets[n.0 as usize] + own,
+        depth: laid.levels[n.0 as usize] - 1,
     }
 }
 
@@ -115,186 +97,135 @@ fn is_part_of(nodes: &[u32], p: NodeId, n: NodeId) -> bool
     requires n_bound { n.0 < count nodes.now }
     ensures { result ≡ (eqb (up_of nodes.now n.0) p.0 && is_part nodes.now n.0) }
 {
-    let q = up_of(nodes, n);
-    base_common::and(q.0 == p.0, is_part(nodes, n))
+    up_of(nodes, n) == p && is_part(nodes, n)
 }
 
-// The first part of p from a node on, or 0.
-fn next_part(nodes: &[u32], p: NodeId, from: u32) -> u32
+// The first part of p from a node on.
+fn next_part(nodes: &[u32], p: NodeId, from: u32) -> Option<NodeId>
     requires tree { Tree nodes.now }
     requires from_nonzero { 0 < from }
-    ensures { result ≡ head0 (parts nodes.now p.0 from) }
+    ensures { result ≡ first_of (parts nodes.now p.0 from) }
 {
     let mut i = from;
+    // `while`, since a range asks for the table's size: nothing that a walk up calls divides.
     while table_records::is_node(nodes, i) {
         if is_part_of(nodes, p, NodeId(i)) {
-            return i;
+            return Some(NodeId(i));
         }
         i += 1;
     }
-    0
+    None
 }
 
 // Whether no part of p stands behind its part n: their words end at the same place.
-fn is_last(
-    nodes: &[u32],
-    names: &[u8],
-    b: NodeId,
-    widths: &[u32],
-    levels: &[u32],
-    offsets: &[u32],
-    follows: &[u32],
-    p: NodeId,
-    n: NodeId,
-) -> bool
-    requires arrays { Arrays nodes.now names.now b.0 widths.now levels.now offsets.now follows.now }
-    requires b_lt_n { b.0 < n.0 }
-    requires n_bound { n.0 < count nodes.now }
-    requires n_value { in_unit nodes.now b.0 n.0 ≡ true }
-    requires p_value { p.0 ≡ up_of nodes.now n.0 }
-    requires p_value_2 { is_try (shape_at nodes.now p.0) ≡ false }
-    ensures { result ≡ eqb (sum (counted nodes.now b.0) (parts nodes.now p.0 (n.0 + 1))) 0 }
+fn is_last(laid: &Layout, p: NodeId, n: NodeId) -> bool
+    requires arrays { Laid laid.now }
+    requires b_lt_n { laid.now.body.0 < n.0 }
+    requires n_bound { n.0 < count laid.now.nodes.now }
+    requires n_value { in_unit laid.now.nodes.now laid.now.body.0 n.0 ≡ true }
+    requires p_value { p.0 ≡ up_of laid.now.nodes.now n.0 }
+    requires p_value_2 { is_try (shape_at laid.now.nodes.now p.0) ≡ false }
+    ensures { result ≡ eqb (sum (counted laid.now.nodes.now laid.now.body.0) (parts laid.now.nodes.now p.0 (n.0 + 1))) 0 }
 {
-    offsets[wide(n.0)] + widths[wide(n.0)] == offsets[wide(p.0)] + widths[wide(p.0)]
+    laid.offsets[n.0 as usize] + laid.widths[n.0 as usize]
+        == laid.offsets[p.0 as usize] + laid.widths[p.0 as usize]
 }
 
 // A statement without parts is listed.
-fn leaf_words(
-    nodes: &[u32],
-    names: &[u8],
-    b: NodeId,
-    widths: &[u32],
-    levels: &[u32],
-    offsets: &[u32],
-    follows: &[u32],
-    n: NodeId,
-) -> [u32; 10]
-    requires arrays { Arrays nodes.now names.now b.0 widths.now levels.now offsets.now follows.now }
-    requires b_lt_n { b.0 < n.0 }
-    requires n_bound { n.0 < count nodes.now }
-    requires n_value { in_unit nodes.now b.0 n.0 ≡ true }
-    requires n_value_2 { shape_at nodes.now n.0 ≡ Leaf }
-    ensures { Has result 0 (words_at nodes.now names.now b.0 n.0) }
+fn leaf_words(laid: &Layout, n: NodeId) -> [u32; 10]
+    requires arrays { Laid laid.now }
+    requires b_lt_n { laid.now.body.0 < n.0 }
+    requires n_bound { n.0 < count laid.now.nodes.now }
+    requires n_value { in_unit laid.now.nodes.now laid.now.body.0 n.0 ≡ true }
+    requires n_value_2 { shape_at laid.now.nodes.now n.0 ≡ Leaf }
+    ensures { Has result 0 (words_at laid.now.nodes.now laid.now.names.now laid.now.body.0 n.0) }
 {
-    let t = leaf_target(nodes, names, b, widths, levels, offsets, follows, n);
+    let t = leaf_target(laid, n);
     listing(n, t)
 }
 
 // A class is listed, and then its static blocks run.
-fn class_words(
-    nodes: &[u32],
-    names: &[u8],
-    b: NodeId,
-    widths: &[u32],
-    levels: &[u32],
-    offsets: &[u32],
-    follows: &[u32],
-    n: NodeId,
-) -> [u32; 10]
-    requires arrays { Arrays nodes.now names.now b.0 widths.now levels.now offsets.now follows.now }
-    requires b_lt_n { b.0 < n.0 }
-    requires n_bound { n.0 < count nodes.now }
-    requires n_value { in_unit nodes.now b.0 n.0 ≡ true }
-    requires n_value_2 { shape_at nodes.now n.0 ≡ Class }
-    ensures { Has result 0 (words_at nodes.now names.now b.0 n.0) }
+fn class_words(laid: &Layout, n: NodeId) -> [u32; 10]
+    requires arrays { Laid laid.now }
+    requires b_lt_n { laid.now.body.0 < n.0 }
+    requires n_bound { n.0 < count laid.now.nodes.now }
+    requires n_value { in_unit laid.now.nodes.now laid.now.body.0 n.0 ≡ true }
+    requires n_value_2 { shape_at laid.now.nodes.now n.0 ≡ Class }
+    ensures { Has result 0 (words_at laid.now.nodes.now laid.now.names.now laid.now.body.0 n.0) }
 {
     let own = number_by(Shape::Class);
-    let t = entry_of(nodes, names, b, widths, levels, offsets, follows, n, own);
+    let t = entry_of(laid, n, own);
     listing(n, t)
 }
 
 // An If without an alternate goes to its own jump on no. An alternate may stand before the held statement.
-fn if_words(
-    nodes: &[u32],
-    names: &[u8],
-    b: NodeId,
-    widths: &[u32],
-    levels: &[u32],
-    offsets: &[u32],
-    follows: &[u32],
-    n: NodeId,
-) -> [u32; 10]
-    requires arrays { Arrays nodes.now names.now b.0 widths.now levels.now offsets.now follows.now }
-    requires b_lt_n { b.0 < n.0 }
-    requires n_bound { n.0 < count nodes.now }
-    requires n_value { in_unit nodes.now b.0 n.0 ≡ true }
-    requires n_value_2 { shape_at nodes.now n.0 ≡ If }
-    ensures { Has result 0 (words_at nodes.now names.now b.0 n.0) }
+fn if_words(laid: &Layout, n: NodeId) -> [u32; 10]
+    requires arrays { Laid laid.now }
+    requires b_lt_n { laid.now.body.0 < n.0 }
+    requires n_bound { n.0 < count laid.now.nodes.now }
+    requires n_value { in_unit laid.now.nodes.now laid.now.body.0 n.0 ≡ true }
+    requires n_value_2 { shape_at laid.now.nodes.now n.0 ≡ If }
+    ensures { Has result 0 (words_at laid.now.nodes.now laid.now.names.now laid.now.body.0 n.0) }
 {
-    let t = normal_target(nodes, names, b, widths, levels, offsets, follows, n);
-    let o = offsets[wide(n.0)];
-    let c = next_part(nodes, n, n.0 + 1);
-    let second = o + IF_WORDS + widths[wide(c)];
-    if second == o + widths[wide(n.0)] {
+    let t = normal_target(laid, n);
+    let o = laid.offsets[n.0 as usize];
+    // An If holds a statement.
+    let Some(c) = next_part(laid.nodes, n, n.0 + 1) else {
+        return leaving(t);
+    };
+    let second = o + IF_WORDS + laid.widths[c.0 as usize];
+    if second == o + laid.widths[n.0 as usize] {
         return asking(opcodes::ASK, n, o + IF_WORDS, o + ASK_WORDS, t);
     }
-    if table_records::role(nodes, NodeId(c)) == roles::ALTERNATE {
+    if table_records::role(laid.nodes, c) == roles::ALTERNATE {
         return asking(opcodes::ASK, n, second, o + IF_WORDS, t);
     }
     asking(opcodes::ASK, n, o + IF_WORDS, second, t)
 }
 
-fn with_words(nodes: &[u32], names: &[u8], b: NodeId, n: NodeId) -> [u32; 10]
-    requires b_lt_n { b.0 < n.0 }
-    requires n_value { shape_at nodes.now n.0 ≡ With }
-    ensures { Has result 0 (words_at nodes.now names.now b.0 n.0) }
+fn with_words(laid: &Layout, n: NodeId) -> [u32; 10]
+    requires b_lt_n { laid.now.body.0 < n.0 }
+    requires n_value { shape_at laid.now.nodes.now n.0 ≡ With }
+    ensures { Has result 0 (words_at laid.now.nodes.now laid.now.names.now laid.now.body.0 n.0) }
 {
     [opcodes::LIST, n.0, 0, 0, 0, 0, 0, 0, 0, 0]
 }
 
-fn block_words(
-    nodes: &[u32],
-    names: &[u8],
-    b: NodeId,
-    widths: &[u32],
-    levels: &[u32],
-    offsets: &[u32],
-    follows: &[u32],
-    n: NodeId,
-) -> [u32; 10]
-    requires arrays { Arrays nodes.now names.now b.0 widths.now levels.now offsets.now follows.now }
-    requires b_lt_n { b.0 < n.0 }
-    requires n_bound { n.0 < count nodes.now }
-    requires n_value { in_unit nodes.now b.0 n.0 ≡ true }
-    requires n_value_2 { shape_at nodes.now n.0 ≡ Block }
-    ensures { Has result 0 (words_at nodes.now names.now b.0 n.0) }
+fn block_words(laid: &Layout, n: NodeId) -> [u32; 10]
+    requires arrays { Laid laid.now }
+    requires b_lt_n { laid.now.body.0 < n.0 }
+    requires n_bound { n.0 < count laid.now.nodes.now }
+    requires n_value { in_unit laid.now.nodes.now laid.now.body.0 n.0 ≡ true }
+    requires n_value_2 { shape_at laid.now.nodes.now n.0 ≡ Block }
+    ensures { Has result 0 (words_at laid.now.nodes.now laid.now.names.now laid.now.body.0 n.0) }
 {
     let own = number_by(Shape::Block);
-    let t = entry_of(nodes, names, b, widths, levels, offsets, follows, n, own);
+    let t = entry_of(laid, n, own);
     leaving(t)
 }
 
 // A loop asks before its body or behind it; one without a test goes on whatever the answer.
-fn loop_words(
-    nodes: &[u32],
-    names: &[u8],
-    b: NodeId,
-    widths: &[u32],
-    levels: &[u32],
-    offsets: &[u32],
-    follows: &[u32],
-    n: NodeId,
-) -> [u32; 10]
-    requires arrays { Arrays nodes.now names.now b.0 widths.now levels.now offsets.now follows.now }
-    requires b_lt_n { b.0 < n.0 }
-    requires n_bound { n.0 < count nodes.now }
-    requires n_value { in_unit nodes.now b.0 n.0 ≡ true }
-    requires n_value_2 { shape_at nodes.now n.0 ≡ Loop }
-    ensures { Has result 0 (words_at nodes.now names.now b.0 n.0) }
+fn loop_words(laid: &Layout, n: NodeId) -> [u32; 10]
+    requires arrays { Laid laid.now }
+    requires b_lt_n { laid.now.body.0 < n.0 }
+    requires n_bound { n.0 < count laid.now.nodes.now }
+    requires n_value { in_unit laid.now.nodes.now laid.now.body.0 n.0 ≡ true }
+    requires n_value_2 { shape_at laid.now.nodes.now n.0 ≡ Loop }
+    ensures { Has result 0 (words_at laid.now.nodes.now laid.now.names.now laid.now.body.0 n.0) }
 {
-    let t = normal_target(nodes, names, b, widths, levels, offsets, follows, n);
-    let o = offsets[wide(n.0)];
-    let depth = levels[wide(n.0)] - 1;
-    let first = choose(
-        code_shapes::is_before(nodes, n),
-        o + LEAVE_WORDS,
-        o + LOOP_WORDS,
-    );
-    let no = choose(
-        code_shapes::has_test(nodes, n),
-        o + LOOP_OUT,
-        o + LOOP_WORDS,
-    );
+    let t = normal_target(laid, n);
+    let o = laid.offsets[n.0 as usize];
+    let depth = laid.levels[n.0 as usize] - 1;
+    let first = if code_shapes::is_before(laid.nodes, n) {
+        o + LEAVE_WORDS
+    } else {
+        o + LOOP_WORDS
+    };
+    let no = if code_shapes::has_test(laid.nodes, n) {
+        o + LOOP_OUT
+    } else {
+        o + LOOP_WORDS
+    };
     [
         opcodes::LEAVE,
         first,
@@ -309,164 +240,130 @@ fn loop_words(
     ]
 }
 
-// Where the `default` of the Switch n begins; its own jump, if it has none.
-fn default_at(
-    nodes: &[u32],
-    names: &[u8],
-    b: NodeId,
-    widths: &[u32],
-    levels: &[u32],
-    offsets: &[u32],
-    follows: &[u32],
-    n: NodeId,
-) -> u32
-    requires arrays { Arrays nodes.now names.now b.0 widths.now levels.now offsets.now follows.now }
-    requires b_lt_n { b.0 < n.0 }
-    requires n_bound { n.0 < count nodes.now }
-    requires n_value { in_unit nodes.now b.0 n.0 ≡ true }
-    requires n_value_2 { shape_at nodes.now n.0 ≡ Switch }
-    requires fact { head0 (order nodes.now n.0) ≡ 0 → ⊥ }
-    ensures { result ≡ default_from nodes.now b.0 (order nodes.now n.0) (offset_at nodes.now names.now b.0 n.0 + 7) (offset_at nodes.now names.now b.0 n.0 + 4) }
+// The case of the Switch n behind its case c. Behind the last, no node is read.
+fn next_case(laid: &Layout, n: NodeId, c: NodeId) -> Option<NodeId>
+    requires arrays { Laid laid.now }
+    requires b_lt_n { laid.now.body.0 < n.0 }
+    requires n_bound { n.0 < count laid.now.nodes.now }
+    requires n_value { in_unit laid.now.nodes.now laid.now.body.0 n.0 ≡ true }
+    requires n_value_2 { shape_at laid.now.nodes.now n.0 ≡ Switch }
+    requires part { Part laid.now.nodes.now n.0 c.0 }
+    ensures { result ≡ first_of (parts laid.now.nodes.now n.0 (c.0 + 1)) }
 {
-    let mut c = next_part(nodes, n, n.0 + 1);
-    while !is_last(
-        nodes,
-        names,
-        b,
-        widths,
-        levels,
-        offsets,
-        follows,
-        n,
-        NodeId(c),
-    ) {
-        if code_shapes::is_default(nodes, NodeId(c)) {
-            return offsets[wide(c)];
+    if is_last(laid, n, c) {
+        return None;
+    }
+    next_part(laid.nodes, n, c.0 + 1)
+}
+
+// Where the `default` of the Switch n begins; its own jump, if it has none.
+fn default_at(laid: &Layout, n: NodeId) -> u32
+    requires arrays { Laid laid.now }
+    requires b_lt_n { laid.now.body.0 < n.0 }
+    requires n_bound { n.0 < count laid.now.nodes.now }
+    requires n_value { in_unit laid.now.nodes.now laid.now.body.0 n.0 ≡ true }
+    requires n_value_2 { shape_at laid.now.nodes.now n.0 ≡ Switch }
+    ensures { result ≡ default_from laid.now.nodes.now laid.now.body.0 (order laid.now.nodes.now n.0) (offset_at laid.now.nodes.now laid.now.names.now laid.now.body.0 n.0 + 7) (offset_at laid.now.nodes.now laid.now.names.now laid.now.body.0 n.0 + 4) }
+{
+    let mut next = next_part(laid.nodes, n, n.0 + 1);
+    while let Some(c) = next {
+        if code_shapes::is_default(laid.nodes, c) {
+            return laid.offsets[c.0 as usize];
         }
-        c = next_part(nodes, n, c + 1);
+        next = next_case(laid, n, c);
     }
-    if code_shapes::is_default(nodes, NodeId(c)) {
-        return offsets[wide(c)];
-    }
-    offsets[wide(n.0)] + ASK_WORDS
+    laid.offsets[n.0 as usize] + ASK_WORDS
 }
 
 // A Switch without cases goes to its own jump.
-fn switch_words(
-    nodes: &[u32],
-    names: &[u8],
-    b: NodeId,
-    widths: &[u32],
-    levels: &[u32],
-    offsets: &[u32],
-    follows: &[u32],
-    n: NodeId,
-) -> [u32; 10]
-    requires arrays { Arrays nodes.now names.now b.0 widths.now levels.now offsets.now follows.now }
-    requires b_lt_n { b.0 < n.0 }
-    requires n_bound { n.0 < count nodes.now }
-    requires n_value { in_unit nodes.now b.0 n.0 ≡ true }
-    requires n_value_2 { shape_at nodes.now n.0 ≡ Switch }
-    ensures { Has result 0 (words_at nodes.now names.now b.0 n.0) }
+fn switch_words(laid: &Layout, n: NodeId) -> [u32; 10]
+    requires arrays { Laid laid.now }
+    requires b_lt_n { laid.now.body.0 < n.0 }
+    requires n_bound { n.0 < count laid.now.nodes.now }
+    requires n_value { in_unit laid.now.nodes.now laid.now.body.0 n.0 ≡ true }
+    requires n_value_2 { shape_at laid.now.nodes.now n.0 ≡ Switch }
+    ensures { Has result 0 (words_at laid.now.nodes.now laid.now.names.now laid.now.body.0 n.0) }
 {
-    let t = normal_target(nodes, names, b, widths, levels, offsets, follows, n);
-    let o = offsets[wide(n.0)];
-    if widths[wide(n.0)] == SWITCH_WORDS {
+    let t = normal_target(laid, n);
+    let o = laid.offsets[n.0 as usize];
+    if laid.widths[n.0 as usize] == SWITCH_WORDS {
         return asking(opcodes::SELECT, n, 0, o + ASK_WORDS, t);
     }
-    let d = default_at(nodes, names, b, widths, levels, offsets, follows, n);
+    let d = default_at(laid, n);
     asking(opcodes::SELECT, n, o + SWITCH_WORDS, d, t)
 }
 
 // A case names the next one, and jumps into its statements.
-fn case_words(
-    nodes: &[u32],
-    names: &[u8],
-    b: NodeId,
-    widths: &[u32],
-    levels: &[u32],
-    offsets: &[u32],
-    follows: &[u32],
-    n: NodeId,
-) -> [u32; 10]
-    requires arrays { Arrays nodes.now names.now b.0 widths.now levels.now offsets.now follows.now }
-    requires b_lt_n { b.0 < n.0 }
-    requires n_bound { n.0 < count nodes.now }
-    requires n_value { in_unit nodes.now b.0 n.0 ≡ true }
-    requires n_value_2 { shape_at nodes.now n.0 ≡ Case }
-    ensures { Has result 0 (words_at nodes.now names.now b.0 n.0) }
+fn case_words(laid: &Layout, n: NodeId) -> [u32; 10]
+    requires arrays { Laid laid.now }
+    requires b_lt_n { laid.now.body.0 < n.0 }
+    requires n_bound { n.0 < count laid.now.nodes.now }
+    requires n_value { in_unit laid.now.nodes.now laid.now.body.0 n.0 ≡ true }
+    requires n_value_2 { shape_at laid.now.nodes.now n.0 ≡ Case }
+    ensures { Has result 0 (words_at laid.now.nodes.now laid.now.names.now laid.now.body.0 n.0) }
 {
-    let p = up_of(nodes, n);
+    let p = up_of(laid.nodes, n);
     let own = number_by(Shape::Case);
-    let t = entry_of(nodes, names, b, widths, levels, offsets, follows, n, own);
-    if is_last(nodes, names, b, widths, levels, offsets, follows, p, n) {
+    let t = entry_of(laid, n, own);
+    if is_last(laid, p, n) {
         return [opcodes::CASE, 0, t.place, t.depth, 0, 0, 0, 0, 0, 0];
     }
-    let next = offsets[wide(n.0)] + widths[wide(n.0)];
+    let next = laid.offsets[n.0 as usize] + laid.widths[n.0 as usize];
     [opcodes::CASE, next, t.place, t.depth, 0, 0, 0, 0, 0, 0]
 }
 
 // A Try with a finally opens it.
-fn try_words(
-    nodes: &[u32],
-    names: &[u8],
-    b: NodeId,
-    widths: &[u32],
-    levels: &[u32],
-    offsets: &[u32],
-    follows: &[u32],
-    n: NodeId,
-) -> [u32; 10]
-    requires arrays { Arrays nodes.now names.now b.0 widths.now levels.now offsets.now follows.now }
-    requires b_lt_n { b.0 < n.0 }
-    requires n_bound { n.0 < count nodes.now }
-    requires n_value { in_unit nodes.now b.0 n.0 ≡ true }
-    requires n_value_2 { shape_at nodes.now n.0 ≡ Try }
-    ensures { Has result 0 (words_at nodes.now names.now b.0 n.0) }
+fn try_words(laid: &Layout, n: NodeId) -> [u32; 10]
+    requires arrays { Laid laid.now }
+    requires b_lt_n { laid.now.body.0 < n.0 }
+    requires n_bound { n.0 < count laid.now.nodes.now }
+    requires n_value { in_unit laid.now.nodes.now laid.now.body.0 n.0 ≡ true }
+    requires n_value_2 { shape_at laid.now.nodes.now n.0 ≡ Try }
+    ensures { Has result 0 (words_at laid.now.nodes.now laid.now.names.now laid.now.body.0 n.0) }
 {
     match table_children::first_child(
-        nodes,
+        laid.nodes,
         n,
         kinds::BLOCK,
         kinds::BLOCK,
         roles::FINALLY,
         roles::FINALLY,
     ) {
-        Found::At(f) => [opcodes::OPEN, offsets[wide(f.0)], 0, 0, 0, 0, 0, 0, 0, 0],
-        Found::Nothing => [0, 0, 0, 0, 0, 0, 0, 0, 0, 0],
+        Some(f) => [
+            opcodes::OPEN,
+            laid.offsets[f.0 as usize],
+            0,
+            0,
+            0,
+            0,
+            0,
+            0,
+            0,
+            0,
+        ],
+        None => [0; 10],
     }
 }
 
 // The words of n.
-pub fn words_of(
-    nodes: &[u32],
-    names: &[u8],
-    b: NodeId,
-    widths: &[u32],
-    levels: &[u32],
-    offsets: &[u32],
-    follows: &[u32],
-    n: NodeId,
-) -> [u32; 10]
-    requires arrays { Arrays nodes.now names.now b.0 widths.now levels.now offsets.now follows.now }
-    requires b_lt_n { b.0 < n.0 }
-    requires n_bound { n.0 < count nodes.now }
-    requires n_value { in_unit nodes.now b.0 n.0 ≡ true }
-    ensures { Has result 0 (words_at nodes.now names.now b.0 n.0) }
+pub fn words_of(laid: &Layout, n: NodeId) -> [u32; 10]
+    requires arrays { Laid laid.now }
+    requires b_lt_n { laid.now.body.0 < n.0 }
+    requires n_bound { n.0 < count laid.now.nodes.now }
+    requires n_value { in_unit laid.now.nodes.now laid.now.body.0 n.0 ≡ true }
+    ensures { Has result 0 (words_at laid.now.nodes.now laid.now.names.now laid.now.body.0 n.0) }
 {
-    let s = shape_of(nodes, n);
-    match s {
-        Shape::Leaf => leaf_words(nodes, names, b, widths, levels, offsets, follows, n),
-        Shape::Class => class_words(nodes, names, b, widths, levels, offsets, follows, n),
-        Shape::If => if_words(nodes, names, b, widths, levels, offsets, follows, n),
-        Shape::With => with_words(nodes, names, b, n),
-        Shape::Block => block_words(nodes, names, b, widths, levels, offsets, follows, n),
-        Shape::Label => [0, 0, 0, 0, 0, 0, 0, 0, 0, 0],
-        Shape::Loop => loop_words(nodes, names, b, widths, levels, offsets, follows, n),
-        Shape::Switch => switch_words(nodes, names, b, widths, levels, offsets, follows, n),
-        Shape::Case => case_words(nodes, names, b, widths, levels, offsets, follows, n),
-        Shape::Try => try_words(nodes, names, b, widths, levels, offsets, follows, n),
-        Shape::Catch => [0, 0, 0, 0, 0, 0, 0, 0, 0, 0],
+    match shape_of(laid.nodes, n) {
+        Shape::Leaf => leaf_words(laid, n),
+        Shape::Class => class_words(laid, n),
+        Shape::If => if_words(laid, n),
+        Shape::With => with_words(laid, n),
+        Shape::Block => block_words(laid, n),
+        Shape::Loop => loop_words(laid, n),
+        Shape::Switch => switch_words(laid, n),
+        Shape::Case => case_words(laid, n),
+        Shape::Try => try_words(laid, n),
+        Shape::Label | Shape::Catch => [0; 10],
     }
 }
 

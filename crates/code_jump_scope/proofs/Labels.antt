@@ -1,5 +1,6 @@
 -- What the kind of a node says of its shape; a Labeled by its name's number; what a Labeled labels is what its part labels, or its part.
-use Rattle.std.specs.Prelude.{ℕ, ◌+◌, ◌<◌, ◌≡◌, List, [], ◌∷◌, Bool, cond, eqb}
+use Rattle.table_records.specs.declared.NodeId.{NodeId}
+use Rattle.std.specs.Prelude.{ℕ, ◌+◌, ◌<◌, ◌≡◌, List, [], ◌∷◌, Bool, cond, eqb, Option, Some, None}
 use Rattle.std.proofs.Math.Path.{refl, ap, sym}
 use Rattle.std.proofs.Common.{subst, ◌∙◌, inl, inr}
 use Rattle.std.proofs.Math.Bool.{true, false}
@@ -9,8 +10,6 @@ use Rattle.base_common.proofs.Bools.{never, range_of}
 use Rattle.table_records.specs.Table.{kind_of, parent_of, role_of, count}
 use Rattle.table_records.specs.Kinds as k
 use Rattle.table_records.specs.Roles as role
-use Rattle.table_records.specs.declared.Found.{Found}
-use Rattle.table_records.specs.declared.Found.TheVariants.{At, Nothing}
 use Rattle.table_names.specs.Name.{same_name}
 use Rattle.table_children.specs.Children.{label_of, held_of}
 use Rattle.table_children.proofs.ChildrenLaws.{found_child}
@@ -75,15 +74,15 @@ module _ (ns names : List ℕ) (a : ℕ) where
   unfolding same_label
   label_test l h e = id_test ns names l h a (label_of ns a) refl ∙ rw (eq-eqb (kind_of ns a) k.Labeled e) (go (label_of ns a))
     where
-      by : (m : ℕ) (x : Bool) → x ≡ is_at (cond x (At (record { 0 = m })) Nothing)
+      by : (m : ℕ) (x : Bool) → x ≡ is_at (cond x (Some (record { 0 = m })) None)
       by m true = refl
       by m false = refl
 
-      go : (x : Found) → named_as ns names l x ≡ is_at (when_found x (λ m. cond (same_name ns names m l) (At (record { 0 = m })) Nothing) Nothing)
-      go (At m) = by m.0 (same_name ns names m.0 l)
-      go Nothing = refl
+      go : (x : Option NodeId) → named_as ns names l x ≡ is_at (when_found x (λ m. cond (same_name ns names m l) (Some (record { 0 = m })) None) None)
+      go (Some m) = by m.0 (same_name ns names m.0 l)
+      go None = refl
 
-  pub no_same : (l : ℕ) → (kind_of ns a ≡ k.Labeled → ⊥) → same_label ns names l a ≡ Nothing
+  pub no_same : (l : ℕ) → (kind_of ns a ≡ k.Labeled → ⊥) → same_label ns names l a ≡ None
   unfolding same_label
   no_same l n = rw (ne_eqb (kind_of ns a) k.Labeled n)
 
@@ -97,7 +96,7 @@ module _ (ns : List ℕ) (g : Good ns) (pl : Placed ns) (q : ℕ) (lq : q < coun
   only c x y (inr u) v = absurd u
 
   -- What the Labeled q holds is its part.
-  held_part : (m p : ℕ) → held_of ns q ≡ At (record { 0 = m }) → Part ns q p → m ≡ p
+  held_part : (m p : ℕ) → held_of ns q ≡ Some (record { 0 = m }) → Part ns q p → m ≡ p
   unfolding is_part
   held_part m p h w =
       let v = found_child ns q 0 55 role.Held role.Held (q + 1) m h in
@@ -114,9 +113,9 @@ module _ (ns : List ℕ) (g : Good ns) (pl : Placed ns) (q : ℕ) (lq : q < coun
     pub item_part : is_iteration (kind_of ns (labeled_item ns p)) ≡ true
     item_part = go (held_of ns q) refl
       where
-        go : (x : Found) → held_of ns q ≡ x → is_iteration (kind_of ns (labeled_item ns p)) ≡ true
-        go (At m) h = subst (λ (j : ℕ). is_iteration (kind_of ns j) ≡ true) (item_down ns q lq m.0 e h ∙ ap (labeled_item ns) (held_part m.0 p h w)) it
-        go Nothing h =
+        go : (x : Option NodeId) → held_of ns q ≡ x → is_iteration (kind_of ns (labeled_item ns p)) ≡ true
+        go (Some m) h = subst (λ (j : ℕ). is_iteration (kind_of ns j) ≡ true) (item_down ns q lq m.0 e h ∙ ap (labeled_item ns) (held_part m.0 p h w)) it
+        go None h =
             let z : is_iteration k.Labeled ≡ true = subst (λ (y : ℕ). is_iteration y ≡ true) (ap (kind_of ns) (item_none ns q lq e h) ∙ e) it in
             never (sym z)
 

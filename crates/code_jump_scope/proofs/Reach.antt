@@ -1,5 +1,6 @@
 -- A break or a continue that has a target has one in the scope at its node.
-use Rattle.std.specs.Prelude.{ℕ, ◌+◌, ◌<◌, ◌≡◌, ◌⊎◌, List, Bool, ◌||◌, eqb}
+use Rattle.table_records.specs.declared.NodeId.{NodeId}
+use Rattle.std.specs.Prelude.{ℕ, ◌+◌, ◌<◌, ◌≡◌, ◌⊎◌, List, Bool, ◌||◌, eqb, Option, Some, None}
 use Rattle.std.proofs.Math.Path.{refl, ap}
 use Rattle.std.proofs.Common.{sym, ◌∙◌, inl, inr, eq-eqb, eqb-true}
 use Rattle.std.proofs.Math.Logic.{⊎_elim}
@@ -10,8 +11,6 @@ use Rattle.base_common.proofs.Bools.{never, either}
 use Rattle.table_records.specs.Table.{kind_of, parent_of, count}
 use Rattle.table_records.specs.Kinds as k
 use Rattle.table_records.specs.Roles as role
-use Rattle.table_records.specs.declared.Found.{Found}
-use Rattle.table_records.specs.declared.Found.TheVariants.{At, Nothing}
 use Rattle.table_children.specs.Children.{label_of}
 use Rattle.table_children.proofs.ChildrenLaws.{found_child}
 use Rattle.table_ancestry.specs.Ancestry.{is_at}
@@ -167,18 +166,18 @@ module _ (ns names : List ℕ) (b : ℕ) (g : Good ns) (pl : Placed ns) (root : 
         go true e = inl (eqb-true (kind_of ns p) k.Labeled e)
         go false e = inr (eqb-false (kind_of ns p) k.Labeled e)
 
-    at_body : kind_of ns b ≡ k.FunctionBody → same_label ns names m b ≡ Nothing
+    at_body : kind_of ns b ≡ k.FunctionBody → same_label ns names m b ≡ None
     at_body q = no_same ns names b m (λ z. omega arith)
 
     -- A Labeled of that name, and one of another.
-    same_id : (p : ℕ) → kind_of ns p ≡ k.Labeled → (x : Found) → same_label ns names m p ≡ x → eqb id (id_at ns names p) ≡ is_at x
+    same_id : (p : ℕ) → kind_of ns p ≡ k.Labeled → (x : Option NodeId) → same_label ns names m p ≡ x → eqb id (id_at ns names p) ≡ is_at x
     same_id p e x q = label_test ns names p m lm e ∙ ap is_at q
 
     leave_met : (p : ℕ) → In p → met (named_break ns names m) p ≡ true → below p (breaks (named id)) ≡ true
     unfolding named_break
     leave_met =
         climb ns names b g.falls (λ p. met (named_break ns names m) p ≡ true → below p (breaks (named id)) ≡ true)
-        (λ e. never (sym e ∙ met_root (named_break ns names m) (λ r q. ap (λ (x : Found). when_found x (λ j. true) r) (at_body q))))
+        (λ e. never (sym e ∙ met_root (named_break ns names m) (λ r q. ap (λ (x : Option NodeId). when_found x (λ j. true) r) (at_body q))))
         (λ p h l r e.
         go p l (λ z. down p h l (breaks (named id)) ∙ r (met_on (named_break ns names m) p h l (no_static (named_break ns names m) p e) z)) (decide p) (same_label ns names m p) refl
         (inner (named_break ns names m) p e))
@@ -188,12 +187,12 @@ module _ (ns names : List ℕ) (b : ℕ) (g : Good ns) (pl : Placed ns) (root : 
         leaves p l h false = h
 
         go : (p : ℕ) → In p → (seek ns (named_break ns names m) p ≡ true → (at p).scope (breaks (named id)) ≡ true) → (kind_of ns p ≡ k.Labeled) ⊎ (kind_of ns p ≡ k.Labeled → ⊥)
-            → (x : Found) → same_label ns names m p ≡ x → when_found x (λ j. true) (seek ns (named_break ns names m) p) ≡ true → below p (breaks (named id)) ≡ true
-        go p l up (inl y) (At j) q e =
+            → (x : Option NodeId) → same_label ns names m p ≡ x → when_found x (λ j. true) (seek ns (named_break ns names m) p) ≡ true → below p (breaks (named id)) ≡ true
+        go p l up (inl y) (Some j) q e =
             ap (λ (s : Shape). (part_scope ns names b s p (at p)).scope (breaks (named id))) (shape_label (kind_of ns p) y)
-            ∙ ap (λ (x : Bool). (at p).scope (pick x normal (breaks (named id)))) (same_id p y (At j) q) ∙ at_normal p l
-        go p l up (inr y) (At j) q e = never (sym (ap is_at q) ∙ ap is_at (no_same ns names p m y))
-        go p l up d Nothing q e =
+            ∙ ap (λ (x : Bool). (at p).scope (pick x normal (breaks (named id)))) (same_id p y (Some j) q) ∙ at_normal p l
+        go p l up (inr y) (Some j) q e = never (sym (ap is_at q) ∙ ap is_at (no_same ns names p m y))
+        go p l up d None q e =
             kept ns names b p (at p) (breaks (named id)) (shape_at ns p) (up e) (λ s. leaves p l (up e) (eqb id (id_at ns names p))) (up e) (up e)
 
     -- At a Labeled of that name a continue has no target yet: the loop below gives it one.
@@ -207,7 +206,7 @@ module _ (ns names : List ℕ) (b : ℕ) (g : Good ns) (pl : Placed ns) (root : 
     unfolding named_continue
     next_met =
         climb ns names b g.falls (λ p. met (named_continue ns names m) p ≡ true → Next p)
-        (λ e. never (sym e ∙ met_root (named_continue ns names m) (λ r q. ap (λ (x : Found). when_found x (λ j. is_iteration (kind_of ns (labeled_item ns b))) r) (at_body q))))
+        (λ e. never (sym e ∙ met_root (named_continue ns names m) (λ r q. ap (λ (x : Option NodeId). when_found x (λ j. is_iteration (kind_of ns (labeled_item ns b))) r) (at_body q))))
         (λ p h l r e.
         go p h l (λ z. r (met_on (named_continue ns names m) p h l (no_static (named_continue ns names m) p e) z)) (decide p) (same_label ns names m p) refl (inner (named_continue ns names m) p e))
       where
@@ -237,21 +236,21 @@ module _ (ns names : List ℕ) (b : ℕ) (g : Good ns) (pl : Placed ns) (root : 
             ∙ or_left_lem (elem id (at p).labels) ((at p).scope (continues (named id))) (labels p h l w.1))
 
         go : (p : ℕ) → b < p → In p → (seek ns (named_continue ns names m) p ≡ true → Next (up_of ns p)) → (kind_of ns p ≡ k.Labeled) ⊎ (kind_of ns p ≡ k.Labeled → ⊥)
-            → (x : Found) → same_label ns names m p ≡ x
+            → (x : Option NodeId) → same_label ns names m p ≡ x
             → when_found x (λ j. is_iteration (kind_of ns (labeled_item ns p))) (seek ns (named_continue ns names m) p) ≡ true → Next p
-        go p h l up (inl y) (At j) q e =
+        go p h l up (inl y) (Some j) q e =
             inr (
               y,
               ap (λ (s : Shape). elem id (part_scope ns names b s p (at p)).labels) (shape_label (kind_of ns p) y)
-                  ∙ or_left_lem (eqb id (id_at ns names p)) (elem id (at p).labels) (same_id p y (At j) q),
+                  ∙ or_left_lem (eqb id (id_at ns names p)) (elem id (at p).labels) (same_id p y (Some j) q),
               e,
             )
-        go p h l up (inr y) (At j) q e = never (sym (ap is_at q) ∙ ap is_at (no_same ns names p m y))
-        go p h l up (inl y) Nothing q e = on_label p h l y (same_id p y Nothing q) (up e)
-        go p h l up (inr y) Nothing q e = on_other p h l y (up e)
+        go p h l up (inr y) (Some j) q e = never (sym (ap is_at q) ∙ ap is_at (no_same ns names p m y))
+        go p h l up (inl y) None q e = on_label p h l y (same_id p y None q) (up e)
+        go p h l up (inr y) None q e = on_other p h l y (up e)
 
   -- The label of a jump is a node.
-  label_in_lem : (j m : ℕ) → label_of ns j ≡ At (record { 0 = m }) → m < count ns
+  label_in_lem : (j m : ℕ) → label_of ns j ≡ Some (record { 0 = m }) → m < count ns
   label_in_lem j m e = (found_child ns j k.LabelIdentifier k.LabelIdentifier role.Label role.Label (j + 1) m e).below
 
   module _ (j : ℕ) (h : b < j) (l : In j) (e : has_target ns names j ≡ true) where
@@ -266,11 +265,11 @@ module _ (ns names : List ℕ) (b : ℕ) (g : Good ns) (pl : Placed ns) (root : 
         plain : kind_of ns j ≡ k.StaticBlock → ⊥
         plain z = omega arith
 
-        go : (x : Found) → label_of ns j ≡ x → when_found x (λ m. seek ns (named_break ns names m) j) (seek ns (plain_break ns) j) ≡ true → (at j).scope (breaks (lab_by ns names x)) ≡ true
-        go (At m) y z =
+        go : (x : Option NodeId) → label_of ns j ≡ x → when_found x (λ m. seek ns (named_break ns names m) j) (seek ns (plain_break ns) j) ≡ true → (at j).scope (breaks (lab_by ns names x)) ≡ true
+        go (Some m) y z =
             down j h l (breaks (named (name_id ns names m.0)))
             ∙ leave_met m.0 (label_in_lem j m.0 y) (up_of ns j) holder (met_on (named_break ns names m.0) j h l plain z)
-        go Nothing y z = down j h l (breaks near) ∙ break_met (up_of ns j) holder (met_on (plain_break ns) j h l plain z)
+        go None y z = down j h l (breaks near) ∙ break_met (up_of ns j) holder (met_on (plain_break ns) j h l plain z)
 
     -- A CONTINUE: it is no loop itself.
     pub reach_continue : kind_of ns j ≡ k.Continue → (at j).scope (continues (lab_at ns names j)) ≡ true
@@ -286,8 +285,8 @@ module _ (ns names : List ℕ) (b : ℕ) (g : Good ns) (pl : Placed ns) (root : 
             let i = item_loop ns g pl (up_of ns j) holder.below w.0 j (member_part ns names b g.falls j h l) w.2 (λ z. omega arith) in
             never (sym (sym (ap (λ (x : ℕ). is_iteration x) q) ∙ i))
 
-        go : (x : Found) → label_of ns j ≡ x → when_found x (λ m. seek ns (named_continue ns names m) j) (seek ns (plain_continue ns) j) ≡ true → (at j).scope (continues (lab_by ns names x)) ≡ true
-        go (At m) y z =
+        go : (x : Option NodeId) → label_of ns j ≡ x → when_found x (λ m. seek ns (named_continue ns names m) j) (seek ns (plain_continue ns) j) ≡ true → (at j).scope (continues (lab_by ns names x)) ≡ true
+        go (Some m) y z =
             down j h l (continues (named (name_id ns names m.0)))
             ∙ from m.0 (label_in_lem j m.0 y) (next_met m.0 (label_in_lem j m.0 y) (up_of ns j) holder (met_on (named_continue ns names m.0) j h l plain z))
-        go Nothing y z = down j h l (continues near) ∙ continue_met (up_of ns j) holder (met_on (plain_continue ns) j h l plain z)
+        go None y z = down j h l (continues near) ∙ continue_met (up_of ns j) holder (met_on (plain_continue ns) j h l plain z)

@@ -1,7 +1,8 @@
 -- THE LAW: where each break and continue has its target, the statements of every unit are scoped, with `try` in any child order and static blocks. The search for a target
 -- stops at the nearest unit, so that no jump leaves a static block that is entered.
+use Rattle.table_records.specs.declared.NodeId.{NodeId}
 use Prim.Native.Nat.{ℕ, zero, suc, ◌<◌}
-use Rattle.std.specs.Prelude.{◌≡◌, ◌⊎◌, Bool, cond, eqb}
+use Rattle.std.specs.Prelude.{◌≡◌, ◌⊎◌, Bool, cond, eqb, Option, Some, None}
 use Rattle.std.proofs.Math.Path.{refl, ap}
 use Rattle.std.proofs.Common.{sym, subst, ◌∙◌, inl, inr, ⊎_elim, arith, eqb-true}
 use mathlib.Core.List.{List, [], ◌∷◌}
@@ -11,8 +12,6 @@ use Rattle.table_records.specs.Table.{kind_of, role_of, count}
 use Rattle.table_records.specs.Facts.{Tree}
 use Rattle.table_records.specs.Kinds as k
 use Rattle.table_records.specs.Roles as role
-use Rattle.table_records.specs.declared.Found.{Found}
-use Rattle.table_records.specs.declared.Found.TheVariants.{At, Nothing}
 use Rattle.check_jumps.specs.Jumps.{is_unit}
 use Rattle.refusal_fields.specs.Fields.{Listed}
 use Rattle.refusal_standing.specs.Standing.{Placed}
@@ -182,7 +181,7 @@ module _ (ns names : List ℕ) (b : ℕ) (g : Good ns) (pl : Placed ns) (root : 
       (order ns b) (order_all_lem ns b)
 
 -- The holder of a unit's statements.
-root_of : (ns : List ℕ) (u : ℕ) → u < count ns → is_unit (kind_of ns u) ≡ true → (b : ℕ) → holder_of ns u ≡ At (record { 0 = b }) → Root ns b
+root_of : (ns : List ℕ) (u : ℕ) → u < count ns → is_unit (kind_of ns u) ≡ true → (b : ℕ) → holder_of ns u ≡ Some (record { 0 = b }) → Root ns b
 root_of ns u lu e b h =
     let low = (range_of (kind_of ns u) k.Program k.StaticBlock e).1 in
     record {
@@ -198,6 +197,6 @@ module _ (ns names : List ℕ) (t : Tree ns) (li : Listed ns) (pl : Placed ns) (
   unfolding unit_of
   unit_scoped = go (holder_of ns u) refl
     where
-      go : (x : Found) → holder_of ns u ≡ x → ScopedAll (unit_by ns names x) top_scope
-      go (At m) h = body_scoped ns names m.0 (good ns t li pl co) pl (root_of ns u lu e m.0 h) targets
-      go Nothing h = tt
+      go : (x : Option NodeId) → holder_of ns u ≡ x → ScopedAll (unit_by ns names x) top_scope
+      go (Some m) h = body_scoped ns names m.0 (good ns t li pl co) pl (root_of ns u lu e m.0 h) targets
+      go None h = tt

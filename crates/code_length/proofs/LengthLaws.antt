@@ -1,6 +1,7 @@
 -- The sum over the unit's nodes is the length of its code.
+use Rattle.table_records.specs.declared.NodeId.{NodeId}
 use Prim.Native.Nat.{ℕ, zero, suc, ◌+◌, ◌≤◌, ◌<◌}
-use Rattle.std.specs.Prelude.{◌≡◌, ◌⊎◌, Bool, false, not, ◌&&◌, ◌||◌, eqb}
+use Rattle.std.specs.Prelude.{◌≡◌, ◌⊎◌, Bool, false, not, ◌&&◌, ◌||◌, eqb, Option, Some, None}
 use Rattle.std.proofs.Math.Path.{refl, ap, sym}
 use Rattle.std.proofs.Common.{subst, ◌∙◌, inl, inr, ⊎_elim, eq-or-lt_of_le}
 use mathlib.Core.List.{List, [], ◌∷◌, foldr}
@@ -18,8 +19,6 @@ use Rattle.table_records.specs.Facts.{Tree, Named}
 use Rattle.table_records.specs.Kinds as k
 use Rattle.table_records.specs.Roles as role
 use Rattle.table_records.specs.NodeFlag as flag
-use Rattle.table_records.specs.declared.Found.{Found}
-use Rattle.table_records.specs.declared.Found.TheVariants.{At, Nothing}
 use Rattle.table_children.specs.Children.{is_child, next_child, function_body_of}
 use Rattle.table_children.proofs.ChildrenLaws.{tally, tally_all, tally_turn, node_on, node_stop, number}
 use Rattle.table_ancestry.proofs.AncestryLaws.{ancestors_up, ancestors_root}
@@ -61,16 +60,16 @@ module _ (ns : List ℕ) (p lo hi a b j : ℕ) (l : j < count ns) (e : is_child 
       ⊎_elim (λ (z : i ≡ j). tally_here i z)
       (λ (z : i < j). let u = tally_turn ns p lo hi a b i (omega arith) in let v = tallied f (i + 1) (omega arith) (omega arith) in omega arith) (eq-or-lt_of_le q)
 
-  first_here : (i : ℕ) → i ≡ j → next_child ns p lo hi a b i ≡ At (record { 0 = j })
+  first_here : (i : ℕ) → i ≡ j → next_child ns p lo hi a b i ≡ Some (record { 0 = j })
   first_here i z = rw z (node_stop (is_child ns p lo hi a b) j (count ns) l e)
 
-  first_is : (f i : ℕ) → j ≤ i + f → i ≤ j → tally ns p lo hi a b i ≤ 1 → next_child ns p lo hi a b i ≡ At (record { 0 = j })
+  first_is : (f i : ℕ) → j ≤ i + f → i ≤ j → tally ns p lo hi a b i ≤ 1 → next_child ns p lo hi a b i ≡ Some (record { 0 = j })
   first_is zero i h q o = first_here i (omega arith)
   first_is (suc f) i h q o =
       ⊎_elim (λ (z : i ≡ j). first_here i z)
       (λ (z : i < j). go z (is_child ns p lo hi a b i) refl (λ o. first_is f (i + 1) (omega arith) (omega arith) o)) (eq-or-lt_of_le q)
     where
-      go : i < j → (x : Bool) → is_child ns p lo hi a b i ≡ x → (tally ns p lo hi a b (i + 1) ≤ 1 → next_child ns p lo hi a b (i + 1) ≡ At (record { 0 = j })) → next_child ns p lo hi a b i ≡ At (record { 0 = j })
+      go : i < j → (x : Bool) → is_child ns p lo hi a b i ≡ x → (tally ns p lo hi a b (i + 1) ≤ 1 → next_child ns p lo hi a b (i + 1) ≡ Some (record { 0 = j })) → next_child ns p lo hi a b i ≡ Some (record { 0 = j })
       go z true x r =
           let u = tally_turn ns p lo hi a b i (omega arith) in
           let v : ◌≡◌ {A = ℕ} (cond (is_child ns p lo hi a b i) 1 0) 1 = rw x in
@@ -229,10 +228,10 @@ module _ (ns : List ℕ) (t : Tree ns) (li : Listed ns) (pl : Placed ns) (co : C
   Counts j = Held j ⊎ ((kind_of ns j ≡ k.SwitchCase) ⊎ (kind_of ns j ≡ k.StaticBlock))
 
   abbrev Place : ℕ → Type 0
-  Place h = (b : ℕ) × (holder_of ns u ≡ At (record { 0 = b })) × (b ≤ h) × (in_unit ns b h ≡ true)
+  Place h = (b : ℕ) × (holder_of ns u ≡ Some (record { 0 = b })) × (b ≤ h) × (in_unit ns b h ≡ true)
 
   abbrev Reached : ℕ → Type 0
-  Reached j = (b : ℕ) × (holder_of ns u ≡ At (record { 0 = b })) × (b < j) × (in_unit ns b j ≡ true)
+  Reached j = (b : ℕ) × (holder_of ns u ≡ Some (record { 0 = b })) × (b < j) × (in_unit ns b j ≡ true)
 
   placed : (j : ℕ) → Reached j → Place j
   placed j w = let (b, e, h, i) = w in (b, e, omega arith, i)
@@ -245,12 +244,12 @@ module _ (ns : List ℕ) (t : Tree ns) (li : Listed ns) (pl : Placed ns) (co : C
       let r = range_of (role_of ns j) role.Held role.Finally (and_left_lem (is_held (role_of ns j)) (is_holder (parent_kind ns j)) e) in
       (r.0, r.1, and_right_lem (is_held (role_of ns j)) (is_holder (parent_kind ns j)) e)
 
-  holder_self : within (kind_of ns u) k.Function k.Arrow ≡ false → holder_of ns u ≡ At (record { 0 = u })
+  holder_self : within (kind_of ns u) k.Function k.Arrow ≡ false → holder_of ns u ≡ Some (record { 0 = u })
   unfolding holder_of
-  holder_self e = ap (λ x. cond x (function_body_of ns u) (At (record { 0 = u }))) e
+  holder_self e = ap (λ x. cond x (function_body_of ns u) (Some (record { 0 = u }))) e
 
   -- A FunctionBody of the unit is the one.
-  holder_body : (h : ℕ) → h < count ns → kind_of ns h ≡ k.FunctionBody → parent_of ns h ≡ u → holder_of ns u ≡ At (record { 0 = h })
+  holder_body : (h : ℕ) → h < count ns → kind_of ns h ≡ k.FunctionBody → parent_of ns h ≡ u → holder_of ns u ≡ Some (record { 0 = h })
   unfolding holder_of is_child
   holder_body h l q p =
       let f = pl.function_body h l q in
@@ -260,7 +259,7 @@ module _ (ns : List ℕ) (t : Tree ns) (li : Listed ns) (pl : Placed ns) (co : C
       let d = t.falls h (later h (λ z. omega arith)) l in
       let c : is_child ns u k.FunctionBody k.FunctionBody 0 7 h ≡ true = (λ i. eq-eqb (parent_of ns h) u p i && (in_range_lem (kind_of ns h) 4 4 (omega arith) (omega arith) i && in_range_lem (role_of ns h) 0 7 (omega arith) (li.role h l) i)) in
       let n = co.function_body u lu lo hi in
-      ap (λ x. cond x (function_body_of ns u) (At (record { 0 = u }))) (in_range_lem (kind_of ns u) k.Function k.Arrow lo hi)
+      ap (λ x. cond x (function_body_of ns u) (Some (record { 0 = u }))) (in_range_lem (kind_of ns u) k.Function k.Arrow lo hi)
       ∙ first_is ns u k.FunctionBody k.FunctionBody 0 7 h l c h (u + 1) (omega arith) (omega arith) (subst (λ m. m ≤ 1) (sym (tally_all ns u k.FunctionBody k.FunctionBody 0 7)) n)
 
   -- What holds a statement of the unit is in its code, or is where the code begins.
@@ -400,7 +399,7 @@ module _ (ns : List ℕ) (t : Tree ns) (li : Listed ns) (pl : Placed ns) (co : C
               o))
 
   -- FROM THE CODE TO THE TABLE.
-  module _ (b : ℕ) (held : holder_of ns u ≡ At (record { 0 = b })) where
+  module _ (b : ℕ) (held : holder_of ns u ≡ Some (record { 0 = b })) where
     root : Root ns u lu low_kind b held
     root = holder_root ns u lu low_kind b held
 
@@ -574,8 +573,8 @@ module _ (ns : List ℕ) (t : Tree ns) (li : Listed ns) (pl : Placed ns) (co : C
       go true q = inl (eqb-true (N j) 0 q)
       go false q = inr (reach j j (omega arith) l (counted j l q) e)
 
-  module _ (b : ℕ) (held : holder_of ns u ≡ At (record { 0 = b })) where
-    same_holder : (c : ℕ) → holder_of ns u ≡ At (record { 0 = c }) → c ≡ b
+  module _ (b : ℕ) (held : holder_of ns u ≡ Some (record { 0 = b })) where
+    same_holder : (c : ℕ) → holder_of ns u ≡ Some (record { 0 = c }) → c ≡ b
     same_holder c e = ap number (sym e ∙ held)
 
     adds : (j : ℕ) → b < j → j < count ns → added_by ns u j ≡ cond (in_unit ns b j) (number_at ns j) 0
@@ -603,11 +602,11 @@ module _ (ns : List ℕ) (t : Tree ns) (li : Listed ns) (pl : Placed ns) (co : C
         ∙ sum_same (added_by ns u) (λ j. cond (in_unit ns b j) (number_at ns j) 0) (upto (b + 1) (count ns)) (upto_all _ (count ns) (count ns) (b + 1) (omega arith) (λ j a c. adds j (omega arith) c))
 
   -- A unit without statements: nothing adds.
-  nothing : holder_of ns u ≡ Nothing → foldr (λ n r. added_by ns u n + r) 0 (upto 0 (count ns)) ≡ 0
+  nothing : holder_of ns u ≡ None → foldr (λ n r. added_by ns u n + r) 0 (upto 0 (count ns)) ≡ 0
   nothing e = fold_sum (added_by ns u) (upto 0 (count ns)) ∙ sum_none (added_by ns u) (upto 0 (count ns)) (upto_all _ (count ns) (count ns) 0 (omega arith) (λ j a c. go j c (of_unit ns u j) refl))
     where
-      absent : (c : ℕ) → holder_of ns u ≡ At (record { 0 = c }) → ⊥
-      absent c f = let d : At (record { 0 = c }) ≡ Nothing = sym f ∙ e in let z : ◌≡◌ {A = ℕ} 0 1 = cc in omega arith
+      absent : (c : ℕ) → holder_of ns u ≡ Some (record { 0 = c }) → ⊥
+      absent c f = let d : ◌≡◌ {A = Option NodeId} (Some (record { 0 = c })) None = sym f ∙ e in let z : ◌≡◌ {A = ℕ} 0 1 = cc in omega arith
 
       go : (j : ℕ) → j < count ns → (x : Bool) → of_unit ns u j ≡ x → cond x (N j) 0 ≡ 0
       go j l true q = ⊎_elim (λ y. y) (λ w. let (c, f, m, i) = w in absurd (absent c f)) (none_or j l q)
@@ -618,7 +617,7 @@ module _ (ns : List ℕ) (t : Tree ns) (li : Listed ns) (pl : Placed ns) (co : C
   unfolding unit_of code_length exact_length sizes
   code_length_lem names n = go (holder_of ns u) refl
     where
-      go : (x : Found) → holder_of ns u ≡ x → length (unit (unit_by ns names x)) ≡ unit_number + foldr (λ n r. added_by ns u n + r) 0 (upto 0 (count ns))
-      go (At m) e =
+      go : (x : Option NodeId) → holder_of ns u ≡ x → length (unit (unit_by ns names x)) ≡ unit_number + foldr (λ n r. added_by ns u n + r) 0 (upto 0 (count ns))
+      go (Some m) e =
           sym (exact_length_lem ns names m.0 (holder_ready ns u lu low_kind m.0 e t li pl co names n).held) ∙ ap (λ x. unit_number + x) (sym (summed m.0 e))
-      go Nothing e = unit_length (unit_by ns names Nothing) ∙ sym (ap (λ x. unit_number + x) (nothing e))
+      go None e = unit_length (unit_by ns names None) ∙ sym (ap (λ x. unit_number + x) (nothing e))

@@ -1,6 +1,7 @@
 -- Whatever a unit can list is one of its nodes in the table.
+use Rattle.table_records.specs.declared.NodeId.{NodeId}
 use Prim.Native.Nat.{ℕ, zero, suc, ◌+◌, ◌≤◌, ◌<◌}
-use Rattle.std.specs.Prelude.{◌≡◌, Bool, true, false, cond, eqb}
+use Rattle.std.specs.Prelude.{◌≡◌, Bool, true, false, cond, eqb, Option, Some, None}
 use Rattle.std.proofs.Math.Path.{refl}
 use Rattle.std.proofs.Common.{sym, subst, ◌∙◌, inl, inr, ⊎_elim, eq-or-lt_of_le, arith}
 use mathlib.Core.List.{List, [], ◌∷◌}
@@ -10,8 +11,6 @@ use Rattle.base_common.proofs.UptoLaws.{fold_turn}
 use Rattle.table_records.specs.Table.{kind_of, role_of, count}
 use Rattle.table_records.specs.Facts.{Tree}
 use Rattle.table_records.specs.Roles as role
-use Rattle.table_records.specs.declared.Found.{Found}
-use Rattle.table_records.specs.declared.Found.TheVariants.{At, Nothing}
 use Rattle.check_jumps.specs.Jumps.{is_unit}
 use Rattle.refusal_fields.specs.Fields.{Listed}
 use Rattle.refusal_standing.specs.Standing.{Placed}
@@ -148,7 +147,7 @@ module _ (ns : List ℕ) (t : Tree ns) (li : Listed ns) (pl : Placed ns) (co : C
       }
 
   -- .. so that it is one of the unit's nodes.
-  counted : (b : ℕ) → holder_of ns u ≡ At (record { 0 = b }) → (c : ℕ) → Inner b c → Mem c (unit_nodes ns u)
+  counted : (b : ℕ) → holder_of ns u ≡ Some (record { 0 = b }) → (c : ℕ) → Inner b c → Mem c (unit_nodes ns u)
   unfolding unit_nodes
   counted b q c i =
       chosen_from (of_unit ns u) (count ns) c i.below (inside ns t li pl co u lu eu b q c c (omega arith) i.behind i.below i.within) c 0 (omega arith) (omega arith)
@@ -158,8 +157,8 @@ module _ (ns : List ℕ) (t : Tree ns) (li : Listed ns) (pl : Placed ns) (co : C
   unfolding unit_of
   unit_nodes_lem = go (holder_of ns u) refl
     where
-      go : (f : Found) → holder_of ns u ≡ f → ListsAll (λ e. Mem (node_of e) (unit_nodes ns u)) (unit_by ns names f)
-      go Nothing q = tt
-      go (At m) q =
+      go : (f : Option NodeId) → holder_of ns u ≡ f → ListsAll (λ e. Mem (node_of e) (unit_nodes ns u)) (unit_by ns names f)
+      go None q = tt
+      go (Some m) q =
           lists_all_as (λ e. Inner m.0 (node_of e)) (λ e. Mem (node_of e) (unit_nodes ns u)) (λ e i. counted m.0 q (node_of e) i) (body_of ns names m.0)
           (body_of_lem ns names (Inner m.0) (λ j c h p. inner_down m.0 j c h p) m.0 (all_map (Part ns m.0) (Inner m.0) (λ c p. inner_first m.0 c p) (order ns m.0) (order_all_lem ns m.0)))

@@ -140,7 +140,7 @@ module _ (C qs ends : List ℕ) (p : Place) (x t : ℕ) (to : Lists C qs ends p 
   pub list_stuck : p.budget ≡ 0 → Turned C qs ends ends p (Over 5)
   list_stuck z m = to m ∙ stuck p.budget (λ b. after (plain x ∷ []) (stops room C (suc m) b t (stack ends p.pending) (drop p.at qs))) (drop p.at qs) z
 
-  pub list_on : p.budget ≢ 0 → p.pending ≤ room → Turned C qs ends ends p (Listed x (record { pc = t; at = p.at; budget = p.budget - 1; pending = p.pending }))
+  pub list_on : p.budget ≢ 0 → p.pending ≤ room → Turned C qs ends ends p (Listed (record { node = x; then = record { pc = t; at = p.at; budget = p.budget - 1; pending = p.pending } }))
   unfolding asks
   list_on z w =
       record {
@@ -212,7 +212,7 @@ module _ (C qs ends : List ℕ) (p : Place) (i : Instr) where
     -- n is listed, and the run goes on at t.
     took_by : (n t : ℕ) → t < half → p.pending ≤ room → p.at < length qs
         → ((m : ℕ) → step_on m (get_or qs p.at 0 ∷ drop (p.at + 1) qs) ≡ after (asked n ∷ []) (stops room C m (length C) t (stack ends p.pending) (drop (p.at + 1) qs)))
-        → Turned C qs ends ends p (Listed n (record { pc = t; at = p.at + 1; budget = length C; pending = p.pending }))
+        → Turned C qs ends ends p (Listed (record { node = n; then = record { pc = t; at = p.at + 1; budget = length C; pending = p.pending } }))
     unfolding asks
     took_by n t s w h q =
         record {
@@ -244,13 +244,13 @@ module _ (C qs ends : List ℕ) (p : Place) (o : get_or C p.pc 0 ≡ op.Ask) whe
       (ask_at (get_or C (p.pc + 1) 0) (get_or C (p.pc + 2) 0) (get_or C (p.pc + 3) 0) refl refl refl) h (λ m. refl)
 
   pub ask_yes : (n y : ℕ) → n ≡ get_or C (p.pc + 1) 0 → y ≡ get_or C (p.pc + 2) 0 → y < half → p.pending ≤ room → p.at < length qs → get_or qs p.at 0 ≢ 0
-      → Turned C qs ends ends p (Listed n (record { pc = y; at = p.at + 1; budget = length C; pending = p.pending }))
+      → Turned C qs ends ends p (Listed (record { node = n; then = record { pc = y; at = p.at + 1; budget = length C; pending = p.pending } }))
   ask_yes n y hn hy s w h a =
       took_by C qs ends p (ASK n y (get_or C (p.pc + 3) 0)) (ask_at n y (get_or C (p.pc + 3) 0) hn hy refl) n y s w h
       (λ m. ap (λ b. after (asked n ∷ []) (stops room C m (length C) (pick b y (get_or C (p.pc + 3) 0)) (stack ends p.pending) (drop (p.at + 1) qs))) (is_yes_at (get_or qs p.at 0) a))
 
   pub ask_no : (n z : ℕ) → n ≡ get_or C (p.pc + 1) 0 → z ≡ get_or C (p.pc + 3) 0 → z < half → p.pending ≤ room → p.at < length qs → get_or qs p.at 0 ≡ 0
-      → Turned C qs ends ends p (Listed n (record { pc = z; at = p.at + 1; budget = length C; pending = p.pending }))
+      → Turned C qs ends ends p (Listed (record { node = n; then = record { pc = z; at = p.at + 1; budget = length C; pending = p.pending } }))
   ask_no n z hn hz s w h a =
       took_by C qs ends p (ASK n (get_or C (p.pc + 2) 0) z) (ask_at n (get_or C (p.pc + 2) 0) z hn refl hz) n z s w h
       (λ m. ap (λ b. after (asked n ∷ []) (stops room C m (length C) (pick (is_yes b) (get_or C (p.pc + 2) 0) z) (stack ends p.pending) (drop (p.at + 1) qs))) a)
@@ -267,7 +267,7 @@ module _ (C qs ends : List ℕ) (p : Place) (o : get_or C p.pc 0 ≡ op.Select) 
       (select_at (get_or C (p.pc + 1) 0) (get_or C (p.pc + 2) 0) (get_or C (p.pc + 3) 0) refl refl refl) h (λ m. refl)
 
   pub select_case : (n c e t : ℕ) → n ≡ get_or C (p.pc + 1) 0 → c ≡ get_or C (p.pc + 2) 0 → e ≡ get_or C (p.pc + 3) 0 → t ≡ chase C p.pc c e (get_or qs p.at 0)
-      → t < half → p.pending ≤ room → p.at < length qs → Turned C qs ends ends p (Listed n (record { pc = t; at = p.at + 1; budget = length C; pending = p.pending }))
+      → t < half → p.pending ≤ room → p.at < length qs → Turned C qs ends ends p (Listed (record { node = n; then = record { pc = t; at = p.at + 1; budget = length C; pending = p.pending } }))
   select_case n c e t hn hc he ht s w h =
       took_by C qs ends p (SELECT n c e) (select_at n c e hn hc he) n t s w h
       (λ m. ap (λ k. after (asked n ∷ []) (stops room C m (length C) k (stack ends p.pending) (drop (p.at + 1) qs))) (sym ht))

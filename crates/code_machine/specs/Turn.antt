@@ -1,5 +1,5 @@
 -- One instruction of the machine, as it is taken.
-use Rattle.std.specs.Prelude.{ℕ, suc, ◌+◌, ◌≤◌, ◌<◌, ◌≡◌, List, [], ◌∷◌, map, drop, length, ltb}
+use Rattle.std.specs.Prelude.{ℕ, suc, ◌+◌, ◌≤◌, ◌<◌, ◌≡◌, List, [], ◌∷◌, map, drop, length, ltb, Result, Ok, Err}
 use Rattle.route_completion.specs.Sem.{Entry, plain, pick}
 use Rattle.route_completion.specs.Route.{asks, node_of}
 use Rattle.code_flat.specs.Machine.{room, Res, res, open', Pos, unwind, pos, measure, run}
@@ -12,11 +12,14 @@ use Rattle.code_machine.specs.declared.Landing.{Landing}
 use Rattle.code_machine.specs.declared.Step.{Step}
 use Rattle.code_machine.specs.declared.Step.TheVariants.{Over, On, Listed}
 use Rattle.code_machine.specs.declared.Next.{Next}
-use Rattle.code_machine.specs.declared.Next.TheVariants as next
 
 -- Where the whole run of a code begins.
 abbrev pub start_of : List ℕ → Place
 start_of C = record { pc = 0; at = 0; budget = length C; pending = 0 }
+
+-- The node n is listed as it takes an answer, and the run goes on at t.
+abbrev pub answered : List ℕ → Place → ℕ → ℕ → Next
+answered C p n t = record { node = n; then = record { pc = t; at = p.at + 1; budget = length C; pending = p.pending } }
 
 -- The run from p on, with the pending ends that the array holds.
 abbrev pub from : List ℕ → List ℕ → List ℕ → Place → Res
@@ -74,9 +77,9 @@ pub record Going (C qs ends ends' : List ℕ) (p : Place) (l : List ℕ) (q : Pl
 abbrev pub Turned : List ℕ → List ℕ → List ℕ → List ℕ → Place → Step → Type 0
 Turned C qs ends ends' p (Over e) = Ends C qs ends p e
 Turned C qs ends ends' p (On q) = Going C qs ends ends' p [] q
-Turned C qs ends ends' p (Listed n q) = Going C qs ends ends' p (n ∷ []) q
+Turned C qs ends ends' p (Listed e) = Going C qs ends ends' p (e.node ∷ []) e.then
 
 -- What the next entry, or the end, says of the run from p.
-abbrev pub Coming : List ℕ → List ℕ → List ℕ → List ℕ → Place → Next → Type 0
-Coming C qs ends ends' p (next.Over e) = Ends C qs ends p e
-Coming C qs ends ends' p (next.Listed n q) = Going C qs ends ends' p (n ∷ []) q
+abbrev pub Coming : List ℕ → List ℕ → List ℕ → List ℕ → Place → Result Next ℕ → Type 0
+Coming C qs ends ends' p (Err e) = Ends C qs ends p e
+Coming C qs ends ends' p (Ok e) = Going C qs ends ends' p (e.node ∷ []) e.then

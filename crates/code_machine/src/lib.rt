@@ -2,18 +2,20 @@
 // What it lists goes to a slice that the caller lends, as far as that goes; with an empty slice it only counts.
 #![tactic(auto)]
 
-ghost use Rattle.std.specs.Prelude.{◌≡◌, List, ◌∷◌, ℕ, ◌%◌, ◌≤◌, ◌<◌, get_or, length};
+ghost use Rattle.std.specs.Prelude.{◌≡◌, List, ◌∷◌, ℕ, ◌/◌, ◌%◌, ◌^◌, ◌≤◌, ◌<◌, get_or, length};
 ghost use Rattle.code_flat.specs.Opcodes as op;
 ghost use Rattle.code_flat.specs.Machine.{room, Frame, open', pend, pos, unwind, is_case, chase, end_as, code_route};
 ghost use Rattle.route_list.specs.Listing.{saturated, laid};
-ghost use Rattle.code_machine.specs.Pending.{half, frame_of, stack, comes, shallow};
+ghost use Rattle.code_marks.specs.Begins.{width};
+ghost use Rattle.code_machine.specs.Pending.{half, frame_by, frame_of, stack, comes, shallow};
 ghost use Rattle.code_machine.specs.Halted.{stop_from, StandsAt, Told};
-ghost use Rattle.code_machine.specs.Turn.{start_of, Passes, Lands, Leaves, Opens, Lists, Turned, Coming};
+ghost use Rattle.code_machine.specs.Turn.{start_of, answered, Passes, Lands, Leaves, Opens, Lists, Turned, Coming};
 
 pub mod opcodes;
-mod run_end;
+pub mod run_end;
 
 // What a run comes to: its end, how many nodes it lists, and how many answers it takes.
+// The end stays a number: an END of the lent code says it, and it goes out through C.
 #[derive(Clone, Copy)]
 pub struct Ran {
     pub end: u32,
@@ -35,14 +37,14 @@ pub struct Place {
 enum Step {
     Over(u32),
     On(Place),
-    Listed(u32, Place),
+    Listed(Next),
 }
 
-// What a run comes to next: it is over, or a node is listed.
+// The next entry: its node, and where the run goes on behind it.
 #[derive(Clone, Copy)]
-pub enum Next {
-    Over(u32),
-    Listed(u32, Place),
+pub struct Next {
+    pub node: u32,
+    pub then: Place,
 }
 
 // The way of a jump: to a place, at a depth of the pending ends.
@@ -76,30 +78,31 @@ pub struct Halt {
     pub at: Landing,
 }
 
-fn wide(x: u32) -> usize
-    ensures { result ≡ x }
-{
-    x as usize
-}
-
 // The word at i, or 0 past the end.
-fn word(code: &[u32], i: usize) -> u32
+pub fn word(code: &[u32], i: usize) -> u32
     ensures { result ≡ get_or code.now i 0 }
 {
-    if i < code.len() {
-        return code[i];
+    code.get(i).copied().unwrap_or(0)
+}
+
+// How many words the instruction takes that begins with this one; 0 where none does.
+pub fn width(first: u32) -> usize
+    ensures { result ≡ width first }
+{
+    match first {
+        opcodes::LIST | opcodes::OPEN | opcodes::END => 2,
+        opcodes::LEAVE => 3,
+        opcodes::ASK | opcodes::SELECT | opcodes::CASE => 4,
+        _ => 0,
     }
-    0
 }
 
 // A case that is named at p stands at c.
 fn is_case(code: &[u32], p: usize, c: u32) -> bool
     ensures { result ≡ is_case code.now p c }
 {
-    if p < wide(c) {
-        return word(code, wide(c)) == opcodes::CASE;
-    }
-    false
+    let at = c as usize;
+    p < at && word(code, at) == opcodes::CASE
 }
 
 // The place of the a-th case of the chain that begins at c and is named at p, or e.
@@ -108,13 +111,14 @@ fn chased(code: &[u32], p: usize, c: u32, e: u32, a: u32) -> u32
 {
     let mut from = p;
     let mut to = c;
+    // Counted by hand: a `for` over a range would ask in two places whether a case stands there.
     let mut left = a;
     while is_case(code, from, to) {
         if left == 0 {
             return to;
         }
         left -= 1;
-        from = wide(to);
+        from = to as usize;
         to = word(code, from + 1);
     }
     e
@@ -132,19 +136,26 @@ fn end_as(e: u32) -> u32
 
 // A pending end is one number: in its lower half a place; in its upper half 0 if the finally block there is open, and else one more than the depth of
 // the way to that place, which waits.
+// Both halves stand in one number, since an array of 512 pending ends is all the memory that a run has.
 const HALF: u64 = 4294967296;
 
-fn long(x: u32) -> u64
-    ensures { result ≡ x }
+// The pending end of these two halves.
+pub fn pending_end(place: u32, above: u32) -> u64
+    ensures { frame_of result ≡ frame_by above place }
 {
-    x as u64
+    u64::from(above) * HALF + u64::from(place)
 }
 
-// The finally block at f is open.
-fn open_end(f: u32) -> u64
-    ensures { frame_of result ≡ open' f }
+pub fn place_of(end: u64) -> u32
+    ensures { result ≡ end % half }
 {
-    long(f)
+    (end % HALF) as u32
+}
+
+pub fn above_of(end: u64) -> u32
+    ensures { result ≡ end / half }
+{
+    (end / HALF) as u32
 }
 
 // The way waits.
@@ -152,13 +163,7 @@ fn waiting_end(way: Way) -> u64
     requires { way.depth < room }
     ensures { frame_of result ≡ pend way.place way.depth }
 {
-    (long(way.depth) + 1) * HALF + long(way.place)
-}
-
-fn place_of(end: u64) -> u32
-    ensures { result ≡ end % half }
-{
-    (end % HALF) as u32
+    pending_end(way.place, way.depth + 1)
 }
 
 // The way that waits.
@@ -168,7 +173,7 @@ fn way_of(end: u64) -> Way
 {
     Way {
         place: place_of(end),
-        depth: (end / HALF - 1) as u32,
+        depth: above_of(end) - 1,
     }
 }
 
@@ -178,12 +183,12 @@ fn met(end: u64, below: usize, way: Way) -> Passing
     ensures shallow { shallow below way result }
 {
     if end < HALF {
-        if below < wide(way.depth) {
+        if below < way.depth as usize {
             return Passing::Here;
         }
         return Passing::Into(place_of(end));
     }
-    if wide(way.depth) <= below {
+    if way.depth as usize <= below {
         return Passing::Below(way);
     }
     if way.place == 0 {
@@ -199,29 +204,24 @@ fn unwound(ends: &mut [u64], pending: usize, way: Way) -> Landing
     ensures to { unwind (stack ends.old pending) way.place way.depth ≡ pos result.place (stack ends.new result.pending) }
     ensures most { result.pending ≤ room }
 {
-    let mut left = pending;
     let mut on = way;
-    while 0 < left {
-        let top = left - 1;
+    for top in (0..pending).rev() {
         let passing = met(ends[top], top, on);
         match passing {
             Passing::Here => {
                 return Landing {
                     place: on.place,
-                    pending: left,
+                    pending: top + 1,
                 };
             }
             Passing::Into(f) => {
                 ends[top] = waiting_end(on);
                 return Landing {
                     place: f,
-                    pending: left,
+                    pending: top + 1,
                 };
             }
-            Passing::Below(below) => {
-                on = below;
-                left = top;
-            }
+            Passing::Below(below) => on = below,
         }
     }
     Landing {
@@ -239,10 +239,10 @@ fn passed(p: Place, pc: usize, pending: usize) -> Step
         return Step::Over(run_end::ASTRAY);
     }
     Step::On(Place {
-        pc: pc,
-        at: p.at,
+        pc,
         budget: p.budget - 1,
-        pending: pending,
+        pending,
+        ..p
     })
 }
 
@@ -254,7 +254,7 @@ fn landed(p: Place, to: Landing) -> Step
     if to.place == 0 {
         return Step::Over(run_end::ASTRAY);
     }
-    passed(p, wide(to.place), to.pending)
+    passed(p, to.place as usize, to.pending)
 }
 
 // A jump.
@@ -277,8 +277,24 @@ fn opened(ends: &mut [u64], p: Place, f: u32, next: usize) -> Step
     if pending == ends.len() {
         return Step::Over(run_end::ASTRAY);
     }
-    ends[pending] = open_end(f);
+    ends[pending] = pending_end(f, 0);
     passed(p, next, pending + 1)
+}
+
+// The node n is listed as it takes an answer, and control goes to the place t.
+fn answered(code: &[u32], p: Place, n: u32, t: u32) -> Step
+    requires { p.at < 2 ^ 63 }
+    ensures { result ≡ Step.Listed (answered code.now p n t) }
+{
+    Step::Listed(Next {
+        node: n,
+        then: Place {
+            pc: t as usize,
+            at: p.at + 1,
+            budget: code.len(),
+            ..p
+        },
+    })
 }
 
 // The ASK at pc is taken.
@@ -289,32 +305,16 @@ fn asked(code: &[u32], answers: &[u32], p: Place) -> Step
     ensures { (ends : List ℕ) → Turned code.now answers.now ends ends p result }
 {
     let at = p.at;
-    if at < answers.len() {
-        let n = word(code, p.pc + 1);
-        if answers[at] == 0 {
-            let z = word(code, p.pc + 3);
-            return Step::Listed(
-                n,
-                Place {
-                    pc: wide(z),
-                    at: at + 1,
-                    budget: code.len(),
-                    pending: p.pending,
-                },
-            );
-        }
-        let y = word(code, p.pc + 2);
-        return Step::Listed(
-            n,
-            Place {
-                pc: wide(y),
-                at: at + 1,
-                budget: code.len(),
-                pending: p.pending,
-            },
-        );
+    if answers.len() <= at {
+        return Step::Over(run_end::SPENT);
     }
-    Step::Over(run_end::SPENT)
+    let n = word(code, p.pc + 1);
+    if answers[at] == 0 {
+        let z = word(code, p.pc + 3);
+        return answered(code, p, n, z);
+    }
+    let y = word(code, p.pc + 2);
+    answered(code, p, n, y)
 }
 
 // The SELECT at pc is taken.
@@ -325,22 +325,14 @@ fn selected(code: &[u32], answers: &[u32], p: Place) -> Step
     ensures { (ends : List ℕ) → Turned code.now answers.now ends ends p result }
 {
     let at = p.at;
-    if at < answers.len() {
-        let n = word(code, p.pc + 1);
-        let c = word(code, p.pc + 2);
-        let e = word(code, p.pc + 3);
-        let t = chased(code, p.pc, c, e, answers[at]);
-        return Step::Listed(
-            n,
-            Place {
-                pc: wide(t),
-                at: at + 1,
-                budget: code.len(),
-                pending: p.pending,
-            },
-        );
+    if answers.len() <= at {
+        return Step::Over(run_end::SPENT);
     }
-    Step::Over(run_end::SPENT)
+    let n = word(code, p.pc + 1);
+    let c = word(code, p.pc + 2);
+    let e = word(code, p.pc + 3);
+    let t = chased(code, p.pc, c, e, answers[at]);
+    answered(code, p, n, t)
 }
 
 // The node n is listed, and control goes to next.
@@ -351,15 +343,14 @@ fn listed(p: Place, n: u32, next: usize) -> Step
     if p.budget == 0 {
         return Step::Over(run_end::ASTRAY);
     }
-    Step::Listed(
-        n,
-        Place {
+    Step::Listed(Next {
+        node: n,
+        then: Place {
             pc: next,
-            at: p.at,
             budget: p.budget - 1,
-            pending: p.pending,
+            ..p
         },
-    )
+    })
 }
 
 // One instruction. What is no instruction ends the run.
@@ -406,7 +397,7 @@ pub fn start(code: &[u32]) -> Place
 }
 
 // Runs on to the next entry, or to the end.
-pub fn next_entry(code: &[u32], answers: &[u32], ends: &mut [u64], here: Place) -> Next
+pub fn next_entry(code: &[u32], answers: &[u32], ends: &mut [u64], here: Place) -> Result<Next, u32>
     requires ends_len { length ends.old ≡ room }
     requires pending_le_room { here.pending ≤ room }
     ensures { Coming code.now answers.now ends.old ends.new here result }
@@ -415,15 +406,9 @@ pub fn next_entry(code: &[u32], answers: &[u32], ends: &mut [u64], here: Place) 
     loop {
         let s = turn(code, answers, ends, p);
         match s {
-            Step::Over(end) => {
-                return Next::Over(end);
-            }
-            Step::On(q) => {
-                p = q;
-            }
-            Step::Listed(n, q) => {
-                return Next::Listed(n, q);
-            }
+            Step::Over(end) => return Err(end),
+            Step::On(q) => p = q,
+            Step::Listed(entry) => return Ok(entry),
         }
     }
 }
@@ -459,9 +444,9 @@ pub fn run_to(
             };
             return Halt {
                 end: run_end::STOPPED,
-                entries: entries,
+                entries,
                 taken: p.at as u64,
-                at: at,
+                at,
             };
         }
         let s = turn(code, answers, ends, p);
@@ -472,18 +457,16 @@ pub fn run_to(
                     pending: 0,
                 };
                 return Halt {
-                    end: end,
-                    entries: entries,
+                    end,
+                    entries,
                     taken: p.at as u64,
-                    at: at,
+                    at,
                 };
             }
-            Step::On(q) => {
-                p = q;
-            }
-            Step::Listed(n, q) => {
-                entries = route_list::add(out, entries, n);
-                p = q;
+            Step::On(q) => p = q,
+            Step::Listed(entry) => {
+                entries = route_list::add(out, entries, entry.node);
+                p = entry.then;
             }
         }
     }

@@ -1,4 +1,5 @@
 // The instructions by number, as code_flat's Opcodes.antt has them.
+// They stay numbers: code is a lent slice of numbers.
 pub const LIST: u32 = 1;
 
 pub const LEAVE: u32 = 2;

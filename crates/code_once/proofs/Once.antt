@@ -1,6 +1,7 @@
 -- No node stands twice in a unit's statements: what the theorem of routes asks for, with `try` in any child order and static blocks. The nodes of a statement lie on ways up that meet only above it.
+use Rattle.table_records.specs.declared.NodeId.{NodeId}
 use Prim.Native.Nat.{ℕ, zero, suc, ◌+◌, ◌-◌, ◌≤◌, ◌<◌}
-use Rattle.std.specs.Prelude.{◌≡◌, ◌⊎◌, Bool, true, false, eqb}
+use Rattle.std.specs.Prelude.{◌≡◌, ◌⊎◌, Bool, true, false, eqb, Option, Some, None}
 use Rattle.std.proofs.Math.Path.{refl, ap, subst}
 use Rattle.std.proofs.Common.{sym, ◌∙◌, inl, inr, arith, ne_eqb}
 use mathlib.Core.List.{List, [], ◌∷◌, ◌++◌}
@@ -9,8 +10,6 @@ use Rattle.std.proofs.Math.Decide.{dec_lt}
 use Rattle.table_records.specs.Table.{kind_of, parent_of, role_of, count}
 use Rattle.table_records.specs.Kinds as k
 use Rattle.table_records.specs.Roles as role
-use Rattle.table_records.specs.declared.Found.{Found}
-use Rattle.table_records.specs.declared.Found.TheVariants.{At, Nothing}
 use Rattle.route_completion.specs.Tree.{Stmt, Stmts, if2, if3, try_c, try_f, nil, cons}
 use Rattle.route_completion.specs.Route.{Mem, Once, nodes_of, nodes_of_all, nodes_of_cases}
 use Rattle.code_tree.specs.Parts.{entered_by, up_of, shape_at, order}
@@ -262,10 +261,10 @@ module _ (ns names : List ℕ) (g : Good ns) where
       (all_map (Part ns b) _ (λ c p. statement_nodes (count ns) c p.inside) (order ns b) (order_all_lem ns b))).once
 
   -- .. and of a whole unit, whose holder stands in the table.
-  pub unit_once : (u : ℕ) → ((b : ℕ) → holder_of ns u ≡ At (record { 0 = b }) → b < count ns) → Once (nodes_of_all (unit_of ns names u))
+  pub unit_once : (u : ℕ) → ((b : ℕ) → holder_of ns u ≡ Some (record { 0 = b }) → b < count ns) → Once (nodes_of_all (unit_of ns names u))
   unfolding unit_of nodes_of_all
   unit_once u inside = go (holder_of ns u) refl
     where
-      go : (x : Found) → holder_of ns u ≡ x → Once (nodes_of_all (unit_by ns names x))
-      go (At m) e = body_once m.0 (inside m.0 e)
-      go Nothing e = tt
+      go : (x : Option NodeId) → holder_of ns u ≡ x → Once (nodes_of_all (unit_by ns names x))
+      go (Some m) e = body_once m.0 (inside m.0 e)
+      go None e = tt

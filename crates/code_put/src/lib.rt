@@ -1,4 +1,4 @@
-// Writes the words of a node: one loop for all of them.
+// Writes the words of a node: one copy for all of them.
 #![tactic(auto)]
 
 ghost use Rattle.std.specs.Prelude.{◌+◌, ◌≤◌, length};
@@ -10,9 +10,5 @@ pub fn put_words(code: &mut [u32], o: usize, words: &[u32], n: usize)
     requires n_in_bounds_2 { o + n ≤ length code.old }
     ensures { Put code.old o words.now n code.new }
 {
-    let mut i = 0;
-    while i < n {
-        code[o + i] = words[i];
-        i += 1;
-    }
+    code[o..o + n].copy_from_slice(&words[..n]);
 }

@@ -1,87 +1,37 @@
 // What a node is to the code, whose part it is, and what holds a unit's statements, read from the node table.
 #![tactic(auto)]
 
-ghost use Rattle.std.specs.Prelude.{◌≡◌, ◌&&◌, ◌+◌, ◌<◌, ◌≤◌};
+ghost use Rattle.std.specs.Prelude.{◌≡◌, ◌+◌, ◌<◌, ◌≤◌};
 ghost use Rattle.table_records.specs.Table.{count};
 ghost use Rattle.table_records.specs.Facts.{Tree};
 ghost use Rattle.table_children.specs.Children.{below};
-ghost use Rattle.code_tree.specs.Parts.{is_class, entered_by, up_of, shape_at, part_by, is_part};
+ghost use Rattle.code_tree.specs.Parts.{entered_by, up_of, shape_at, part_by, is_part};
 ghost use Rattle.code_tree.specs.Statements.{before_at, test_at, default_at, holder_of};
 ghost use Rattle.code_layout.specs.Widths.{is_try, number_by};
 ghost use Rattle.code_layout.specs.Exact.{open_at};
-ghost use Rattle.code_shapes.specs.Shapes.{holds_list, last_by};
 
-use base_common::{and, not, or, within};
 use code_tree::Shape;
-use table_records::{Found, NodeId, kinds, node_flag, roles};
-
-// Whether a node of this kind holds a list of statements.
-fn holds_list(kind: u32) -> bool
-    ensures { result ≡ holds_list kind }
-{
-    or(
-        kind == kinds::PROGRAM,
-        or(
-            kind == kinds::STATIC_BLOCK,
-            or(kind == kinds::FUNCTION_BODY, kind == kinds::BLOCK),
-        ),
-    )
-}
-
-// Whether a node of this kind may have static blocks as parts.
-fn is_class(kind: u32) -> bool
-    ensures { result ≡ is_class kind }
-{
-    or(
-        kind == kinds::CLASS,
-        or(kind == kinds::EXPORT_DEFAULT, kind == kinds::EXPORT_NAMED),
-    )
-}
-
-// The shape of a node of this kind that holds no list, no label, no loop, no If and no With.
-fn last_by(kind: u32) -> Shape
-    ensures { result ≡ last_by kind }
-{
-    if kind == kinds::SWITCH {
-        return Shape::Switch;
-    }
-    if kind == kinds::SWITCH_CASE {
-        return Shape::Case;
-    }
-    if kind == kinds::TRY {
-        return Shape::Try;
-    }
-    if kind == kinds::CATCH_CLAUSE {
-        return Shape::Catch;
-    }
-    if is_class(kind) {
-        return Shape::Class;
-    }
-    Shape::Leaf
-}
+use table_records::{NodeId, kinds, node_flag, roles};
 
 // What a node is to the code.
+#[tactic(auto, unfolding(code_tree::specs::Parts::shape_by))]
 pub fn shape_of(nodes: &[u32], n: NodeId) -> Shape
     requires { n.0 < count nodes.now }
     ensures { result ≡ shape_at nodes.now n.0 }
 {
-    let kind = table_records::kind(nodes, n);
-    if holds_list(kind) {
-        return Shape::Block;
+    match table_records::kind(nodes, n) {
+        kinds::PROGRAM | kinds::STATIC_BLOCK | kinds::FUNCTION_BODY | kinds::BLOCK => Shape::Block,
+        kinds::LABELED => Shape::Label,
+        kinds::FOR..=kinds::DO_WHILE => Shape::Loop,
+        kinds::IF => Shape::If,
+        kinds::WITH => Shape::With,
+        kinds::SWITCH => Shape::Switch,
+        kinds::SWITCH_CASE => Shape::Case,
+        kinds::TRY => Shape::Try,
+        kinds::CATCH_CLAUSE => Shape::Catch,
+        kinds::CLASS | kinds::EXPORT_DEFAULT | kinds::EXPORT_NAMED => Shape::Class,
+        _ => Shape::Leaf,
     }
-    if kind == kinds::LABELED {
-        return Shape::Label;
-    }
-    if within(kind, kinds::FOR, kinds::DO_WHILE) {
-        return Shape::Loop;
-    }
-    if kind == kinds::IF {
-        return Shape::If;
-    }
-    if kind == kinds::WITH {
-        return Shape::With;
-    }
-    last_by(kind)
 }
 
 // THE TABLE: how many words a node takes, by its shape.
@@ -90,36 +40,20 @@ pub fn number_by(s: Shape) -> u32
     ensures upper_bound { result ≤ 10 }
 {
     match s {
-        Shape::Leaf => 5,
-        Shape::Class => 5,
-        Shape::If => 7,
+        Shape::Leaf | Shape::Class => 5,
+        Shape::If | Shape::Switch => 7,
         Shape::With => 2,
         Shape::Block => 3,
-        Shape::Label => 0,
         Shape::Loop => 10,
-        Shape::Switch => 7,
         Shape::Case => 4,
-        Shape::Try => 0,
-        Shape::Catch => 0,
+        Shape::Label | Shape::Try | Shape::Catch => 0,
     }
 }
 
 pub fn is_try(s: Shape) -> bool
     ensures { result ≡ is_try s }
 {
-    match s {
-        Shape::Leaf => false,
-        Shape::Class => false,
-        Shape::If => false,
-        Shape::With => false,
-        Shape::Block => false,
-        Shape::Label => false,
-        Shape::Loop => false,
-        Shape::Switch => false,
-        Shape::Case => false,
-        Shape::Try => true,
-        Shape::Catch => false,
-    }
+    matches!(s, Shape::Try)
 }
 
 // Whether a node of this kind in the role r is a part of what has the shape s.
@@ -129,18 +63,15 @@ pub fn part_by(s: Shape, kind: u32, r: u32) -> bool
     match s {
         Shape::Leaf => false,
         Shape::Class => kind == kinds::STATIC_BLOCK,
-        Shape::If => or(r == roles::HELD, r == roles::ALTERNATE),
-        Shape::With => r == roles::HELD,
-        Shape::Block => r == roles::HELD,
-        Shape::Label => r == roles::HELD,
-        Shape::Loop => r == roles::HELD,
-        Shape::Switch => r == roles::HELD,
-        Shape::Case => r == roles::HELD,
-        Shape::Try => or(
-            r == roles::HELD,
-            or(r == roles::ALTERNATE, r == roles::FINALLY),
-        ),
-        Shape::Catch => r == roles::HELD,
+        Shape::If => matches!(r, roles::HELD | roles::ALTERNATE),
+        Shape::Try => matches!(r, roles::HELD | roles::ALTERNATE | roles::FINALLY),
+        Shape::With
+        | Shape::Block
+        | Shape::Label
+        | Shape::Loop
+        | Shape::Switch
+        | Shape::Case
+        | Shape::Catch => r == roles::HELD,
     }
 }
 
@@ -150,19 +81,19 @@ fn entered_by(nodes: &[u32], c: NodeId) -> NodeId
     requires c_bound { c.0 < count nodes.now }
     ensures { result.0 ≡ entered_by nodes.now c.0 }
 {
-    let exported = within(
+    let exported = matches!(
         table_ancestry::parent_kind(nodes, c),
-        kinds::EXPORT_DEFAULT,
-        kinds::EXPORT_NAMED,
+        kinds::EXPORT_DEFAULT..=kinds::EXPORT_NAMED,
     );
     let declares = table_records::has_flag(table_records::flags(nodes, c), node_flag::DECLARATION);
-    if and(exported, declares) {
+    if exported && declares {
         return table_records::parent(nodes, c);
     }
     c
 }
 
 // Whose part a node may be.
+#[tactic(auto, unfolding(code_tree::specs::Parts::up_of))]
 pub fn up_of(nodes: &[u32], n: NodeId) -> NodeId
     requires tree { Tree nodes.now }
     requires n_nonzero { 0 < n.0 }
@@ -178,6 +109,7 @@ pub fn up_of(nodes: &[u32], n: NodeId) -> NodeId
 }
 
 // Whether a node is a part of its holder.
+#[tactic(auto, unfolding(code_tree::specs::Parts::is_part))]
 pub fn is_part(nodes: &[u32], n: NodeId) -> bool
     requires tree { Tree nodes.now }
     requires n_nonzero { 0 < n.0 }
@@ -193,6 +125,7 @@ pub fn is_part(nodes: &[u32], n: NodeId) -> bool
 }
 
 // OPEN's words, counted at the finally block.
+#[tactic(auto, unfolding(code_layout::specs::Exact::open_at))]
 pub fn open_at(nodes: &[u32], n: NodeId) -> u32
     requires tree { Tree nodes.now }
     requires n_nonzero { 0 < n.0 }
@@ -215,7 +148,7 @@ pub fn is_before(nodes: &[u32], n: NodeId) -> bool
     requires { n.0 < count nodes.now }
     ensures { result ≡ before_at nodes.now n.0 }
 {
-    not(table_records::kind(nodes, n) == kinds::DO_WHILE)
+    table_records::kind(nodes, n) != kinds::DO_WHILE
 }
 
 // Whether a loop heeds its answer.
@@ -225,7 +158,7 @@ pub fn has_test(nodes: &[u32], n: NodeId) -> bool
 {
     let kind = table_records::kind(nodes, n);
     let tested = table_records::has_flag(table_records::flags(nodes, n), node_flag::TEST);
-    or(not(kind == kinds::FOR), tested)
+    kind != kinds::FOR || tested
 }
 
 // Whether a case is the `default`.
@@ -237,15 +170,16 @@ pub fn is_default(nodes: &[u32], n: NodeId) -> bool
 }
 
 // The node that holds a unit's statements.
-pub fn holder(nodes: &[u32], u: NodeId) -> Found
+#[tactic(auto, unfolding(code_tree::specs::Statements::holder_of))]
+pub fn holder(nodes: &[u32], u: NodeId) -> Option<NodeId>
     requires tree { Tree nodes.now }
     requires u_bound { u.0 < count nodes.now }
     ensures value { result ≡ holder_of nodes.now u.0 }
     ensures below { below nodes.now result }
 {
     let kind = table_records::kind(nodes, u);
-    if within(kind, kinds::FUNCTION, kinds::ARROW) {
+    if matches!(kind, kinds::FUNCTION..=kinds::ARROW) {
         return table_children::function_body_of(nodes, u);
     }
-    Found::At(u)
+    Some(u)
 }

@@ -1,35 +1,34 @@
 -- The pass on document 01's unit, on a jump out of two finally blocks, and on a ring; and codes that are refused.
-use Rattle.std.specs.Prelude.{◌≡◌, refl, [], ◌∷◌}
+use Rattle.std.specs.Prelude.{◌≡◌, refl, [], ◌∷◌, Ok, Err}
 use Rattle.route_completion.specs.Tree.{simple, ret, leaf, block, try_f, nil, cons}
 use Rattle.route_completion.specs.Examples.{one, two, row}
 use Rattle.code_flat.specs.Code.{code, size, place, unit}
 use Rattle.code_valid.specs.Instrs.{flat, parse, find, begins}
-use Rattle.code_valid.specs.declared.Verdict.TheVariants.{BadAt as badAt, Good as good}
 use Rattle.code_valid.specs.Valid.{all_begin, first_bad, check}
 use Rattle.code_shorten.specs.Short.{hop, last, threaded, named, round, rounds, moved, kept, close_up, shorter}
 
 -- An entry that is no instruction; one cut off; a target inside an instruction; a last instruction that runs on; no code.
-pub no_instruction : check (1 ∷ 5 ∷ 9 ∷ []) ≡ badAt 2
+pub no_instruction : check (1 ∷ 5 ∷ 9 ∷ []) ≡ Err 2
 unfolding check parse first_bad all_begin begins
 no_instruction = refl
 
-pub cut_off : check (6 ∷ 0 ∷ 2 ∷ 0 ∷ []) ≡ badAt 2
+pub cut_off : check (6 ∷ 0 ∷ 2 ∷ 0 ∷ []) ≡ Err 2
 unfolding check parse first_bad all_begin begins
 cut_off = refl
 
-pub inside : check (6 ∷ 0 ∷ 2 ∷ 1 ∷ 0 ∷ []) ≡ badAt 2
+pub inside : check (6 ∷ 0 ∷ 2 ∷ 1 ∷ 0 ∷ []) ≡ Err 2
 unfolding check parse first_bad all_begin begins
 inside = refl
 
-pub runs_on : check (6 ∷ 0 ∷ 1 ∷ 7 ∷ []) ≡ badAt 2
+pub runs_on : check (6 ∷ 0 ∷ 1 ∷ 7 ∷ []) ≡ Err 2
 unfolding check parse first_bad all_begin begins
 runs_on = refl
 
-pub empty : check [] ≡ badAt 0
+pub empty : check [] ≡ Err 0
 unfolding check parse
 empty = refl
 
-pub row_good : check (unit row) ≡ good
+pub row_good : check (unit row) ≡ Ok tt
 unfolding check parse first_bad all_begin begins unit code size place
 row_good = refl
 

@@ -21,7 +21,7 @@ use Rattle.code_valid.proofs.ReadingLaws.{decode_none}
 use Rattle.code_shorten.specs.Short.{reached}
 use Rattle.code_shorten.specs.Longer.{total, flat_length}
 use Rattle.code_shorten.specs.Reads.{fetched}
-use Rattle.code_shorten.specs.Sound.{Some, Begin, All, Sound, dec_eq, len_pos, find_here, find_there, find_low, none_in}
+use Rattle.code_shorten.specs.Sound.{AreInstrs, Begin, All, Sound, dec_eq, len_pos, find_here, find_there, find_low, none_in}
 use Rattle.code_shorten.specs.Closes.{In}
 use Rattle.code_shorten.specs.Reaches.{reached_zero, reached_closed, leads_begin}
 use Rattle.code_shorten.specs.Marking.{raise, marked_at, new_at, marks_at, news_at, plain, leads_at, low, bit, Inked, Grown, Rounded, Reached, Started}
@@ -155,7 +155,7 @@ low_or true y l l' l₀ h k = omega arith
 low_or false y l l' l₀ h k = omega arith
 
 -- Nothing begins inside an instruction.
-find_inside : (is : List Instr) (q p k : ℕ) → Some is → is_none (find is q p) ≡ false → 0 < k → k < len (find is q p) → is_none (find is q (p + k)) ≡ false → ⊥
+find_inside : (is : List Instr) (q p k : ℕ) → AreInstrs is → is_none (find is q p) ≡ false → 0 < k → k < len (find is q p) → is_none (find is q (p + k)) ≡ false → ⊥
 find_inside [] q p k s b l m c = none_in q p b
 find_inside (i ∷ is) q p k s b l m c = go (dec_eq q p) (find_inside is (q + len i) p k s.1)
   where
@@ -172,13 +172,13 @@ find_inside (i ∷ is) q p k s b l m c = go (dec_eq q p) (find_inside is (q + le
         ih (sym (ap is_none f) ∙ b) l (subst (λ j. k < len j) f m) (sym (ap is_none g) ∙ c)
 
 -- Behind an instruction another begins, or the code ends.
-next_place : (is : List Instr) (q p : ℕ) → Some is → is_none (find is q p) ≡ false
+next_place : (is : List Instr) (q p : ℕ) → AreInstrs is → is_none (find is q p) ≡ false
     → (is_none (find is q (p + len (find is q p))) ≡ false) ⊎ (p + len (find is q p) ≡ q + total is)
 unfolding total
 next_place [] q p s b = absurd (none_in q p b)
 next_place (i ∷ is) q p s b = go (dec_eq q p) (next_place is (q + len i) p s.1)
   where
-    behind : (r : List Instr) (o : ℕ) → o ≡ q + len i → Some r → (is_none (find (i ∷ r) q o) ≡ false) ⊎ (o ≡ q + (len i + total r))
+    behind : (r : List Instr) (o : ℕ) → o ≡ q + len i → AreInstrs r → (is_none (find (i ∷ r) q o) ≡ false) ⊎ (o ≡ q + (len i + total r))
     behind [] o e u = inr (omega arith)
     behind (j ∷ r) o e u =
         inl (ap is_none (find_there i (j ∷ r) q o (λ w. omega (arith, len_pos i s.0))) ∙ ap (λ x. is_none (find (j ∷ r) (q + len i) x)) e ∙ ap is_none (find_here j r (q + len i)) ∙ u.0)
@@ -225,7 +225,7 @@ module _ (is : List Instr) (s : Sound is) where
     pub place_in : p < length F
     place_in = inside F p (ap is_none fetch_is ∙ b)
 
-    first_low : get_or F p 0 < raise
+    pub first_low : get_or F p 0 < raise
     unfolding fetch
     first_low = go (dec_lt 7 (get_or F p 0))
       where
@@ -234,7 +234,7 @@ module _ (is : List Instr) (s : Sound is) where
         go (yes h) = absurd (true≢false (sym (ap is_none (decode_none (get_or F p 0) (get_or F (suc p) 0) (get_or F (suc (suc p)) 0) (get_or F (suc (suc (suc p))) 0) h)) ∙ ap is_none fetch_is ∙ b))
 
     module _ (S C : List ℕ) (k : Inked is S C) where
-      mark_is : (c : Bool) → elem p S ≡ c → get_or C p 0 ≡ get_or F p 0 + pick c raise 0
+      pub mark_is : (c : Bool) → elem p S ≡ c → get_or C p 0 ≡ get_or F p 0 + pick c raise 0
       mark_is c e = k.each p ∙ ap (λ x. get_or F p 0 + pick x raise 0) e
 
       operand : (n : ℕ) → 0 < n → n < len (find is 0 p) → get_or C (p + n) 0 ≡ get_or F (p + n) 0
@@ -244,9 +244,9 @@ module _ (is : List Instr) (s : Sound is) where
           go true e = absurd (find_inside is 0 p n s.some b l m (k.begun (p + n) e))
           go false e = k.each (p + n) ∙ ap (λ x. get_or F (p + n) 0 + pick x raise 0) e ∙ (let z : get_or F (p + n) 0 + 0 ≡ get_or F (p + n) 0 = omega arith in z)
 
-      decoded : decode (get_or F p 0) (get_or C (p + 1) 0) (get_or C (p + 2) 0) (get_or C (p + 3) 0) ≡ find is 0 p
+      bare : decode (get_or F p 0) (get_or C (p + 1) 0) (get_or C (p + 2) 0) (get_or C (p + 3) 0) ≡ find is 0 p
       unfolding fetch
-      decoded =
+      bare =
           let one : p + 1 ≡ suc p = omega arith in
           let two : p + 2 ≡ suc (suc p) = omega arith in
           let three : p + 3 ≡ suc (suc (suc p)) = omega arith in
@@ -267,11 +267,13 @@ module _ (is : List Instr) (s : Sound is) where
               let m : get_or C p 0 ≡ get_or F p 0 + 0 = mark_is false e in
               ap (λ t. pick t (get_or C p 0) (get_or C p 0 - raise)) (lt-ltb (get_or C p 0) raise (omega (arith, first_low))) ∙ (let z : get_or C p 0 ≡ get_or F p 0 = omega arith in z)
 
+      -- The instruction that its numbers make without the mark.
+      pub decoded : decode (plain (get_or C p 0)) (get_or C (p + 1) 0) (get_or C (p + 2) 0) (get_or C (p + 3) 0) ≡ find is 0 p
+      decoded = ap (λ x. decode x (get_or C (p + 1) 0) (get_or C (p + 2) 0) (get_or C (p + 3) 0)) plain_is ∙ bare
+
       -- How many numbers it takes.
       pub size_is : (w : ℕ) → ((x y z : ℕ) → w ≡ len (decode (plain (get_or C p 0)) x y z)) → w ≡ len (find is 0 p)
-      size_is w h =
-          h (get_or C (p + 1) 0) (get_or C (p + 2) 0) (get_or C (p + 3) 0)
-          ∙ ap (λ x. len (decode x (get_or C (p + 1) 0) (get_or C (p + 2) 0) (get_or C (p + 3) 0))) plain_is ∙ ap len decoded
+      size_is w h = h (get_or C (p + 1) 0) (get_or C (p + 2) 0) (get_or C (p + 3) 0) ∙ ap len decoded
 
       leads_is : leads_at C p ≡ pick (elem p S) (leads p (find is 0 p)) []
       leads_is = go (elem p S) refl
@@ -279,7 +281,7 @@ module _ (is : List Instr) (s : Sound is) where
           go : (c : Bool) → elem p S ≡ c → leads_at C p ≡ pick c (leads p (find is 0 p)) []
           go true e =
               let m : get_or C p 0 ≡ get_or F p 0 + 8 = mark_is true e in
-              leads_by C p (omega arith) (get_or F p 0) (omega arith) ∙ ap (leads p) decoded
+              leads_by C p (omega arith) (get_or F p 0) (omega arith) ∙ ap (leads p) bare
           go false e =
               let m : get_or C p 0 ≡ get_or F p 0 + 0 = mark_is false e in
               leads_low C p (omega (arith, first_low))

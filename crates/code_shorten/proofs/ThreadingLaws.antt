@@ -2,7 +2,7 @@
 use Prim.Native.Nat.{ℕ, zero, suc, ◌+◌, ◌≤◌, ◌<◌, min}
 use Rattle.std.proofs.Math.Path.{◌≡◌, refl, ap}
 use Rattle.std.proofs.Common.{sym, ◌∙◌, subst, inl, inr, true≢false, length-append}
-use Rattle.std.specs.Prelude.{◌≢◌, ◌⊎◌, Bool, length, get_or, set, eqb}
+use Rattle.std.specs.Prelude.{◌≢◌, ◌⊎◌, Bool, length, get_or, set, eqb, Option, Some, None}
 use Rattle.std.proofs.Math.Bool.{true, false}
 use mathlib.Core.List.{List, [], ◌∷◌, ◌++◌, map, append_assoc, append-nil, map-append}
 use Rattle.std.proofs.Math.Seq.{append_snoc}
@@ -18,11 +18,10 @@ use Rattle.code_valid.specs.Valid.{Valid}
 use Rattle.code_valid.specs.Reading.{standing}
 use Rattle.code_valid.proofs.ReadingLaws.{whole}
 use Rattle.code_shorten.specs.declared.Aim.{Aim}
-use Rattle.code_shorten.specs.declared.Aim.TheVariants.{Nowhere as none, To as to}
-use Rattle.code_shorten.specs.Short.{aim_of, hop, further, last, aimed, thread, threaded}
+use Rattle.code_shorten.specs.Short.{to, aim_of, hop, further, last, aimed, thread, threaded}
 use Rattle.code_shorten.specs.Longer.{thread_length, total, flat_length, map_length}
 use Rattle.code_shorten.specs.Reads.{fetched}
-use Rattle.code_shorten.specs.Sound.{Some, Begin, All, Sound, len_pos, flat_parse, valid_sound}
+use Rattle.code_shorten.specs.Sound.{AreInstrs, Begin, All, Sound, len_pos, flat_parse, valid_sound}
 use Rattle.code_shorten.specs.Threads.{thread_none, threaded_find, threaded_sound, aim_all}
 use Rattle.code_shorten.specs.Rings.{ring, last_up}
 use Rattle.code_shorten.specs.Makes.{flat_join}
@@ -33,21 +32,21 @@ use Rattle.code_shorten.specs.Threading.{hop_at, last_at, written, sent, threade
 last_more : (is : List Instr) (f t d : ℕ) → suc (length is) ≤ f → last is f t d ≡ last is (suc (length is)) t d
 last_more is f t d l = go (last is (suc (length is)) t d) refl
   where
-    go : (a : Aim) → last is (suc (length is)) t d ≡ a → last is f t d ≡ a
-    go none q = ring is t d q f d
-    go (to u e) q = last_up is f (suc (length is)) t d u e l q
+    go : (a : Option Aim) → last is (suc (length is)) t d ≡ a → last is f t d ≡ a
+    go None q = ring is t d q f d
+    go (Some aim) q = let u : ℕ = aim.place in let e : ℕ = aim.depth in last_up is f (suc (length is)) t d u e l q
 
 -- What is read of a list of instructions whose jumps lead to instructions.
 module _ (is : List Instr) (shut : (o v w : ℕ) → Begin is o → aim_of (find is 0 o) ≡ to v w → Begin is v) where
   hop_read : (t : ℕ) → Begin is t → hop_at (flat is) t ≡ hop is t
   unfolding hop_at hop
-  hop_read t b = ap (λ i. pick (is_zero t) none (aim_of i)) (fetched is t b)
+  hop_read t b = ap (λ i. pick (is_zero t) None (aim_of i)) (fetched is t b)
 
   hop_begin : (t v w : ℕ) → Begin is t → hop is t ≡ to v w → Begin is v
   unfolding hop
   hop_begin t v w b e = from (is_zero t) e
     where
-      from : (z : Bool) → pick z none (aim_of (find is 0 t)) ≡ to v w → Begin is v
+      from : (z : Bool) → pick z None (aim_of (find is 0 t)) ≡ to v w → Begin is v
       from true q = let x : ◌≡◌ {A = ℕ} 0 1 = cc in absurd (omega arith)
       from false q = shut t v w b q
 
@@ -56,29 +55,29 @@ module _ (is : List Instr) (shut : (o v w : ℕ) → Begin is o → aim_of (find
   last_read zero t d b = refl
   last_read (suc f) t d b = ap (λ a. further (last_at (flat is) f) a t d) (hop_read t b) ∙ go (hop is t) refl (λ v w c. last_read f v w c)
     where
-      go : (a : Aim) → hop is t ≡ a → ((v w : ℕ) → Begin is v → last_at (flat is) f v w ≡ last is f v w) → further (last_at (flat is) f) a t d ≡ further (last is f) a t d
-      go none e h = refl
-      go (to v w) e h = h v (min d w) (hop_begin t v w b e)
+      go : (a : Option Aim) → hop is t ≡ a → ((v w : ℕ) → Begin is v → last_at (flat is) f v w ≡ last is f v w) → further (last_at (flat is) f) a t d ≡ further (last is f) a t d
+      go None e h = refl
+      go (Some aim) e h = let v : ℕ = aim.place in let w : ℕ = aim.depth in h v (min d w) (hop_begin t v w b e)
 
-some_left : (a b : List Instr) → Some (a ++ b) → Some a
+some_left : (a b : List Instr) → AreInstrs (a ++ b) → AreInstrs a
 some_left [] b s = tt
 some_left (i ∷ a) b s = (s.0, some_left a b s.1)
 
-some_right : (a b : List Instr) → Some (a ++ b) → Some b
+some_right : (a b : List Instr) → AreInstrs (a ++ b) → AreInstrs b
 some_right [] b s = s
 some_right (i ∷ a) b s = some_right a b s.1
 
-count_total : (is : List Instr) → Some is → length is ≤ total is
+count_total : (is : List Instr) → AreInstrs is → length is ≤ total is
 unfolding total
 count_total [] s = omega arith
 count_total (i ∷ is) s = omega (arith, len_pos i s.0, count_total is s.1)
 
-some_thread : (all a b : List Instr) → Some a → Some b → Some (map (thread all) a ++ b)
+some_thread : (all a b : List Instr) → AreInstrs a → AreInstrs b → AreInstrs (map (thread all) a ++ b)
 some_thread all [] b s u = u
 some_thread all (i ∷ a) b s u = (thread_none all i ∙ s.0, some_thread all a b s.1 u)
 
 -- What stands behind a list.
-find_after : (a : List Instr) (i : Instr) (b : List Instr) (p : ℕ) → Some a → find (a ++ i ∷ b) p (p + total a) ≡ i
+find_after : (a : List Instr) (i : Instr) (b : List Instr) (p : ℕ) → AreInstrs a → find (a ++ i ∷ b) p (p + total a) ≡ i
 unfolding find total
 find_after [] i b p s =
     let z : p ≡ p + 0 = omega arith in
@@ -125,15 +124,15 @@ module _ (X : List ℕ) (p : ℕ) (at : length X ≡ p) where
       ap (λ c. set c (p + 1) u) (sym (append_snoc X x (y ∷ l))) ∙ set_at (X ++ x ∷ []) y l u (p + 1) (snoc_length x) ∙ append_snoc X x (u ∷ l)
 
 -- A place and a depth behind x.
-abbrev aim_behind : List ℕ → ℕ → ℕ → ℕ → List ℕ → Aim → List ℕ
-aim_behind X x t d l none = X ++ x ∷ t ∷ d ∷ l
-aim_behind X x t d l (to u e) = X ++ x ∷ u ∷ e ∷ l
+abbrev aim_behind : List ℕ → ℕ → ℕ → ℕ → List ℕ → Option Aim → List ℕ
+aim_behind X x t d l None = X ++ x ∷ t ∷ d ∷ l
+aim_behind X x t d l (Some aim) = X ++ x ∷ aim.place ∷ aim.depth ∷ l
 
 module _ (X : List ℕ) (p : ℕ) (at : length X ≡ p) (x t d : ℕ) (l : List ℕ) where
   third : (y z : ℕ) → X ++ x ∷ y ∷ z ∷ l ≡ (X ++ x ∷ []) ++ y ∷ z ∷ l
   third y z = sym (append_snoc X x (y ∷ z ∷ l))
 
-  sent_is : (a : Aim) → last_at (X ++ x ∷ t ∷ d ∷ l) (length (X ++ x ∷ t ∷ d ∷ l) + 1) t d ≡ a → sent (X ++ x ∷ t ∷ d ∷ l) (p + 1) ≡ aim_behind X x t d l a
+  sent_is : (a : Option Aim) → last_at (X ++ x ∷ t ∷ d ∷ l) (length (X ++ x ∷ t ∷ d ∷ l) + 1) t d ≡ a → sent (X ++ x ∷ t ∷ d ∷ l) (p + 1) ≡ aim_behind X x t d l a
   unfolding sent
   sent_is a e =
       ap (λ y. written C (p + 1) (last_at C (length C + 1) y (get_or C (p + 1 + 1) 0))) (get_second X p at x t (d ∷ l))
@@ -146,9 +145,9 @@ module _ (X : List ℕ) (p : ℕ) (at : length X ≡ p) (x t d : ℕ) (l : List 
       depth : get_or C (p + 1 + 1) 0 ≡ d
       depth = ap (λ c. get_or c (p + 1 + 1) 0) (third t d) ∙ get_second (X ++ x ∷ []) (p + 1) (snoc_length X p at x) t d l
 
-      go : (b : Aim) → written C (p + 1) b ≡ aim_behind X x t d l b
-      go none = refl
-      go (to u k) =
+      go : (b : Option Aim) → written C (p + 1) b ≡ aim_behind X x t d l b
+      go None = refl
+      go (Some aim) = let u : ℕ = aim.place in let k : ℕ = aim.depth in
           ap (λ c. set c (p + 1 + 1) k) (set_second X p at x t u (d ∷ l))
           ∙ ap (λ c. set c (p + 1 + 1) k) (third u d)
           ∙ set_second (X ++ x ∷ []) (p + 1) (snoc_length X p at x) u d k l
@@ -162,13 +161,13 @@ module _ (is : List Instr) (s : Sound is) (a : List Instr) (i : Instr) (b : List
   abbrev X : List ℕ
   X = flat (map (thread is) a)
 
-  some_a : Some a
-  some_a = some_left a (i ∷ b) (subst Some (sym whole') s.some)
+  some_a : AreInstrs a
+  some_a = some_left a (i ∷ b) (subst AreInstrs (sym whole') s.some)
 
-  some_b : Some (i ∷ b)
-  some_b = some_right a (i ∷ b) (subst Some (sym whole') s.some)
+  some_b : AreInstrs (i ∷ b)
+  some_b = some_right a (i ∷ b) (subst AreInstrs (sym whole') s.some)
 
-  some_now : Some now
+  some_now : AreInstrs now
   some_now = some_thread is a (i ∷ b) some_a some_b
 
   mixed : Mixed is now
@@ -247,13 +246,13 @@ module _ (is : List Instr) (s : Sound is) (a : List Instr) (i : Instr) (b : List
       by : (x : ℕ) (l : List ℕ) → C ≡ X ++ x ∷ l → threaded_at C p ≡ pick (eqb x op.Leave) (sent C (p + 1)) (pick (eqb x op.Case) (sent C (p + 2)) C)
       by x l q = ap (λ y. pick (eqb y op.Leave) (sent C (p + 1)) (pick (eqb y op.Case) (sent C (p + 2)) C)) (ap (λ c. get_or c p 0) q ∙ get_first X p length_x x l)
 
-      leave : (t d : ℕ) (k : Aim) → aim_behind X op.Leave t d R k ≡ X ++ (words (aimed k LEAVE (LEAVE t d)) ++ R)
-      leave t d none = refl
-      leave t d (to u w) = refl
+      leave : (t d : ℕ) (k : Option Aim) → aim_behind X op.Leave t d R k ≡ X ++ (words (aimed k LEAVE (LEAVE t d)) ++ R)
+      leave t d None = refl
+      leave t d (Some aim) = refl
 
-      case' : (c t d : ℕ) (k : Aim) → aim_behind X' c t d R k ≡ X ++ (words (aimed k (CASE c) (CASE c t d)) ++ R)
-      case' c t d none = append_snoc X op.Case (c ∷ t ∷ d ∷ R)
-      case' c t d (to u w) = append_snoc X op.Case (c ∷ u ∷ w ∷ R)
+      case' : (c t d : ℕ) (k : Option Aim) → aim_behind X' c t d R k ≡ X ++ (words (aimed k (CASE c) (CASE c t d)) ++ R)
+      case' c t d None = append_snoc X op.Case (c ∷ t ∷ d ∷ R)
+      case' c t d (Some aim) = let u : ℕ = aim.place in let w : ℕ = aim.depth in append_snoc X op.Case (c ∷ u ∷ w ∷ R)
 
       go : (h : Instr) → is_none h ≡ false → All (Begin is) (names h) → C ≡ X ++ (words h ++ R) → threaded_at C p ≡ X ++ (words (thread is h) ++ R)
       go NONE z a' q = absurd (true≢false z)
@@ -345,10 +344,10 @@ module _ (is : List Instr) (s : Sound is) (C : List ℕ) (p : ℕ) (h : Threadin
       go (i ∷ b) e = absurd (omega (arith, inside' i b e))
 
 -- What the functions read.
-aim_not : (x a b c : ℕ) → x ≢ op.Leave → x ≢ op.Case → aim_of (decode x a b c) ≡ none
+aim_not : (x a b c : ℕ) → x ≢ op.Leave → x ≢ op.Case → aim_of (decode x a b c) ≡ None
 aim_not x a b c h k = rw (ne_eqb x op.Leave h, ne_eqb x op.Case k) (go (eqb x op.List) (eqb x op.Ask) (eqb x op.Select) (eqb x op.Open) (eqb x op.End))
   where
-    go : (p q r s t : Bool) → aim_of (pick p (LIST a) (pick q (ASK a b c) (pick r (SELECT a b c) (pick s (OPEN a) (pick t (END a) NONE))))) ≡ none
+    go : (p q r s t : Bool) → aim_of (pick p (LIST a) (pick q (ASK a b c) (pick r (SELECT a b c) (pick s (OPEN a) (pick t (END a) NONE))))) ≡ None
     go true q r s t = refl
     go false true r s t = refl
     go false false true s t = refl
@@ -357,9 +356,9 @@ aim_not x a b c h k = rw (ne_eqb x op.Leave h, ne_eqb x op.Case k) (go (eqb x op
     go false false false false false = refl
 
 module _ (C : List ℕ) (t : ℕ) where
-  pub hop_zero : t ≡ 0 → hop_at C t ≡ none
+  pub hop_zero : t ≡ 0 → hop_at C t ≡ None
   unfolding hop_at
-  hop_zero z = ap (λ x. pick (is_zero x) none (aim_of (fetch C t))) z
+  hop_zero z = ap (λ x. pick (is_zero x) None (aim_of (fetch C t))) z
 
   module _ (n : t ≢ 0) where
     not_zero : (u : ℕ) → u ≢ 0 → is_zero u ≡ false
@@ -372,7 +371,7 @@ module _ (C : List ℕ) (t : ℕ) where
         let one : suc t ≡ t + 1 = omega arith in
         let two : suc (suc t) ≡ t + 2 = omega arith in
         let three : suc (suc (suc t)) ≡ t + 3 = omega arith in
-        ap (λ z. pick z none (aim_of (fetch C t))) (not_zero t n) ∙ (λ j. aim_of (decode (e j) (get_or C (one j) 0) (get_or C (two j) 0) (get_or C (three j) 0)))
+        ap (λ z. pick z None (aim_of (fetch C t))) (not_zero t n) ∙ (λ j. aim_of (decode (e j) (get_or C (one j) 0) (get_or C (two j) 0) (get_or C (three j) 0)))
 
     pub hop_leave : get_or C t 0 ≡ op.Leave → hop_at C t ≡ to (get_or C (t + 1) 0) (get_or C (t + 2) 0)
     hop_leave e = hop_by op.Leave e
@@ -380,7 +379,7 @@ module _ (C : List ℕ) (t : ℕ) where
     pub hop_case : get_or C t 0 ≡ op.Case → hop_at C t ≡ to (get_or C (t + 2) 0) (get_or C (t + 3) 0)
     hop_case e = hop_by op.Case e
 
-    pub hop_other : get_or C t 0 ≢ op.Leave → get_or C t 0 ≢ op.Case → hop_at C t ≡ none
+    pub hop_other : get_or C t 0 ≢ op.Leave → get_or C t 0 ≢ op.Case → hop_at C t ≡ None
     hop_other h k = hop_by (get_or C t 0) refl ∙ aim_not (get_or C t 0) (get_or C (t + 1) 0) (get_or C (t + 2) 0) (get_or C (t + 3) 0) h k
 
 module _ (C : List ℕ) (f t d : ℕ) where
@@ -388,13 +387,13 @@ module _ (C : List ℕ) (f t d : ℕ) where
   unfolding last_at
   last_step = let e : f + 1 ≡ suc f = omega arith in ap (λ k. last_at C k t d) e
 
-  pub last_end : hop_at C t ≡ none → last_at C (f + 1) t d ≡ to t d
+  pub last_end : hop_at C t ≡ None → last_at C (f + 1) t d ≡ to t d
   last_end e = last_step ∙ ap (λ a. further (last_at C f) a t d) e
 
   pub last_on : (u w : ℕ) → hop_at C t ≡ to u w → last_at C (f + 1) t d ≡ last_at C f u (min d w)
   last_on u w e = last_step ∙ ap (λ a. further (last_at C f) a t d) e
 
-  pub last_out : f ≡ 0 → last_at C f t d ≡ none
+  pub last_out : f ≡ 0 → last_at C f t d ≡ None
   unfolding last_at
   last_out e = ap (λ k. last_at C k t d) e
 

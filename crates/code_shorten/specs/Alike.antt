@@ -12,8 +12,7 @@ use Rattle.code_flat.specs.Machine.{is_none}
 use Rattle.code_flat.specs.Forward.{ask_now, behind, forward, measure, step, run}
 use Rattle.code_flat.proofs.Steps.{run_step}
 use Rattle.code_valid.proofs.ReadingLaws.{decode_none}
-use Rattle.code_shorten.specs.declared.Aim.TheVariants.{To as to}
-use Rattle.code_shorten.specs.Short.{aim_of}
+use Rattle.code_shorten.specs.Short.{to, place_in, depth_in, aim_of}
 use Rattle.code_shorten.specs.Unwinds.{Ahead, Like, like_length, Same, Both, unwinds}
 
 -- The forward machine has not given up.
@@ -88,12 +87,12 @@ aim_step : (lim : ℕ) (C : List ℕ) (k : ℕ → List Frame → List ℕ → R
     → step lim C k i pc K qs ≡ forward C pc k (unwind K t d) qs
 aim_step lim C k NONE t d pc K qs h = let z : ◌≡◌ {A = ℕ} 0 1 = cc in absurd (omega arith)
 aim_step lim C k (LIST n) t d pc K qs h = let z : ◌≡◌ {A = ℕ} 0 1 = cc in absurd (omega arith)
-aim_step lim C k (LEAVE u e) t d pc K qs h = let p : u ≡ t = cc in let q : e ≡ d = cc in rw (p, q)
+aim_step lim C k (LEAVE u e) t d pc K qs h = let p : u ≡ t = ap place_in h in let q : e ≡ d = ap depth_in h in rw (p, q)
 aim_step lim C k (ASK n y z) t d pc K qs h = let w : ◌≡◌ {A = ℕ} 0 1 = cc in absurd (omega arith)
 aim_step lim C k (SELECT n c e) t d pc K qs h = let w : ◌≡◌ {A = ℕ} 0 1 = cc in absurd (omega arith)
 aim_step lim C k (OPEN f) t d pc K qs h = let w : ◌≡◌ {A = ℕ} 0 1 = cc in absurd (omega arith)
 aim_step lim C k (END e) t d pc K qs h = let w : ◌≡◌ {A = ℕ} 0 1 = cc in absurd (omega arith)
-aim_step lim C k (CASE c u e) t d pc K qs h = let p : u ≡ t = cc in let q : e ≡ d = cc in rw (p, q)
+aim_step lim C k (CASE c u e) t d pc K qs h = let p : u ≡ t = ap place_in h in let q : e ≡ d = ap depth_in h in rw (p, q)
 
 -- What is no ASK gives up, if it is gone back to.
 aim_back : (k : ℕ → List Frame → List ℕ → Res) (i : Instr) (t d : ℕ) (K : List Frame) (qs : List ℕ) → aim_of i ≡ to t d → (ask_now i k K qs).end ≡ 6
@@ -159,12 +158,12 @@ module _ (lim : ℕ) (C D : List ℕ) (P : ℕ → Type 0) (φ : ℕ → ℕ)
       go : (i : Instr) → aim_of i ≡ to t d → Does C P φ o i (fetch D (φ o)) → P t
       go NONE e m = absurd m
       go (LIST n) e m = let w : ◌≡◌ {A = ℕ} 0 1 = cc in absurd (omega arith)
-      go (LEAVE u x) e m = let w : u ≡ t = cc in subst P w m.3.holds
+      go (LEAVE u x) e m = let w : u ≡ t = ap place_in e in subst P w m.3.holds
       go (ASK n y z) e m = let w : ◌≡◌ {A = ℕ} 0 1 = cc in absurd (omega arith)
       go (SELECT n c x) e m = let w : ◌≡◌ {A = ℕ} 0 1 = cc in absurd (omega arith)
       go (OPEN f) e m = let w : ◌≡◌ {A = ℕ} 0 1 = cc in absurd (omega arith)
       go (END x) e m = let w : ◌≡◌ {A = ℕ} 0 1 = cc in absurd (omega arith)
-      go (CASE c u x) e m = let w : u ≡ t = cc in subst P w m.4.holds
+      go (CASE c u x) e m = let w : u ≡ t = ap place_in e in subst P w m.4.holds
 
   case_alike : (o : ℕ) (i j : Instr) → Does C P φ o i j → is_cASE j ≡ is_cASE i
   case_alike o NONE j m = absurd m

@@ -11,8 +11,7 @@ use Rattle.code_flat.proofs.Correct.{unit_correct}
 use Rattle.code_flat.proofs.ClaimsLaws.{unit_runs}
 use Rattle.code_valid.specs.Instrs.{parse, find}
 use Rattle.code_valid.specs.Valid.{Valid}
-use Rattle.code_shorten.specs.declared.Aim.TheVariants.{To as to}
-use Rattle.code_shorten.specs.Short.{aim_of, threaded, reached, moved, relocate, closed_up, shorter}
+use Rattle.code_shorten.specs.Short.{to, aim_of, threaded, reached, moved, relocate, closed_up, shorter}
 use Rattle.code_shorten.specs.Longer.{never_longer}
 use Rattle.code_shorten.specs.Sound.{Sound, valid_sound}
 use Rattle.code_shorten.specs.Threads.{thread_none, threaded_find, threaded_sound, aim_some}

@@ -14,7 +14,7 @@ use Rattle.code_shorten.specs.Longer.{relocate_length}
 use Rattle.code_shorten.specs.Reads.{fetched}
 use Rattle.code_shorten.specs.Unwinds.{Ahead}
 use Rattle.code_shorten.specs.Alike.{Kept, Does, alike}
-use Rattle.code_shorten.specs.Sound.{Some, Begin, All, Sound, dec_eq, len_pos, find_here, find_there, find_low, none_in}
+use Rattle.code_shorten.specs.Sound.{AreInstrs, Begin, All, Sound, dec_eq, len_pos, find_here, find_there, find_low, none_in}
 
 -- The place is one of S.
 abbrev pub In : List ℕ → ℕ → Type 0
@@ -120,7 +120,7 @@ module _ (S : List ℕ) where
           ∙ ap (λ z. z + len (find is (p + len i) o)) (sym (moved_there i is p q o e)) ∙ ap (λ j. moved S (i ∷ is) p q o + len j) (sym x)
 
   -- What stands at the new place.
-  pub kept_find : (φ : ℕ → ℕ) (is : List Instr) (p q o : ℕ) → Some is → is_none (find is p o) ≡ false → In S o
+  pub kept_find : (φ : ℕ → ℕ) (is : List Instr) (p q o : ℕ) → AreInstrs is → is_none (find is p o) ≡ false → In S o
       → find (kept φ S is p) q (moved S is p q o) ≡ relocate φ (find is p o)
   unfolding kept
   kept_find φ [] p q o h n s = absurd (none_in p o n)

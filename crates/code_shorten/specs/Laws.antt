@@ -1,5 +1,5 @@
 -- What the pass does, said without its bounds: for a program that makes the shorter code in another way.
-use Rattle.std.specs.Prelude.{ℕ, zero, suc, ◌+◌, min, ◌≡◌, Bool, true, false, length, eqb}
+use Rattle.std.specs.Prelude.{ℕ, zero, suc, ◌+◌, min, ◌≡◌, Bool, true, false, length, eqb, Option, Some, None}
 use Rattle.std.proofs.Math.Path.{refl, ap}
 use Rattle.std.proofs.Common.{sym, ◌∙◌, arith}
 use mathlib.Core.List.{List, [], ◌∷◌}
@@ -7,8 +7,7 @@ use Rattle.route_completion.specs.Sem.{pick, elem}
 use Rattle.code_flat.specs.Machine.{Instr, NONE, LIST, LEAVE, ASK, SELECT, OPEN, END, CASE}
 use Rattle.code_valid.specs.Instrs.{len, find, leads}
 use Rattle.code_shorten.specs.declared.Aim.{Aim}
-use Rattle.code_shorten.specs.declared.Aim.TheVariants.{Nowhere as none, To as to}
-use Rattle.code_shorten.specs.Short.{hop, further, last, reached, moved, relocate, kept, close_up}
+use Rattle.code_shorten.specs.Short.{to, place_in, depth_in, hop, further, last, reached, moved, relocate, kept, close_up}
 use Rattle.code_shorten.specs.Sound.{Begin, All, Sound}
 use Rattle.code_shorten.specs.Closes.{In, Closed}
 use Rattle.code_shorten.specs.Reaches.{reached_zero, reached_closed}
@@ -22,14 +21,14 @@ Hops is zero t d u e = (t ≡ u) × (d ≡ e)
 Hops is (suc n) t d u e = (v : ℕ) × (w : ℕ) × (hop is t ≡ to v w) × Hops is n v (min d w) u e
 
 -- THE LAST TARGET is where jumps lead and no jump stands,
-hops_last : (is : List Instr) (n t d u e : ℕ) → Hops is n t d u e → hop is u ≡ none → last is (suc n) t d ≡ to u e
+hops_last : (is : List Instr) (n t d u e : ℕ) → Hops is n t d u e → hop is u ≡ None → last is (suc n) t d ≡ to u e
 unfolding last
 hops_last is zero t d u e h z =
     ap (λ a. further (last is zero) a t d) (ap (hop is) h.0 ∙ z) ∙ ap (λ x. to x d) h.0 ∙ ap (to u) h.1
 hops_last is (suc n) t d u e h z =
     ap (λ a. further (last is (suc n)) a t d) h.2 ∙ hops_last is n h.0 (min d h.1) u e h.3 z
 
-pub last_is : (is : List Instr) (n t d u e : ℕ) → Hops is n t d u e → hop is u ≡ none → last is (suc (length is)) t d ≡ to u e
+pub last_is : (is : List Instr) (n t d u e : ℕ) → Hops is n t d u e → hop is u ≡ None → last is (suc (length is)) t d ≡ to u e
 last_is is n t d u e h z = enough is (suc n) t d u e (hops_last is n t d u e h z)
 
 last_hops : (is : List Instr) (f t d u e : ℕ) → last is f t d ≡ to u e → (n : ℕ) × Hops is n t d u e
@@ -37,16 +36,16 @@ unfolding last
 last_hops is zero t d u e h = let x : ◌≡◌ {A = ℕ} 0 1 = cc in absurd (omega arith)
 last_hops is (suc f) t d u e h = go (hop is t) refl h (λ v w. last_hops is f v w u e)
   where
-    go : (a : Aim) → hop is t ≡ a → further (last is f) a t d ≡ to u e → ((v w : ℕ) → last is f v w ≡ to u e → (n : ℕ) × Hops is n v w u e) → (n : ℕ) × Hops is n t d u e
-    go none q m k = let x : t ≡ u = cc in let y : d ≡ e = cc in (0, (x, y))
-    go (to v w) q m k = let r : (n : ℕ) × Hops is n v (min d w) u e = k v (min d w) m in (suc r.0, (v, w, q, r.1))
+    go : (a : Option Aim) → hop is t ≡ a → further (last is f) a t d ≡ to u e → ((v w : ℕ) → last is f v w ≡ to u e → (n : ℕ) × Hops is n v w u e) → (n : ℕ) × Hops is n t d u e
+    go None q m k = let x : t ≡ u = ap place_in m in let y : d ≡ e = ap depth_in m in (0, (x, y))
+    go (Some aim) q m k = let v : ℕ = aim.place in let w : ℕ = aim.depth in let r : (n : ℕ) × Hops is n v (min d w) u e = k v (min d w) m in (suc r.0, (v, w, q, r.1))
 
-pub is_last : (is : List Instr) (t d u e : ℕ) → last is (suc (length is)) t d ≡ to u e → ((n : ℕ) × Hops is n t d u e) × (hop is u ≡ none)
+pub is_last : (is : List Instr) (t d u e : ℕ) → last is (suc (length is)) t d ≡ to u e → ((n : ℕ) × Hops is n t d u e) × (hop is u ≡ None)
 is_last is t d u e h = (last_hops is (suc (length is)) t d u e h, last_end is (suc (length is)) t d u e h)
 
 -- and there is none in a ring only: no number of jumps comes to an end.
-pub in_ring : (is : List Instr) (t d : ℕ) → last is (suc (length is)) t d ≡ none → (n u e : ℕ) → Hops is n t d u e → hop is u ≡ none → ⊥
-in_ring is t d h n u e k z = let q : none ≡ to u e = sym h ∙ last_is is n t d u e k z in let x : ◌≡◌ {A = ℕ} 0 1 = cc in omega arith
+pub in_ring : (is : List Instr) (t d : ℕ) → last is (suc (length is)) t d ≡ None → (n u e : ℕ) → Hops is n t d u e → hop is u ≡ None → ⊥
+in_ring is t d h n u e k z = let q : None ≡ to u e = sym h ∙ last_is is n t d u e k z in let x : ◌≡◌ {A = ℕ} 0 1 = cc in omega arith
 
 -- WHAT IS REACHED is the least closed set: any S that holds 0, is closed, and lies in each closed set has the places of `reached`.
 pub reached_is : (is : List Instr) → Sound is → (S : List ℕ) → In S 0 → Closed is S

@@ -1,11 +1,10 @@
 -- The pass never lengthens code, whatever list of numbers it is.
-use Rattle.std.specs.Prelude.{ℕ, zero, suc, ◌+◌, ◌≤◌, ◌≡◌, refl, Bool, true, false, List, [], ◌∷◌, map, length}
+use Rattle.std.specs.Prelude.{ℕ, zero, suc, ◌+◌, ◌≤◌, ◌≡◌, refl, Bool, true, false, List, [], ◌∷◌, map, length, Option, Some, None}
 use Rattle.std.proofs.Common.{length-append, arith}
 use Rattle.route_completion.specs.Sem.{pick, elem}
 use Rattle.code_flat.specs.Machine.{Instr, NONE, LIST, LEAVE, ASK, SELECT, OPEN, END, CASE}
 use Rattle.code_valid.specs.Instrs.{len, words, flat, parse}
 use Rattle.code_shorten.specs.declared.Aim.{Aim}
-use Rattle.code_shorten.specs.declared.Aim.TheVariants.{Nowhere as none, To as to}
 use Rattle.code_shorten.specs.Short.{aimed, last, thread, threaded, reached, relocate, moved, kept, close_up, closed_up, shorter}
 
 pub words_length : (i : Instr) → length (words i) ≡ len i
@@ -33,18 +32,18 @@ thread_length is NONE = refl
 thread_length is (LIST n) = refl
 thread_length is (LEAVE t d) = go (last is (suc (length is)) t d)
   where
-    go : (a : Aim) → len (aimed a LEAVE (LEAVE t d)) ≡ 3
-    go none = refl
-    go (to u e) = refl
+    go : (a : Option Aim) → len (aimed a LEAVE (LEAVE t d)) ≡ 3
+    go None = refl
+    go (Some aim) = refl
 thread_length is (ASK n y z) = refl
 thread_length is (SELECT n c e) = refl
 thread_length is (OPEN f) = refl
 thread_length is (END e) = refl
 thread_length is (CASE c t d) = go (last is (suc (length is)) t d)
   where
-    go : (a : Aim) → len (aimed a (CASE c) (CASE c t d)) ≡ 4
-    go none = refl
-    go (to u e) = refl
+    go : (a : Option Aim) → len (aimed a (CASE c) (CASE c t d)) ≡ 4
+    go None = refl
+    go (Some aim) = refl
 
 unfoldable pub total : List Instr → ℕ
 total [] = 0

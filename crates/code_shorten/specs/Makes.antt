@@ -1,14 +1,13 @@
 -- The code of a unit is a list of instructions that lead to one another: pieces, and how they are put together.
-use Rattle.std.specs.Prelude.{ℕ, ◌+◌, ◌≡◌, refl, Bool, true, false, not, ◌&&◌, ◌||◌, List, [], ◌∷◌, ◌++◌, length, eqb}
+use Rattle.std.specs.Prelude.{ℕ, ◌+◌, ◌≡◌, refl, Bool, true, false, not, ◌&&◌, ◌||◌, List, [], ◌∷◌, ◌++◌, length, eqb, Ok, Err}
 use Rattle.std.proofs.Common.{sym, ◌∙◌, ap, subst, true≢false, append_assoc, eq-eqb, arith}
 use Rattle.route_completion.specs.Sem.{pick}
 use Rattle.code_flat.specs.Machine.{Instr, NONE, LIST, LEAVE, ASK, SELECT, OPEN, END, CASE}
 use Rattle.code_flat.specs.Machine.{is_none}
 use Rattle.code_valid.specs.Instrs.{len, words, flat, parse, begins, names, runs_on}
-use Rattle.code_valid.specs.declared.Verdict.TheVariants.{Good as good, BadAt as badAt}
 use Rattle.code_valid.specs.Valid.{all_begin, is_last, first_bad, judge, check, Valid}
 use Rattle.code_shorten.specs.Longer.{total, flat_length}
-use Rattle.code_shorten.specs.Sound.{Some, All}
+use Rattle.code_shorten.specs.Sound.{AreInstrs, All}
 
 abbrev pub Yes : (ℕ → Bool) → ℕ → Type 0
 Yes P x = P x ≡ true
@@ -73,12 +72,12 @@ some (i ∷ is) o x h = refl
 pub total_of : (is : List Instr) (w : List ℕ) (n : ℕ) → flat is ≡ w → length w ≡ n → total is ≡ n
 total_of is w n e h = sym (flat_length is) ∙ ap length e ∙ h
 
-pub fine_some : (P : ℕ → Bool) (is : List Instr) → Fine P is → Some is
+pub fine_some : (P : ℕ → Bool) (is : List Instr) → Fine P is → AreInstrs is
 fine_some P [] f = tt
 fine_some P (i ∷ is) f = (f.0, fine_some P is f.3)
 
 -- The numbers of instructions read as these.
-pub parse_flat : (is : List Instr) → Some is → parse (flat is) ≡ is
+pub parse_flat : (is : List Instr) → AreInstrs is → parse (flat is) ≡ is
 unfolding parse flat
 parse_flat [] s = refl
 parse_flat (NONE ∷ is) s = absurd (true≢false s.0)
@@ -100,11 +99,11 @@ unfolding all_begin
 all_begins all [] a = refl
 all_begins all (x ∷ xs) a = and_both (begins all 0 x) (all_begin all xs) a.0 (all_begins all xs a.1)
 
-fine_good : (all is : List Instr) (p : ℕ) → Fine (begins all 0) is → first_bad all is p ≡ good
+fine_good : (all is : List Instr) (p : ℕ) → Fine (begins all 0) is → first_bad all is p ≡ Ok tt
 unfolding first_bad
 fine_good all [] p f = refl
 fine_good all (i ∷ is) p f =
-    ap (λ b. pick b (first_bad all is (p + len i)) (badAt p))
+    ap (λ b. pick b (first_bad all is (p + len i)) (Err p))
     (and_both (not (is_none i)) (all_begin all (names i) && not (runs_on i && is_last is)) (ap not f.0)
     (and_both (all_begin all (names i)) (not (runs_on i && is_last is)) (all_begins all (names i) f.1) (go (runs_on i) f.2)))
     ∙ fine_good all is (p + len i) f.3

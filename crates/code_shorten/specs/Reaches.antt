@@ -12,7 +12,7 @@ use Rattle.code_flat.specs.Machine.{Instr}
 use Rattle.code_flat.specs.Machine.{is_none}
 use Rattle.code_valid.specs.Instrs.{len, find, names, runs_on, leads}
 use Rattle.code_shorten.specs.Short.{named, round, rounds, reached}
-use Rattle.code_shorten.specs.Sound.{Some, Begin, All, Sound, dec_eq, and_left, and_right, find_here, find_there, none_in}
+use Rattle.code_shorten.specs.Sound.{AreInstrs, Begin, All, Sound, dec_eq, and_left, and_right, find_here, find_there, none_in}
 use Rattle.code_shorten.specs.Closes.{In, Closed}
 
 pub or_left : (a b : Bool) → a ≡ true → (a || b) ≡ true
@@ -85,7 +85,7 @@ module _ (all : List Instr) (S : List ℕ) where
           at true = or_right (eqb o p) (elem o rest) r
           at false = r
 
-  pub round_out : (is : List Instr) (p o : ℕ) → Some is → In (round all is p S) o → Next o × (is_none (find is p o) ≡ false)
+  pub round_out : (is : List Instr) (p o : ℕ) → AreInstrs is → In (round all is p S) o → Next o × (is_none (find is p o) ≡ false)
   unfolding round
   round_out [] p o s h = absurd (true≢false (sym h))
   round_out (i ∷ is) p o s h = go (elem p S || named all 0 S p) refl h (round_out is (p + len i) o s.1)
@@ -145,7 +145,7 @@ module _ (all : List Instr) (S T : List ℕ) where
       at (yes e) = ap is_none (ap (find (i ∷ is) p) (sym e) ∙ find_here i is p) ∙ s
       at (no e) = ap is_none (find_there i is p o e) ∙ n
 
-  count_more : (is : List Instr) (p : ℕ) → Some is → Grows is p → count is p S ≤ count is p T
+  count_more : (is : List Instr) (p : ℕ) → AreInstrs is → Grows is p → count is p S ≤ count is p T
   unfolding count
   count_more [] p s h = omega arith
   count_more (i ∷ is) p s h = go (elem p S) refl (elem p T) refl (count_more is (p + len i) s.1 (behind i is p s.0 h))
@@ -157,7 +157,7 @@ module _ (all : List Instr) (S T : List ℕ) where
       go false e true k m = omega arith
       go false e false k m = omega arith
 
-  count_grows : (is : List Instr) (p : ℕ) → Some is → Grows is p → full all is p S ≡ false → count is p S < count is p T
+  count_grows : (is : List Instr) (p : ℕ) → AreInstrs is → Grows is p → full all is p S ≡ false → count is p S < count is p T
   unfolding count full
   count_grows [] p s h n = absurd (true≢false n)
   count_grows (i ∷ is) p s h n =
@@ -195,7 +195,7 @@ full_in all (i ∷ is) p S h o n m = go (dec_eq p o) (full_in all is (p + len i)
         at false false q k = absurd (true≢false (sym q))
     go (no e) f = f (ap is_none (sym (find_there i is p o e)) ∙ n) m
 
-full_of : (all is : List Instr) (p : ℕ) (S : List ℕ) → Some is → ((o : ℕ) → is_none (find is p o) ≡ false → named all 0 S o ≡ true → In S o) → full all is p S ≡ true
+full_of : (all is : List Instr) (p : ℕ) (S : List ℕ) → AreInstrs is → ((o : ℕ) → is_none (find is p o) ≡ false → named all 0 S o ≡ true → In S o) → full all is p S ≡ true
 unfolding full
 full_of all [] p S s h = refl
 full_of all (i ∷ is) p S s h = and_both (elem p S || not (named all 0 S p)) (full all is (p + len i) S) (go (elem p S) refl (named all 0 S p) refl) (full_of all is (p + len i) S s.1 later)

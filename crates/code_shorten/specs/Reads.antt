@@ -20,7 +20,7 @@ fetch_has C o (OPEN f) n h = rw (h.0, h.1.0)
 fetch_has C o (END e) n h = rw (h.0, h.1.0)
 fetch_has C o (CASE c t d) n h = rw (h.0, h.1.0, h.1.1.0, h.1.1.1.0)
 
-find_has : (C : List ℕ) (is : List Instr) (p o : ℕ) → Has C p (flat is) → is_none (find is p o) ≡ false → Has C o (words (find is p o))
+pub find_has : (C : List ℕ) (is : List Instr) (p o : ℕ) → Has C p (flat is) → is_none (find is p o) ≡ false → Has C o (words (find is p o))
 unfolding flat find
 find_has C [] p o h n = absurd (true≢false n)
 find_has C (i ∷ is) p o h n =

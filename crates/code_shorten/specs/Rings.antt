@@ -2,7 +2,7 @@
 use Prim.Native.Nat.{ℕ, zero, suc, ◌+◌, ◌≤◌, ◌<◌, min}
 use Rattle.std.proofs.Math.Path.{◌≡◌, refl, ap}
 use Rattle.std.proofs.Common.{sym, ◌∙◌, subst, true≢false}
-use Rattle.std.specs.Prelude.{Bool, ◌&&◌, length}
+use Rattle.std.specs.Prelude.{Bool, ◌&&◌, length, Option, Some, None}
 use Rattle.std.proofs.Math.Bool.{true, false}
 use mathlib.Core.List.{List, [], ◌∷◌}
 use native.Mathlib.Omega.{arith}
@@ -12,8 +12,7 @@ use Rattle.code_flat.specs.Machine.{Instr}
 use Rattle.code_flat.specs.Machine.{is_none}
 use Rattle.code_valid.specs.Instrs.{len, find}
 use Rattle.code_shorten.specs.declared.Aim.{Aim}
-use Rattle.code_shorten.specs.declared.Aim.TheVariants.{Nowhere as none, To as to}
-use Rattle.code_shorten.specs.Short.{hop, further, last}
+use Rattle.code_shorten.specs.Short.{to, hop, further, last}
 use Rattle.code_shorten.specs.Sound.{Begin, dec_eq, find_there, none_in}
 use Rattle.code_shorten.specs.Threads.{aim_some, hop_some}
 
@@ -64,9 +63,9 @@ module _ (Q R : ℕ → Bool) (more : (o : ℕ) → Q o ≡ true → R o ≡ tru
       go (yes e) f = first (Q p) (R p) (ap Q e ∙ q) (ap R e ∙ r)
       go (no e) f = rest (Q p) refl (R p) refl (f (ap is_none (sym (find_there i is p x e)) ∙ n) q r)
 
-abbrev is_to : Aim → Bool
-is_to none = false
-is_to (to t d) = true
+abbrev is_to : Option Aim → Bool
+is_to None = false
+is_to (Some aim) = true
 
 module _ (is : List Instr) where
   -- The depth says nothing of it.
@@ -75,9 +74,9 @@ module _ (is : List Instr) where
   any_depth zero t d e = refl
   any_depth (suc f) t d e = go (hop is t) (λ v x y. any_depth f v x y)
     where
-      go : (a : Aim) → ((v x y : ℕ) → is_to (last is f v x) ≡ is_to (last is f v y)) → is_to (further (last is f) a t d) ≡ is_to (further (last is f) a t e)
-      go none k = refl
-      go (to v w) k = k v (min d w) (min e w)
+      go : (a : Option Aim) → ((v x y : ℕ) → is_to (last is f v x) ≡ is_to (last is f v y)) → is_to (further (last is f) a t d) ≡ is_to (further (last is f) a t e)
+      go None k = refl
+      go (Some aim) k = let v : ℕ = aim.place in let w : ℕ = aim.depth in k v (min d w) (min e w)
 
   solved : ℕ → ℕ → Bool
   solved f t = is_to (last is f t 0)
@@ -87,10 +86,10 @@ module _ (is : List Instr) where
   solved_next zero t h = absurd (true≢false (sym h))
   solved_next (suc f) t h = go (hop is t) h (λ v. solved_next f v)
     where
-      go : (a : Aim) → is_to (further (last is f) a t 0) ≡ true → ((v : ℕ) → is_to (last is f v 0) ≡ true → is_to (last is (suc f) v 0) ≡ true)
+      go : (a : Option Aim) → is_to (further (last is f) a t 0) ≡ true → ((v : ℕ) → is_to (last is f v 0) ≡ true → is_to (last is (suc f) v 0) ≡ true)
           → is_to (further (last is (suc f)) a t 0) ≡ true
-      go none e k = refl
-      go (to v w) e k = any_depth (suc f) v (min 0 w) 0 ∙ k v (any_depth f v 0 (min 0 w) ∙ e)
+      go None e k = refl
+      go (Some aim) e k = let v : ℕ = aim.place in let w : ℕ = aim.depth in any_depth (suc f) v (min 0 w) 0 ∙ k v (any_depth f v 0 (min 0 w) ∙ e)
 
   solved_up : (g f t : ℕ) → f ≤ g → solved f t ≡ true → solved g t ≡ true
   solved_up zero f t h e = let q : f ≡ 0 = omega arith in subst (λ x. solved x t ≡ true) q e
@@ -118,10 +117,10 @@ module _ (is : List Instr) where
   late zero t n y = omega arith
   late (suc f) t n y = go (hop is t) refl n y (λ v. late f v)
     where
-      go : (a : Aim) → hop is t ≡ a → is_to (further (last is f) a t 0) ≡ false → is_to (further (last is (suc f)) a t 0) ≡ true
+      go : (a : Option Aim) → hop is t ≡ a → is_to (further (last is f) a t 0) ≡ false → is_to (further (last is (suc f)) a t 0) ≡ true
           → ((v : ℕ) → is_to (last is f v 0) ≡ false → is_to (last is (suc f) v 0) ≡ true → f ≤ tally (found (suc f)) is 0) → suc f ≤ tally (found (suc (suc f))) is 0
-      go none q m r k = absurd (true≢false m)
-      go (to v w) q m r k =
+      go None q m r k = absurd (true≢false m)
+      go (Some aim) q m r k = let v : ℕ = aim.place in let w : ℕ = aim.depth in
           let l : f ≤ tally (found (suc f)) is 0 = k v (any_depth f v 0 (min 0 w) ∙ m) (any_depth (suc f) v 0 (min 0 w) ∙ r) in
           let b : Begin is t = aim_some (find is 0 t) v w (hop_some is t v w q).1 in
           let g : tally (found (suc f)) is 0 < tally (found (suc (suc f))) is 0
@@ -139,15 +138,15 @@ module _ (is : List Instr) where
           absurd (true≢false (sym (solved_up (suc (length is)) (suc f) t (omega (arith, tally_most (found (suc f)) is 0)) e) ∙ h))
       go false e n = e
 
-  none_of : (a : Aim) → is_to a ≡ false → a ≡ none
-  none_of none h = refl
-  none_of (to t d) h = absurd (true≢false h)
+  none_of : (a : Option Aim) → is_to a ≡ false → a ≡ None
+  none_of None h = refl
+  none_of (Some aim) h = absurd (true≢false h)
 
   -- It leads into a ring.
   abbrev pub Ring : ℕ → Type 0
-  Ring t = (f d : ℕ) → last is f t d ≡ none
+  Ring t = (f d : ℕ) → last is f t d ≡ None
 
-  pub ring : (t d : ℕ) → last is (suc (length is)) t d ≡ none → Ring t
+  pub ring : (t d : ℕ) → last is (suc (length is)) t d ≡ None → Ring t
   unfolding solved
   ring t d h f e = none_of (last is f t e) (any_depth f t e 0 ∙ never t (any_depth (suc (length is)) t 0 d ∙ ap is_to h) f)
 
@@ -156,18 +155,18 @@ module _ (is : List Instr) where
   unfolding last
   ring_next t r = go (hop is t) refl (λ f. r (suc f) 0)
     where
-      go : (a : Aim) → hop is t ≡ a → ((f : ℕ) → further (last is f) a t 0 ≡ none) → (v : ℕ) × (w : ℕ) × (hop is t ≡ to v w) × Ring v
-      go none q m = let h : to t 0 ≡ none = m 0 in let x : ◌≡◌ {A = ℕ} 0 1 = cc in absurd (omega arith)
-      go (to v w) q m = (v, w, q, λ f d. none_of (last is f v d) (any_depth f v d (min 0 w) ∙ ap is_to (m f)))
+      go : (a : Option Aim) → hop is t ≡ a → ((f : ℕ) → further (last is f) a t 0 ≡ None) → (v : ℕ) × (w : ℕ) × (hop is t ≡ to v w) × Ring v
+      go None q m = let h : to t 0 ≡ None = m 0 in let x : ◌≡◌ {A = ℕ} 0 1 = cc in absurd (omega arith)
+      go (Some aim) q m = let v : ℕ = aim.place in let w : ℕ = aim.depth in (v, w, q, λ f d. none_of (last is f v d) (any_depth f v d (min 0 w) ∙ ap is_to (m f)))
 
   last_next : (f t d u e : ℕ) → last is f t d ≡ to u e → last is (suc f) t d ≡ to u e
   unfolding last
   last_next zero t d u e h = let x : ◌≡◌ {A = ℕ} 0 1 = cc in absurd (omega arith)
   last_next (suc f) t d u e h = go (hop is t) h (λ v w. last_next f v w u e)
     where
-      go : (a : Aim) → further (last is f) a t d ≡ to u e → ((v w : ℕ) → last is f v w ≡ to u e → last is (suc f) v w ≡ to u e) → further (last is (suc f)) a t d ≡ to u e
-      go none m k = m
-      go (to v w) m k = k v (min d w) m
+      go : (a : Option Aim) → further (last is f) a t d ≡ to u e → ((v w : ℕ) → last is f v w ≡ to u e → last is (suc f) v w ≡ to u e) → further (last is (suc f)) a t d ≡ to u e
+      go None m k = m
+      go (Some aim) m k = let v : ℕ = aim.place in let w : ℕ = aim.depth in k v (min d w) m
 
   pub last_up : (g f t d u e : ℕ) → f ≤ g → last is f t d ≡ to u e → last is g t d ≡ to u e
   last_up zero f t d u e l h = let q : f ≡ 0 = omega arith in subst (λ x. last is x t d ≡ to u e) q h
@@ -181,7 +180,7 @@ module _ (is : List Instr) where
   pub enough : (f t d u e : ℕ) → last is f t d ≡ to u e → last is (suc (length is)) t d ≡ to u e
   enough f t d u e h = go (last is (suc (length is)) t d) refl (dec_le f (suc (length is)))
     where
-      go : (a : Aim) → last is (suc (length is)) t d ≡ a → Dec (f ≤ suc (length is)) → a ≡ to u e
-      go none q l = sym (ring t d q f d) ∙ h
-      go (to v w) q (yes l) = sym q ∙ last_up (suc (length is)) f t d u e l h
-      go (to v w) q (no l) = sym (last_up f (suc (length is)) t d v w (omega arith) q) ∙ h
+      go : (a : Option Aim) → last is (suc (length is)) t d ≡ a → Dec (f ≤ suc (length is)) → a ≡ to u e
+      go None q l = sym (ring t d q f d) ∙ h
+      go (Some aim) q (yes l) = let v : ℕ = aim.place in let w : ℕ = aim.depth in sym q ∙ last_up (suc (length is)) f t d u e l h
+      go (Some aim) q (no l) = let v : ℕ = aim.place in let w : ℕ = aim.depth in sym (last_up f (suc (length is)) t d v w (omega arith) q) ∙ h

@@ -1,39 +1,51 @@
 -- The pass of request 10: "sends each jump to its last target, drops what no path reaches and closes up the room". A jump is LEAVE and CASE.
-use Rattle.std.specs.Prelude.{ℕ, zero, suc, ◌+◌, min, Bool, false, ◌&&◌, ◌||◌, List, [], ◌∷◌, map, length, eqb}
+use Rattle.std.specs.Prelude.{ℕ, zero, suc, ◌+◌, min, Bool, false, ◌&&◌, ◌||◌, List, [], ◌∷◌, map, length, eqb, Option, Some, None}
 use Rattle.route_completion.specs.Sem.{pick, elem}
 use Rattle.code_flat.specs.Machine.{Instr, NONE, LIST, LEAVE, ASK, SELECT, OPEN, END, CASE, is_zero}
 use Rattle.code_shorten.specs.declared.Aim.{Aim}
-use Rattle.code_shorten.specs.declared.Aim.TheVariants.{Nowhere as none, To as to}
 use Rattle.code_valid.specs.Instrs.{len, flat, parse, find, leads}
 
+-- To a place, at a depth.
+abbrev pub to : ℕ → ℕ → Option Aim
+to t d = Some (record { place = t; depth = d })
+
+-- Its place and its depth; 0 where it goes nowhere.
+abbrev pub place_in : Option Aim → ℕ
+place_in None = 0
+place_in (Some aim) = aim.place
+
+abbrev pub depth_in : Option Aim → ℕ
+depth_in None = 0
+depth_in (Some aim) = aim.depth
+
 -- Where a jump goes, to a place at a depth; none where there is no jump.
-abbrev pub aim_of : Instr → Aim
-aim_of NONE = none
-aim_of (LIST n) = none
+abbrev pub aim_of : Instr → Option Aim
+aim_of NONE = None
+aim_of (LIST n) = None
 aim_of (LEAVE t d) = to t d
-aim_of (ASK n y z) = none
-aim_of (SELECT n c e) = none
-aim_of (OPEN f) = none
-aim_of (END e) = none
+aim_of (ASK n y z) = None
+aim_of (SELECT n c e) = None
+aim_of (OPEN f) = None
+aim_of (END e) = None
 aim_of (CASE c t d) = to t d
 
 -- The jump that stands at t. The place 0 stands for what is pending, and no jump is there.
-unfoldable pub hop : List Instr → ℕ → Aim
-hop is t = pick (is_zero t) none (aim_of (find is 0 t))
+unfoldable pub hop : List Instr → ℕ → Option Aim
+hop is t = pick (is_zero t) None (aim_of (find is 0 t))
 
-abbrev pub further : (ℕ → ℕ → Aim) → Aim → ℕ → ℕ → Aim
-further k none t d = to t d
-further k (to u e) t d = k u (min d e)
+abbrev pub further : (ℕ → ℕ → Option Aim) → Option Aim → ℕ → ℕ → Option Aim
+further k None t d = to t d
+further k (Some aim) t d = k aim.place (min d aim.depth)
 
 -- The last target from t on, with the least depth on the way; none where more than f jumps follow one another: in a ring.
-unfoldable pub last : List Instr → ℕ → ℕ → ℕ → Aim
-last is zero t d = none
+unfoldable pub last : List Instr → ℕ → ℕ → ℕ → Option Aim
+last is zero t d = None
 last is (suc f) t d = further (last is f) (hop is t) t d
 
 -- A jump that leads into a ring stays.
-abbrev pub aimed : Aim → (ℕ → ℕ → Instr) → Instr → Instr
-aimed none k i = i
-aimed (to t d) k i = k t d
+abbrev pub aimed : Option Aim → (ℕ → ℕ → Instr) → Instr → Instr
+aimed None k i = i
+aimed (Some aim) k i = k aim.place aim.depth
 
 abbrev pub thread : List Instr → Instr → Instr
 thread is NONE = NONE

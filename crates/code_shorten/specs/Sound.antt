@@ -1,5 +1,5 @@
 -- What a good verdict gives: the list of numbers is its instructions, and each instruction leads to others.
-use Rattle.std.specs.Prelude.{ℕ, zero, suc, ◌+◌, ◌≤◌, ◌<◌, refl, Bool, not, ◌&&◌, ◌||◌, eqb}
+use Rattle.std.specs.Prelude.{ℕ, zero, suc, ◌+◌, ◌≤◌, ◌<◌, refl, Bool, not, ◌&&◌, ◌||◌, eqb, Ok, Err}
 use Rattle.std.proofs.Math.Path.{◌≡◌}
 use Rattle.std.proofs.Common.{sym, ◌∙◌, ap, true≢false, eqb-true, eq-eqb, ne_eqb, arith}
 use Rattle.std.proofs.Math.Bool.{true, false}
@@ -9,13 +9,12 @@ use Rattle.route_completion.specs.Sem.{pick}
 use Rattle.code_flat.specs.Machine.{Instr, NONE, LIST, LEAVE, ASK, SELECT, OPEN, END, CASE}
 use Rattle.code_flat.specs.Machine.{is_none}
 use Rattle.code_valid.specs.Instrs.{len, flat, parse, find, begins, names, runs_on}
-use Rattle.code_valid.specs.declared.Verdict.TheVariants.{Good as good, BadAt as badAt}
 use Rattle.code_valid.specs.Valid.{all_begin, is_last, sound, first_bad, judge, check, Valid}
 
 -- Each is an instruction.
-abbrev pub Some : List Instr → Type 0
-Some [] = Unit {0}
-Some (i ∷ is) = (is_none i ≡ false) × Some is
+abbrev pub AreInstrs : List Instr → Type 0
+AreInstrs [] = Unit {0}
+AreInstrs (i ∷ is) = (is_none i ≡ false) × AreInstrs is
 
 -- An instruction begins at o.
 abbrev pub Begin : List Instr → ℕ → Type 0
@@ -27,7 +26,7 @@ All P [] = Unit {0}
 All P (o ∷ os) = P o × All P os
 
 pub record Sound (is : List Instr) : Type 0 where
-  pub some : Some is
+  pub some : AreInstrs is
   pub start : Begin is 0
   pub named : (o : ℕ) → Begin is o → All (Begin is) (names (find is 0 o))
   pub next : (o : ℕ) → Begin is o → runs_on (find is 0 o) ≡ true → Begin is (o + len (find is 0 o))
@@ -80,7 +79,7 @@ find_low (i ∷ is) p o h = go (eqb p o) refl h (find_low is (p + len i) o)
     go true e m f = let q : p ≡ o = eqb-true p o e in omega arith
     go false e m f = let q : p + len i ≤ o = f m in omega arith
 
-pub begin_find : (is : List Instr) (p o : ℕ) → Some is → begins is p o ≡ true → is_none (find is p o) ≡ false
+pub begin_find : (is : List Instr) (p o : ℕ) → AreInstrs is → begins is p o ≡ true → is_none (find is p o) ≡ false
 unfolding begins find
 begin_find [] p o s h = absurd (true≢false (sym h))
 begin_find (i ∷ is) p o s h = go (eqb p o) h (begin_find is (p + len i) o s.1)
@@ -111,17 +110,17 @@ none_in p o h = true≢false h
 -- The parts of a good verdict.
 module _ (all : List Instr) where
   abbrev Good : List Instr → ℕ → Type 0
-  Good is p = first_bad all is p ≡ good
+  Good is p = first_bad all is p ≡ Ok tt
 
   is_good : (i : Instr) (is : List Instr) (p : ℕ) → Good (i ∷ is) p → (sound all i is ≡ true) × Good is (p + len i)
   unfolding first_bad
   is_good i is p h = go (sound all i is) h
     where
-      go : (b : Bool) → pick b (first_bad all is (p + len i)) (badAt p) ≡ good → (b ≡ true) × Good is (p + len i)
+      go : (b : Bool) → pick b (first_bad all is (p + len i)) (Err p) ≡ Ok tt → (b ≡ true) × Good is (p + len i)
       go true e = (refl, e)
       go false e = let w : ◌≡◌ {A = ℕ} 0 1 = cc in absurd (omega arith)
 
-  good_some : (is : List Instr) (p : ℕ) → Good is p → Some is
+  good_some : (is : List Instr) (p : ℕ) → Good is p → AreInstrs is
   good_some [] p h = tt
   good_some (i ∷ is) p h =
       let g : (sound all i is ≡ true) × Good is (p + len i) = is_good i is p h in
@@ -144,7 +143,7 @@ module _ (all : List Instr) where
       go false m f = f m
 
   -- What runs on has another behind it.
-  behind_it : (i : Instr) (is : List Instr) (p : ℕ) → not (runs_on i && is_last is) ≡ true → Some is → runs_on i ≡ true → is_none (find is (p + len i) (p + len i)) ≡ false
+  behind_it : (i : Instr) (is : List Instr) (p : ℕ) → not (runs_on i && is_last is) ≡ true → AreInstrs is → runs_on i ≡ true → is_none (find is (p + len i) (p + len i)) ≡ false
   behind_it i [] p h s r = absurd (true≢false (sym (ap (λ b. not (b && true)) (sym r) ∙ h)))
   behind_it i (j ∷ is) p h s r = ap is_none (find_here j is (p + len i)) ∙ s.0
 
@@ -177,12 +176,12 @@ module _ (all : List Instr) where
           ∙ ap is_none (find_there i is p (o + len (find is (p + len i) o)) (λ w. e (omega arith)))
           ∙ f (ap is_none (sym q) ∙ n) (ap runs_on (sym q) ∙ r)
 
-all_begins : (is : List Instr) (os : List ℕ) → Some is → all_begin is os ≡ true → All (Begin is) os
+all_begins : (is : List Instr) (os : List ℕ) → AreInstrs is → all_begin is os ≡ true → All (Begin is) os
 unfolding all_begin
 all_begins is [] s h = tt
 all_begins is (o ∷ os) s h = (begin_find is 0 o s (and_left (begins is 0 o) (all_begin is os) h), all_begins is os s (and_right (begins is 0 o) (all_begin is os) h))
 
-pub judged : (is : List Instr) → judge is ≡ good → Sound is
+pub judged : (is : List Instr) → judge is ≡ Ok tt → Sound is
 judged [] h = let w : ◌≡◌ {A = ℕ} 0 1 = cc in absurd (omega arith)
 judged (i ∷ is) h =
     record {
@@ -193,7 +192,7 @@ judged (i ∷ is) h =
     }
 
 -- The numbers of instructions, read again, are these.
-pub flat_parse : (C : List ℕ) → Some (parse C) → flat (parse C) ≡ C
+pub flat_parse : (C : List ℕ) → AreInstrs (parse C) → flat (parse C) ≡ C
 unfolding parse flat
 flat_parse [] s = refl
 flat_parse (zero ∷ C) s = absurd (true≢false s.0)

@@ -8,16 +8,16 @@ use Rattle.code_flat.specs.Machine.{is_none}
 use Rattle.code_valid.specs.Instrs.{len, find, names, runs_on, leads}
 use Rattle.code_shorten.specs.Short.{named, rounds, reached, moved, relocate, kept, close_up}
 use Rattle.code_shorten.specs.Longer.{relocate_length}
-use Rattle.code_shorten.specs.Sound.{Some, Begin, All, Sound, dec_eq, and_left, and_right, len_pos, find_here, find_there, find_low, none_in}
+use Rattle.code_shorten.specs.Sound.{AreInstrs, Begin, All, Sound, dec_eq, and_left, and_right, len_pos, find_here, find_there, find_low, none_in}
 use Rattle.code_shorten.specs.Closes.{In, Closed, after, after_in, moved_here, moved_there, moved_next, relocate_none, named as named_in, moved_zero, closed_find, runs_in}
 use Rattle.code_shorten.specs.Reaches.{or_case, round_out, reached_zero, reached_closed, in_all}
 
-kept_some : (f : ℕ → ℕ) (S : List ℕ) (is : List Instr) (p : ℕ) → Some is → Some (kept f S is p)
+kept_some : (f : ℕ → ℕ) (S : List ℕ) (is : List Instr) (p : ℕ) → AreInstrs is → AreInstrs (kept f S is p)
 unfolding kept
 kept_some f S [] p s = tt
 kept_some f S (i ∷ is) p s = go (elem p S) (kept_some f S is (p + len i) s.1)
   where
-    go : (b : Bool) → Some (kept f S is (p + len i)) → Some (pick b (relocate f i ∷ kept f S is (p + len i)) (kept f S is (p + len i)))
+    go : (b : Bool) → AreInstrs (kept f S is (p + len i)) → AreInstrs (pick b (relocate f i ∷ kept f S is (p + len i)) (kept f S is (p + len i)))
     go true h = (relocate_none f i ∙ s.0, h)
     go false h = h
 
@@ -35,7 +35,7 @@ from_rest S i is p q x s h =
     let d : p ≡ h.old → ⊥ = λ w. omega arith in
     record { old = h.old; begun = ap is_none (find_there i is p h.old d) ∙ h.begun; stays = h.stays; place = moved_there S i is p q h.old d ∙ h.place }
 
-kept_from : (f : ℕ → ℕ) (S : List ℕ) (is : List Instr) (p q x : ℕ) → Some is → is_none (find (kept f S is p) q x) ≡ false → From S is p q x
+kept_from : (f : ℕ → ℕ) (S : List ℕ) (is : List Instr) (p q x : ℕ) → AreInstrs is → is_none (find (kept f S is p) q x) ≡ false → From S is p q x
 unfolding kept
 kept_from f S [] p q x s n = absurd (none_in q x n)
 kept_from f S (i ∷ is) p q x s n = go (elem p S) refl n (λ r. kept_from f S is (p + len i) r x s.1)
@@ -151,7 +151,7 @@ record By (is : List Instr) (p : ℕ) (S : List ℕ) (x : ℕ) : Type 0 where
   stays : In S from
   leads_to : elem x (leads from (find is p from)) ≡ true
 
-named_from : (is : List Instr) (p : ℕ) (S : List ℕ) (x : ℕ) → Some is → named is p S x ≡ true → By is p S x
+named_from : (is : List Instr) (p : ℕ) (S : List ℕ) (x : ℕ) → AreInstrs is → named is p S x ≡ true → By is p S x
 unfolding named
 named_from [] p S x s h = absurd (true≢false (sym h))
 named_from (i ∷ is) p S x s h = go (or_case (elem p S && elem x (leads p i)) (named is (p + len i) S x) h) (named_from is (p + len i) S x s.1)

@@ -1,27 +1,26 @@
 -- Jumps as a function reads them off the numbers, and sends them on in place.
-use Rattle.std.specs.Prelude.{ℕ, zero, suc, ◌+◌, ◌≡◌, List, ◌++◌, map, length, get_or, set, eqb}
+use Rattle.std.specs.Prelude.{ℕ, zero, suc, ◌+◌, ◌≡◌, List, ◌++◌, map, length, get_or, set, eqb, Option, Some, None}
 use Rattle.route_completion.specs.Sem.{pick}
 use Rattle.code_flat.specs.Opcodes as op
 use Rattle.code_flat.specs.Machine.{Instr, fetch, is_zero}
 use Rattle.code_valid.specs.Instrs.{flat}
 use Rattle.code_shorten.specs.declared.Aim.{Aim}
-use Rattle.code_shorten.specs.declared.Aim.TheVariants.{Nowhere as none, To as to}
 use Rattle.code_shorten.specs.Short.{aim_of, further, thread}
 use Rattle.code_shorten.specs.Longer.{total}
 
 -- The jump that is read at t.
-unfoldable pub hop_at : List ℕ → ℕ → Aim
-hop_at C t = pick (is_zero t) none (aim_of (fetch C t))
+unfoldable pub hop_at : List ℕ → ℕ → Option Aim
+hop_at C t = pick (is_zero t) None (aim_of (fetch C t))
 
 -- The last target from t on, with the least depth on the way, after at most f jumps.
-unfoldable pub last_at : List ℕ → ℕ → ℕ → ℕ → Aim
-last_at C zero t d = none
+unfoldable pub last_at : List ℕ → ℕ → ℕ → ℕ → Option Aim
+last_at C zero t d = None
 last_at C (suc f) t d = further (last_at C f) (hop_at C t) t d
 
 -- The numbers with a place and a depth written at q.
-abbrev pub written : List ℕ → ℕ → Aim → List ℕ
-written C q none = C
-written C q (to t d) = set (set C q t) (q + 1) d
+abbrev pub written : List ℕ → ℕ → Option Aim → List ℕ
+written C q None = C
+written C q (Some aim) = set (set C q aim.place) (q + 1) aim.depth
 
 -- The jump sent on whose place and depth stand at q.
 unfoldable pub sent : List ℕ → ℕ → List ℕ

@@ -1,5 +1,5 @@
 -- A code whose jumps are sent to their last targets runs as the code does, and is sound if that is.
-use Rattle.std.specs.Prelude.{ℕ, zero, suc, ◌+◌, min, ◌≡◌, refl, Bool, true, false, List, [], ◌∷◌, map, length, eqb}
+use Rattle.std.specs.Prelude.{ℕ, zero, suc, ◌+◌, min, ◌≡◌, refl, Bool, true, false, List, [], ◌∷◌, map, length, eqb, Option, Some, None}
 use Rattle.std.proofs.Math.Path.{sym, ap, subst}
 use Rattle.std.proofs.Common.{◌∙◌, true≢false, arith}
 use Rattle.route_completion.specs.Sem.{pick}
@@ -8,49 +8,48 @@ use Rattle.code_flat.specs.Machine.{is_none}
 use Rattle.code_flat.specs.Forward.{run}
 use Rattle.code_valid.specs.Instrs.{len, flat, find, names, runs_on}
 use Rattle.code_shorten.specs.declared.Aim.{Aim}
-use Rattle.code_shorten.specs.declared.Aim.TheVariants.{Nowhere as none, To as to}
-use Rattle.code_shorten.specs.Short.{aim_of, hop, further, last, aimed, thread, threaded}
+use Rattle.code_shorten.specs.Short.{to, place_in, depth_in, aim_of, hop, further, last, aimed, thread, threaded}
 use Rattle.code_shorten.specs.Longer.{thread_length}
 use Rattle.code_shorten.specs.Reads.{fetched}
 use Rattle.code_shorten.specs.Unwinds.{Way, Ahead}
 use Rattle.code_shorten.specs.Alike.{Kept, Does, alike}
-use Rattle.code_shorten.specs.Sound.{Some, Begin, All, Sound}
+use Rattle.code_shorten.specs.Sound.{AreInstrs, Begin, All, Sound}
 
 pub thread_none : (all : List Instr) (i : Instr) → is_none (thread all i) ≡ is_none i
 thread_none all NONE = refl
 thread_none all (LIST n) = refl
 thread_none all (LEAVE t d) = go (last all (suc (length all)) t d)
   where
-    go : (a : Aim) → is_none (aimed a LEAVE (LEAVE t d)) ≡ false
-    go none = refl
-    go (to u e) = refl
+    go : (a : Option Aim) → is_none (aimed a LEAVE (LEAVE t d)) ≡ false
+    go None = refl
+    go (Some aim) = refl
 thread_none all (ASK n y z) = refl
 thread_none all (SELECT n c e) = refl
 thread_none all (OPEN f) = refl
 thread_none all (END e) = refl
 thread_none all (CASE c t d) = go (last all (suc (length all)) t d)
   where
-    go : (a : Aim) → is_none (aimed a (CASE c) (CASE c t d)) ≡ false
-    go none = refl
-    go (to u e) = refl
+    go : (a : Option Aim) → is_none (aimed a (CASE c) (CASE c t d)) ≡ false
+    go None = refl
+    go (Some aim) = refl
 
 thread_runs : (all : List Instr) (i : Instr) → runs_on (thread all i) ≡ runs_on i
 thread_runs all NONE = refl
 thread_runs all (LIST n) = refl
 thread_runs all (LEAVE t d) = go (last all (suc (length all)) t d)
   where
-    go : (a : Aim) → runs_on (aimed a LEAVE (LEAVE t d)) ≡ false
-    go none = refl
-    go (to u e) = refl
+    go : (a : Option Aim) → runs_on (aimed a LEAVE (LEAVE t d)) ≡ false
+    go None = refl
+    go (Some aim) = refl
 thread_runs all (ASK n y z) = refl
 thread_runs all (SELECT n c e) = refl
 thread_runs all (OPEN f) = refl
 thread_runs all (END e) = refl
 thread_runs all (CASE c t d) = go (last all (suc (length all)) t d)
   where
-    go : (a : Aim) → runs_on (aimed a (CASE c) (CASE c t d)) ≡ false
-    go none = refl
-    go (to u e) = refl
+    go : (a : Option Aim) → runs_on (aimed a (CASE c) (CASE c t d)) ≡ false
+    go None = refl
+    go (Some aim) = refl
 
 map_find : (all is : List Instr) (p o : ℕ) → find (map (thread all) is) p o ≡ thread all (find is p o)
 unfolding find
@@ -83,18 +82,18 @@ aim_some (CASE c u x) t d e = refl
 pub aim_all : (P : ℕ → Type 0) (i : Instr) (t d : ℕ) → aim_of i ≡ to t d → All P (names i) → P t
 aim_all P NONE t d e a = let w : ◌≡◌ {A = ℕ} 0 1 = cc in absurd (omega arith)
 aim_all P (LIST n) t d e a = let w : ◌≡◌ {A = ℕ} 0 1 = cc in absurd (omega arith)
-aim_all P (LEAVE u x) t d e a = let w : u ≡ t = cc in subst P w a.0
+aim_all P (LEAVE u x) t d e a = let w : u ≡ t = ap place_in e in subst P w a.0
 aim_all P (ASK n y z) t d e a = let w : ◌≡◌ {A = ℕ} 0 1 = cc in absurd (omega arith)
 aim_all P (SELECT n c x) t d e a = let w : ◌≡◌ {A = ℕ} 0 1 = cc in absurd (omega arith)
 aim_all P (OPEN f) t d e a = let w : ◌≡◌ {A = ℕ} 0 1 = cc in absurd (omega arith)
 aim_all P (END x) t d e a = let w : ◌≡◌ {A = ℕ} 0 1 = cc in absurd (omega arith)
-aim_all P (CASE c u x) t d e a = let w : u ≡ t = cc in subst P w a.1.0
+aim_all P (CASE c u x) t d e a = let w : u ≡ t = ap place_in e in subst P w a.1.0
 
 pub hop_some : (is : List Instr) (t v w : ℕ) → hop is t ≡ to v w → (is_zero t ≡ false) × (aim_of (find is 0 t) ≡ to v w)
 unfolding hop
 hop_some is t v w h = go (is_zero t) h
   where
-    go : (b : Bool) → pick b none (aim_of (find is 0 t)) ≡ to v w → (b ≡ false) × (aim_of (find is 0 t) ≡ to v w)
+    go : (b : Bool) → pick b None (aim_of (find is 0 t)) ≡ to v w → (b ≡ false) × (aim_of (find is 0 t) ≡ to v w)
     go true e = let x : ◌≡◌ {A = ℕ} 0 1 = cc in absurd (omega arith)
     go false e = (refl, e)
 
@@ -104,9 +103,9 @@ unfolding last
 last_way is zero t d u e h = let x : ◌≡◌ {A = ℕ} 0 1 = cc in absurd (omega arith)
 last_way is (suc f) t d u e h = go (hop is t) refl h (λ v w. last_way is f v w u e)
   where
-    go : (a : Aim) → hop is t ≡ a → further (last is f) a t d ≡ to u e → ((v w : ℕ) → last is f v w ≡ to u e → (n : ℕ) × Way (flat is) n v w u e) → (n : ℕ) × Way (flat is) n t d u e
-    go none q m k = let x : t ≡ u = cc in let y : d ≡ e = cc in (0, (x, y))
-    go (to v w) q m k =
+    go : (a : Option Aim) → hop is t ≡ a → further (last is f) a t d ≡ to u e → ((v w : ℕ) → last is f v w ≡ to u e → (n : ℕ) × Way (flat is) n v w u e) → (n : ℕ) × Way (flat is) n t d u e
+    go None q m k = let x : t ≡ u = ap place_in m in let y : d ≡ e = ap depth_in m in (0, (x, y))
+    go (Some aim) q m k = let v : ℕ = aim.place in let w : ℕ = aim.depth in
         let r : (n : ℕ) × Way (flat is) n v (min d w) u e = k v (min d w) m in
         let s : (is_zero t ≡ false) × (aim_of (find is 0 t) ≡ to v w) = hop_some is t v w q in
         (suc r.0, (v, w, s.0, ap aim_of (fetched is t (aim_some (find is 0 t) v w s.1)) ∙ s.1, r.1))
@@ -116,9 +115,9 @@ unfolding last
 last_begin is s zero t d u e b h = let x : ◌≡◌ {A = ℕ} 0 1 = cc in absurd (omega arith)
 last_begin is s (suc f) t d u e b h = go (hop is t) refl h (λ v w. last_begin is s f v w u e)
   where
-    go : (a : Aim) → hop is t ≡ a → further (last is f) a t d ≡ to u e → ((v w : ℕ) → Begin is v → last is f v w ≡ to u e → Begin is u) → Begin is u
-    go none q m k = let x : t ≡ u = cc in subst (Begin is) x b
-    go (to v w) q m k = k v (min d w) (aim_all (Begin is) (find is 0 t) v w (hop_some is t v w q).1 (s.named t b)) m
+    go : (a : Option Aim) → hop is t ≡ a → further (last is f) a t d ≡ to u e → ((v w : ℕ) → Begin is v → last is f v w ≡ to u e → Begin is u) → Begin is u
+    go None q m k = let x : t ≡ u = ap place_in m in subst (Begin is) x b
+    go (Some aim) q m k = let v : ℕ = aim.place in let w : ℕ = aim.depth in k v (min d w) (aim_all (Begin is) (find is 0 t) v w (hop_some is t v w q).1 (s.named t b)) m
 
 module _ (is : List Instr) (s : Sound is) where
   stays : (t d : ℕ) → Begin is t → Ahead (flat is) (Begin is) (λ x. x) t d t d
@@ -134,18 +133,18 @@ module _ (is : List Instr) (s : Sound is) where
   does_it o (LIST x) n a r = (refl, r refl, refl)
   does_it o (LEAVE t d) n a r = go (last is (suc (length is)) t d) refl
     where
-      go : (b : Aim) → last is (suc (length is)) t d ≡ b → Does (flat is) (Begin is) (λ x. x) o (LEAVE t d) (aimed b LEAVE (LEAVE t d))
-      go none e = (t, d, refl, stays t d a.0)
-      go (to u w) e = (u, w, refl, sent t d u w a.0 e)
+      go : (b : Option Aim) → last is (suc (length is)) t d ≡ b → Does (flat is) (Begin is) (λ x. x) o (LEAVE t d) (aimed b LEAVE (LEAVE t d))
+      go None e = (t, d, refl, stays t d a.0)
+      go (Some aim) e = let u : ℕ = aim.place in let w : ℕ = aim.depth in (u, w, refl, sent t d u w a.0 e)
   does_it o (ASK x y z) n a r = (refl, a.0, a.1.0)
   does_it o (SELECT x c e) n a r = (refl, a.0, a.1.0)
   does_it o (OPEN f) n a r = (refl, a.0, r refl, refl)
   does_it o (END e) n a r = refl
   does_it o (CASE c t d) n a r = go (last is (suc (length is)) t d) refl
     where
-      go : (b : Aim) → last is (suc (length is)) t d ≡ b → Does (flat is) (Begin is) (λ x. x) o (CASE c t d) (aimed b (CASE c) (CASE c t d))
-      go none e = (t, d, refl, a.0, stays t d a.1.0)
-      go (to u w) e = (u, w, refl, a.0, sent t d u w a.1.0 e)
+      go : (b : Option Aim) → last is (suc (length is)) t d ≡ b → Does (flat is) (Begin is) (λ x. x) o (CASE c t d) (aimed b (CASE c) (CASE c t d))
+      go None e = (t, d, refl, a.0, stays t d a.1.0)
+      go (Some aim) e = let u : ℕ = aim.place in let w : ℕ = aim.depth in (u, w, refl, a.0, sent t d u w a.1.0 e)
 
   does : (o : ℕ) → Begin is o → Does (flat is) (Begin is) (λ x. x) o (fetch (flat is) o) (fetch (flat (threaded is)) o)
   does o b =
@@ -157,7 +156,7 @@ module _ (is : List Instr) (s : Sound is) where
   pub threaded_runs : (lim : ℕ) (qs : List ℕ) → Kept (run lim (flat is) 0 [] qs) → run lim (flat (threaded is)) 0 [] qs ≡ run lim (flat is) 0 [] qs
   threaded_runs lim qs w = alike lim (flat is) (flat (threaded is)) (Begin is) (λ x. x) (λ a b p q. refl) (λ o p. refl) does s.start qs w
 
-  map_some : (js : List Instr) → Some js → Some (map (thread is) js)
+  map_some : (js : List Instr) → AreInstrs js → AreInstrs (map (thread is) js)
   map_some [] h = tt
   map_some (j ∷ js) h = (thread_none is j ∙ h.0, map_some js h.1)
 
@@ -169,18 +168,18 @@ module _ (is : List Instr) (s : Sound is) where
   names_over (LIST x) a = tt
   names_over (LEAVE t d) a = go (last is (suc (length is)) t d) refl
     where
-      go : (b : Aim) → last is (suc (length is)) t d ≡ b → All (Begin (threaded is)) (names (aimed b LEAVE (LEAVE t d)))
-      go none e = (over t a.0, tt)
-      go (to u w) e = (over u (last_begin is s (suc (length is)) t d u w a.0 e), tt)
+      go : (b : Option Aim) → last is (suc (length is)) t d ≡ b → All (Begin (threaded is)) (names (aimed b LEAVE (LEAVE t d)))
+      go None e = (over t a.0, tt)
+      go (Some aim) e = let u : ℕ = aim.place in let w : ℕ = aim.depth in (over u (last_begin is s (suc (length is)) t d u w a.0 e), tt)
   names_over (ASK x y z) a = (over y a.0, (over z a.1.0, tt))
   names_over (SELECT x c e) a = (over c a.0, (over e a.1.0, tt))
   names_over (OPEN f) a = (over f a.0, tt)
   names_over (END e) a = tt
   names_over (CASE c t d) a = go (last is (suc (length is)) t d) refl
     where
-      go : (b : Aim) → last is (suc (length is)) t d ≡ b → All (Begin (threaded is)) (names (aimed b (CASE c) (CASE c t d)))
-      go none e = (over c a.0, (over t a.1.0, tt))
-      go (to u w) e = (over c a.0, (over u (last_begin is s (suc (length is)) t d u w a.1.0 e), tt))
+      go : (b : Option Aim) → last is (suc (length is)) t d ≡ b → All (Begin (threaded is)) (names (aimed b (CASE c) (CASE c t d)))
+      go None e = (over c a.0, (over t a.1.0, tt))
+      go (Some aim) e = let u : ℕ = aim.place in let w : ℕ = aim.depth in (over c a.0, (over u (last_begin is s (suc (length is)) t d u w a.1.0 e), tt))
 
   pub threaded_sound : Sound (threaded is)
   unfolding threaded

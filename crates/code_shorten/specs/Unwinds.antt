@@ -5,8 +5,7 @@ use Rattle.std.proofs.Common.{sym, ◌∙◌, ap, subst, true≢false, inl, inr,
 use Rattle.std.proofs.Math.Decide.{dec_le}
 use Rattle.route_completion.specs.Sem.{pick}
 use Rattle.code_flat.specs.Machine.{fetch, Frame, open', pend, Pos, pos, is_zero, unwind}
-use Rattle.code_shorten.specs.declared.Aim.TheVariants.{To as to}
-use Rattle.code_shorten.specs.Short.{aim_of}
+use Rattle.code_shorten.specs.Short.{to, aim_of}
 
 -- From t at the depth d, n jumps lead to u, with the depth e as the least.
 abbrev pub Way : List ℕ → ℕ → ℕ → ℕ → ℕ → ℕ → Type 0

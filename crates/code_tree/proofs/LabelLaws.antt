@@ -1,5 +1,6 @@
 -- Labels are compared by their names: two have the same number where their names are the same.
-use Rattle.std.specs.Prelude.{ℕ, zero, suc, ◌+◌, ◌≤◌, ◌<◌, ◌≡◌, refl, Bool, true, false, cond, ◌&&◌, eqb}
+use Rattle.table_records.specs.declared.NodeId.{NodeId}
+use Rattle.std.specs.Prelude.{ℕ, zero, suc, ◌+◌, ◌≤◌, ◌<◌, ◌≡◌, refl, Bool, true, false, cond, ◌&&◌, eqb, Option, Some, None}
 use Rattle.std.proofs.Math.Path.{ap}
 use Rattle.std.proofs.Common.{sym, subst, ◌∙◌, ⊎_elim, eq-or-lt_of_le, arith, eq-eqb, ne_eqb}
 use mathlib.Core.List.{List, foldr}
@@ -8,8 +9,6 @@ use Rattle.base_common.proofs.UptoLaws.{fold_turn, fold_end, and_right_lem}
 use Rattle.base_common.proofs.Bools.{never}
 use Rattle.base_walk.proofs.PreorderLaws.{lt_or_ge}
 use Rattle.table_records.specs.Table.{count, kind_of, role_of}
-use Rattle.table_records.specs.declared.Found.{Found}
-use Rattle.table_records.specs.declared.Found.TheVariants.{At, Nothing}
 use Rattle.table_names.specs.Name.{same, name_of, same_name}
 use Rattle.table_names.proofs.NameLaws.{same_self, same_eq}
 use Rattle.table_children.specs.Children.{label_of}
@@ -63,12 +62,12 @@ module _ (ns names : List ℕ) where
     id_named = first_named (count ns) 0 (omega arith)
 
   -- the label that was found has the name of l
-  abbrev pub named_as : ℕ → Found → Bool
-  named_as l (At m) = same_name ns names m.0 l
-  named_as l Nothing = false
+  abbrev pub named_as : ℕ → Option NodeId → Bool
+  named_as l (Some m) = same_name ns names m.0 l
+  named_as l None = false
 
-  pub id_test : (l : ℕ) → l < count ns → (p : ℕ) (x : Found) → label_of ns p ≡ x → eqb (name_id ns names l) (id_by ns names x) ≡ named_as l x
-  id_test l h p (At m) q = go (same_name ns names m.0 l) refl
+  pub id_test : (l : ℕ) → l < count ns → (p : ℕ) (x : Option NodeId) → label_of ns p ≡ x → eqb (name_id ns names l) (id_by ns names x) ≡ named_as l x
+  id_test l h p (Some m) q = go (same_name ns names m.0 l) refl
     where
       c : Child ns p 33 33 6 6 (p + 1) m.0
       c = found_child ns p 33 33 6 6 (p + 1) m.0 q
@@ -85,4 +84,4 @@ module _ (ns names : List ℕ) where
           (λ d.
           let u : name_of ns names m.0 ≡ name_of ns names l = sym (id_named m.0 c.below).1 ∙ ap (name_of ns names) (sym d) ∙ (id_named l h).1 in
           never (sym (same_self (name_of ns names l)) ∙ subst (λ w. same w (name_of ns names l) ≡ false) u e))
-  id_test l h p Nothing q = let u = (id_named l h).0 in ne_eqb (name_id ns names l) (count ns) (λ d. omega arith)
+  id_test l h p None q = let u = (id_named l h).0 in ne_eqb (name_id ns names l) (count ns) (λ d. omega arith)

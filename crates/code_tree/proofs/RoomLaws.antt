@@ -1,13 +1,12 @@
 -- Room for the pending ends: the finally blocks of a node nest at most 512 less its depth deep.
+use Rattle.table_records.specs.declared.NodeId.{NodeId}
 use Prim.Native.Nat.{ℕ, zero, suc, ◌+◌, ◌≤◌, ◌<◌}
 use Rattle.std.proofs.Common.{subst, arith}
 use mathlib.Core.List.{List, [], ◌∷◌}
-use Rattle.std.specs.Prelude.{Bool, true, false, cond, eqb}
+use Rattle.std.specs.Prelude.{Bool, true, false, cond, eqb, Option, Some, None}
 use Rattle.table_records.specs.Table.{role_of, count, depth_of}
 use Rattle.table_records.specs.Roles as role
 use Rattle.table_records.specs.Facts.{Tree}
-use Rattle.table_records.specs.declared.Found.{Found}
-use Rattle.table_records.specs.declared.Found.TheVariants.{At, Nothing}
 use Rattle.route_completion.specs.Tree.{Stmt, Stmts, if2, if3, try_c, try_f, nil, cons}
 use Rattle.code_flat.specs.Code.{Room, RoomAll, RoomCases}
 use Rattle.code_tree.specs.Parts.{shape_at, order}
@@ -108,9 +107,9 @@ module _ (ns names : List ℕ) (t : Tree ns) where
       go [] a = tt
       go (c ∷ ps) a = (room_node (count ns) c 512 a.0.inside (omega arith), go ps a.1)
 
-  unit_room : (x : Found) → RoomAll (unit_by ns names x) 512
-  unit_room (At b) = body_room b.0
-  unit_room Nothing = tt
+  unit_room : (x : Option NodeId) → RoomAll (unit_by ns names x) 512
+  unit_room (Some b) = body_room b.0
+  unit_room None = tt
 
   pub unit_room_lem : (u : ℕ) → RoomAll (unit_of ns names u) 512
   unfolding unit_of

@@ -1,12 +1,11 @@
 -- The statements of a unit, from the node table: document 01, "Routes", with requests 1 and 5.
-use Rattle.std.specs.Prelude.{ℕ, zero, suc, List, [], ◌∷◌, Bool, cond, not, ◌||◌, eqb}
+use Rattle.table_records.specs.declared.NodeId.{NodeId}
+use Rattle.std.specs.Prelude.{ℕ, zero, suc, List, [], ◌∷◌, Bool, cond, not, ◌||◌, eqb, Option, Some, None}
 use Rattle.base_common.specs.Tests.{within}
 use Rattle.table_records.specs.Table.{kind_of, role_of, flags_of, count, has_flag}
 use Rattle.table_records.specs.Kinds as k
 use Rattle.table_records.specs.Roles as role
 use Rattle.table_records.specs.NodeFlag as flag
-use Rattle.table_records.specs.declared.Found.{Found}
-use Rattle.table_records.specs.declared.Found.TheVariants.{At, Nothing}
 use Rattle.table_children.specs.Children.{function_body_of}
 use Rattle.route_completion.specs.Tree.{Leaf, simple, brk, con, ret, thr, Stmt, Stmts, Cases, leaf, if1, if2, if3, withs, block, label, loop, switch, try_c, try_f, nil, cons, none, case}
 use Rattle.code_tree.specs.declared.Shape.{Shape}
@@ -84,13 +83,13 @@ unfoldable pub body_of : List ℕ → List ℕ → ℕ → Stmts
 body_of ns names b = list_of (stmt_at ns names (count ns)) (order ns b)
 
 -- The node that holds a unit's statements: of a function or arrow its FunctionBody, else the unit itself.
-unfoldable pub holder_of : List ℕ → ℕ → Found
-holder_of ns u = cond (within (kind_of ns u) k.Function k.Arrow) (function_body_of ns u) (At (record { 0 = u }))
+unfoldable pub holder_of : List ℕ → ℕ → Option NodeId
+holder_of ns u = cond (within (kind_of ns u) k.Function k.Arrow) (function_body_of ns u) (Some (record { 0 = u }))
 
 -- "A function or arrow without FunctionBody lists nothing and ends 0."
-abbrev pub unit_by : List ℕ → List ℕ → Found → Stmts
-unit_by ns names (At b) = body_of ns names b.0
-unit_by ns names Nothing = nil
+abbrev pub unit_by : List ℕ → List ℕ → Option NodeId → Stmts
+unit_by ns names (Some b) = body_of ns names b.0
+unit_by ns names None = nil
 
 unfoldable pub unit_of : List ℕ → List ℕ → ℕ → Stmts
 unit_of ns names u = unit_by ns names (holder_of ns u)

@@ -1,6 +1,6 @@
 -- Laws of what is read at a place.
 use Prim.Native.Nat.{ℕ, zero, suc, ◌+◌, ◌*◌, ◌-◌, ◌/◌, ◌≤◌, ◌<◌}
-use Rattle.std.specs.Prelude.{◌≡◌, ◌≢◌, Bool, ◌&&◌, ◌||◌, List, [], ◌∷◌, drop, set, replicate, eqb}
+use Rattle.std.specs.Prelude.{◌≡◌, ◌≢◌, Bool, ◌&&◌, ◌||◌, List, [], ◌∷◌, drop, set, replicate, eqb, Ok, Err}
 use Rattle.std.proofs.Math.Path.{refl, ap}
 use Rattle.std.proofs.Common.{sym, ◌∙◌, subst, length-drop, drop_of_length-le, get_or-drop, drop-drop, get_or-set_same, get_or-set_other, add-mul, div-mul-le_self}
 use Rattle.std.proofs.Math.Bool.{true, false, not}
@@ -16,7 +16,7 @@ use Rattle.code_flat.specs.Opcodes as op
 use Rattle.code_flat.specs.Machine.{Instr, NONE, LIST, LEAVE, ASK, SELECT, OPEN, END, CASE, decode, fetch}
 use Rattle.code_flat.proofs.Runs.{past}
 use Rattle.code_flat.specs.Machine.{is_none}
-use Rattle.code_valid.specs.declared.Verdict.TheVariants.{Good as good, BadAt as badAt}
+use Rattle.code_marks.specs.Begins.{width}
 use Rattle.code_valid.specs.Instrs.{len, parse, begins, names, runs_on}
 use Rattle.code_valid.specs.Valid.{all_begin, is_last, sound, first_bad, judge, check}
 use Rattle.code_valid.specs.Reading.{standing, from, Entry, Table}
@@ -29,6 +29,21 @@ decode_not x a b c h k l m n o p =
 pub decode_none : (x a b c : ℕ) → 7 < x → decode x a b c ≡ NONE
 decode_none x a b c h =
     decode_not x a b c (λ e. omega arith) (λ e. omega arith) (λ e. omega arith) (λ e. omega arith) (λ e. omega arith) (λ e. omega arith) (λ e. omega arith)
+
+-- How many numbers the machine takes for one is how many it has.
+pub width_len : (x a b c : ℕ) → width x ≡ len (decode x a b c)
+width_len x a b c = go (eqb x op.List) (eqb x op.Leave) (eqb x op.Ask) (eqb x op.Select) (eqb x op.Open) (eqb x op.End) (eqb x op.Case)
+  where
+    go : (p q r s t u v : Bool) → pick p 2 (pick q 3 (pick r 4 (pick s 4 (pick t 2 (pick u 2 (pick v 4 0))))))
+        ≡ len (pick p (LIST a) (pick q (LEAVE a b) (pick r (ASK a b c) (pick s (SELECT a b c) (pick t (OPEN a) (pick u (END a) (pick v (CASE a b c) NONE)))))))
+    go true q r s t u v = refl
+    go false true r s t u v = refl
+    go false false true s t u v = refl
+    go false false false true t u v = refl
+    go false false false false true u v = refl
+    go false false false false false true v = refl
+    go false false false false false false true = refl
+    go false false false false false false false = refl
 
 pub none_len : (i : Instr) → len i ≡ 0 → i ≡ NONE
 none_len NONE h = refl
@@ -370,27 +385,27 @@ module _ (C : List ℕ) (p : ℕ) (s : len (standing C p) ≢ 0) where
 
 -- The search for the first that is unsound.
 module _ (C : List ℕ) (all : List Instr) (p : ℕ) where
-  pub bad_end : length C ≤ p → first_bad all (from C p) p ≡ good
+  pub bad_end : length C ≤ p → first_bad all (from C p) p ≡ Ok tt
   unfolding first_bad
   bad_end h = ap (λ is. first_bad all is p) (from_end C p h)
 
-  pub bad_none : p < length C → len (standing C p) ≡ 0 → first_bad all (from C p) p ≡ badAt p
+  pub bad_none : p < length C → len (standing C p) ≡ 0 → first_bad all (from C p) p ≡ Err p
   unfolding first_bad
   bad_none l z = ap (λ is. first_bad all is p) (from_at C p l ∙ ap (λ i. headed i (from C (p + len (standing C p)))) (none_len (standing C p) z))
 
   module _ (s : len (standing C p) ≢ 0) where
-    pub bad_here : sound all (standing C p) (from C (p + len (standing C p))) ≡ false → first_bad all (from C p) p ≡ badAt p
+    pub bad_here : sound all (standing C p) (from C (p + len (standing C p))) ≡ false → first_bad all (from C p) p ≡ Err p
     unfolding first_bad
     bad_here h =
         ap (λ is. first_bad all is p) (parted C p p s)
-        ∙ ap (λ b. pick b (first_bad all (from C (p + len (standing C p))) (p + len (standing C p))) (badAt p)) h
+        ∙ ap (λ b. pick b (first_bad all (from C (p + len (standing C p))) (p + len (standing C p))) (Err p)) h
 
     pub bad_on : sound all (standing C p) (from C (p + len (standing C p))) ≡ true
         → first_bad all (from C p) p ≡ first_bad all (from C (p + len (standing C p))) (p + len (standing C p))
     unfolding first_bad
     bad_on h =
         ap (λ is. first_bad all is p) (parted C p p s)
-        ∙ ap (λ b. pick b (first_bad all (from C (p + len (standing C p))) (p + len (standing C p))) (badAt p)) h
+        ∙ ap (λ b. pick b (first_bad all (from C (p + len (standing C p))) (p + len (standing C p))) (Err p)) h
 
 -- The verdict on a list that isn't empty.
 pub check_some : (C : List ℕ) → 0 < length C → check C ≡ first_bad (parse C) (parse C) 0
@@ -417,7 +432,7 @@ table_at C table stride o t =
     let v : get_or table (o / stride) 0 ≤ o / stride * stride = t.low (o / stride) in
     t.entry (o / stride) o (omega arith)
 
-pub check_none : (C : List ℕ) → length C ≡ 0 → check C ≡ badAt 0
+pub check_none : (C : List ℕ) → length C ≡ 0 → check C ≡ Err 0
 unfolding check parse
 check_none [] h = refl
 check_none (x ∷ C) h = absurd (omega arith)

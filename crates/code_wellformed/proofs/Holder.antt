@@ -1,5 +1,5 @@
 -- The node that holds a unit's statements.
-use Rattle.std.specs.Prelude.{ℕ, ◌+◌, ◌≤◌, ◌<◌, ◌≡◌, ◌⊎◌, List, Bool}
+use Rattle.std.specs.Prelude.{ℕ, ◌+◌, ◌≤◌, ◌<◌, ◌≡◌, ◌⊎◌, List, Bool, Some}
 use Rattle.std.proofs.Math.Path.{refl}
 use Rattle.std.proofs.Common.{ap, sym, ◌∙◌, ⊎_elim, eq-or-lt_of_le}
 use Rattle.std.proofs.Math.Logic.{inl, inr}
@@ -9,13 +9,12 @@ use Rattle.base_common.specs.Tests.{within}
 use Rattle.base_common.proofs.Bools.{never, in_range_lem}
 use Rattle.table_records.specs.Table.{kind_of, parent_of, count}
 use Rattle.table_records.specs.Kinds as k
-use Rattle.table_records.specs.declared.Found.TheVariants.{At}
 use Rattle.table_children.specs.Children.{function_body_of}
 use Rattle.table_children.proofs.ChildrenLaws.{found_child, number}
 use Rattle.code_tree.specs.Statements.{holder_of}
 use Rattle.code_wellformed.specs.Ready.{Holds}
 
-module _ (ns : List ℕ) (u : ℕ) (lu : u < count ns) (eu : kind_of ns u ≤ k.StaticBlock) (b : ℕ) (e : holder_of ns u ≡ At (record { 0 = b })) where
+module _ (ns : List ℕ) (u : ℕ) (lu : u < count ns) (eu : kind_of ns u ≤ k.StaticBlock) (b : ℕ) (e : holder_of ns u ≡ Some (record { 0 = b })) where
   -- It is the unit, or its FunctionBody.
   abbrev pub Root : Type 0
   Root = ((b ≡ u) × (within (kind_of ns u) k.Function k.Arrow ≡ false)) ⊎ ((kind_of ns b ≡ k.FunctionBody) × (u < b) × (b < count ns) × (parent_of ns b ≡ u))
@@ -24,7 +23,7 @@ module _ (ns : List ℕ) (u : ℕ) (lu : u < count ns) (eu : kind_of ns u ≤ k.
   unfolding holder_of
   holder_root = go (within (kind_of ns u) k.Function k.Arrow) refl e
     where
-      go : (x : Bool) → within (kind_of ns u) k.Function k.Arrow ≡ x → cond x (function_body_of ns u) (At (record { 0 = u })) ≡ At (record { 0 = b }) → Root
+      go : (x : Bool) → within (kind_of ns u) k.Function k.Arrow ≡ x → cond x (function_body_of ns u) (Some (record { 0 = u })) ≡ Some (record { 0 = b }) → Root
       go true x q =
           let v = found_child ns u k.FunctionBody k.FunctionBody 0 7 (u + 1) b q in
           let x = v.from in

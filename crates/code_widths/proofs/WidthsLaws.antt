@@ -1,4 +1,5 @@
 -- One law for each turn of the loops; and how wide a node of the unit is at most.
+use Rattle.code_widths.specs.Widths.{Units}
 use Prim.Native.Nat.{ℕ, zero, suc, ◌+◌, ◌-◌, ◌*◌, ◌≤◌, ◌<◌}
 use Rattle.std.specs.Prelude.{◌≡◌, refl, ◌⊎◌, List, ◌∷◌, Bool, ◌&&◌, eqb, get_or, length, set}
 use Rattle.std.proofs.Math.Path.{ap, subst}
@@ -25,23 +26,7 @@ use Rattle.code_layout.proofs.LayoutLaws.{in_root, in_low, in_up, in_part, in_ab
 use Rattle.code_layout.proofs.ExactLaws.{plain_sum, node_number, body_sum}
 use Rattle.code_layout.proofs.Stands.{in_from, part_in}
 use Rattle.code_layout.proofs.Made.{offset_root}
-use Rattle.code_widths.specs.Widths.{Units, Zeros, counted, Counts, Widths}
-
--- Arrays that one more entry is written to.
-module _ (ns : List ℕ) (b j : ℕ) where
-  pub units_next : (u : ℕ) (l : List ℕ) → j < length l → u ≡ cond (in_unit ns b j) 1 0 → Units ns b j l → Units ns b (j + 1) (set l j u)
-  units_next u l h e g = record { is = λ k q. go k (eq-or-lt_of_le q) }
-    where
-      go : (k : ℕ) → (suc k ≡ j + 1) ⊎ (suc k < j + 1) → get_or (set l j u) k 0 ≡ cond (in_unit ns b k) 1 0
-      go k (inl x) = subst (λ i. get_or (set l j u) i 0 ≡ cond (in_unit ns b i) 1 0) (let y : j ≡ k = omega arith in y) (get_or-set_same l j u 0 h ∙ e)
-      go k (inr x) = get_or-set_other l j k u 0 (λ q. omega arith) ∙ g.is k (omega arith)
-
-  pub zeros_next : (l : List ℕ) → j < length l → Zeros j l → Zeros (j + 1) (set l j 0)
-  zeros_next l h g = record { is = λ k q. go k (eq-or-lt_of_le q) }
-    where
-      go : (k : ℕ) → (suc k ≡ j + 1) ⊎ (suc k < j + 1) → get_or (set l j 0) k 0 ≡ 0
-      go k (inl x) = subst (λ i. get_or (set l j 0) i 0 ≡ 0) (let y : j ≡ k = omega arith in y) (get_or-set_same l j 0 0 h)
-      go k (inr x) = get_or-set_other l j k 0 0 (λ q. omega arith) ∙ g.is k (omega arith)
+use Rattle.code_widths.specs.Widths.{Zeros, counted, Counts, Widths}
 
 -- Which nodes are the unit's, one by one.
 module _ (ns : List ℕ) (b : ℕ) (g : Good ns) (j : ℕ) where
@@ -291,3 +276,18 @@ module _ (ns names : List ℕ) (b : ℕ) (h : Held ns names b) where
           subst (λ k. get_or widths k 0 ≡ width_at ns b k) e
           (c.before b (omega arith) (omega arith) (in_root ns b) ∙ ap (λ x. sum (counted ns b) (parts ns b x)) q ∙ sym width_root)
       go k m u (inr e) = c.done k (omega arith) m u
+
+module _ (ns : List ℕ) (b j : ℕ) where
+  pub units_next : (u : ℕ) (l : List ℕ) → j < length l → u ≡ cond (in_unit ns b j) 1 0 → Units ns b j l → Units ns b (j + 1) (set l j u)
+  units_next u l h e g = record { is = λ k q. go k (eq-or-lt_of_le q) }
+    where
+      go : (k : ℕ) → (suc k ≡ j + 1) ⊎ (suc k < j + 1) → get_or (set l j u) k 0 ≡ cond (in_unit ns b k) 1 0
+      go k (inl x) = subst (λ i. get_or (set l j u) i 0 ≡ cond (in_unit ns b i) 1 0) (let y : j ≡ k = omega arith in y) (get_or-set_same l j u 0 h ∙ e)
+      go k (inr x) = get_or-set_other l j k u 0 (λ q. omega arith) ∙ g.is k (omega arith)
+
+  pub zeros_next : (l : List ℕ) → j < length l → Zeros j l → Zeros (j + 1) (set l j 0)
+  zeros_next l h g = record { is = λ k q. go k (eq-or-lt_of_le q) }
+    where
+      go : (k : ℕ) → (suc k ≡ j + 1) ⊎ (suc k < j + 1) → get_or (set l j 0) k 0 ≡ 0
+      go k (inl x) = subst (λ i. get_or (set l j 0) i 0 ≡ 0) (let y : j ≡ k = omega arith in y) (get_or-set_same l j 0 0 h)
+      go k (inr x) = get_or-set_other l j k 0 0 (λ q. omega arith) ∙ g.is k (omega arith)

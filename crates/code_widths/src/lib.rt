@@ -8,7 +8,7 @@ ghost use Rattle.code_layout.specs.Shaped.{Held};
 ghost use Rattle.code_widths.specs.Widths.{Units, Zeros, Counts, Widths};
 
 use code_shapes::{is_part, up_of};
-use table_records::{NodeId, wide};
+use table_records::NodeId;
 
 // Whether n is the unit's (1) or not (0), from what is known of the nodes before it.
 fn unit_at(nodes: &[u32], names: &[u8], b: NodeId, units: &[u32], n: NodeId) -> u32
@@ -21,14 +21,14 @@ fn unit_at(nodes: &[u32], names: &[u8], b: NodeId, units: &[u32], n: NodeId) -> 
     if n.0 < b.0 {
         return 0;
     }
-    if n.0 <= b.0 {
+    if n == b {
         return 1;
     }
     if !is_part(nodes, n) {
         return 0;
     }
     let p = up_of(nodes, n);
-    units[wide(p.0)]
+    units[p.0 as usize]
 }
 
 // Marks the unit's nodes, and clears the widths.
@@ -39,13 +39,9 @@ pub fn fill_units(nodes: &[u32], names: &[u8], b: NodeId, units: &mut [u32], wid
     ensures units { Units nodes.now b.0 (count nodes.now) units.new }
     ensures zeros { Zeros (count nodes.now) widths.new }
 {
-    let size = table_records::size(nodes);
-    let mut j = 0;
-    while j < size {
-        let u = unit_at(nodes, names, b, units, NodeId(j));
-        units[wide(j)] = u;
-        widths[wide(j)] = 0;
-        j += 1;
+    for j in 0..table_records::size(nodes) {
+        units[j as usize] = unit_at(nodes, names, b, units, NodeId(j));
+        widths[j as usize] = 0;
     }
 }
 
@@ -70,11 +66,11 @@ fn add_node(
     let p = up_of(nodes, n);
     let number = code_shapes::number_by(code_shapes::shape_of(nodes, n));
     let open = code_shapes::open_at(nodes, n);
-    let own = widths[wide(n.0)] + number;
-    let rest = widths[wide(p.0)];
-    widths[wide(n.0)] = own;
-    behinds[wide(n.0)] = rest;
-    widths[wide(p.0)] = rest + own + open;
+    let own = widths[n.0 as usize] + number;
+    let rest = widths[p.0 as usize];
+    widths[n.0 as usize] = own;
+    behinds[n.0 as usize] = rest;
+    widths[p.0 as usize] = rest + own + open;
 }
 
 // One turn: a node that isn't the unit's changes nothing.
@@ -97,7 +93,7 @@ fn add_at(
     requires counts { Counts nodes.now b.0 (n.0 + 1) widths.old behinds.old }
     ensures { Counts nodes.now b.0 n.0 widths.new behinds.new }
 {
-    if units[wide(n.0)] == 0 {
+    if units[n.0 as usize] == 0 {
         return;
     }
     add_node(nodes, names, b, n, widths, behinds);
@@ -120,9 +116,7 @@ pub fn fill_widths(
     requires nodes_in_bounds_3 { count nodes.now ≤ length behinds.old }
     ensures { Widths nodes.now b.0 widths.new behinds.new }
 {
-    let mut j = table_records::size(nodes);
-    while b.0 + 1 < j {
-        j -= 1;
+    for j in (b.0 + 1..table_records::size(nodes)).rev() {
         add_at(nodes, names, b, units, NodeId(j), widths, behinds);
     }
 }

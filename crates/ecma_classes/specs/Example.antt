@@ -25,7 +25,7 @@ use Rattle.base_walk.specs.Above as a
 use Rattle.base_walk.specs.On.{on}
 use Rattle.table_ancestry.specs.Ancestry.{nearest_of}
 use Rattle.check_supers.specs.Super.{is_value_of, part_of, place_of, object_use, method_use, function_use, step_at, reach_from, reach_of, fails_at}
-use Rattle.refusal_verdict.specs.declared.Verdict.TheVariants.{Passed}
+use Rattle.refusal_verdict.specs.Verdict.{Passed}
 use Rattle.refusal_input.proofs.InputLaws.{input_well_formed}
 use Rattle.check_diagnostics.specs.declared.Finding.{Finding}
 use Rattle.check_dispatch.specs.Findings.{findings_of}

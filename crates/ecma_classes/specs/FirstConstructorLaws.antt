@@ -1,5 +1,5 @@
 -- WHERE NO CLASS HAS TWO CONSTRUCTORS, ConstructorMethod of ClassBody (15.7.3) is each: the rule of 28 is the standard's.
-use Rattle.std.specs.Prelude.{ℕ, ◌+◌, ◌≤◌, ◌<◌, ◌≡◌, Bool, cond, ◌&&◌, ◌||◌, length}
+use Rattle.std.specs.Prelude.{ℕ, ◌+◌, ◌≤◌, ◌<◌, ◌≡◌, Bool, cond, ◌&&◌, ◌||◌, length, Some}
 use Rattle.std.proofs.Math.Path.{refl, ap, sym, subst}
 use Rattle.std.proofs.Common.{◌∙◌, ⊎_elim, eq-or-lt_of_le, arith}
 use mathlib.Core.List.{List, [], ◌∷◌}
@@ -13,7 +13,6 @@ use Rattle.base_walk.specs.On.{member}
 use Rattle.table_records.specs.Table.{kind_of, parent_of, count}
 use Rattle.table_records.specs.Facts.{Tree}
 use Rattle.table_records.specs.Kinds as k
-use Rattle.table_records.specs.declared.Found.TheVariants.{At}
 use Rattle.table_children.specs.Children.{keep, children, is_node}
 use Rattle.table_ancestry.proofs.AncestryLaws.{parent_in}
 use Rattle.refusal_fields.specs.Fields.{Listed}
@@ -49,7 +48,7 @@ module _ (ns names : List ℕ) where
   first_kind [] p e = never (sym e)
   first_kind (x ∷ l) p e = go (is_constructor_kind ns names x) refl e (λ z. first_kind l p z)
     where
-      go : (b : Bool) → is_constructor_kind ns names x ≡ b → is_node (cond b (At (record { 0 = x })) (constructor_method ns names l)) p ≡ true
+      go : (b : Bool) → is_constructor_kind ns names x ≡ b → is_node (cond b (Some (record { 0 = x })) (constructor_method ns names l)) p ≡ true
           → (is_node (constructor_method ns names l) p ≡ true → is_constructor_kind ns names p ≡ true) → is_constructor_kind ns names p ≡ true
       go true q z r = subst (λ (y : ℕ). is_constructor_kind ns names y ≡ true) (eqb-true x p z) q
       go false q z r = r z
@@ -64,7 +63,7 @@ module _ (ns names : List ℕ) where
       go : (a : Bool) → eqb p x ≡ a → (a || member p l) ≡ true → (b : Bool) → names_constructor ns names x ≡ b
           → ltb 1 (length (cond b (x ∷ keep (names_constructor ns names) l) (keep (names_constructor ns names) l))) ≡ false
           → (member p l ≡ true → ltb 1 (length (keep (names_constructor ns names) l)) ≡ false → is_node (constructor_method ns names l) p ≡ true)
-          → is_node (cond (is_constructor_kind ns names x) (At (record { 0 = x })) (constructor_method ns names l)) p ≡ true
+          → is_node (cond (is_constructor_kind ns names x) (Some (record { 0 = x })) (constructor_method ns names l)) p ≡ true
       go true q z b r o y = let e : p ≡ x = eqb-true p x q in rw (subst (λ (j : ℕ). is_constructor_kind ns names j ≡ true) e c) (eq-eqb x p (sym e))
       go false q z true r o y =
           let s = holds_one (keep (names_constructor ns names) l) p (in_kept (names_constructor ns names) l p z (kind_names p c)) in

@@ -1,6 +1,6 @@
 -- THE THEOREMS: in well-formed tables the findings with these codes are the breaches of ECMA-262's rules, one finding for each; where the Rust keeps a changed rule, they are
 -- breaches of that, and a law says on which condition it is the standard's. `raised c fs` is the nodes that raise the findings of fs with code c.
-use Rattle.std.specs.Prelude.{ℕ, ◌+◌, ◌≤◌, ◌<◌, ◌≡◌, Bool, not, ◌&&◌, ◌||◌, eqb, ltb}
+use Rattle.std.specs.Prelude.{ℕ, ◌+◌, ◌≤◌, ◌<◌, ◌≡◌, Bool, not, ◌&&◌, ◌||◌, eqb, ltb, Some}
 use Rattle.std.proofs.Math.Path.{refl, ap, sym}
 use Rattle.std.proofs.Common.{subst, ◌∙◌}
 use mathlib.Core.List.{List, [], ◌∷◌, ◌++◌, flat_map}
@@ -9,7 +9,6 @@ use Rattle.base_common.specs.Upto.{upto, any}
 use Rattle.base_walk.specs.On.{member}
 use Rattle.table_records.specs.Table.{kind_of, parent_of, count}
 use Rattle.table_records.specs.Kinds as k
-use Rattle.table_records.specs.declared.Found.TheVariants.{At}
 use Rattle.table_children.specs.Children.{keep, class_body_of, found}
 use Rattle.table_children.proofs.ChildrenLaws.{found_child}
 use Rattle.ecma_trees.specs.Rose.{tree_of}
@@ -193,10 +192,10 @@ module _ (t : ℕ) (js : t ≤ 1) (ns ss source names : List ℕ) (w : WellForme
   code8_standard p = code8 ∙ ap (reported ns) (invalid_same ns names w.input.tree p)
 
   -- each at one Class: a ClassBody is that of one Class, its parent
-  pub code8_once : (b : ℕ) → b < count ns → kind_of ns b ≡ k.ClassBody → (kind_of ns (parent_of ns b) ≡ k.Class) × (class_body_of ns (parent_of ns b) ≡ At (record { 0 = b }))
+  pub code8_once : (b : ℕ) → b < count ns → kind_of ns b ≡ k.ClassBody → (kind_of ns (parent_of ns b) ≡ k.Class) × (class_body_of ns (parent_of ns b) ≡ Some (record { 0 = b }))
   code8_once b h e = (class_above_lem ns w.input.tree w.listed w.shaped b h e, body_of_class ns w.input.tree w.listed w.shaped b h e)
 
-  pub code8_alone : (n b : ℕ) → class_body_of ns n ≡ At (record { 0 = b }) → n ≡ parent_of ns b
+  pub code8_alone : (n b : ℕ) → class_body_of ns n ≡ Some (record { 0 = b }) → n ≡ parent_of ns b
   code8_alone n b e = sym (found_child ns n k.ClassBody k.ClassBody 0 7 (n + 1) b e).parent
 
   -- AllPrivateIdentifiersValid is true just where it lists nothing ..

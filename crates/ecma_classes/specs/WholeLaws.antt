@@ -1,5 +1,6 @@
 -- From nodes to the program: a rule of the standard, which is a test of the tree, holds just where no finding is raised.
-use Rattle.std.specs.Prelude.{ℕ, zero, suc, ◌+◌, ◌-◌, ◌≤◌, ◌<◌, ◌≡◌, Bool, cond, not, ◌&&◌, ◌||◌, eqb}
+use Rattle.table_records.specs.declared.NodeId.{NodeId}
+use Rattle.std.specs.Prelude.{ℕ, zero, suc, ◌+◌, ◌-◌, ◌≤◌, ◌<◌, ◌≡◌, Bool, cond, not, ◌&&◌, ◌||◌, eqb, Option, Some, None}
 use Rattle.std.proofs.Math.Path.{refl, ap}
 use Rattle.std.proofs.Common.{sym, subst, ◌∙◌, ⊎_elim, eq-or-lt_of_le, arith, eq-eqb, eqb-true}
 use mathlib.Core.List.{List, [], ◌∷◌, flat_map}
@@ -11,8 +12,6 @@ use Rattle.base_walk.specs.On.{member}
 use Rattle.table_records.specs.Table.{kind_of, parent_of, count}
 use Rattle.table_records.specs.Facts.{Tree}
 use Rattle.table_records.specs.Kinds as k
-use Rattle.table_records.specs.declared.Found.{Found}
-use Rattle.table_records.specs.declared.Found.TheVariants.{At, Nothing}
 use Rattle.table_children.specs.Children.{keep, class_body_of, found}
 use Rattle.check_class_table.proofs.ClassesLaws.{within_one, over}
 use Rattle.refusal_fields.specs.Fields.{Listed}
@@ -107,12 +106,12 @@ module _ (ns : List ℕ) (tree : Tree ns) (listed' : Listed ns) (shaped : Shaped
       any_same [] = refl
       any_same (n ∷ x) = rw (class_raises n, any_same x)
 
-  same_self : (f : Found) → found f ≡ true → same_node f f ≡ true
-  same_self (At b) e = eq-eqb b.0 b.0 refl
-  same_self Nothing e = never (sym e)
+  same_self : (f : Option NodeId) → found f ≡ true → same_node f f ≡ true
+  same_self (Some b) e = eq-eqb b.0 b.0 refl
+  same_self None e = never (sym e)
 
   -- one that is in a ClassBody is reported at its class
-  in_class_lem : (m b : ℕ) → member m l ≡ true → body_around ns m ≡ At (record { 0 = b }) → any (λ n. eqb (kind_of ns n) k.Class && some (mine n)) nodes ≡ true
+  in_class_lem : (m b : ℕ) → member m l ≡ true → body_around ns m ≡ Some (record { 0 = b }) → any (λ n. eqb (kind_of ns n) k.Class && some (mine n)) nodes ≡ true
   in_class_lem m b i e =
       let h = inside m i in
       let o = over ns tree k.ClassBody k.ClassBody m b h (around_is ns m ∙ e) in
@@ -138,9 +137,9 @@ module _ (ns : List ℕ) (tree : Tree ns) (listed' : Listed ns) (shaped : Shaped
       first true b e = refl
       first false b e = never (sym e)
 
-      by : (m : ℕ) → member m l ≡ true → (f : Found) → body_around ns m ≡ f → (any outside nodes || any (λ n. eqb (kind_of ns n) k.Class && some (mine n)) nodes) ≡ true
-      by m i (At b) e = second (any outside nodes) _ (in_class_lem m b.0 i e)
-      by m i Nothing e = first (any outside nodes) _ (any_hit_lem outside nodes m (in_upto (count ns) m (inside m i)) (rw (i, e)))
+      by : (m : ℕ) → member m l ≡ true → (f : Option NodeId) → body_around ns m ≡ f → (any outside nodes || any (λ n. eqb (kind_of ns n) k.Class && some (mine n)) nodes) ≡ true
+      by m i (Some b) e = second (any outside nodes) _ (in_class_lem m b.0 i e)
+      by m i None e = first (any outside nodes) _ (any_hit_lem outside nodes m (in_upto (count ns) m (inside m i)) (rw (i, e)))
 
       to : some l ≡ true → (any outside nodes || any (λ n. eqb (kind_of ns n) k.Class && some (mine n)) nodes) ≡ true
       to e = let x = some_in l e in by x.0 x.1 (body_around ns x.0) refl

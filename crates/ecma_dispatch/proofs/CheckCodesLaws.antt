@@ -1,27 +1,24 @@
 -- The codes that each check raises.
-use Rattle.std.specs.Prelude.{ℕ, ◌≤◌, ◌≡◌, refl, List, [], ◌∷◌, Bool, true, false, cond, ◌&&◌}
+use Rattle.table_records.specs.declared.ClassId.{ClassId}
+use Rattle.table_records.specs.declared.NodeId.{NodeId}
+use Rattle.std.specs.Prelude.{ℕ, ◌≤◌, ◌≡◌, refl, List, [], ◌∷◌, Bool, true, false, cond, ◌&&◌, Option, Some, None}
 use Rattle.table_source.specs.SourceType.{is_typescript}
 use Rattle.table_source.proofs.SourceTypeLaws.{no_typescript}
 use Rattle.table_records.specs.Table.{ancestors}
-use Rattle.table_records.specs.declared.Found.{Found}
-use Rattle.table_records.specs.declared.Found.TheVariants.{At, Nothing}
 use Rattle.table_children.specs.Children.{label_of, held_of, alternate_of, value_of, inner_of, class_body_of}
-use Rattle.check_diagnostics.specs.declared.Raised.TheVariants.{Error, Clear}
 use Rattle.check_diagnostics.specs.Finding.{listed, error_between}
 use Rattle.check_jumps.specs.Jumps.{walk_up, same_label, no_label, plain_break_at, labelled_break_at, plain_continue_at, labelled_continue_at, continue_to, labeled_at, check_break_statement, check_continue_statement, check_labeled_statement}
 use Rattle.check_statements.specs.Statements.{check_function_declaration, check_body, check_consequent, check_alternate, labelled_function, check_labeled_item, check_function_declaration_in_labeled_statement, check_with_statement, left_of, declarator_of, check_initialiser, check_left, check_for_statement_left, check_for_of_statement, check_using, check_await_using}
 use Rattle.check_identifiers.specs.Identifiers.{await_finding, let_at, let_from, arguments_at, arguments_from, check_identifier, check_binding_identifier, check_identifier_reference, check_directive}
 use Rattle.check_literals.specs.declared.Escape.{Escape}
-use Rattle.check_literals.specs.declared.Escape.TheVariants.{LegacyOctal, NonOctalDecimal, Fine}
+use Rattle.check_literals.specs.declared.Escape.TheVariants.{LegacyOctal, NonOctalDecimal}
 use Rattle.check_literals.specs.Literals.{escape_finding, check_number_literal, check_string_literal}
 use Rattle.check_expressions.specs.Expressions.{repeats, repeats_after, error_part, proto_keys, field_of, inner_expression, chain_finding, delete_of, delete_finding, in_parameter, in_block, check_object_expression, check_unary_expression}
-use Rattle.check_class_table.specs.declared.Current.{Current}
-use Rattle.check_class_table.specs.declared.Current.TheVariants.{Class, Outside}
 use Rattle.check_class_table.specs.Classes.{current_class, classes_of}
 use Rattle.check_class_table.specs.Elements.{element_span, is_private, compared}
 use Rattle.check_classes.specs.ClassChecks.{outside_by, private_outside, undeclared_at, undeclared_in, undeclared_by, private_undeclared, require_class_name, first_pair, second_by, second_constructor, constructors, references}
 use Rattle.check_duplicates.specs.declared.Place.{Place}
-use Rattle.check_duplicates.specs.Duplicates.{is_apart, clash_code, redeclaration, duplicate_by, duplicate_at, previous_of, duplicates_in, duplicate_elements}
+use Rattle.check_duplicates.specs.Duplicates.{number, is_apart, clash_code, redeclaration, duplicate_by, duplicate_at, previous_of, duplicates_in, duplicate_elements}
 use Rattle.check_supers.specs.declared.Reach.{Reach}
 use Rattle.check_supers.specs.declared.Reach.TheVariants.{Legal, Illegal, Underived, Fails}
 use Rattle.check_supers.specs.Super.{by_reach, reach_of, check_super}
@@ -37,7 +34,7 @@ plain_break ns n = fine_up of_break (plain_break_at ns n) (λ a r h. simp (fine_
 labelled_break : (ns names : List ℕ) (n l : ℕ) → fine of_break (walk_up ns (labelled_break_at ns names n l) n) ≡ true
 unfolding walk_up labelled_break_at no_label
 labelled_break ns names n l =
-    fine_up of_break (labelled_break_at ns names n l) (λ a r h. let q = fine_found of_break (same_label ns names l a) (λ m. Clear) r (λ m. fine_clear of_break) h in simp (fine_if, fine_error, fine_clear, both_true, q)) (ancestors ns n)
+    fine_up of_break (labelled_break_at ns names n l) (λ a r h. let q = fine_found of_break (same_label ns names l a) (λ m. None) r (λ m. fine_clear of_break) h in simp (fine_if, fine_error, fine_clear, both_true, q)) (ancestors ns n)
 
 pub break_codes : (ns names : List ℕ) (n : ℕ) → Coded of_break (listed (check_break_statement ns names n))
 break_codes ns names n = coded of_break _ (fine_found of_break (label_of ns n) (λ l. walk_up ns (labelled_break_at ns names n l) n) (walk_up ns (plain_break_at ns n) n) (labelled_break ns names n) (plain_break ns n))
@@ -66,7 +63,7 @@ label_twice ns names n l =
     (λ a r h. let q = fine_found of_label (same_label ns names l a) (λ m. error_between ns 23 n m l) r (λ m. fine_error of_label _) h in simp (fine_if, fine_error, fine_clear, both_true, q)) (ancestors ns n)
 
 pub label_codes : (ns names : List ℕ) (n : ℕ) → Coded of_label (listed (check_labeled_statement ns names n))
-label_codes ns names n = coded of_label _ (fine_found of_label (label_of ns n) (λ l. walk_up ns (labeled_at ns names n l) n) Clear (label_twice ns names n) (fine_clear of_label))
+label_codes ns names n = coded of_label _ (fine_found of_label (label_of ns n) (λ l. walk_up ns (labeled_at ns names n l) n) None (label_twice ns names n) (fine_clear of_label))
 
 -- STATEMENTS
 function_fine : (ns ss : List ℕ) (n : ℕ) (is_if : Bool) (s : ℕ) → fine of_held (check_function_declaration ns ss n is_if s) ≡ true
@@ -144,10 +141,10 @@ pub directive_codes : (ns ss names : List ℕ) (n : ℕ) → Coded (12 ∷ []) (
 unfolding check_directive
 directive_codes ns ss names n = coded (12 ∷ []) (check_directive ns ss names n) (simp (fine_if, fine_error, fine_clear, both_true))
 
-escape_fine : (ns : List ℕ) (n : ℕ) (e : Escape) → fine of_string (escape_finding ns n e) ≡ true
-escape_fine ns n (LegacyOctal i) = fine_error of_string _
-escape_fine ns n (NonOctalDecimal i) = fine_error of_string _
-escape_fine ns n Fine = fine_clear of_string
+escape_fine : (ns : List ℕ) (n : ℕ) (e : Option Escape) → fine of_string (escape_finding ns n e) ≡ true
+escape_fine ns n (Some (LegacyOctal i)) = fine_error of_string _
+escape_fine ns n (Some (NonOctalDecimal i)) = fine_error of_string _
+escape_fine ns n None = fine_clear of_string
 
 pub string_codes : (ns ss source : List ℕ) (n : ℕ) → Coded of_string (listed (check_string_literal ns ss source n))
 unfolding check_string_literal
@@ -171,21 +168,21 @@ pub object_codes : (ns names : List ℕ) (n : ℕ) → Coded (1 ∷ []) (check_o
 unfolding check_object_expression
 object_codes ns names n = repeats_codes ns n (proto_keys ns names n)
 
-part_fine : (ns : List ℕ) (n : ℕ) (x : Found) → fine of_delete (error_part ns 32 n x) ≡ true
-part_fine ns n (At m) = fine_error of_delete _
-part_fine ns n Nothing = fine_error of_delete _
+part_fine : (ns : List ℕ) (n : ℕ) (x : Option NodeId) → fine of_delete (error_part ns 32 n x) ≡ true
+part_fine ns n (Some m) = fine_error of_delete _
+part_fine ns n None = fine_error of_delete _
 
-chain_fine : (ns : List ℕ) (n : ℕ) (x : Found) → fine of_delete (chain_finding ns n x) ≡ true
-chain_fine ns n (At m) = let h = part_fine ns n (field_of ns m.0) in simp (fine_if, fine_error, fine_clear, both_true, h)
-chain_fine ns n Nothing = fine_clear of_delete
+chain_fine : (ns : List ℕ) (n : ℕ) (x : Option NodeId) → fine of_delete (chain_finding ns n x) ≡ true
+chain_fine ns n (Some m) = let h = part_fine ns n (field_of ns m.0) in simp (fine_if, fine_error, fine_clear, both_true, h)
+chain_fine ns n None = fine_clear of_delete
 
 delete_one : (ns ss : List ℕ) (n e : ℕ) → fine of_delete (delete_of ns ss n e) ≡ true
 unfolding delete_of
 delete_one ns ss n e = let h = chain_fine ns n (inner_of ns e) in simp (fine_if, fine_error, fine_clear, both_true, h)
 
-delete_fine : (ns ss : List ℕ) (n : ℕ) (x : Found) → fine of_delete (delete_finding ns ss n x) ≡ true
-delete_fine ns ss n (At m) = delete_one ns ss n (inner_expression ns m.0)
-delete_fine ns ss n Nothing = fine_clear of_delete
+delete_fine : (ns ss : List ℕ) (n : ℕ) (x : Option NodeId) → fine of_delete (delete_finding ns ss n x) ≡ true
+delete_fine ns ss n (Some m) = delete_one ns ss n (inner_expression ns m.0)
+delete_fine ns ss n None = fine_clear of_delete
 
 pub unary_codes : (ns ss : List ℕ) (n : ℕ) → Coded of_delete (listed (check_unary_expression ns ss n))
 unfolding check_unary_expression
@@ -200,9 +197,9 @@ unfolding in_block
 block_codes ns ss n = coded (3 ∷ []) (in_block ns ss n) (simp (fine_if, fine_error, fine_clear, both_true))
 
 -- CLASSES
-outside_fine : (ns : List ℕ) (n : ℕ) (c : Current) → fine (7 ∷ []) (outside_by ns n c) ≡ true
-outside_fine ns n (Class c) = fine_clear (7 ∷ [])
-outside_fine ns n Outside = fine_error (7 ∷ []) _
+outside_fine : (ns : List ℕ) (n : ℕ) (c : Option ClassId) → fine (7 ∷ []) (outside_by ns n c) ≡ true
+outside_fine ns n (Some c) = fine_clear (7 ∷ [])
+outside_fine ns n None = fine_error (7 ∷ []) _
 
 pub outside_codes : (ns : List ℕ) (n : ℕ) → Coded (7 ∷ []) (listed (private_outside ns n))
 outside_codes ns n = coded (7 ∷ []) _ (outside_fine ns n (current_class ns n))
@@ -211,10 +208,10 @@ undeclared_one : (t : ℕ) (ns names : List ℕ) (n c m : ℕ) → fine (8 ∷ [
 unfolding undeclared_at
 undeclared_one t ns names n c m = simp (fine_if, fine_error, fine_clear, both_true)
 
-undeclared_both : (t : ℕ) (ns names : List ℕ) (n : ℕ) (c : Current) → Coded (8 ∷ []) (undeclared_by t ns names n c)
+undeclared_both : (t : ℕ) (ns names : List ℕ) (n : ℕ) (c : Option ClassId) → Coded (8 ∷ []) (undeclared_by t ns names n c)
 unfolding undeclared_in
-undeclared_both t ns names n (Class c) = coded_flat_map (8 ∷ []) (λ m. listed (undeclared_at t ns names n c.0 m)) (λ m. coded (8 ∷ []) _ (undeclared_one t ns names n c.0 m)) (references ns c.0)
-undeclared_both t ns names n Outside = coded_nil (8 ∷ [])
+undeclared_both t ns names n (Some c) = coded_flat_map (8 ∷ []) (λ m. listed (undeclared_at t ns names n c.0 m)) (λ m. coded (8 ∷ []) _ (undeclared_one t ns names n c.0 m)) (references ns c.0)
+undeclared_both t ns names n None = coded_nil (8 ∷ [])
 
 pub undeclared_codes : (t : ℕ) (ns names : List ℕ) (n : ℕ) → Coded (8 ∷ []) (private_undeclared t ns names n)
 undeclared_codes t ns names n = undeclared_both t ns names n (current_class ns n)
@@ -228,9 +225,9 @@ pair_fine t ns n [] = fine_clear (27 ∷ [])
 pair_fine t ns n (a ∷ []) = fine_clear (27 ∷ [])
 pair_fine t ns n (a ∷ b ∷ l) = fine_error (27 ∷ []) _
 
-second_fine : (t : ℕ) (ns : List ℕ) (n : ℕ) (x : Found) → fine (27 ∷ []) (second_by t ns n x) ≡ true
-second_fine t ns n (At b) = pair_fine t ns n (constructors ns b.0)
-second_fine t ns n Nothing = fine_clear (27 ∷ [])
+second_fine : (t : ℕ) (ns : List ℕ) (n : ℕ) (x : Option NodeId) → fine (27 ∷ []) (second_by t ns n x) ≡ true
+second_fine t ns n (Some b) = pair_fine t ns n (constructors ns b.0)
+second_fine t ns n None = fine_clear (27 ∷ [])
 
 pub constructor_codes : (t : ℕ) (ns : List ℕ) (n : ℕ) → Coded (27 ∷ []) (listed (second_constructor t ns n))
 constructor_codes t ns n = coded (27 ∷ []) _ (second_fine t ns n (class_body_of ns n))
@@ -239,13 +236,13 @@ clash_fine : (t : ℕ) (ns : List ℕ) (d e : ℕ) → fine of_clash (redeclarat
 unfolding redeclaration clash_code
 clash_fine t ns d e = go (is_typescript t && (is_private ns e && is_apart ns d e))
   where
-    go : (b : Bool) → fine of_clash (Error (record { code = cond b 35 1; node = record { 0 = 0 }; start = (element_span ns d).start; end = (element_span ns d).end; start2 = (element_span ns e).start; end2 = (element_span ns e).end; context = 0 })) ≡ true
+    go : (b : Bool) → fine of_clash (Some (record { code = cond b 35 1; node = record { 0 = 0 }; start = (element_span ns d).start; end = (element_span ns d).end; start2 = (element_span ns e).start; end2 = (element_span ns e).end; context = 0 })) ≡ true
     go true = fine_error of_clash _
     go false = fine_error of_clash _
 
 duplicate_one : (t : ℕ) (ns : List ℕ) (e : ℕ) (p : Place) → fine of_clash (duplicate_by t ns e p) ≡ true
 unfolding duplicate_by
-duplicate_one t ns e p = let h = clash_fine t ns p.element.0 e in simp (fine_if, fine_clear, both_true, h)
+duplicate_one t ns e p = let h = clash_fine t ns (number p) e in simp (fine_if, fine_clear, both_true, h)
 
 pub duplicate_codes : (t : ℕ) (ns names : List ℕ) → Coded of_clash (duplicate_elements t ns names)
 unfolding duplicate_elements duplicates_in

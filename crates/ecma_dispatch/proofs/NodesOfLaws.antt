@@ -1,6 +1,6 @@
 -- The nodes with a finding of a code, from each node to the whole tree.
 use Prim.Native.Nat.{ℕ, zero, suc, ◌+◌, ◌-◌, ◌≤◌, ◌<◌}
-use Rattle.std.specs.Prelude.{◌≡◌, Bool, eqb}
+use Rattle.std.specs.Prelude.{◌≡◌, Bool, eqb, Some, None}
 use Rattle.std.proofs.Math.Path.{refl}
 use Rattle.std.proofs.Common.{ap, ◌∙◌, arith, eq-eqb}
 use mathlib.Core.List.{List, [], ◌∷◌, ◌++◌, flat_map}
@@ -10,7 +10,6 @@ use Rattle.base_walk.specs.On.{member}
 use Rattle.table_records.specs.Table.{count}
 use Rattle.table_children.specs.Children.{keep}
 use Rattle.check_diagnostics.specs.declared.Finding.{Finding}
-use Rattle.check_diagnostics.specs.declared.Raised.TheVariants.{Error, Clear}
 use Rattle.check_diagnostics.specs.Finding.{listed}
 use Rattle.check_dispatch.specs.Findings.{findings_at, findings_of}
 use Rattle.ecma_dispatch.specs.WithCode.{with_code}
@@ -58,7 +57,7 @@ pub raised_again : (c : ℕ) (fs : List Finding) → raised c (with_code c fs) �
 raised_again c fs = ap nodes_of (again c fs)
 
 -- what a check raises, where it is the finding f or nothing, by a test
-pub nodes_if : (c : ℕ) (b : Bool) (f : Finding) → f.code ≡ c → nodes_of (with_code c (listed (cond b (Error f) Clear))) ≡ cond b (f.node.0 ∷ []) []
+pub nodes_if : (c : ℕ) (b : Bool) (f : Finding) → f.code ≡ c → nodes_of (with_code c (listed (cond b (Some f) None))) ≡ cond b (f.node.0 ∷ []) []
 unfolding nodes_of with_code
 nodes_if c true f e = rw (eq-eqb f.code c e)
 nodes_if c false f e = refl

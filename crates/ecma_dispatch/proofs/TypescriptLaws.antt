@@ -1,5 +1,6 @@
 -- WHAT A TYPESCRIPT MODULE HAS DIFFERENT FROM A MODULE OF JAVASCRIPT (document 02, request 13), of all tables: 1 at classes, 8, 17, the spans of 27, and 35. All else is the same, to the last number.
-use Rattle.std.specs.Prelude.{ℕ, ◌≡◌, refl, Bool, true, false, cond, ◌||◌, eqb}
+use Rattle.table_records.specs.declared.NodeId.{NodeId}
+use Rattle.std.specs.Prelude.{ℕ, ◌≡◌, refl, Bool, true, false, cond, ◌||◌, eqb, Option, Some, None}
 use Rattle.std.proofs.Common.{ap, sym, ◌∙◌, eqb-true}
 use mathlib.Core.List.{List, [], ◌∷◌, ◌++◌}
 use Rattle.base_common.specs.Upto.{upto}
@@ -7,8 +8,6 @@ use Rattle.base_common.proofs.Bools.{or3, or5}
 use Rattle.base_walk.specs.On.{member}
 use Rattle.table_records.specs.Table.{kind_of, count}
 use Rattle.table_records.specs.Kinds as k
-use Rattle.table_records.specs.declared.Found.{Found}
-use Rattle.table_records.specs.declared.Found.TheVariants.{At, Nothing}
 use Rattle.table_children.specs.Children.{class_body_of}
 use Rattle.check_diagnostics.specs.Finding.{listed}
 use Rattle.check_diagnostics.proofs.Gather.{flat_same_lem}
@@ -50,9 +49,9 @@ same_pair ns n [] = refl
 same_pair ns n (a ∷ []) = refl
 same_pair ns n (a ∷ b ∷ l) = refl
 
-same_second : (ns : List ℕ) (n : ℕ) (f : Found) → raised 27 (listed (second_by 2 ns n f)) ≡ raised 27 (listed (second_by 1 ns n f))
-same_second ns n (At b) = same_pair ns n (constructors ns b.0)
-same_second ns n Nothing = refl
+same_second : (ns : List ℕ) (n : ℕ) (f : Option NodeId) → raised 27 (listed (second_by 2 ns n f)) ≡ raised 27 (listed (second_by 1 ns n f))
+same_second ns n (Some b) = same_pair ns n (constructors ns b.0)
+same_second ns n None = refl
 
 alone : (b : Bool) → b ≡ false → (b || false) ≡ false
 alone b e = rw e

@@ -1,16 +1,13 @@
 -- Laws of the findings with a code, and of lists whose findings have certain codes only.
-use Rattle.std.specs.Prelude.{ℕ, ◌≡◌, refl, Bool, true, false, cond, ◌||◌, eqb}
+use Rattle.table_records.specs.declared.NodeId.{NodeId}
+use Rattle.std.specs.Prelude.{ℕ, ◌≡◌, refl, Bool, true, false, cond, ◌||◌, eqb, Option, Some, None}
 use Rattle.std.proofs.Common.{ap, sym, subst, ◌∙◌, eq-eqb, eqb-true}
 use mathlib.Core.List.{List, [], ◌∷◌, ◌++◌, foldr, flat_map}
 use Rattle.base_common.specs.Upto.{all}
 use Rattle.base_common.proofs.UptoLaws.{and_left_lem, and_right_lem}
 use Rattle.base_common.proofs.Bools.{never}
 use Rattle.base_walk.specs.On.{member}
-use Rattle.table_records.specs.declared.Found.{Found}
-use Rattle.table_records.specs.declared.Found.TheVariants.{At, Nothing}
 use Rattle.check_diagnostics.specs.declared.Finding.{Finding}
-use Rattle.check_diagnostics.specs.declared.Raised.{Raised}
-use Rattle.check_diagnostics.specs.declared.Raised.TheVariants.{Error, Clear}
 use Rattle.check_diagnostics.specs.Finding.{listed}
 use Rattle.check_jumps.specs.Jumps.{when_found}
 use Rattle.check_statements.specs.Statements.{check_found}
@@ -118,19 +115,19 @@ pub coded_more : (cs ds : List ℕ) → all (λ c. member c ds) cs ≡ true → 
 coded_more cs ds e {fs} w = record { each = each_code (λ c. member c ds) cs e w }
 
 -- what a check raises has one of these codes
-unfoldable pub fine : List ℕ → Raised → Bool
-fine cs (Error f) = member f.code cs
-fine cs Clear = true
+unfoldable pub fine : List ℕ → Option Finding → Bool
+fine cs (Some f) = member f.code cs
+fine cs None = true
 
-pub fine_if : (cs : List ℕ) (b : Bool) (r s : Raised) → fine cs (cond b r s) ≡ cond b (fine cs r) (fine cs s)
+pub fine_if : (cs : List ℕ) (b : Bool) (r s : Option Finding) → fine cs (cond b r s) ≡ cond b (fine cs r) (fine cs s)
 fine_if cs true r s = refl
 fine_if cs false r s = refl
 
-pub fine_error : (cs : List ℕ) (f : Finding) → fine cs (Error f) ≡ member f.code cs
+pub fine_error : (cs : List ℕ) (f : Finding) → fine cs (Some f) ≡ member f.code cs
 unfolding fine
 fine_error cs f = refl
 
-pub fine_clear : (cs : List ℕ) → fine cs Clear ≡ true
+pub fine_clear : (cs : List ℕ) → fine cs None ≡ true
 unfolding fine
 fine_clear cs = refl
 
@@ -138,19 +135,19 @@ pub both_true : (b : Bool) → cond b true true ≡ true
 both_true true = refl
 both_true false = refl
 
-pub fine_up : (cs : List ℕ) (says : ℕ → Raised → Raised) → ((a : ℕ) (r : Raised) → fine cs r ≡ true → fine cs (says a r) ≡ true) → (l : List ℕ) → fine cs (foldr says Clear l) ≡ true
+pub fine_up : (cs : List ℕ) (says : ℕ → Option Finding → Option Finding) → ((a : ℕ) (r : Option Finding) → fine cs r ≡ true → fine cs (says a r) ≡ true) → (l : List ℕ) → fine cs (foldr says None l) ≡ true
 fine_up cs says h [] = fine_clear cs
-fine_up cs says h (a ∷ l) = h a (foldr says Clear l) (fine_up cs says h l)
+fine_up cs says h (a ∷ l) = h a (foldr says None l) (fine_up cs says h l)
 
-pub fine_found : (cs : List ℕ) (x : Found) (f : ℕ → Raised) (r : Raised) → ((m : ℕ) → fine cs (f m) ≡ true) → fine cs r ≡ true → fine cs (when_found x f r) ≡ true
-fine_found cs (At m) f r p q = p m.0
-fine_found cs Nothing f r p q = q
+pub fine_found : (cs : List ℕ) (x : Option NodeId) (f : ℕ → Option Finding) (r : Option Finding) → ((m : ℕ) → fine cs (f m) ≡ true) → fine cs r ≡ true → fine cs (when_found x f r) ≡ true
+fine_found cs (Some m) f r p q = p m.0
+fine_found cs None f r p q = q
 
-pub fine_held : (cs : List ℕ) (x : Found) (f : ℕ → Raised) → ((m : ℕ) → fine cs (f m) ≡ true) → fine cs (check_found x f) ≡ true
-fine_held cs (At m) f p = p m.0
-fine_held cs Nothing f p = fine_clear cs
+pub fine_held : (cs : List ℕ) (x : Option NodeId) (f : ℕ → Option Finding) → ((m : ℕ) → fine cs (f m) ≡ true) → fine cs (check_found x f) ≡ true
+fine_held cs (Some m) f p = p m.0
+fine_held cs None f p = fine_clear cs
 
-pub coded : (cs : List ℕ) (r : Raised) → fine cs r ≡ true → Coded cs (listed r)
+pub coded : (cs : List ℕ) (r : Option Finding) → fine cs r ≡ true → Coded cs (listed r)
 unfolding fine
-coded cs (Error f) e = record { each = rw e }
-coded cs Clear e = record { each = refl }
+coded cs (Some f) e = record { each = rw e }
+coded cs None e = record { each = refl }

@@ -1,5 +1,6 @@
 -- THE FINDINGS ON THE ELEMENTS OF ONE CLASS OR OBJECT ARE BREACHES OF 15.7 AND 13.2.5.1: codes 26 and 27 at a Class, 1 at an Object.
-use Rattle.std.specs.Prelude.{ℕ, ◌+◌, ◌<◌, ◌≡◌, List, [], ◌∷◌, Bool, cond, not, ◌&&◌, ◌||◌, length}
+use Rattle.table_records.specs.declared.NodeId.{NodeId}
+use Rattle.std.specs.Prelude.{ℕ, ◌+◌, ◌<◌, ◌≡◌, List, [], ◌∷◌, Bool, cond, not, ◌&&◌, ◌||◌, length, Option, Some, None}
 use Rattle.std.proofs.Math.Path.{refl, sym}
 use Rattle.std.proofs.Common.{ap, ◌∙◌, ⊎_elim, eq-or-lt_of_le, arith, lt-ltb, ne_eqb, eqb-true}
 use Rattle.std.proofs.Math.Bool.{true, false}
@@ -11,13 +12,10 @@ use Rattle.base_walk.specs.On.{member}
 use Rattle.table_records.specs.Table.{kind_of, parent_of, span_start_of, flags_of, has_flag}
 use Rattle.table_records.specs.Kinds as k
 use Rattle.table_records.specs.NodeFlag as flag
-use Rattle.table_records.specs.declared.Found.{Found}
-use Rattle.table_records.specs.declared.Found.TheVariants.{At, Nothing}
 use Rattle.table_names.specs.Name.{same, name_of}
 use Rattle.table_children.specs.Children.{keep, children, first_child, key_of, inner_of, value_of, function_body_of, class_body_of, found}
 use Rattle.table_ancestry.specs.Ancestry.{is_at}
 use Rattle.ecma_trees.specs.Walk.{only}
-use Rattle.check_diagnostics.specs.declared.Raised.TheVariants.{Clear}
 use Rattle.check_diagnostics.specs.Finding.{listed, error_span}
 use Rattle.check_diagnostics.specs.Codes as code
 use Rattle.check_diagnostics.specs.Contexts as context
@@ -34,13 +32,13 @@ use Rattle.ecma_dispatch.proofs.NodesOfLaws.{raised_again}
 use Rattle.ecma_elements.specs.ClassElements.{name_found, key_name, literal_name, prop_name, is_definition, is_static, constructor_word, elements_in, class_elements, names_constructor, constructor_twice, name_missing}
 use Rattle.ecma_elements.specs.Changed.{body_in, is_constructor, written_key, keyed_constructor, called_constructor, built_twice, ConstructorsNamed}
 
-found_at : (f : Found) → is_at f ≡ found f
-found_at (At m) = refl
-found_at Nothing = refl
+found_at : (f : Option NodeId) → is_at f ≡ found f
+found_at (Some m) = refl
+found_at None = refl
 
-pub body_in_lem : (ns : List ℕ) (f : Found) → has_body_at ns f ≡ body_in ns f
-body_in_lem ns (At m) = found_at (function_body_of ns m.0)
-body_in_lem ns Nothing = refl
+pub body_in_lem : (ns : List ℕ) (f : Option NodeId) → has_body_at ns f ≡ body_in ns f
+body_in_lem ns (Some m) = found_at (function_body_of ns m.0)
+body_in_lem ns None = refl
 
 pairs : (t : ℕ) (ns : List ℕ) (n : ℕ) (l : List ℕ) → raised 27 (listed (first_pair t ns n l)) ≡ only (ltb 1 (length l)) n
 unfolding nodes_of with_code
@@ -53,10 +51,10 @@ counted : (ns : List ℕ) (l : List ℕ) → keep (λ x. e.is_constructor ns x &
 unfolding is_constructor has_body
 counted ns l = keep_same (λ x. e.is_constructor ns x && has_body ns x) (is_constructor ns) (λ x. ap (λ (b : Bool). e.is_constructor ns x && b) (body_in_lem ns (value_of ns x))) l
 
-second_by_lem : (t : ℕ) (ns : List ℕ) (n : ℕ) (f : Found) → raised 27 (listed (second_by t ns n f)) ≡ only (ltb 1 (length (keep (is_constructor ns) (elements_in ns f)))) n
+second_by_lem : (t : ℕ) (ns : List ℕ) (n : ℕ) (f : Option NodeId) → raised 27 (listed (second_by t ns n f)) ≡ only (ltb 1 (length (keep (is_constructor ns) (elements_in ns f)))) n
 unfolding constructors keep nodes_of with_code
-second_by_lem t ns n (At b) = pairs t ns n (constructors ns b.0) ∙ rw (counted ns (children ns b.0))
-second_by_lem t ns n Nothing = refl
+second_by_lem t ns n (Some b) = pairs t ns n (constructors ns b.0) ∙ rw (counted ns (children ns b.0))
+second_by_lem t ns n None = refl
 
 require_by : (ns : List ℕ) (n : ℕ) → eqb (kind_of ns n) k.Class ≡ true → raised 26 (listed (require_class_name ns n)) ≡ only (name_missing ns n) n
 unfolding require_class_name name_missing nodes_of with_code
@@ -65,7 +63,7 @@ require_by ns n h =
     (go (has_flag (flags_of ns n) flag.Declaration) (found (first_child ns n k.BindingIdentifier k.BindingIdentifier 0 7)) (eqb (kind_of ns (parent_of ns n)) k.ExportDefault))
   where
     go : (a b x : Bool)
-        → raised 26 (listed (cond (a && (not b && not x)) (error_span code.require_class_name n (span_start_of ns n) (span_start_of ns n + 5) context.none) Clear)) ≡ only (a && not (b || x)) n
+        → raised 26 (listed (cond (a && (not b && not x)) (error_span code.require_class_name n (span_start_of ns n) (span_start_of ns n + 5) context.none) None)) ≡ only (a && not (b || x)) n
     go true true x = refl
     go true false true = refl
     go true false false = refl
@@ -116,9 +114,9 @@ range_two a lo = go (within a lo (lo + 1)) refl (eqb a lo) refl (eqb a (lo + 1))
     go false w false x false z = refl
 
 -- a LiteralPropertyName is a key that the table has written so
-pub literal_written : (ns : List ℕ) (f : Found) → literal_name ns f ≡ written_key ns f
-literal_written ns (At m) = ap (λ (b : Bool). b || (eqb (kind_of ns m.0) k.AnythingElse && not (found (inner_of ns m.0)))) (range_two (kind_of ns m.0) 35)
-literal_written ns Nothing = refl
+pub literal_written : (ns : List ℕ) (f : Option NodeId) → literal_name ns f ≡ written_key ns f
+literal_written ns (Some m) = ap (λ (b : Bool). b || (eqb (kind_of ns m.0) k.AnythingElse && not (found (inner_of ns m.0)))) (range_two (kind_of ns m.0) 35)
+literal_written ns None = refl
 
 -- an element names "constructor" where the table says that it is called so
 pub names_called : (ns names : List ℕ) (e : ℕ) → is_definition ns e ≡ true → names_constructor ns names e ≡ called_constructor ns names e
@@ -129,11 +127,11 @@ names_called ns names e d = rw d (ap (λ (b : Bool). not (is_static ns e) && b) 
     by true l = refl
     by false l = refl
 
-    go : (f : Found) (p : Bool) → same (cond (not p && literal_name ns f) (name_found ns names f) []) constructor_word ≡ (not p && keyed_constructor ns names f)
-    go (At m) true = refl
-    go (At m) false = by (literal_name ns (At m)) (name_of ns names m.0) ∙ ap (λ (b : Bool). b && same (name_of ns names m.0) constructor_word) (literal_written ns (At m))
-    go Nothing true = refl
-    go Nothing false = refl
+    go : (f : Option NodeId) (p : Bool) → same (cond (not p && literal_name ns f) (name_found ns names f) []) constructor_word ≡ (not p && keyed_constructor ns names f)
+    go (Some m) true = refl
+    go (Some m) false = by (literal_name ns (Some m)) (name_of ns names m.0) ∙ ap (λ (b : Bool). b && same (name_of ns names m.0) constructor_word) (literal_written ns (Some m))
+    go None true = refl
+    go None false = refl
 
 -- where the elements called so are the constructors, ..
 named_alike : (ns names : List ℕ) (n : ℕ) → ConstructorsNamed ns names n → (e : ℕ) → member e (class_elements ns n) ≡ true → is_constructor ns e ≡ names_constructor ns names e

@@ -1,5 +1,6 @@
 -- THE FINDINGS WITH CODE 1 AT AN OBJECT ARE BREACHES OF 13.2.5.1.
-use Rattle.std.specs.Prelude.{ℕ, ◌+◌, ◌≤◌, ◌≡◌, Bool, cond, not, ◌&&◌}
+use Rattle.table_records.specs.declared.NodeId.{NodeId}
+use Rattle.std.specs.Prelude.{ℕ, ◌+◌, ◌≤◌, ◌≡◌, Bool, cond, not, ◌&&◌, Option, Some, None}
 use Rattle.std.proofs.Math.Path.{refl, sym}
 use Rattle.std.proofs.Common.{ap, ◌∙◌, arith}
 use mathlib.Core.List.{List, [], ◌∷◌, ◌++◌, flat_map, foldr}
@@ -12,8 +13,6 @@ use Rattle.base_common.proofs.Bools.{never}
 use Rattle.table_records.specs.Table.{kind_of, role_of, parent_of, flags_of, count, has_flag}
 use Rattle.table_records.specs.Kinds as k
 use Rattle.table_records.specs.NodeFlag as flag
-use Rattle.table_records.specs.declared.Found.{Found}
-use Rattle.table_records.specs.declared.Found.TheVariants.{At, Nothing}
 use Rattle.table_names.specs.Name.{same, name_of}
 use Rattle.table_names.specs.Words as word
 use Rattle.table_children.specs.Children.{keep, children, is_child, key_of}
@@ -66,16 +65,16 @@ repeats_times ns n [] = refl
 repeats_times ns n (a ∷ l) = after_times ns n a l
 
 module _ (ns names : List ℕ) where
-  key_made : (f : Found) (b : Bool) → to_list (cond b (if_proto ns names f) Nothing) ≡ cond (b && named_proto ns names f) (number f ∷ []) []
-  key_made (At m) true = go (eqb (kind_of ns m.0) k.IdentifierReference) (same (name_of ns names m.0) word.proto)
+  key_made : (f : Option NodeId) (b : Bool) → to_list (cond b (if_proto ns names f) None) ≡ cond (b && named_proto ns names f) (number f ∷ []) []
+  key_made (Some m) true = go (eqb (kind_of ns m.0) k.IdentifierReference) (same (name_of ns names m.0) word.proto)
     where
-      go : (r x : Bool) → to_list (cond r Nothing (cond x (At m) Nothing)) ≡ cond (not r && x) (m.0 ∷ []) []
+      go : (r x : Bool) → to_list (cond r None (cond x (Some m) None)) ≡ cond (not r && x) (m.0 ∷ []) []
       go true x = refl
       go false true = refl
       go false false = refl
-  key_made (At m) false = refl
-  key_made Nothing true = refl
-  key_made Nothing false = refl
+  key_made (Some m) false = refl
+  key_made None true = refl
+  key_made None false = refl
 
   -- the properties, by their key alone
   abbrev keyed : ℕ → Bool
@@ -124,19 +123,19 @@ module _ (ns names : List ℕ) where
       go false e = sym (ap (times n) (no_object n e))
 
   -- a key that is written so is no reference
-  no_reference : (m : ℕ) → written_key ns (At (record { 0 = m })) ≡ true → eqb (kind_of ns m) k.IdentifierReference ≡ false
+  no_reference : (m : ℕ) → written_key ns (Some (record { 0 = m })) ≡ true → eqb (kind_of ns m) k.IdentifierReference ≡ false
   no_reference m w = ne_eqb (kind_of ns m) k.IdentifierReference (λ (e : kind_of ns m ≡ 32). never (sym w ∙ rw e))
 
   -- the name that a key gives is its PropName
-  key_plain : (f : Found) → (named_proto ns names f ≡ true → written_key ns f ≡ true) → named_proto ns names f ≡ same (cond (literal_name ns f) (name_found ns names f) []) word.proto
+  key_plain : (f : Option NodeId) → (named_proto ns names f ≡ true → written_key ns f ≡ true) → named_proto ns names f ≡ same (cond (literal_name ns f) (name_found ns names f) []) word.proto
   unfolding same
-  key_plain (At m) w = rw (literal_written ns (At m)) (go (written_key ns (At m)) refl (named_proto ns names (At m)) refl)
+  key_plain (Some m) w = rw (literal_written ns (Some m)) (go (written_key ns (Some m)) refl (named_proto ns names (Some m)) refl)
     where
-      go : (c : Bool) → written_key ns (At m) ≡ c → (b : Bool) → named_proto ns names (At m) ≡ b → named_proto ns names (At m) ≡ same (cond c (name_of ns names m.0) []) word.proto
+      go : (c : Bool) → written_key ns (Some m) ≡ c → (b : Bool) → named_proto ns names (Some m) ≡ b → named_proto ns names (Some m) ≡ same (cond c (name_of ns names m.0) []) word.proto
       go true c b q = rw (no_reference m.0 c)
       go false c true q = never (sym (w q) ∙ c)
       go false c false q = q
-  key_plain Nothing w = refl
+  key_plain None w = refl
 
   proto_same : (p : ℕ) → has_flag (flags_of ns p) flag.PrivateKey ≡ false → (named_proto ns names (key_of ns p) ≡ true → written_key ns (key_of ns p) ≡ true) → is_keyed_proto ns names p ≡ is_proto ns names p
   unfolding is_keyed_proto is_proto prop_name key_name

@@ -1,29 +1,28 @@
 -- ECMA-262, 15.7 Class Definitions, 15.7.1 Static Semantics: Early Errors, and 13.2.5 Object Initializer, 13.2.5.1 Static Semantics: Early Errors: those on the elements of one class or one object.
-use Rattle.std.specs.Prelude.{ℕ, List, [], ◌∷◌, Bool, false, cond, not, ◌&&◌, ◌||◌, eqb, ltb, length}
+use Rattle.table_records.specs.declared.NodeId.{NodeId}
+use Rattle.std.specs.Prelude.{ℕ, List, [], ◌∷◌, Bool, false, cond, not, ◌&&◌, ◌||◌, eqb, ltb, length, Option, Some, None}
 use Rattle.base_common.specs.Tests.{within}
 use Rattle.table_records.specs.Table.{kind_of, parent_of, flags_of, extra_of, has_flag}
 use Rattle.table_records.specs.Kinds as k
 use Rattle.table_records.specs.Extras as extra
 use Rattle.table_records.specs.NodeFlag as flag
-use Rattle.table_records.specs.declared.Found.{Found}
-use Rattle.table_records.specs.declared.Found.TheVariants.{At, Nothing}
 use Rattle.table_names.specs.Name.{same, name_of}
 use Rattle.table_names.specs.Words as word
 use Rattle.table_children.specs.Children.{keep, children, first_child, key_of, inner_of, class_body_of, is_node, found}
 
 -- the name at the key of an element or a property; no name is []
-abbrev pub name_found : List ℕ → List ℕ → Found → List ℕ
-name_found ns names (At m) = name_of ns names m.0
-name_found ns names Nothing = []
+abbrev pub name_found : List ℕ → List ℕ → Option NodeId → List ℕ
+name_found ns names (Some m) = name_of ns names m.0
+name_found ns names None = []
 
 unfoldable pub key_name : List ℕ → List ℕ → ℕ → List ℕ
 key_name ns names e = name_found ns names (key_of ns e)
 
 -- 13.2.5, PropertyName : LiteralPropertyName, ComputedPropertyName. In the tables a LiteralPropertyName is a NumericLiteral, a StringLiteral or, as an IdentifierName or a bigint, a node of no other
 -- kind that holds nothing. "[ AssignmentExpression ]" is the expression, of another kind, or a node that holds it.
-abbrev pub literal_name : List ℕ → Found → Bool
-literal_name ns (At m) = within (kind_of ns m.0) k.NumericLiteral k.StringLiteral || (eqb (kind_of ns m.0) k.AnythingElse && not (found (inner_of ns m.0)))
-literal_name ns Nothing = false
+abbrev pub literal_name : List ℕ → Option NodeId → Bool
+literal_name ns (Some m) = within (kind_of ns m.0) k.NumericLiteral k.StringLiteral || (eqb (kind_of ns m.0) k.AnythingElse && not (found (inner_of ns m.0)))
+literal_name ns None = false
 
 -- 8.6.5 PropName: the name of a LiteralPropertyName; a ComputedPropertyName has none, and a PrivateIdentifier is no PropertyName
 unfoldable pub prop_name : List ℕ → List ℕ → ℕ → List ℕ
@@ -38,9 +37,9 @@ abbrev pub is_static : List ℕ → ℕ → Bool
 is_static ns e = has_flag (flags_of ns e) flag.Static
 
 -- the elements of the class n
-abbrev pub elements_in : List ℕ → Found → List ℕ
-elements_in ns (At b) = children ns b.0
-elements_in ns Nothing = []
+abbrev pub elements_in : List ℕ → Option NodeId → List ℕ
+elements_in ns (Some b) = children ns b.0
+elements_in ns None = []
 
 unfoldable pub class_elements : List ℕ → ℕ → List ℕ
 class_elements ns n = elements_in ns (class_body_of ns n)
@@ -62,9 +61,9 @@ unfoldable pub is_constructor_kind : List ℕ → List ℕ → ℕ → Bool
 is_constructor_kind ns names e = eqb (kind_of ns e) k.MethodDefinition && names_constructor ns names e
 
 -- 15.7.3 ConstructorMethod of ClassElementList: its first element of that kind
-unfoldable pub constructor_method : List ℕ → List ℕ → List ℕ → Found
-constructor_method ns names [] = Nothing
-constructor_method ns names (e ∷ es) = cond (is_constructor_kind ns names e) (At (record { 0 = e })) (constructor_method ns names es)
+unfoldable pub constructor_method : List ℕ → List ℕ → List ℕ → Option NodeId
+constructor_method ns names [] = None
+constructor_method ns names (e ∷ es) = cond (is_constructor_kind ns names e) (Some (record { 0 = e })) (constructor_method ns names es)
 
 -- .. of ClassBody: e is that element of the ClassBody around it
 unfoldable pub is_first_constructor : List ℕ → List ℕ → ℕ → Bool

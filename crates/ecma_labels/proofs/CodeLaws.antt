@@ -1,5 +1,7 @@
 -- THE FINDINGS 18 TO 23 OF A NODE: each code is raised at exactly the nodes where its rule is broken, once.
-use Rattle.std.specs.Prelude.{ℕ, suc, ◌<◌, ◌≡◌, Bool, cond, ◌&&◌, ◌||◌, ◌⊎◌}
+use Rattle.check_diagnostics.specs.declared.Finding.{Finding}
+use Rattle.table_records.specs.declared.NodeId.{NodeId}
+use Rattle.std.specs.Prelude.{ℕ, suc, ◌<◌, ◌≡◌, Bool, cond, ◌&&◌, ◌||◌, ◌⊎◌, Option, Some, None}
 use Rattle.std.proofs.Math.Path.{refl, ap}
 use Rattle.std.proofs.Common.{sym, ◌∙◌, subst, eq-or-lt_of_le, arith}
 use Rattle.std.proofs.Math.Bool.{true, false, not}
@@ -11,13 +13,9 @@ use Rattle.base_common.specs.Tests.{within}
 use Rattle.base_common.proofs.Bools.{in_range_lem, range_of}
 use Rattle.table_records.specs.Table.{kind_of, count}
 use Rattle.table_records.specs.Facts.{Tree}
-use Rattle.table_records.specs.declared.Found.{Found}
-use Rattle.table_records.specs.declared.Found.TheVariants.{At, Nothing}
 use Rattle.table_names.specs.Name.{name_of, has}
 use Rattle.table_children.specs.Children.{label_of}
 use Rattle.refusal_input.specs.WellFormed.{Shaped}
-use Rattle.check_diagnostics.specs.declared.Raised.{Raised}
-use Rattle.check_diagnostics.specs.declared.Raised.TheVariants.{Clear}
 use Rattle.check_diagnostics.specs.Finding.{listed, error_at, error_between}
 use Rattle.check_jumps.specs.Jumps.{when_found, walk_up, no_label, plain_continue_at, labelled_continue_at, check_continue_statement, check_break_statement, check_labeled_statement}
 use Rattle.check_jumps.proofs.JumpsLaws.{item_here}
@@ -45,8 +43,8 @@ and_false false = refl
 
 -- A CONTINUE WITH A LABEL: r is what the walk gives; x, the label set has the label; i, the iteration set has it
 module _ (ns : List ℕ) (n l kind : ℕ) where
-  abbrev pub Known : Bool → Raised → Type 0
-  Known x r = (x ≡ false → r ≡ no_label ns n l kind) × (x ≡ true → (r ≡ Clear) ⊎ ((m : ℕ) × (r ≡ error_between ns 22 n m l)))
+  abbrev pub Known : Bool → Option Finding → Type 0
+  Known x r = (x ≡ false → r ≡ no_label ns n l kind) × (x ≡ true → (r ≡ None) ⊎ ((m : ℕ) × (r ≡ error_between ns 22 n m l)))
 
   none19 : raised 19 (listed (no_label ns n l kind)) ≡ only (eqb kind 0) n
   unfolding no_label nodes_of with_code
@@ -80,25 +78,25 @@ module _ (ns : List ℕ) (n l kind : ℕ) where
       go true = refl
       go false = refl
 
-  labelled19 : (x : Bool) (r : Raised) → Known x r → raised 19 (listed r) ≡ only (not x && eqb kind 0) n
+  labelled19 : (x : Bool) (r : Option Finding) → Known x r → raised 19 (listed r) ≡ only (not x && eqb kind 0) n
   unfolding nodes_of with_code
   labelled19 false r e = ap (λ r. raised 19 (listed r)) (e.0 refl) ∙ none19
   labelled19 true r e =
       ⊎_elim (λ q. ap (λ r. raised 19 (listed r)) q) (λ q. ap (λ r. raised 19 (listed r)) q.1) (e.1 refl)
 
-  labelled20 : (x : Bool) (r : Raised) → Known x r → raised 20 (listed r) ≡ only (not x && not (eqb kind 0)) n
+  labelled20 : (x : Bool) (r : Option Finding) → Known x r → raised 20 (listed r) ≡ only (not x && not (eqb kind 0)) n
   unfolding nodes_of with_code
   labelled20 false r e = ap (λ r. raised 20 (listed r)) (e.0 refl) ∙ none20
   labelled20 true r e =
       ⊎_elim (λ q. ap (λ r. raised 20 (listed r)) q) (λ q. ap (λ r. raised 20 (listed r)) q.1) (e.1 refl)
 
-  labelled21 : (x : Bool) (r : Raised) → Known x r → raised 21 (listed r) ≡ []
+  labelled21 : (x : Bool) (r : Option Finding) → Known x r → raised 21 (listed r) ≡ []
   unfolding nodes_of with_code
   labelled21 false r e = ap (λ r. raised 21 (listed r)) (e.0 refl) ∙ none21
   labelled21 true r e =
       ⊎_elim (λ q. ap (λ r. raised 21 (listed r)) q) (λ q. ap (λ r. raised 21 (listed r)) q.1) (e.1 refl)
 
-  labelled22 : (x i : Bool) (r : Raised) → Known x r → is_clear r ≡ i → raised 22 (listed r) ≡ only (not i && x) n
+  labelled22 : (x i : Bool) (r : Option Finding) → Known x r → is_clear r ≡ i → raised 22 (listed r) ≡ only (not i && x) n
   unfolding nodes_of with_code
   labelled22 false i r e c = ap (λ r. raised 22 (listed r)) (e.0 refl) ∙ none22 ∙ ap (λ b. only b n) (sym (and_false (not i)))
   labelled22 true i r e c =
@@ -129,37 +127,37 @@ module _ (ns names : List ℕ) (t : Tree ns) where
   unfolding nodes_of with_code
   continue19 n z h = rw (label_in_is ns t n h) (go (label_of ns n))
     where
-      plain : (b : Bool) → nodes_of (with_code 19 (listed (cond b Clear (error_at ns 21 n n 0)))) ≡ []
+      plain : (b : Bool) → nodes_of (with_code 19 (listed (cond b None (error_at ns 21 n n 0)))) ≡ []
       plain true = refl
       plain false = refl
 
-      go : (L : Found) → nodes_of (with_code 19 (listed (when_found L (λ l. walk_up ns (labelled_continue_at ns names n l) n) (walk_up ns (plain_continue_at ns n) n)))) ≡ only (lacks ns names (label_set_at ns names n) L && in_program ns names n) n
-      go (At l) = labelled19 ns n l.0 (kind_of ns (home_of ns (is_unit ns) n)) (has (label_set_at ns names n) (name_of ns names l.0)) (walk_up ns (labelled_continue_at ns names n l.0) n) (went_is ns names t n l.0 n z h)
-      go Nothing = ap (λ r. raised 19 (listed r)) (plain_continue_is ns names t n n z h) ∙ plain (in_loop ns names n)
+      go : (L : Option NodeId) → nodes_of (with_code 19 (listed (when_found L (λ l. walk_up ns (labelled_continue_at ns names n l) n) (walk_up ns (plain_continue_at ns n) n)))) ≡ only (lacks ns names (label_set_at ns names n) L && in_program ns names n) n
+      go (Some l) = labelled19 ns n l.0 (kind_of ns (home_of ns (is_unit ns) n)) (has (label_set_at ns names n) (name_of ns names l.0)) (walk_up ns (labelled_continue_at ns names n l.0) n) (went_is ns names t n l.0 n z h)
+      go None = ap (λ r. raised 19 (listed r)) (plain_continue_is ns names t n n z h) ∙ plain (in_loop ns names n)
 
   continue20 : (n : ℕ) → 0 < n → n < count ns → raised 20 (listed (check_continue_statement ns names n)) ≡ only (lacks ns names (label_set_at ns names n) (label_at ns names n) && not (in_program ns names n)) n
   unfolding nodes_of with_code
   continue20 n z h = rw (label_in_is ns t n h) (go (label_of ns n))
     where
-      plain : (b : Bool) → nodes_of (with_code 20 (listed (cond b Clear (error_at ns 21 n n 0)))) ≡ []
+      plain : (b : Bool) → nodes_of (with_code 20 (listed (cond b None (error_at ns 21 n n 0)))) ≡ []
       plain true = refl
       plain false = refl
 
-      go : (L : Found) → nodes_of (with_code 20 (listed (when_found L (λ l. walk_up ns (labelled_continue_at ns names n l) n) (walk_up ns (plain_continue_at ns n) n)))) ≡ only (lacks ns names (label_set_at ns names n) L && not (in_program ns names n)) n
-      go (At l) = labelled20 ns n l.0 (kind_of ns (home_of ns (is_unit ns) n)) (has (label_set_at ns names n) (name_of ns names l.0)) (walk_up ns (labelled_continue_at ns names n l.0) n) (went_is ns names t n l.0 n z h)
-      go Nothing = ap (λ r. raised 20 (listed r)) (plain_continue_is ns names t n n z h) ∙ plain (in_loop ns names n)
+      go : (L : Option NodeId) → nodes_of (with_code 20 (listed (when_found L (λ l. walk_up ns (labelled_continue_at ns names n l) n) (walk_up ns (plain_continue_at ns n) n)))) ≡ only (lacks ns names (label_set_at ns names n) L && not (in_program ns names n)) n
+      go (Some l) = labelled20 ns n l.0 (kind_of ns (home_of ns (is_unit ns) n)) (has (label_set_at ns names n) (name_of ns names l.0)) (walk_up ns (labelled_continue_at ns names n l.0) n) (went_is ns names t n l.0 n z h)
+      go None = ap (λ r. raised 20 (listed r)) (plain_continue_is ns names t n n z h) ∙ plain (in_loop ns names n)
 
   continue21 : (n : ℕ) → 0 < n → n < count ns → raised 21 (listed (check_continue_statement ns names n)) ≡ only (unlabelled (label_at ns names n) && not (in_loop ns names n)) n
   unfolding nodes_of with_code
   continue21 n z h = rw (label_in_is ns t n h) (go (label_of ns n))
     where
-      plain : (b : Bool) → nodes_of (with_code 21 (listed (cond b Clear (error_at ns 21 n n 0)))) ≡ only (not b) n
+      plain : (b : Bool) → nodes_of (with_code 21 (listed (cond b None (error_at ns 21 n n 0)))) ≡ only (not b) n
       plain true = refl
       plain false = refl
 
-      go : (L : Found) → nodes_of (with_code 21 (listed (when_found L (λ l. walk_up ns (labelled_continue_at ns names n l) n) (walk_up ns (plain_continue_at ns n) n)))) ≡ only (unlabelled L && not (in_loop ns names n)) n
-      go (At l) = labelled21 ns n l.0 (kind_of ns (home_of ns (is_unit ns) n)) (has (label_set_at ns names n) (name_of ns names l.0)) (walk_up ns (labelled_continue_at ns names n l.0) n) (went_is ns names t n l.0 n z h)
-      go Nothing = ap (λ r. raised 21 (listed r)) (plain_continue_is ns names t n n z h) ∙ plain (in_loop ns names n)
+      go : (L : Option NodeId) → nodes_of (with_code 21 (listed (when_found L (λ l. walk_up ns (labelled_continue_at ns names n l) n) (walk_up ns (plain_continue_at ns n) n)))) ≡ only (unlabelled L && not (in_loop ns names n)) n
+      go (Some l) = labelled21 ns n l.0 (kind_of ns (home_of ns (is_unit ns) n)) (has (label_set_at ns names n) (name_of ns names l.0)) (walk_up ns (labelled_continue_at ns names n l.0) n) (went_is ns names t n l.0 n z h)
+      go None = ap (λ r. raised 21 (listed r)) (plain_continue_is ns names t n n z h) ∙ plain (in_loop ns names n)
 
   module _ (w : Shaped ns) where
     -- nothing is raised at a labelled continue just where its label is in the iteration set
@@ -174,17 +172,17 @@ module _ (ns names : List ℕ) (t : Tree ns) where
     unfolding nodes_of with_code
     continue22 n h k = rw (label_in_is ns t n h) (go (label_of ns n))
       where
-        plain : (b : Bool) → nodes_of (with_code 22 (listed (cond b Clear (error_at ns 21 n n 0)))) ≡ []
+        plain : (b : Bool) → nodes_of (with_code 22 (listed (cond b None (error_at ns 21 n n 0)))) ≡ []
         plain true = refl
         plain false = refl
 
-        go : (L : Found)
+        go : (L : Option NodeId)
             → nodes_of (with_code 22 (listed (when_found L (λ l. walk_up ns (labelled_continue_at ns names n l) n) (walk_up ns (plain_continue_at ns n) n))))
             ≡ only (lacks ns names (nearest_at ns names n).0 L && contains ns names (label_set_at ns names n) L) n
-        go (At l) =
+        go (Some l) =
             labelled22 ns n l.0 (kind_of ns (home_of ns (is_unit ns) n)) (has (label_set_at ns names n) (name_of ns names l.0)) (has (nearest_at ns names n).0 (name_of ns names l.0))
             (walk_up ns (labelled_continue_at ns names n l.0) n) (went_is ns names t n l.0 n (later n 18 k) h) (clear_at n l.0 h k)
-        go Nothing = ap (λ r. raised 22 (listed r)) (plain_continue_is ns names t n n (later n 18 k) h) ∙ plain (in_loop ns names n)
+        go None = ap (λ r. raised 22 (listed r)) (plain_continue_is ns names t n n (later n 18 k) h) ∙ plain (in_loop ns names n)
 
   -- THE FINDINGS OF A NODE
   module _ (source_type : ℕ) (ss source : List ℕ) where

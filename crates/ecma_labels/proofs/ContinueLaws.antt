@@ -1,5 +1,7 @@
 -- What the check of a continue raises, by what is handed down to the statement.
-use Rattle.std.specs.Prelude.{ℕ, ◌+◌, ◌≤◌, ◌<◌, ◌≡◌, Bool, ◌&&◌, ◌||◌, ◌⊎◌, eqb}
+use Rattle.check_diagnostics.specs.declared.Finding.{Finding}
+use Rattle.table_records.specs.declared.NodeId.{NodeId}
+use Rattle.std.specs.Prelude.{ℕ, ◌+◌, ◌≤◌, ◌<◌, ◌≡◌, Bool, ◌&&◌, ◌||◌, ◌⊎◌, eqb, Option, Some, None}
 use Rattle.std.proofs.Math.Path.{refl, ap}
 use Rattle.std.proofs.Common.{sym, ◌∙◌, true≢false, eqb-true, arith}
 use Rattle.std.proofs.Math.Bool.{true, false, cond}
@@ -8,14 +10,10 @@ use Rattle.std.proofs.Math.Logic.{inl, inr}
 use Rattle.std.proofs.lemmas.Bool.{eqb-false}
 use Rattle.table_records.specs.Table.{kind_of, parent_of, count}
 use Rattle.table_records.specs.Facts.{Tree}
-use Rattle.table_records.specs.declared.Found.{Found}
-use Rattle.table_records.specs.declared.Found.TheVariants.{At, Nothing}
 use Rattle.table_names.specs.Name.{same, name_of, has}
 use Rattle.table_names.proofs.NameLaws.{same_eq}
 use Rattle.table_children.specs.Children.{label_of}
 use Rattle.refusal_input.specs.WellFormed.{Shaped}
-use Rattle.check_diagnostics.specs.declared.Raised.{Raised}
-use Rattle.check_diagnostics.specs.declared.Raised.TheVariants.{Error, Clear}
 use Rattle.check_diagnostics.specs.Finding.{error_at, error_between}
 use Rattle.check_jumps.specs.Jumps.{when_found, walk_up, same_label, no_label, labeled_item, continue_to, plain_continue_at, labelled_continue_at}
 use Rattle.check_jumps.proofs.JumpsLaws.{item_here, item_down}
@@ -66,9 +64,9 @@ and_true : (b : Bool) → (b && true) ≡ b
 and_true true = refl
 and_true false = refl
 
-abbrev pub is_clear : Raised → Bool
-is_clear (Error f) = false
-is_clear Clear = true
+abbrev pub is_clear : Option Finding → Bool
+is_clear (Some f) = false
+is_clear None = true
 
 -- a statement is, or labels, an iteration statement
 abbrev pub loopy : List ℕ → ℕ → Bool
@@ -77,50 +75,50 @@ loopy ns j = is_iteration (kind_of ns (labeled_item ns j))
 module _ (ns names : List ℕ) (t : Tree ns) where
   -- CONTINUE WITHOUT A LABEL
   module _ (n : ℕ) where
-    plain_step : (b s : Bool) (r : Raised) → r ≡ cond s Clear (error_at ns 21 n n 0) → cond b Clear r ≡ cond (cond b true s) Clear (error_at ns 21 n n 0)
+    plain_step : (b s : Bool) (r : Option Finding) → r ≡ cond s None (error_at ns 21 n n 0) → cond b None r ≡ cond (cond b true s) None (error_at ns 21 n n 0)
     plain_step true s r e = refl
     plain_step false s r e = e
 
-    pub plain_continue_is : (j : ℕ) → 0 < j → j < count ns → walk_up ns (plain_continue_at ns n) j ≡ cond (in_loop ns names j) Clear (error_at ns 21 n n 0)
+    pub plain_continue_is : (j : ℕ) → 0 < j → j < count ns → walk_up ns (plain_continue_at ns n) j ≡ cond (in_loop ns names j) None (error_at ns 21 n n 0)
     unfolding walk_up plain_continue_at in_loop
     plain_continue_is =
-        units_agree ns t (is_unit ns) (root_unit ns names t) false (loop_down ns names) (plain_continue_at ns n) Clear (λ j h s r. r ≡ cond s Clear (error_at ns 21 n n 0))
+        units_agree ns t (is_unit ns) (root_unit ns names t) false (loop_down ns names) (plain_continue_at ns n) None (λ j h s r. r ≡ cond s None (error_at ns 21 n n 0))
         (λ j z h x. rw x)
         (λ j z h x u s r e. rw x (plain_step (is_iteration (kind_of ns (parent_of ns j))) s r e))
 
   -- what is handed down, by the tests
-  abbrev nearest_by : Bool → Bool → Found → List (List ℕ) × List (List ℕ) → List (List ℕ) × List (List ℕ)
+  abbrev nearest_by : Bool → Bool → Option NodeId → List (List ℕ) × List (List ℕ) → List (List ℕ) × List (List ℕ)
   nearest_by b v L s = cond b (hiding ns names s.0 L, adding ns names s.1 L) (cond v (s.0 ++ s.1, []) (s.0, []))
 
   -- CONTINUE WITH A LABEL
   module _ (n l : ℕ) where
     -- no label, or one: then nothing is raised, or 22
-    abbrev pub Went : ℕ → List (List ℕ) → Raised → Type 0
+    abbrev pub Went : ℕ → List (List ℕ) → Option Finding → Type 0
     Went h S r =
         (has S (name_of ns names l) ≡ false → r ≡ no_label ns n l (kind_of ns h))
-        × (has S (name_of ns names l) ≡ true → (r ≡ Clear) ⊎ ((m : ℕ) × (r ≡ error_between ns 22 n m l)))
+        × (has S (name_of ns names l) ≡ true → (r ≡ None) ⊎ ((m : ℕ) × (r ≡ error_between ns 22 n m l)))
 
-    went_step : (a h : ℕ) (b : Bool) (L : Found) (S : List (List ℕ)) (r : Raised) → Went h S r → Went h (cond b (adding ns names S L) S) (when_found (same_by ns names t b L l) (λ m. continue_to ns n l a m) r)
+    went_step : (a h : ℕ) (b : Bool) (L : Option NodeId) (S : List (List ℕ)) (r : Option Finding) → Went h S r → Went h (cond b (adding ns names S L) S) (when_found (same_by ns names t b L l) (λ m. continue_to ns n l a m) r)
     unfolding same_by continue_to
-    went_step a h true (At m) S r e = go (same (name_of ns names m.0) (name_of ns names l))
+    went_step a h true (Some m) S r e = go (same (name_of ns names m.0) (name_of ns names l))
       where
-        to : (b : Bool) → (cond b Clear (error_between ns 22 n m.0 l) ≡ Clear) ⊎ ((k : ℕ) × (cond b Clear (error_between ns 22 n m.0 l) ≡ error_between ns 22 n k l))
+        to : (b : Bool) → (cond b None (error_between ns 22 n m.0 l) ≡ None) ⊎ ((k : ℕ) × (cond b None (error_between ns 22 n m.0 l) ≡ error_between ns 22 n k l))
         to true = inl refl
         to false = inr (m.0, refl)
 
         go : (x : Bool)
-            → ((x || has S (name_of ns names l)) ≡ false → when_found (cond x (At (record { 0 = m.0 })) Nothing) (λ m. continue_to ns n l a m) r ≡ no_label ns n l (kind_of ns h))
-            × ((x || has S (name_of ns names l)) ≡ true → (when_found (cond x (At (record { 0 = m.0 })) Nothing) (λ m. continue_to ns n l a m) r ≡ Clear)
-            ⊎ ((k : ℕ) × (when_found (cond x (At (record { 0 = m.0 })) Nothing) (λ m. continue_to ns n l a m) r ≡ error_between ns 22 n k l)))
+            → ((x || has S (name_of ns names l)) ≡ false → when_found (cond x (Some (record { 0 = m.0 })) None) (λ m. continue_to ns n l a m) r ≡ no_label ns n l (kind_of ns h))
+            × ((x || has S (name_of ns names l)) ≡ true → (when_found (cond x (Some (record { 0 = m.0 })) None) (λ m. continue_to ns n l a m) r ≡ None)
+            ⊎ ((k : ℕ) × (when_found (cond x (Some (record { 0 = m.0 })) None) (λ m. continue_to ns n l a m) r ≡ error_between ns 22 n k l)))
         go true = ((λ q. absurd (true≢false q)), λ q. to (loopy ns a))
         go false = e
-    went_step a h true Nothing S r e = e
+    went_step a h true None S r e = e
     went_step a h false L S r e = e
 
     pub went_is : (j : ℕ) → 0 < j → j < count ns → Went (home_of ns (is_unit ns) j) (label_set_at ns names j) (walk_up ns (labelled_continue_at ns names n l) j)
     unfolding walk_up labelled_continue_at label_set_at same_label same_by
     went_is =
-        units_agree ns t (is_unit ns) (root_unit ns names t) [] (labels_down ns names) (labelled_continue_at ns names n l) Clear (λ j h S r. Went h S r)
+        units_agree ns t (is_unit ns) (root_unit ns names t) [] (labels_down ns names) (labelled_continue_at ns names n l) None (λ j h S r. Went h S r)
         (λ j z h x. rw x ((λ q. refl), λ q. absurd (true≢false (sym q))))
         (λ j z h x u S r e.
         let p = t.falls j z h in
@@ -135,26 +133,26 @@ module _ (ns names : List ℕ) (t : Tree ns) where
         go false = refl
 
     -- one step up: hj, the node is or labels a loop; what is above it is a Labeled (b), a loop (v) or neither
-    clear_step : (a : ℕ) (b v hj : Bool) (L : Found) (s : List (List ℕ) × List (List ℕ)) (r : Raised) → (b ≡ true → loopy ns a ≡ hj)
+    clear_step : (a : ℕ) (b v hj : Bool) (L : Option NodeId) (s : List (List ℕ) × List (List ℕ)) (r : Option Finding) → (b ≡ true → loopy ns a ≡ hj)
         → is_clear r ≡ (has s.0 (name_of ns names l) || (has s.1 (name_of ns names l) && cond b hj v))
         → is_clear (when_found (same_by ns names t b L l) (λ m. continue_to ns n l a m) r)
         ≡ (has (nearest_by b v L s).0 (name_of ns names l) || (has (nearest_by b v L s).1 (name_of ns names l) && hj))
     unfolding same_by continue_to
-    clear_step a true v hj (At m) s r q e = go (same (name_of ns names m.0) (name_of ns names l)) refl
+    clear_step a true v hj (Some m) s r q e = go (same (name_of ns names m.0) (name_of ns names l)) refl
       where
-        to : (b : Bool) → is_clear (cond b Clear (error_between ns 22 n m.0 l)) ≡ b
+        to : (b : Bool) → is_clear (cond b None (error_between ns 22 n m.0 l)) ≡ b
         to true = refl
         to false = refl
 
         go : (x : Bool) → same (name_of ns names m.0) (name_of ns names l) ≡ x
-            → is_clear (when_found (cond x (At (record { 0 = m.0 })) Nothing) (λ m. continue_to ns n l a m) r)
+            → is_clear (when_found (cond x (Some (record { 0 = m.0 })) None) (λ m. continue_to ns n l a m) r)
             ≡ (has (without s.0 (name_of ns names m.0)) (name_of ns names l) || ((x || has s.1 (name_of ns names l)) && hj))
         go true z =
             let g : has (without s.0 (name_of ns names m.0)) (name_of ns names l) ≡ false
             = ap (λ y. has (without s.0 y) (name_of ns names l)) (same_eq (name_of ns names m.0) (name_of ns names l) z) ∙ without_self s.0 (name_of ns names l) in
             rw (g, q refl) (to hj)
         go false z = e ∙ ap (λ b. b || (has s.1 (name_of ns names l) && hj)) (sym (without_other s.0 (name_of ns names m.0) (name_of ns names l) z))
-    clear_step a true v hj Nothing s r q e = e
+    clear_step a true v hj None s r q e = e
     clear_step a false true hj L s r q e =
         e ∙ rw (and_true (has s.1 (name_of ns names l)), has_append s.0 s.1 (name_of ns names l), or_false (has s.0 (name_of ns names l) || has s.1 (name_of ns names l)))
     clear_step a false false hj L s r q e = e ∙ rw (and_false (has s.1 (name_of ns names l)))
@@ -174,13 +172,13 @@ module _ (ns names : List ℕ) (t : Tree ns) where
               let f = t.falls j z h in
               ap (λ i. is_iteration (kind_of ns i)) (item_here ns (parent_of ns j) (omega arith) (eqb-false (kind_of ns (parent_of ns j)) 6 x))
 
-      abbrev pub Cleared : ℕ → List (List ℕ) × List (List ℕ) → Raised → Type 0
+      abbrev pub Cleared : ℕ → List (List ℕ) × List (List ℕ) → Option Finding → Type 0
       Cleared j s r = 4 ≤ kind_of ns j → kind_of ns j ≤ 19 → is_clear r ≡ (has s.0 (name_of ns names l) || (has s.1 (name_of ns names l) && loopy ns j))
 
       pub clear_is : (j : ℕ) → 0 < j → j < count ns → Cleared j (nearest_at ns names j) (walk_up ns (labelled_continue_at ns names n l) j)
       unfolding walk_up labelled_continue_at nearest_at same_label same_by
       clear_is =
-          units_agree ns t (is_unit ns) (root_unit ns names t) ([], []) (nearest_down ns names) (labelled_continue_at ns names n l) Clear (λ j h s r. Cleared j s r)
+          units_agree ns t (is_unit ns) (root_unit ns names t) ([], []) (nearest_down ns names) (labelled_continue_at ns names n l) None (λ j h s r. Cleared j s r)
           (λ j z h x p q. rw x (no_clear (kind_of ns (parent_of ns j))))
           (λ j z h x u s r e p q.
           let f = t.falls j z h in

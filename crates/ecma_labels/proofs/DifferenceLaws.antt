@@ -1,6 +1,7 @@
 -- The changed rules beside the standard's: how the codes add up to them, and where both agree.
+use Rattle.table_records.specs.declared.NodeId.{NodeId}
 use Prim.Native.Nat.{ℕ, zero, suc, ◌+◌, ◌≤◌, ◌<◌}
-use Rattle.std.specs.Prelude.{◌≡◌, Bool, ◌&&◌, ◌||◌, ◌⊎◌}
+use Rattle.std.specs.Prelude.{◌≡◌, Bool, ◌&&◌, ◌||◌, ◌⊎◌, Option, Some, None}
 use Rattle.std.proofs.Math.Path.{refl, sym, ap, subst}
 use Rattle.std.proofs.Common.{◌∙◌, true≢false, eq-or-lt_of_le, arith}
 use Rattle.std.proofs.Math.Bool.{true, false, cond, not}
@@ -14,8 +15,6 @@ use Rattle.base_common.proofs.Bools.{in_range_lem}
 use Rattle.base_walk.proofs.AboveLaws.{fold_up}
 use Rattle.table_records.specs.Table.{kind_of, parent_of, count}
 use Rattle.table_records.specs.Facts.{Tree}
-use Rattle.table_records.specs.declared.Found.{Found}
-use Rattle.table_records.specs.declared.Found.TheVariants.{At, Nothing}
 use Rattle.table_names.specs.Name.{same, name_of, has}
 use Rattle.table_names.proofs.NameLaws.{same_eq}
 use Rattle.table_children.specs.Children.{label_of}
@@ -66,7 +65,7 @@ module _ (ns names : List ℕ) (t : Tree ns) where
           rw (code19 ns names t source_type ss source j h, code20 ns names t source_type ss source j h, code22 ns names t source_type ss source w j h, label_in_is ns t j h)
           (go (eqb (kind_of ns j) 18) refl (eqb (kind_of ns j) 19) refl (label_of ns j))
         where
-          go : (b : Bool) → eqb (kind_of ns j) 18 ≡ b → (c : Bool) → eqb (kind_of ns j) 19 ≡ c → (L : Found)
+          go : (b : Bool) → eqb (kind_of ns j) 18 ≡ b → (c : Bool) → eqb (kind_of ns j) 19 ≡ c → (L : Option NodeId)
               → only ((within (kind_of ns j) 18 19 && lacks ns names (label_set_at ns names j) L) && in_program ns names j) j
               ++ (only ((within (kind_of ns j) 18 19 && lacks ns names (label_set_at ns names j) L) && not (in_program ns names j)) j
               ++ only ((c && lacks ns names (nearest_at ns names j).0 L) && contains ns names (label_set_at ns names j) L) j)
@@ -75,24 +74,24 @@ module _ (ns names : List ℕ) (t : Tree ns) where
           go true q false r L =
               let k = eqb-true (kind_of ns j) 18 q in
               rw (in_range_lem (kind_of ns j) 18 19 (omega arith) (omega arith)) (of_break j (lacks ns names (label_set_at ns names j) L) (in_program ns names j))
-          go false q true r (At l) =
+          go false q true r (Some l) =
               let k = eqb-true (kind_of ns j) 19 r in
               rw (in_range_lem (kind_of ns j) 18 19 (omega arith) (omega arith))
               (of_continue j (has (label_set_at ns names j) (name_of ns names l.0)) (has (nearest_at ns names j).0 (name_of ns names l.0)) (in_program ns names j) (fewer j l.0 h k))
-          go false q true r Nothing =
+          go false q true r None =
               let k = eqb-true (kind_of ns j) 19 r in
               rw (in_range_lem (kind_of ns j) 18 19 (omega arith) (omega arith)) refl
           go false q false r L = rw (neither (kind_of ns j) q r) refl
 
   -- the sets of 8.3.3, by the tests of a node
-  abbrev sets_by : Bool → Bool → Bool → Found → List (List ℕ) × List (List ℕ) → List (List ℕ) × List (List ℕ)
+  abbrev sets_by : Bool → Bool → Bool → Option NodeId → List (List ℕ) × List (List ℕ) → List (List ℕ) × List (List ℕ)
   sets_by p b v L s = cond p ([], []) (cond b (s.0, adding ns names s.1 L) (cond v (s.0 ++ s.1, []) (s.0, [])))
 
-  abbrev near_by : Bool → Bool → Found → List (List ℕ) × List (List ℕ) → List (List ℕ) × List (List ℕ)
+  abbrev near_by : Bool → Bool → Option NodeId → List (List ℕ) × List (List ℕ) → List (List ℕ) × List (List ℕ)
   near_by b v L s = cond b (hiding ns names s.0 L, adding ns names s.1 L) (cond v (s.0 ++ s.1, []) (s.0, []))
 
   -- 14.8.1: A LABELLED CONTINUE THAT IS NOT NESTED IN A LOOP BREAKS 8.3.3 TOO
-  not_in : (p b v nested : Bool) (L : Found) (s : List (List ℕ) × List (List ℕ)) → (b ≡ true → v ≡ false) → (nested ≡ false → s.0 ≡ [])
+  not_in : (p b v nested : Bool) (L : Option NodeId) (s : List (List ℕ) × List (List ℕ)) → (b ≡ true → v ≡ false) → (nested ≡ false → s.0 ≡ [])
       → cond p false (cond v true nested) ≡ false → (sets_by p b v L s).0 ≡ []
   not_in true b v nested L s k e q = refl
   not_in false true true nested L s k e q = absurd (true≢false (k refl))
@@ -111,12 +110,12 @@ module _ (ns names : List ℕ) (t : Tree ns) where
   unfolding continue_not_nested_at plain_continue_not_nested_at undefined_continue_at
   not_nested j h = go (eqb (kind_of ns j) 19) (label_at ns names j) (in_loop ns names j) refl
     where
-      go : (c : Bool) (L : Found) (b : Bool) → in_loop ns names j ≡ b
+      go : (c : Bool) (L : Option NodeId) (b : Bool) → in_loop ns names j ≡ b
           → ((c && not b) || (c && lacks ns names (sets_at ns names j).0 L)) ≡ ((c && (unlabelled L && not b)) || (c && lacks ns names (sets_at ns names j).0 L))
       go false L b q = refl
-      go true Nothing b q = refl
-      go true (At l) true q = refl
-      go true (At l) false q = rw (out_of_loops j h q)
+      go true None b q = refl
+      go true (Some l) true q = refl
+      go true (Some l) false q = rw (out_of_loops j h q)
 
   -- the two rules agree at a continue without a label
   pub plain_same : (j : ℕ) → unlabelled (label_at ns names j) ≡ true → continue_not_nested_at ns names j ≡ plain_continue_not_nested_at ns names j
@@ -125,15 +124,15 @@ module _ (ns names : List ℕ) (t : Tree ns) where
 
   -- 8.3.3: WHERE NO LABEL OF THE UNIT STANDS WITHIN ITSELF, THE NEAREST LABEL IS THE ONLY ONE
   -- the sets of 8.3.3 hold no more than the label set of 8.3.1
-  smaller : (y : List ℕ) (p b v : Bool) (L : Found) (s : List (List ℕ) × List (List ℕ)) (S : List (List ℕ)) → (has S y ≡ false → (has s.0 y ≡ false) × (has s.1 y ≡ false))
+  smaller : (y : List ℕ) (p b v : Bool) (L : Option NodeId) (s : List (List ℕ) × List (List ℕ)) (S : List (List ℕ)) → (has S y ≡ false → (has s.0 y ≡ false) × (has s.1 y ≡ false))
       → has (cond p [] (cond b (adding ns names S L) S)) y ≡ false → (has (sets_by p b v L s).0 y ≡ false) × (has (sets_by p b v L s).1 y ≡ false)
   smaller y true b v L s S e h = (refl, refl)
-  smaller y false true v (At m) s S e h = go (same (name_of ns names m.0) y) h
+  smaller y false true v (Some m) s S e h = go (same (name_of ns names m.0) y) h
     where
       go : (x : Bool) → (x || has S y) ≡ false → (has s.0 y ≡ false) × ((x || has s.1 y) ≡ false)
       go true z = absurd (true≢false z)
       go false z = e z
-  smaller y false true v Nothing s S e h = e h
+  smaller y false true v None s S e h = e h
   smaller y false false true L s S e h = (has_append s.0 s.1 y ∙ rw ((e h).0, (e h).1), refl)
   smaller y false false false L s S e h = ((e h).0, refl)
 
@@ -145,17 +144,17 @@ module _ (ns names : List ℕ) (t : Tree ns) where
       (λ a h s S e. smaller y (is_unit ns a) (eqb (kind_of ns a) 6) (is_iteration (kind_of ns a)) (label_at ns names a) s S e)
 
   module _ (u : ℕ) (once : (a : ℕ) → a < count ns → home_of ns (is_unit ns) a ≡ u → duplicate_label_at ns names a ≡ false) where
-    same_step : (y : List ℕ) (b v : Bool) (L : Found) (s r : List (List ℕ) × List (List ℕ)) → (b ≡ true → contains ns names s.0 L ≡ false)
+    same_step : (y : List ℕ) (b v : Bool) (L : Option NodeId) (s r : List (List ℕ) × List (List ℕ)) → (b ≡ true → contains ns names s.0 L ≡ false)
         → (has s.0 y ≡ has r.0 y) × (has s.1 y ≡ has r.1 y)
         → (has (sets_by false b v L s).0 y ≡ has (near_by b v L r).0 y) × (has (sets_by false b v L s).1 y ≡ has (near_by b v L r).1 y)
-    same_step y true v (At m) s r o e = (go (same (name_of ns names m.0) y) refl, ap (λ x. same (name_of ns names m.0) y || x) e.1)
+    same_step y true v (Some m) s r o e = (go (same (name_of ns names m.0) y) refl, ap (λ x. same (name_of ns names m.0) y || x) e.1)
       where
         go : (x : Bool) → same (name_of ns names m.0) y ≡ x → has s.0 y ≡ has (without r.0 (name_of ns names m.0)) y
         go true z =
             let q : name_of ns names m.0 ≡ y = same_eq (name_of ns names m.0) y z in
             ap (has s.0) (sym q) ∙ o refl ∙ sym (ap (has (without r.0 (name_of ns names m.0))) (sym q) ∙ without_self r.0 (name_of ns names m.0))
         go false z = e.0 ∙ sym (without_other r.0 (name_of ns names m.0) y z)
-    same_step y true v Nothing s r o e = e
+    same_step y true v None s r o e = e
     same_step y false true L s r o e = (has_append s.0 s.1 y ∙ rw (e.0, e.1) (sym (has_append r.0 r.1 y)), refl)
     same_step y false false L s r o e = (e.0, refl)
 
@@ -164,9 +163,9 @@ module _ (ns names : List ℕ) (t : Tree ns) where
     unfolding duplicate_label_at
     once_at a h e k = go (label_at ns names a) (sym (rw k) ∙ once a h e)
       where
-        go : (L : Found) → contains ns names (label_set_at ns names a) L ≡ false → contains ns names (sets_at ns names a).0 L ≡ false
-        go (At m) q = (sets_small (name_of ns names m.0) a h q).0
-        go Nothing q = refl
+        go : (L : Option NodeId) → contains ns names (label_set_at ns names a) L ≡ false → contains ns names (sets_at ns names a).0 L ≡ false
+        go (Some m) q = (sets_small (name_of ns names m.0) a h q).0
+        go None q = refl
 
     same_by : (k j : ℕ) → j ≤ k → 0 < j → j < count ns → home_of ns (is_unit ns) j ≡ u → (y : List ℕ)
         → (has (sets_at ns names j).0 y ≡ has (nearest_at ns names j).0 y) × (has (sets_at ns names j).1 y ≡ has (nearest_at ns names j).1 y)
@@ -200,10 +199,10 @@ module _ (ns names : List ℕ) (t : Tree ns) where
     unfolding undefined_continue_at undefined_nearest_at
     nearest_same j h e = go (eqb (kind_of ns j) 19) refl (label_at ns names j)
       where
-        go : (b : Bool) → eqb (kind_of ns j) 19 ≡ b → (L : Found) → (b && lacks ns names (sets_at ns names j).0 L) ≡ (b && lacks ns names (nearest_at ns names j).0 L)
+        go : (b : Bool) → eqb (kind_of ns j) 19 ≡ b → (L : Option NodeId) → (b && lacks ns names (sets_at ns names j).0 L) ≡ (b && lacks ns names (nearest_at ns names j).0 L)
         go false q L = refl
-        go true q (At l) = ap not (same_by j j (omega arith) (later ns names t j 18 (eqb-true (kind_of ns j) 19 q)) h e (name_of ns names l.0)).0
-        go true q Nothing = refl
+        go true q (Some l) = ap not (same_by j j (omega arith) (later ns names t j 18 (eqb-true (kind_of ns j) 19 q)) h e (name_of ns names l.0)).0
+        go true q None = refl
 
   -- what 8.3.1 says of a unit, at each of its nodes
   module _ (w : Shaped ns) where

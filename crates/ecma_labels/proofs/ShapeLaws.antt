@@ -1,5 +1,6 @@
 -- Where statements stand in well-formed tables, and what that gives to an operation that goes through statements.
-use Rattle.std.specs.Prelude.{ℕ, zero, suc, ◌+◌, ◌-◌, ◌≤◌, ◌<◌, ◌≡◌, ◌⊎◌, Bool, true, false, cond, ◌&&◌, ◌||◌, List, [], eqb, leb}
+use Rattle.table_records.specs.declared.NodeId.{NodeId}
+use Rattle.std.specs.Prelude.{ℕ, zero, suc, ◌+◌, ◌-◌, ◌≤◌, ◌<◌, ◌≡◌, ◌⊎◌, Bool, true, false, cond, ◌&&◌, ◌||◌, List, [], eqb, leb, Some, None, Option}
 use Rattle.std.proofs.Math.Path.{refl}
 use Rattle.std.proofs.Common.{sym, ◌∙◌, ⊎_elim, true≢false, eqb-true, eq-eqb, ne_eqb, leb-true, leb-false, le-leb, eq-or-lt_of_le, arith}
 use Rattle.std.proofs.lemmas.Bool.{eqb-false, lt-leb}
@@ -7,7 +8,6 @@ use Rattle.base_common.specs.Tests.{within}
 use Rattle.base_common.proofs.Bools.{either, in_range_lem, range_of}
 use Rattle.table_records.specs.Table.{kind_of, parent_of, role_of, count}
 use Rattle.table_records.specs.Facts.{Tree}
-use Rattle.table_records.specs.declared.Found.TheVariants.{At, Nothing}
 use Rattle.table_children.specs.Children.{is_child, first_node, next_child, how_many, label_of, held_of}
 use Rattle.table_children.proofs.ChildrenLaws.{tally, tally_all, tally_turn, node_on, node_stop}
 use Rattle.refusal_standing.specs.Standing.{is_statement, is_holder}
@@ -53,16 +53,16 @@ module _ (ns : List ℕ) (p lo hi a b j : ℕ) (l : j < count ns) (e : is_child 
       ⊎_elim (λ (z : i ≡ j). tally_here i z)
       (λ (z : i < j). let u = tally_turn ns p lo hi a b i (omega arith) in let v = tallied f (i + 1) (omega arith) (omega arith) in omega arith) (eq-or-lt_of_le q)
 
-  first_here : (i : ℕ) → i ≡ j → next_child ns p lo hi a b i ≡ At (record { 0 = j })
+  first_here : (i : ℕ) → i ≡ j → next_child ns p lo hi a b i ≡ Some (record { 0 = j })
   first_here i z = rw z (node_stop (is_child ns p lo hi a b) j (count ns) l e)
 
-  first_is : (f i : ℕ) → j ≤ i + f → i ≤ j → tally ns p lo hi a b i ≡ 1 → next_child ns p lo hi a b i ≡ At (record { 0 = j })
+  first_is : (f i : ℕ) → j ≤ i + f → i ≤ j → tally ns p lo hi a b i ≡ 1 → next_child ns p lo hi a b i ≡ Some (record { 0 = j })
   first_is zero i h q o = first_here i (omega arith)
   first_is (suc f) i h q o =
       ⊎_elim (λ (z : i ≡ j). first_here i z)
       (λ (z : i < j). go z (is_child ns p lo hi a b i) refl (λ o. first_is f (i + 1) (omega arith) (omega arith) o)) (eq-or-lt_of_le q)
     where
-      go : i < j → (x : Bool) → is_child ns p lo hi a b i ≡ x → (tally ns p lo hi a b (i + 1) ≡ 1 → next_child ns p lo hi a b (i + 1) ≡ At (record { 0 = j })) → next_child ns p lo hi a b i ≡ At (record { 0 = j })
+      go : i < j → (x : Bool) → is_child ns p lo hi a b i ≡ x → (tally ns p lo hi a b (i + 1) ≡ 1 → next_child ns p lo hi a b (i + 1) ≡ Some (record { 0 = j })) → next_child ns p lo hi a b i ≡ Some (record { 0 = j })
       go z true x r =
           let u = tally_turn ns p lo hi a b i (omega arith) in
           let v : ◌≡◌ {A = ℕ} (cond (is_child ns p lo hi a b i) 1 0) 1 = rw x in
@@ -73,7 +73,7 @@ module _ (ns : List ℕ) (p lo hi a b j : ℕ) (l : j < count ns) (e : is_child 
           let v : ◌≡◌ {A = ℕ} (cond (is_child ns p lo hi a b i) 1 0) 0 = rw x in
           node_on (is_child ns p lo hi a b) i (count ns) (omega arith) x ∙ r (omega arith)
 
-  pub first_of_one : p < j → how_many ns p lo hi a b ≡ 1 → next_child ns p lo hi a b (p + 1) ≡ At (record { 0 = j })
+  pub first_of_one : p < j → how_many ns p lo hi a b ≡ 1 → next_child ns p lo hi a b (p + 1) ≡ Some (record { 0 = j })
   first_of_one q o = first_is j (p + 1) (omega arith) (omega arith) (tally_all ns p lo hi a b ∙ o)
 
 module _ (ns : List ℕ) (t : Tree ns) (w : Shaped ns) where
@@ -105,7 +105,7 @@ module _ (ns : List ℕ) (t : Tree ns) (w : Shaped ns) where
         ⊎_elim (λ u. absurd (omega arith)) (λ u. let v = u.0 in absurd (omega arith)) (w.placed.alternate j z h q hi))
         (eq-or-lt_of_le lo)
 
-    pub held_is : held_of ns (parent_of ns j) ≡ At (record { 0 = j })
+    pub held_is : held_of ns (parent_of ns j) ≡ Some (record { 0 = j })
     unfolding is_child
     held_is =
         let p = t.falls j z h in
@@ -187,10 +187,10 @@ pub label_in_is : (ns : List ℕ) → Tree ns → (n : ℕ) → n < count ns →
 unfolding label_in first_node is_child
 label_in_is ns w n h =
     under (parts_of ns n) (parts_placed ns n h)
-    ∙ sym (fold_parts_is (λ k r. cond (is_child ns n 33 33 6 6 k) (At (record { 0 = k })) r) Nothing ns w n (λ j r e. rw (ne_eqb (parent_of ns j) n e)) h)
+    ∙ sym (fold_parts_is {R = Option NodeId} (λ k r. cond (is_child ns n 33 33 6 6 k) (Some (record { 0 = k })) r) None ns w n (λ j r e. rw (ne_eqb (parent_of ns j) n e)) h)
   where
     under : (ts : Roses) → PlacedAll ns n ts
-        → fold_parts (λ k r. cond (eqb (kind_of ns k) 33 && eqb (role_of ns k) 6) (At (record { 0 = k })) r) Nothing ts
-        ≡ fold_parts (λ k r. cond (is_child ns n 33 33 6 6 k) (At (record { 0 = k })) r) Nothing ts
+        → fold_parts {R = Option NodeId} (λ k r. cond (eqb (kind_of ns k) 33 && eqb (role_of ns k) 6) (Some (record { 0 = k })) r) None ts
+        ≡ fold_parts {R = Option NodeId} (λ k r. cond (is_child ns n 33 33 6 6 k) (Some (record { 0 = k })) r) None ts
     under rnil p = refl
     under (rcons t ts) p = rw (eq-eqb (parent_of ns (idx t)) n p.0.up, one_kind (kind_of ns (idx t)) 33, one_kind (role_of ns (idx t)) 6, under ts p.2)

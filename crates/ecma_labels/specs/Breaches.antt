@@ -1,16 +1,16 @@
 -- Where the rules are broken: what the operations hand down to a node, from its unit on, and what their clause for the node says by it. BreachLaws ties these to
 -- the operations.
-use Rattle.std.specs.Prelude.{ℕ, Bool, true, false, cond, not, ◌&&◌, ◌||◌, eqb}
+use Rattle.table_records.specs.declared.NodeId.{NodeId}
+use Rattle.std.specs.Prelude.{ℕ, Bool, true, false, cond, not, ◌&&◌, ◌||◌, eqb, Option}
 use mathlib.Core.List.{List, [], ◌++◌, foldr}
 use Rattle.table_records.specs.Table.{kind_of, ancestors}
 use Rattle.table_records.specs.Kinds as k
-use Rattle.table_records.specs.declared.Found.{Found}
 use Rattle.ecma_trees.specs.Rose.{parts_of}
 use Rattle.ecma_trees.specs.Unit.{in_unit}
 use Rattle.ecma_labels.specs.Labels.{is_iteration, label_in, unlabelled, contains, lacks, adding, is_unit}
 
 module _ (ns names : List ℕ) where
-  abbrev pub label_at : ℕ → Found
+  abbrev pub label_at : ℕ → Option NodeId
   label_at j = label_in ns (parts_of ns j)
 
   -- the labelSet of 8.3.1 and 8.3.2

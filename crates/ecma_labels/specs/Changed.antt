@@ -1,11 +1,10 @@
 -- The rules as the Rust has them, where they differ from the standard's.
-use Rattle.std.specs.Prelude.{ℕ, ◌≡◌, Bool, true, false, cond, not, ◌&&◌, ◌||◌, eqb}
+use Rattle.table_records.specs.declared.NodeId.{NodeId}
+use Rattle.std.specs.Prelude.{ℕ, ◌≡◌, Bool, true, false, cond, not, ◌&&◌, ◌||◌, eqb, Option, Some, None}
 use mathlib.Core.List.{List, [], ◌∷◌, ◌++◌, foldr}
 use Rattle.base_common.specs.Tests.{within}
 use Rattle.table_records.specs.Table.{kind_of, ancestors}
 use Rattle.table_records.specs.Kinds as k
-use Rattle.table_records.specs.declared.Found.{Found}
-use Rattle.table_records.specs.declared.Found.TheVariants.{At, Nothing}
 use Rattle.table_names.specs.Name.{same, name_of}
 use Rattle.ecma_trees.specs.Rose.{Rose, Roses, node, rnil, rcons, parts_of}
 use Rattle.ecma_trees.specs.Unit.{in_unit, home_of}
@@ -18,9 +17,9 @@ without [] label = []
 without (x ∷ labels) label = cond (same x label) (without labels label) (x ∷ without labels label)
 
 module _ (ns names : List ℕ) where
-  abbrev pub hiding : List (List ℕ) → Found → List (List ℕ)
-  hiding iterationSet (At m) = without iterationSet (name_of ns names m.0)
-  hiding iterationSet Nothing = iterationSet
+  abbrev pub hiding : List (List ℕ) → Option NodeId → List (List ℕ)
+  hiding iterationSet (Some m) = without iterationSet (name_of ns names m.0)
+  hiding iterationSet None = iterationSet
 
   -- 8.3.3, CHANGED: THE NEAREST LABEL DECIDES. At a LabelledStatement its label leaves the iterationSet, so that a `continue` in it does not see a loop further out
   -- that has the same label. Where no label stands within itself (8.3.1) this is the standard's rule.

@@ -1,14 +1,13 @@
 -- ECMA-262, 8.3 Labels; 14.8 The continue Statement, 14.8.1 Static Semantics: Early Errors; 14.9 The break Statement, 14.9.1 Static Semantics: Early Errors; over the tree of a table.
 -- They go through FunctionBody, Block, Labeled, For, ForIn, ForOf, While, DoWhile, If, With, Switch, SwitchCase, Try and CatchClause (kinds 4 to 17). For a
 -- function, a class, any other declaration, an expression and every statement not named the standard has "Return false".
-use Rattle.std.specs.Prelude.{ℕ, Bool, true, false, cond, not, ◌&&◌, ◌||◌, List, [], ◌∷◌, ◌++◌, eqb}
+use Rattle.table_records.specs.declared.NodeId.{NodeId}
+use Rattle.std.specs.Prelude.{ℕ, Bool, true, false, cond, not, ◌&&◌, ◌||◌, List, [], ◌∷◌, ◌++◌, eqb, Option, Some, None}
 use Rattle.table_children.specs.Children.{found}
 use Rattle.base_common.specs.Tests.{within}
 use Rattle.table_records.specs.Table.{kind_of, role_of}
 use Rattle.table_records.specs.Kinds as k
 use Rattle.table_records.specs.Roles as role
-use Rattle.table_records.specs.declared.Found.{Found}
-use Rattle.table_records.specs.declared.Found.TheVariants.{At, Nothing}
 use Rattle.table_names.specs.Name.{name_of, has}
 use Rattle.ecma_trees.specs.Rose.{Rose, Roses, node, rnil, rcons, fold_parts, tree_of}
 use Rattle.ecma_trees.specs.Unit.{broken}
@@ -22,26 +21,26 @@ abbrev pub is_iteration : ℕ → Bool
 is_iteration kind = within kind k.For k.DoWhile
 
 -- the LabelIdentifier of a LabelledStatement, a BreakStatement or a ContinueStatement, among its parts
-unfoldable pub label_in : List ℕ → Roses → Found
-label_in ns ks = fold_parts (λ i r. cond (eqb (kind_of ns i) k.LabelIdentifier && eqb (role_of ns i) role.Label) (At (record { 0 = i })) r) Nothing ks
+unfoldable pub label_in : List ℕ → Roses → Option NodeId
+label_in ns ks = fold_parts (λ i r. cond (eqb (kind_of ns i) k.LabelIdentifier && eqb (role_of ns i) role.Label) (Some (record { 0 = i })) r) None ks
 
-abbrev pub unlabelled : Found → Bool
+abbrev pub unlabelled : Option NodeId → Bool
 unlabelled label = not (found label)
 
 -- "labelSet contains label", where label is the StringValue of LabelIdentifier
-abbrev pub contains : List ℕ → List ℕ → List (List ℕ) → Found → Bool
-contains ns names labelSet (At m) = has labelSet (name_of ns names m.0)
-contains ns names labelSet Nothing = false
+abbrev pub contains : List ℕ → List ℕ → List (List ℕ) → Option NodeId → Bool
+contains ns names labelSet (Some m) = has labelSet (name_of ns names m.0)
+contains ns names labelSet None = false
 
 -- "labelSet does not contain the StringValue of LabelIdentifier"
-abbrev pub lacks : List ℕ → List ℕ → List (List ℕ) → Found → Bool
-lacks ns names labelSet (At m) = not (has labelSet (name_of ns names m.0))
-lacks ns names labelSet Nothing = false
+abbrev pub lacks : List ℕ → List ℕ → List (List ℕ) → Option NodeId → Bool
+lacks ns names labelSet (Some m) = not (has labelSet (name_of ns names m.0))
+lacks ns names labelSet None = false
 
 -- "the list-concatenation of labelSet and « label »" (the order of a label set does not matter)
-abbrev pub adding : List ℕ → List ℕ → List (List ℕ) → Found → List (List ℕ)
-adding ns names labelSet (At m) = name_of ns names m.0 ∷ labelSet
-adding ns names labelSet Nothing = labelSet
+abbrev pub adding : List ℕ → List ℕ → List (List ℕ) → Option NodeId → List (List ℕ)
+adding ns names labelSet (Some m) = name_of ns names m.0 ∷ labelSet
+adding ns names labelSet None = labelSet
 
 module _ (ns names : List ℕ) where
   -- 8.3.1 Static Semantics: ContainsDuplicateLabels, with argument labelSet

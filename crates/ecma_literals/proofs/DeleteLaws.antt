@@ -1,6 +1,8 @@
 -- What the check of `delete` raises is what 13.5.1.1 says.
+use Rattle.check_diagnostics.specs.declared.Finding.{Finding}
+use Rattle.table_records.specs.declared.NodeId.{NodeId}
 use Prim.Native.Nat.{ℕ, zero, suc, ◌+◌, ◌≤◌, ◌<◌}
-use Rattle.std.specs.Prelude.{◌≡◌, List, [], Bool, ◌&&◌, ◌||◌}
+use Rattle.std.specs.Prelude.{◌≡◌, List, [], Bool, ◌&&◌, ◌||◌, Option, Some, None}
 use Rattle.std.proofs.Math.Path.{refl, sym}
 use Rattle.std.proofs.Common.{ap, subst, ◌∙◌, arith}
 use Rattle.std.proofs.Math.Bool.{true, false, cond}
@@ -12,15 +14,11 @@ use Rattle.table_records.specs.Table.{kind_of, role_of, parent_of, count, flags_
 use Rattle.table_records.specs.Facts.{Tree}
 use Rattle.table_records.specs.Kinds as k
 use Rattle.table_records.specs.NodeFlag as flag
-use Rattle.table_records.specs.declared.Found.{Found}
-use Rattle.table_records.specs.declared.Found.TheVariants.{At, Nothing}
 use Rattle.table_children.specs.Children.{is_child, first_node, value_of, inner_of}
 use Rattle.table_children.proofs.ChildrenLaws.{child_other, found_child}
 use Rattle.check_diagnostics.specs.Finding.{error_at}
 use Rattle.check_diagnostics.specs.Codes as code
 use Rattle.check_diagnostics.specs.Contexts as context
-use Rattle.check_diagnostics.specs.declared.Raised.{Raised}
-use Rattle.check_diagnostics.specs.declared.Raised.TheVariants.{Clear}
 use Rattle.refusal_fields.specs.Fields.{Listed}
 use Rattle.check_expressions.specs.Expressions.{inner_expression, error_part, field_of, chain_finding, delete_of, delete_finding, check_unary_expression}
 use Rattle.check_expressions.specs.ExpressionLaws.{inner_bare, inner_empty, inner_on}
@@ -33,21 +31,21 @@ use Rattle.ecma_literals.specs.Delete.{parenthesized, ultimately, ultimately_fir
 use Rattle.ecma_literals.specs.Changed.{deletes_private_anywhere}
 
 -- the first part of a node in its tree is its first child
-abbrev pub first_in : Roses → Found
-first_in rnil = Nothing
-first_in (rcons t ts) = At (record { 0 = idx t })
+abbrev pub first_in : Roses → Option NodeId
+first_in rnil = None
+first_in (rcons t ts) = Some (record { 0 = idx t })
 
 module _ (ns : List ℕ) (w : Tree ns) (v : Listed ns) where
   pub inner_is : (i : ℕ) → i < count ns → inner_of ns i ≡ first_in (parts_of ns i)
   unfolding first_node is_child
   inner_is i h =
-      fold_parts_is (λ k r. cond (is_child ns i 0 55 0 7 k) (At (record { 0 = k })) r) Nothing ns w i (λ j r n. rw (child_other ns i 0 55 0 7 j n)) h
+      fold_parts_is (λ k r. cond (is_child ns i 0 55 0 7 k) (Some (record { 0 = k })) r) None ns w i (λ j r n. rw (child_other ns i 0 55 0 7 j n)) h
       ∙ go (parts_of ns i) (parts_placed ns i h)
     where
       fit : (j : ℕ) → parent_of ns j ≡ i → j < count ns → is_child ns i 0 55 0 7 j ≡ true
       fit j q l = rw (eq-eqb (parent_of ns j) i q, in_range_lem (kind_of ns j) 0 55 (omega arith) (v.kind j l), in_range_lem (role_of ns j) 0 7 (omega arith) (v.role j l))
 
-      go : (ks : Roses) → PlacedAll ns i ks → fold_parts (λ k r. cond (is_child ns i 0 55 0 7 k) (At (record { 0 = k })) r) Nothing ks ≡ first_in ks
+      go : (ks : Roses) → PlacedAll ns i ks → fold_parts (λ k r. cond (is_child ns i 0 55 0 7 k) (Some (record { 0 = k })) r) None ks ≡ first_in ks
       go rnil p = refl
       go (rcons (node j js) ts) p = rw (fit j p.0.up p.0.fits)
 
@@ -65,7 +63,7 @@ module _ (ns : List ℕ) (w : Tree ns) (v : Listed ns) where
         go false q ks e c z r = rw (q, inner_bare ns i q)
         go true q rnil e c z r = rw (q, inner_empty ns i q (rw e at c)) (ap (λ js. ultimately_first ns phrase js) e ∙ sym (none i (parts_of ns i) q))
         go true q (rcons (node m js) ts) e c z r =
-            let x : inner_of ns i ≡ At (record { 0 = m }) = rw e at c in
+            let x : inner_of ns i ≡ Some (record { 0 = m }) = rw e at c in
             let y = found_child ns i 0 55 0 7 (i + 1) m x in
             let l = y.from in
             let u : js ≡ parts_of ns m = (subst (λ ks. WholeAll ns ks) e z).0.0 in
@@ -88,27 +86,27 @@ module _ (ns : List ℕ) (w : Tree ns) (v : Listed ns) where
 
   -- what is raised for the expression e, which has no parentheses around it
   module _ (ss : List ℕ) (n : ℕ) where
-    part : (f : Found) → of_check 32 (error_part ns code.delete_private_field n f) ≡ only true n
-    part (At m) = refl
-    part Nothing = refl
+    part : (f : Option NodeId) → of_check 32 (error_part ns code.delete_private_field n f) ≡ only true n
+    part (Some m) = refl
+    part None = refl
 
-    part_other : (f : Found) → of_check 31 (error_part ns code.delete_private_field n f) ≡ []
-    part_other (At m) = refl
-    part_other Nothing = refl
+    part_other : (f : Option NodeId) → of_check 31 (error_part ns code.delete_private_field n f) ≡ []
+    part_other (Some m) = refl
+    part_other None = refl
 
-    chain31 : (f : Found) → of_check 31 (chain_finding ns n f) ≡ []
-    chain31 (At m) = go (eqb (kind_of ns m.0) k.PrivateField)
+    chain31 : (f : Option NodeId) → of_check 31 (chain_finding ns n f) ≡ []
+    chain31 (Some m) = go (eqb (kind_of ns m.0) k.PrivateField)
       where
-        go : (b : Bool) → of_check 31 (cond b (error_part ns code.delete_private_field n (field_of ns m.0)) Clear) ≡ []
+        go : (b : Bool) → of_check 31 (cond b (error_part ns code.delete_private_field n (field_of ns m.0)) None) ≡ []
         go true = part_other (field_of ns m.0)
         go false = refl
-    chain31 Nothing = refl
+    chain31 None = refl
 
     chain32 : (ks : Roses) → of_check 32 (chain_finding ns n (first_in ks)) ≡ only (first_is_private ns ks) n
     chain32 rnil = refl
     chain32 (rcons t ts) = go (eqb (kind_of ns (idx t)) k.PrivateField)
       where
-        go : (b : Bool) → of_check 32 (cond b (error_part ns code.delete_private_field n (field_of ns (idx t))) Clear) ≡ only b n
+        go : (b : Bool) → of_check 32 (cond b (error_part ns code.delete_private_field n (field_of ns (idx t))) None) ≡ only b n
         go true = part (field_of ns (idx t))
         go false = refl
 
@@ -117,7 +115,7 @@ module _ (ns : List ℕ) (w : Tree ns) (v : Listed ns) where
     of31 e = go (eqb (kind_of ns e) k.IdentifierReference) (eqb (kind_of ns e) k.PrivateField) (eqb (kind_of ns e) k.Chain) (strict_code ns ss n)
       where
         go : (a b c s : Bool)
-            → of_check 31 (cond a (cond s (error_at ns code.delete_of_unqualified n e context.none) Clear) (cond b (error_at ns code.delete_private_field n e context.none) (cond c (chain_finding ns n (inner_of ns e)) Clear)))
+            → of_check 31 (cond a (cond s (error_at ns code.delete_of_unqualified n e context.none) None) (cond b (error_at ns code.delete_private_field n e context.none) (cond c (chain_finding ns n (inner_of ns e)) None)))
             ≡ only (s && a) n
         go true b c true = refl
         go true b c false = refl
@@ -133,7 +131,7 @@ module _ (ns : List ℕ) (w : Tree ns) (v : Listed ns) where
     of32 e h = rw (inner_is e h) (go (eqb (kind_of ns e) k.IdentifierReference) refl (eqb (kind_of ns e) k.PrivateField) (eqb (kind_of ns e) k.Chain) refl refl (strict_code ns ss n))
       where
         go : (a : Bool) → eqb (kind_of ns e) k.IdentifierReference ≡ a → (b c : Bool) → eqb (kind_of ns e) k.PrivateField ≡ b → eqb (kind_of ns e) k.Chain ≡ c → (s : Bool)
-            → of_check 32 (cond a (cond s (error_at ns code.delete_of_unqualified n e context.none) Clear) (cond b (error_at ns code.delete_private_field n e context.none) (cond c (chain_finding ns n (first_in (parts_of ns e))) Clear)))
+            → of_check 32 (cond a (cond s (error_at ns code.delete_of_unqualified n e context.none) None) (cond b (error_at ns code.delete_private_field n e context.none) (cond c (chain_finding ns n (first_in (parts_of ns e))) None)))
             ≡ only (b || (c && first_is_private ns (parts_of ns e))) n
         go true q true c x y s = absurd (omega (arith, eqb-true (kind_of ns e) 32 q, eqb-true (kind_of ns e) 41 x))
         go true q false true x y s = absurd (omega (arith, eqb-true (kind_of ns e) 32 q, eqb-true (kind_of ns e) 46 y))
@@ -147,31 +145,31 @@ module _ (ns : List ℕ) (w : Tree ns) (v : Listed ns) where
     inner_below_by zero i hf h = absurd (omega arith)
     inner_below_by (suc f) i hf h = go (parenthesized ns i) refl (inner_of ns i) refl (λ m x y. inner_below_by f m (omega arith) y)
       where
-        go : (b : Bool) → parenthesized ns i ≡ b → (r : Found) → inner_of ns i ≡ r → ((m : ℕ) → i < m → m < count ns → inner_expression ns m < count ns) → inner_expression ns i < count ns
+        go : (b : Bool) → parenthesized ns i ≡ b → (r : Option NodeId) → inner_of ns i ≡ r → ((m : ℕ) → i < m → m < count ns → inner_expression ns m < count ns) → inner_expression ns i < count ns
         go false q r e z = rw (inner_bare ns i q) h
-        go true q Nothing e z = rw (inner_empty ns i q e) h
-        go true q (At m) e z =
+        go true q None e z = rw (inner_empty ns i q e) h
+        go true q (Some m) e z =
             let y = found_child ns i 0 55 0 7 (i + 1) m.0 e in
             let l = y.from in
             rw (inner_on ns i m.0 h q e) (z m.0 (omega arith) y.below)
 
-    by31 : (f : Found) → value_of ns n ≡ f → of_check 31 (delete_finding ns ss n f) ≡ only (strict_code ns ss n && derives ns (name_reference ns) f) n
-    by31 (At m) e =
+    by31 : (f : Option NodeId) → value_of ns n ≡ f → of_check 31 (delete_finding ns ss n f) ≡ only (strict_code ns ss n && derives ns (name_reference ns) f) n
+    by31 (Some m) e =
         let y = found_child ns n 0 55 1 1 (n + 1) m.0 e in
         rw (derived (name_reference ns) not_name m.0 y.below) (of31 (inner_expression ns m.0))
-    by31 Nothing e = go (strict_code ns ss n)
+    by31 None e = go (strict_code ns ss n)
       where
         go : (b : Bool) → [] ≡ only (b && false) n
         go true = refl
         go false = refl
 
-    by32 : (f : Found) → value_of ns n ≡ f → of_check 32 (delete_finding ns ss n f) ≡ only (derives ns (private_reference ns) f) n
-    by32 (At m) e =
+    by32 : (f : Option NodeId) → value_of ns n ≡ f → of_check 32 (delete_finding ns ss n f) ≡ only (derives ns (private_reference ns) f) n
+    by32 (Some m) e =
         let y = found_child ns n 0 55 1 1 (n + 1) m.0 e in
         rw (derived (private_reference ns) not_private m.0 y.below) (of32 (inner_expression ns m.0) (inner_below_by (count ns) m.0 (omega arith) y.below))
-    by32 Nothing e = refl
+    by32 None e = refl
 
-    under : (c : ℕ) (d b : Bool) (r : Raised) → of_check c r ≡ only b n → of_check c (cond d r Clear) ≡ only (d && b) n
+    under : (c : ℕ) (d b : Bool) (r : Option Finding) → of_check c r ≡ only b n → of_check c (cond d r None) ≡ only (d && b) n
     under c true b r h = h
     under c false b r h = refl
 

@@ -1,5 +1,5 @@
 -- The scan's answer is the first escape that 12.9.4.1 forbids, so the second span of a finding at a string is that escape.
-use Rattle.std.specs.Prelude.{ℕ, zero, suc, ◌+◌, ◌≤◌, ◌<◌, ◌≡◌, Bool, cond, not, ◌&&◌, ◌||◌, leb, length, drop}
+use Rattle.std.specs.Prelude.{ℕ, zero, suc, ◌+◌, ◌≤◌, ◌<◌, ◌≡◌, Bool, cond, not, ◌&&◌, ◌||◌, leb, length, drop, Option, Some, None}
 use Rattle.std.proofs.Math.Path.{refl}
 use Rattle.std.proofs.Common.{ap, sym, ◌∙◌, ⊎_elim, arith, add-one, eq-or-lt_of_le, leb-true, leb-false}
 use mathlib.Core.List.{List, [], ◌∷◌}
@@ -15,10 +15,9 @@ use Rattle.table_records.specs.Extras as extra
 use Rattle.check_diagnostics.specs.Finding.{listed, error_at}
 use Rattle.check_diagnostics.specs.Codes as code
 use Rattle.check_diagnostics.specs.Contexts as context
-use Rattle.check_diagnostics.specs.declared.Raised.TheVariants.{Clear}
 use Rattle.table_scoping.specs.Scoping.{is_strict}
 use Rattle.check_literals.specs.declared.Escape.{Escape}
-use Rattle.check_literals.specs.declared.Escape.TheVariants.{LegacyOctal, NonOctalDecimal, Fine}
+use Rattle.check_literals.specs.declared.Escape.TheVariants.{LegacyOctal, NonOctalDecimal}
 use Rattle.check_literals.specs.Escapes.{is_legacy_octal, is_non_octal_decimal, escape_of, or_else, bad_escape}
 use Rattle.check_literals.specs.Literals.{source_text, leading_zero, escape_finding, check_string_literal, check_number_literal}
 use Rattle.check_dispatch.specs.Findings.{findings_at}
@@ -28,10 +27,10 @@ use Rattle.ecma_literals.specs.EscapeSpans.{escape_error, StringTold, NumberTold
 use Rattle.ecma_literals.proofs.LiteralsLaws.{legacy_is}
 
 -- what a scan's answer says of the text
-abbrev pub Said : List ℕ → Escape → Type 0
-Said l (LegacyOctal i) = FirstForbidden l i × (legacy_octal_escape (drop (suc i) l) ≡ true)
-Said l (NonOctalDecimal i) = FirstForbidden l i × (legacy_octal_escape (drop (suc i) l) ≡ false)
-Said l Fine = (j : ℕ) → forbidden_escape l j ≡ false
+abbrev pub Said : List ℕ → Option Escape → Type 0
+Said l (Some (LegacyOctal i)) = FirstForbidden l i × (legacy_octal_escape (drop (suc i) l) ≡ true)
+Said l (Some (NonOctalDecimal i)) = FirstForbidden l i × (legacy_octal_escape (drop (suc i) l) ≡ false)
+Said l None = (j : ℕ) → forbidden_escape l j ≡ false
 
 -- what stands at an offset, by what is left from there on
 at_drop : (l : List ℕ) (i b : ℕ) (t : List ℕ) → drop i l ≡ b ∷ t → (get_or l i 0 ≡ b) × (drop (suc i) l ≡ t)
@@ -117,7 +116,7 @@ module _ (l : List ℕ) where
       fits : (a : List ℕ) → a ≡ c ∷ m → legacy_octal_escape a ≡ is_legacy_octal c m
       fits a q = ap legacy_octal_escape q ∙ legacy_is c m
 
-      judged : On (i + 2) m → eqb b 92 ≡ true → (x y : Bool) → is_legacy_octal c m ≡ x → is_non_octal_decimal c ≡ y → Said l (or_else (cond x (LegacyOctal i) (cond y (NonOctalDecimal i) Fine)) (bad_escape (i + 2) m))
+      judged : On (i + 2) m → eqb b 92 ≡ true → (x y : Bool) → is_legacy_octal c m ≡ x → is_non_octal_decimal c ≡ y → Said l (or_else (cond x (Some (LegacyOctal i)) (cond y (Some (NonOctalDecimal i)) None)) (bad_escape (i + 2) m))
       judged r q true y a z = (record { here = forbidden i c m (begins q) rest ∙ rw a; before = f }, fits (drop (suc i) l) rest ∙ a)
       judged r q false true a z = (record { here = forbidden i c m (begins q) rest ∙ rw (a, z); before = f }, fits (drop (suc i) l) rest ∙ a)
       judged r q false false a z =
@@ -147,17 +146,17 @@ module _ (t : ℕ) (ns ss source names : List ℕ) (n : ℕ) where
   unfolding check_string_literal source_text text_of
   string_told q = rw (string_findings q) (go (is_strict ns ss n) (eqb (kind_of ns (parent_of ns n)) k.JSXAttribute) (looks_plain ns source n) refl refl refl (bad_escape 0 (text_of ns source n)) (scan_first (text_of ns source n)))
     where
-      octal : (i : ℕ) → FirstForbidden (text_of ns source n) i → legacy_octal_escape (drop (suc i) (text_of ns source n)) ≡ true → StringTold ns ss source n (listed (escape_finding ns n (LegacyOctal i)))
+      octal : (i : ℕ) → FirstForbidden (text_of ns source n) i → legacy_octal_escape (drop (suc i) (text_of ns source n)) ≡ true → StringTold ns ss source n (listed (escape_finding ns n (Some (LegacyOctal i))))
       octal i f e = let o : StringTold ns ss source n (escape_error ns source n i ∷ []) = one i f in rw e at o
 
-      decimal : (i : ℕ) → FirstForbidden (text_of ns source n) i → legacy_octal_escape (drop (suc i) (text_of ns source n)) ≡ false → StringTold ns ss source n (listed (escape_finding ns n (NonOctalDecimal i)))
+      decimal : (i : ℕ) → FirstForbidden (text_of ns source n) i → legacy_octal_escape (drop (suc i) (text_of ns source n)) ≡ false → StringTold ns ss source n (listed (escape_finding ns n (Some (NonOctalDecimal i))))
       decimal i f e = let o : StringTold ns ss source n (escape_error ns source n i ∷ []) = one i f in rw e at o
 
-      go : (s j p : Bool) → is_strict ns ss n ≡ s → eqb (kind_of ns (parent_of ns n)) k.JSXAttribute ≡ j → looks_plain ns source n ≡ p → (e : Escape) → Said (text_of ns source n) e
-          → StringTold ns ss source n (listed (cond ((s && not j) && not p) (escape_finding ns n e) Clear))
-      go true false false a b c (LegacyOctal i) f = octal i f.0 f.1
-      go true false false a b c (NonOctalDecimal i) f = decimal i f.0 f.1
-      go true false false a b c Fine f = none (λ x y z. f)
+      go : (s j p : Bool) → is_strict ns ss n ≡ s → eqb (kind_of ns (parent_of ns n)) k.JSXAttribute ≡ j → looks_plain ns source n ≡ p → (e : Option Escape) → Said (text_of ns source n) e
+          → StringTold ns ss source n (listed (cond ((s && not j) && not p) (escape_finding ns n e) None))
+      go true false false a b c (Some (LegacyOctal i)) f = octal i f.0 f.1
+      go true false false a b c (Some (NonOctalDecimal i)) f = decimal i f.0 f.1
+      go true false false a b c None f = none (λ x y z. f)
       go true false true a b c e f = none (λ x y z. never (sym c ∙ z))
       go true true p a b c e f = none (λ x y z. never (sym (and_right_lem (eqb (kind_of ns n) k.StringLiteral) (not (eqb (kind_of ns (parent_of ns n)) k.JSXAttribute)) x) ∙ rw b))
       go false j p a b c e f = none (λ x y z. never (sym y ∙ a))
@@ -169,7 +168,7 @@ module _ (t : ℕ) (ns ss source names : List ℕ) (n : ℕ) where
       rw (number_findings q)
       (go (leading_zero (source_text ns source n) && is_strict ns ss n) (eqb (extra_of ns n) extra.Octal) (eqb (extra_of ns n) extra.Decimal || eqb (extra_of ns n) extra.Float))
     where
-      go : (z o d : Bool) → NumberTold ns n (listed (cond z (cond o (error_at ns code.legacy_octal n n context.none) (cond d (error_at ns code.leading_zero_decimal n n context.none) Clear)) Clear))
+      go : (z o d : Bool) → NumberTold ns n (listed (cond z (cond o (error_at ns code.legacy_octal n n context.none) (cond d (error_at ns code.leading_zero_decimal n n context.none) None)) None))
       go true true d = one 9
       go true false true = one 10
       go true false false = none

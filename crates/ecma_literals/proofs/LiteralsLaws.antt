@@ -1,5 +1,6 @@
 -- What the checks of literals raise is what the rules of 12.9.3.1 and 12.9.4.1 say.
-use Rattle.std.specs.Prelude.{ℕ, ◌+◌, ◌≤◌, ◌<◌, ◌≡◌, List, [], ◌∷◌, Bool, true, false, cond, not, ◌&&◌, ◌||◌, leb}
+use Rattle.check_diagnostics.specs.declared.Finding.{Finding}
+use Rattle.std.specs.Prelude.{ℕ, ◌+◌, ◌≤◌, ◌<◌, ◌≡◌, List, [], ◌∷◌, Bool, true, false, cond, not, ◌&&◌, ◌||◌, leb, Option, Some, None}
 use Rattle.std.proofs.Math.Path.{refl, ap}
 use Rattle.std.proofs.Common.{sym, ◌∙◌, arith, eq-eqb, ne_eqb, eqb-true, leb-true, leb-false}
 use Rattle.std.proofs.lemmas.Bool.{eqb-false, lt-leb}
@@ -14,9 +15,7 @@ use Rattle.table_records.specs.Extras as extra
 use Rattle.check_diagnostics.specs.Finding.{error_span, error_at}
 use Rattle.check_diagnostics.specs.Codes as code
 use Rattle.check_diagnostics.specs.Contexts as context
-use Rattle.check_diagnostics.specs.declared.Raised.{Raised}
-use Rattle.check_diagnostics.specs.declared.Raised.TheVariants.{Clear}
-use Rattle.check_literals.specs.declared.Escape.TheVariants.{LegacyOctal, NonOctalDecimal, Fine}
+use Rattle.check_literals.specs.declared.Escape.TheVariants.{LegacyOctal, NonOctalDecimal}
 use Rattle.check_literals.specs.Escapes.{digit_next, is_legacy_octal, is_non_octal_decimal, escape_of, or_else, bad_escape}
 use Rattle.check_literals.specs.Literals.{source_text, is_checked, is_scanned, leading_zero, escape_finding, check_string_literal, check_number_literal}
 use Rattle.ecma_trees.specs.Walk.{only}
@@ -55,7 +54,7 @@ leads [] = refl
 leads (b ∷ []) = refl
 leads (b ∷ c ∷ l) = refl
 
-number_by : (s z o d : Bool) (x y : Raised) → cond (z && s) (cond o x (cond d y Clear)) Clear ≡ cond (s && (z && o)) x (cond (s && (z && d)) y Clear)
+number_by : (s z o d : Bool) (x y : Option Finding) → cond (z && s) (cond o x (cond d y None)) None ≡ cond (s && (z && o)) x (cond (s && (z && d)) y None)
 number_by true true true d x y = refl
 number_by true true false d x y = refl
 number_by true false o d x y = refl
@@ -65,7 +64,7 @@ number_by false false o d x y = refl
 -- CODES 9 AND 10: a number raises just what the changed rules say
 pub number_is : (ns ss source : List ℕ) (n : ℕ) → kind_of ns n ≡ k.NumericLiteral
     → check_number_literal ns ss source n
-    ≡ cond (told_octal ns ss source n) (error_at ns code.legacy_octal n n context.none) (cond (told_non_octal ns ss source n) (error_at ns code.leading_zero_decimal n n context.none) Clear)
+    ≡ cond (told_octal ns ss source n) (error_at ns code.legacy_octal n n context.none) (cond (told_non_octal ns ss source n) (error_at ns code.leading_zero_decimal n n context.none) None)
 unfolding check_number_literal source_text text_of told_octal told_non_octal
 number_is ns ss source n q =
     rw (eq-eqb (kind_of ns n) k.NumericLiteral q, leads (source_text ns source n))
@@ -171,8 +170,8 @@ legacy_is c l = go (eqb c 48) refl
     go false q = other q
 
 -- what is raised for a string, by its first escape of either kind, but for the second span (EscapeSpansLaws.antt)
-abbrev pub by_first : List ℕ → ℕ → List (List ℕ) → Raised
-by_first ns n es = cond (octal_first es) (error_at ns code.legacy_octal n n context.none) (cond (non_octal_first es) (error_at ns code.non_octal_decimal_escape_sequence n n context.none) Clear)
+abbrev pub by_first : List ℕ → ℕ → List (List ℕ) → Option Finding
+by_first ns n es = cond (octal_first es) (error_at ns code.legacy_octal n n context.none) (cond (non_octal_first es) (error_at ns code.non_octal_decimal_escape_sequence n n context.none) None)
 
 scan_is : (c : ℕ) (ns : List ℕ) (n i : ℕ) (l : List ℕ) → of_check c (escape_finding ns n (bad_escape i l)) ≡ of_check c (by_first ns n (escapes l))
 unfolding bad_escape escapes octal_first non_octal_first escape_of non_octal_decimal_escape
@@ -181,8 +180,8 @@ scan_is x ns n i (b ∷ []) = refl
 scan_is x ns n i (b ∷ c ∷ l) = go (eqb b 92) (scan_is x ns n (i + 1) (c ∷ l)) (scan_is x ns n (i + 2) l)
   where
     by : (o d : Bool) → of_check x (escape_finding ns n (bad_escape (i + 2) l)) ≡ of_check x (by_first ns n (escapes l))
-        → of_check x (escape_finding ns n (or_else (cond o (LegacyOctal i) (cond d (NonOctalDecimal i) Fine)) (bad_escape (i + 2) l)))
-        ≡ of_check x (cond (o || (not d && octal_first (escapes l))) (error_at ns code.legacy_octal n n context.none) (cond (d || (not o && non_octal_first (escapes l))) (error_at ns code.non_octal_decimal_escape_sequence n n context.none) Clear))
+        → of_check x (escape_finding ns n (or_else (cond o (Some (LegacyOctal i)) (cond d (Some (NonOctalDecimal i)) None)) (bad_escape (i + 2) l)))
+        ≡ of_check x (cond (o || (not d && octal_first (escapes l))) (error_at ns code.legacy_octal n n context.none) (cond (d || (not o && non_octal_first (escapes l))) (error_at ns code.non_octal_decimal_escape_sequence n n context.none) None))
     by true d h = refl
     by false true h = refl
     by false false h = h
@@ -192,11 +191,11 @@ scan_is x ns n i (b ∷ c ∷ l) = go (eqb b 92) (scan_is x ns n (i + 1) (c ∷ 
     go true p h = rw (legacy_is c l) (by (is_legacy_octal c l) (is_non_octal_decimal c) h)
     go false p h = p
 
-of_checked : (c : ℕ) (b : Bool) (x y : Raised) → of_check c x ≡ of_check c y → of_check c (cond b x Clear) ≡ of_check c (cond b y Clear)
+of_checked : (c : ℕ) (b : Bool) (x y : Option Finding) → of_check c x ≡ of_check c y → of_check c (cond b x None) ≡ of_check c (cond b y None)
 of_checked c true x y e = e
 of_checked c false x y e = refl
 
-string_by : (j s p o d : Bool) (x y : Raised) → cond ((s && not j) && not p) (cond o x (cond d y Clear)) Clear ≡ cond (not j && (s && (not p && o))) x (cond (not j && (s && (not p && d))) y Clear)
+string_by : (j s p o d : Bool) (x y : Option Finding) → cond ((s && not j) && not p) (cond o x (cond d y None)) None ≡ cond (not j && (s && (not p && o))) x (cond (not j && (s && (not p && d))) y None)
 string_by true true p o d x y = refl
 string_by true false p o d x y = refl
 string_by false true true o d x y = refl
@@ -206,7 +205,7 @@ string_by false false p o d x y = refl
 -- CODES 9 AND 11: a string raises just what the changed rules say
 pub string_is : (c : ℕ) (ns ss source : List ℕ) (n : ℕ) → kind_of ns n ≡ k.StringLiteral
     → of_check c (check_string_literal ns ss source n)
-    ≡ of_check c (cond (first_octal_escape ns ss source n) (error_at ns code.legacy_octal n n context.none) (cond (first_non_octal_escape ns ss source n) (error_at ns code.non_octal_decimal_escape_sequence n n context.none) Clear))
+    ≡ of_check c (cond (first_octal_escape ns ss source n) (error_at ns code.legacy_octal n n context.none) (cond (first_non_octal_escape ns ss source n) (error_at ns code.non_octal_decimal_escape_sequence n n context.none) None))
 unfolding check_string_literal source_text text_of first_octal_escape first_non_octal_escape
 string_is c ns ss source n q =
     of_checked c (is_checked ns ss n && is_scanned ns source n) (escape_finding ns n (bad_escape 0 (source_text ns source n))) (by_first ns n (escapes (text_of ns source n))) (scan_is c ns n 0 (text_of ns source n))
@@ -347,12 +346,12 @@ apart true true false a b e = refl
 apart true false q a b e = refl
 apart false s q a b e = refl
 
-first_of : (c s e s2 e2 n : ℕ) (d : ℕ) → (a b : Bool) → eqb d c ≡ false → of_check c (cond a (error_span c n s e context.none) (cond b (error_span d n s2 e2 context.none) Clear)) ≡ only a n
+first_of : (c s e s2 e2 n : ℕ) (d : ℕ) → (a b : Bool) → eqb d c ≡ false → of_check c (cond a (error_span c n s e context.none) (cond b (error_span d n s2 e2 context.none) None)) ≡ only a n
 first_of c s e s2 e2 n d true b q = rw (eq-eqb c c refl)
 first_of c s e s2 e2 n d false true q = rw q
 first_of c s e s2 e2 n d false false q = refl
 
-second_of : (c s e s2 e2 n : ℕ) (d : ℕ) → (a b : Bool) → eqb d c ≡ false → (a && b) ≡ false → of_check c (cond a (error_span d n s2 e2 context.none) (cond b (error_span c n s e context.none) Clear)) ≡ only b n
+second_of : (c s e s2 e2 n : ℕ) (d : ℕ) → (a b : Bool) → eqb d c ≡ false → (a && b) ≡ false → of_check c (cond a (error_span d n s2 e2 context.none) (cond b (error_span c n s e context.none) None)) ≡ only b n
 second_of c s e s2 e2 n d true true q x = never x
 second_of c s e s2 e2 n d true false q x = rw q
 second_of c s e s2 e2 n d false true q x = rw (eq-eqb c c refl)

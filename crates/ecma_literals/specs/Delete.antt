@@ -1,11 +1,10 @@
 -- ECMA-262, 13.5.1 The delete Operator, 13.5.1.1 Static Semantics: Early Errors of UnaryExpression : delete UnaryExpression.
-use Rattle.std.specs.Prelude.{ℕ, List, Bool, false, cond, ◌&&◌, ◌||◌, eqb}
+use Rattle.table_records.specs.declared.NodeId.{NodeId}
+use Rattle.std.specs.Prelude.{ℕ, List, Bool, false, cond, ◌&&◌, ◌||◌, eqb, Option, Some, None}
 use Rattle.table_records.specs.Table.{kind_of, flags_of, extra_of, has_flag}
 use Rattle.table_records.specs.Kinds as k
 use Rattle.table_records.specs.Extras as extra
 use Rattle.table_records.specs.NodeFlag as flag
-use Rattle.table_records.specs.declared.Found.{Found}
-use Rattle.table_records.specs.declared.Found.TheVariants.{At, Nothing}
 use Rattle.table_children.specs.Children.{value_of}
 use Rattle.ecma_trees.specs.Rose.{Rose, Roses, node, rnil, rcons, idx, tree_at}
 use Rattle.ecma_base.specs.Strict.{strict_code}
@@ -39,9 +38,9 @@ unfoldable pub private_reference : List ℕ → Rose → Bool
 private_reference ns (node e ks) = eqb (kind_of ns e) k.PrivateField || (eqb (kind_of ns e) k.Chain && first_is_private ns ks)
 
 -- 13.5.1.1: the derived UnaryExpression is, or derives in parentheses, such a phrase
-abbrev pub derives : List ℕ → (Rose → Bool) → Found → Bool
-derives ns phrase (At m) = ultimately ns phrase (tree_at ns m.0)
-derives ns phrase Nothing = false
+abbrev pub derives : List ℕ → (Rose → Bool) → Option NodeId → Bool
+derives ns phrase (Some m) = ultimately ns phrase (tree_at ns m.0)
+derives ns phrase None = false
 
 -- 13.5, UnaryExpression : delete UnaryExpression
 abbrev pub delete_expression : List ℕ → ℕ → Bool

@@ -1,5 +1,5 @@
 -- What the checks of names and directives raise is what the rules say.
-use Rattle.std.specs.Prelude.{ℕ, ◌≡◌, refl, List, Bool, true, false, cond, not, ◌&&◌, ◌||◌, eqb}
+use Rattle.std.specs.Prelude.{ℕ, ◌≡◌, refl, List, Bool, true, false, cond, not, ◌&&◌, ◌||◌, eqb, None}
 use Rattle.std.proofs.Common.{ap, ◌∙◌, eq-eqb, eqb-true}
 use Rattle.base_common.specs.Upto.{any}
 use Rattle.base_common.specs.Tests.{within}
@@ -13,7 +13,6 @@ use Rattle.table_names.specs.Words as word
 use Rattle.check_diagnostics.specs.Finding.{error_at}
 use Rattle.check_diagnostics.specs.Codes as code
 use Rattle.check_diagnostics.specs.Contexts as context
-use Rattle.check_diagnostics.specs.declared.Raised.TheVariants.{Clear}
 use Rattle.check_identifiers.specs.Identifiers.{strict_context, await_finding, is_strict_word, check_identifier, is_not_simple, check_directive}
 use Rattle.ecma_trees.specs.Walk.{only}
 use Rattle.ecma_base.specs.Nodes.{of_check}
@@ -38,7 +37,7 @@ await_apart ns names n e = among_as (name_of ns names n) word.await_word strict_
 module _ (source_type : ℕ) (ns ss names : List ℕ) (n : ℕ) where
   -- a: `await`; w: a word of strict code; s: strict code; m: a module; b: the scope is a static block's
   name2 : (a w s m b : Bool) (x : ℕ) → (a ≡ true → w ≡ false)
-      → of_check 2 (cond a (cond m (error_at ns code.reserved_keyword n n context.module_await) (cond b (error_at ns code.class_static_block_await n n context.none) Clear)) (cond (w && s) (error_at ns code.reserved_keyword n n x) Clear))
+      → of_check 2 (cond a (cond m (error_at ns code.reserved_keyword n n context.module_await) (cond b (error_at ns code.class_static_block_await n n context.none) None)) (cond (w && s) (error_at ns code.reserved_keyword n n x) None))
       ≡ only ((s && w) || (m && a)) n
   name2 true true s m b x h = never (h refl)
   name2 true false true true b x h = refl
@@ -56,7 +55,7 @@ module _ (source_type : ℕ) (ns ss names : List ℕ) (n : ℕ) where
   name2 false false false false b x h = refl
 
   name3 : (a w s m b : Bool) (x : ℕ)
-      → of_check 3 (cond a (cond m (error_at ns code.reserved_keyword n n context.module_await) (cond b (error_at ns code.class_static_block_await n n context.none) Clear)) (cond (w && s) (error_at ns code.reserved_keyword n n x) Clear))
+      → of_check 3 (cond a (cond m (error_at ns code.reserved_keyword n n context.module_await) (cond b (error_at ns code.class_static_block_await n n context.none) None)) (cond (w && s) (error_at ns code.reserved_keyword n n x) None))
       ≡ only (a && (not m && b)) n
   name3 true w s true b x = refl
   name3 true w s false true x = refl

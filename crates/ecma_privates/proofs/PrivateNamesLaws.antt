@@ -1,5 +1,6 @@
 -- THE FINDINGS WITH CODES 7 AND 8 ARE WHERE AllPrivateIdentifiersValid (15.7.7) IS FALSE.
-use Rattle.std.specs.Prelude.{ℕ, zero, suc, ◌+◌, ◌≤◌, ◌<◌, ◌≡◌, Bool, ◌&&◌, ◌||◌, length}
+use Rattle.table_records.specs.declared.NodeId.{NodeId}
+use Rattle.std.specs.Prelude.{ℕ, zero, suc, ◌+◌, ◌≤◌, ◌<◌, ◌≡◌, Bool, ◌&&◌, ◌||◌, length, Option, Some, None}
 use Rattle.std.proofs.Math.Path.{refl, ap, sym}
 use Rattle.std.proofs.Common.{subst, ◌∙◌, eq-or-lt_of_le, arith}
 use mathlib.Core.List.{List, [], ◌∷◌, ◌++◌, foldr, flat_map}
@@ -16,8 +17,6 @@ use Rattle.base_walk.proofs.PreorderLaws.{lt_or_ge}
 use Rattle.table_records.specs.Table.{kind_of, parent_of, role_of, count, ancestors}
 use Rattle.table_records.specs.Facts.{Tree}
 use Rattle.table_records.specs.Kinds as k
-use Rattle.table_records.specs.declared.Found.{Found}
-use Rattle.table_records.specs.declared.Found.TheVariants.{At, Nothing}
 use Rattle.table_names.specs.Name.{same, name_of, has}
 use Rattle.table_children.specs.Children.{keep, is_child, class_body_of, found}
 use Rattle.table_children.proofs.ChildrenLaws.{keep_keep, found_child, tally, tally_all}
@@ -29,12 +28,10 @@ use Rattle.ecma_trees.specs.Rose.{Rose, Roses, node, rnil, rcons, tree_of}
 use Rattle.ecma_trees.specs.Walk.{each, walk, walk_all, some, only}
 use Rattle.ecma_trees.proofs.WalkLaws.{fold_is, some_append, some_only}
 use Rattle.check_diagnostics.specs.declared.Finding.{Finding}
-use Rattle.check_diagnostics.specs.declared.Raised.TheVariants.{Clear}
 use Rattle.check_diagnostics.specs.Finding.{listed, error_at}
 use Rattle.check_diagnostics.specs.Codes as code
 use Rattle.check_diagnostics.specs.Contexts as context
 use Rattle.check_diagnostics.proofs.Gather.{flat_keep, kept_first_lem, kept_none}
-use Rattle.check_class_table.specs.declared.Current.TheVariants.{Class}
 use Rattle.check_class_table.specs.Classes.{class_at, body_above, current_class, outer_classes}
 use Rattle.check_class_table.proofs.ClassesLaws.{within_one, over, outer_at}
 use Rattle.check_class_table.specs.Elements.{element_name}
@@ -149,7 +146,7 @@ unfolding nearest_of body_around
 around_is ns n = go (ancestors ns n)
   where
     go : (l : List ℕ)
-        → foldr (λ a r. cond (within (kind_of ns a) k.ClassBody k.ClassBody) (At (record { 0 = a })) r) Nothing l ≡ foldr (λ a r. cond (is_class_body ns a) (At (record { 0 = a })) r) Nothing l
+        → foldr {B = Option NodeId} (λ a r. cond (within (kind_of ns a) k.ClassBody k.ClassBody) (Some (record { 0 = a })) r) None l ≡ foldr {B = Option NodeId} (λ a r. cond (is_class_body ns a) (Some (record { 0 = a })) r) None l
     go [] = refl
     go (a ∷ l) = rw (within_one (kind_of ns a) k.ClassBody, go l)
 
@@ -159,10 +156,10 @@ current_is ns m e = let q : kind_of ns m ≡ k.PrivateIdentifier = eqb-true (kin
 
 -- 7: one finding at each PrivateIdentifier outside of ClassBodies
 module _ (t : ℕ) (ns ss source names : List ℕ) (n : ℕ) where
-  outside_raised : (f : Found) → raised 7 (listed (outside_by ns n (class_at f))) ≡ only (not (found f)) n
+  outside_raised : (f : Option NodeId) → raised 7 (listed (outside_by ns n (class_at f))) ≡ only (not (found f)) n
   unfolding nodes_of with_code
-  outside_raised (At b) = refl
-  outside_raised Nothing = refl
+  outside_raised (Some b) = refl
+  outside_raised None = refl
 
   pub private_outside_lem : raised 7 (findings_at t ns ss source names n) ≡ only (is_outside ns n) n
   unfolding is_outside nodes_of with_code
@@ -179,13 +176,13 @@ listed_at q n j h =
 
 module _ (ns names : List ℕ) (w : Tree ns) where
   -- no ClassBody around, no name
-  none_around : (l : List ℕ) → found (foldr (λ a r. cond (is_class_body ns a) (At (record { 0 = a })) r) Nothing l) ≡ false → keep (is_class_body ns) l ≡ []
+  none_around : (l : List ℕ) → found (foldr (λ a r. cond (is_class_body ns a) (Some (record { 0 = a })) r) None l) ≡ false → keep (is_class_body ns) l ≡ []
   unfolding keep
   none_around [] h = refl
   none_around (a ∷ l) h = go (is_class_body ns a) h (λ z. none_around l z)
     where
-      go : (b : Bool) → found (cond b (At (record { 0 = a })) (foldr (λ a r. cond (is_class_body ns a) (At (record { 0 = a })) r) Nothing l)) ≡ false
-          → (found (foldr (λ a r. cond (is_class_body ns a) (At (record { 0 = a })) r) Nothing l) ≡ false → keep (is_class_body ns) l ≡ []) → cond b (a ∷ keep (is_class_body ns) l) (keep (is_class_body ns) l) ≡ []
+      go : (b : Bool) → found (cond b (Some (record { 0 = a })) (foldr (λ a r. cond (is_class_body ns a) (Some (record { 0 = a })) r) None l)) ≡ false
+          → (found (foldr (λ a r. cond (is_class_body ns a) (Some (record { 0 = a })) r) None l) ≡ false → keep (is_class_body ns) l ≡ []) → cond b (a ∷ keep (is_class_body ns) l) (keep (is_class_body ns) l) ≡ []
       go true e r = never e
       go false e r = r e
 
@@ -235,13 +232,13 @@ any_alike : (p q : ℕ → Bool) → ((x : ℕ) → p x ≡ q x) → (l : List �
 any_alike p q h [] = refl
 any_alike p q h (x ∷ l) = rw (h x, any_alike p q h l)
 
-class_same : (c : ℕ) (f : Found) → is_class c (class_at f) ≡ same_node f (At (record { 0 = c }))
-class_same c (At d) = refl
-class_same c Nothing = refl
+class_same : (c : ℕ) (f : Option NodeId) → is_class c (class_at f) ≡ same_node f (Some (record { 0 = c }))
+class_same c (Some d) = refl
+class_same c None = refl
 
-same_found : (c : ℕ) (f : Found) → same_node f (At (record { 0 = c })) ≡ true → f ≡ At (record { 0 = c })
-same_found c (At d) e = ap (λ (x : ℕ). At (record { 0 = x })) (eqb-true d.0 c e)
-same_found c Nothing e = never (sym e)
+same_found : (c : ℕ) (f : Option NodeId) → same_node f (Some (record { 0 = c })) ≡ true → f ≡ Some (record { 0 = c })
+same_found c (Some d) e = ap (λ (x : ℕ). Some (record { 0 = x })) (eqb-true d.0 c e)
+same_found c None e = never (sym e)
 
 -- 8: at a Class, one finding for each PrivateIdentifier that is not valid and whose nearest ClassBody is that class's
 module _ (ns names : List ℕ) (w : Tree ns) where
@@ -254,7 +251,7 @@ module _ (ns names : List ℕ) (w : Tree ns) where
   abbrev handed_in : ℕ → List (List ℕ)
   handed_in m = foldr (λ a l. new_names ns names (is_table_use ns) (private_entered ns) a l) [] (ancestors ns m)
 
-  declared_is : (m c : ℕ) → m < count ns → body_around ns m ≡ At (record { 0 = c }) → (x : List ℕ) → is_declared ns names c x ≡ has (handed_in m) x
+  declared_is : (m c : ℕ) → m < count ns → body_around ns m ≡ Some (record { 0 = c }) → (x : List ℕ) → is_declared ns names c x ≡ has (handed_in m) x
   unfolding is_declared outer_classes
   declared_is m c h e x =
       ap (any (λ d. has_private ns names d x)) (sym (outer_at ns w m c h (around_is ns m ∙ e)))
@@ -273,11 +270,11 @@ module _ (ns names : List ℕ) (w : Tree ns) where
 
   -- what the check raises of one reference
   piece : (n c m : ℕ) → m < count ns
-      → cond (is_table_use ns m && is_class c (current_class ns m)) (listed (undeclared_at ns names n c m)) [] ≡ cond (invalid_here m && same_node (body_around ns m) (At (record { 0 = c }))) (error8 n m) []
+      → cond (is_table_use ns m && is_class c (current_class ns m)) (listed (undeclared_at ns names n c m)) [] ≡ cond (invalid_here m && same_node (body_around ns m) (Some (record { 0 = c }))) (error8 n m) []
   unfolding undeclared_at
   piece n c m h = go (is_table_use ns m) refl
     where
-      raise : (b : Bool) → listed (cond b Clear (error_at ns code.private_field_undeclared n m context.none)) ≡ cond (not b && true) (error8 n m) []
+      raise : (b : Bool) → listed (cond b None (error_at ns code.private_field_undeclared n m context.none)) ≡ cond (not b && true) (error8 n m) []
       raise true = refl
       raise false = refl
 
@@ -285,50 +282,50 @@ module _ (ns names : List ℕ) (w : Tree ns) where
       off true = refl
       off false = refl
 
-      by : (b : Bool) → same_node (body_around ns m) (At (record { 0 = c })) ≡ b
-          → cond b (listed (cond (is_declared ns names c (name_of ns names m)) Clear (error_at ns code.private_field_undeclared n m context.none))) [] ≡ cond (not (has (handed_in m) (name_of ns names m)) && b) (error8 n m) []
+      by : (b : Bool) → same_node (body_around ns m) (Some (record { 0 = c })) ≡ b
+          → cond b (listed (cond (is_declared ns names c (name_of ns names m)) None (error_at ns code.private_field_undeclared n m context.none))) [] ≡ cond (not (has (handed_in m) (name_of ns names m)) && b) (error8 n m) []
       by true e = rw (declared_is m c h (same_found c (body_around ns m) e) (name_of ns names m)) (raise (has (handed_in m) (name_of ns names m)))
       by false e = off (not (has (handed_in m) (name_of ns names m)))
 
       go : (a : Bool) → is_table_use ns m ≡ a
-          → cond (a && is_class c (current_class ns m)) (listed (cond (is_declared ns names c (name_of ns names m)) Clear (error_at ns code.private_field_undeclared n m context.none))) []
-          ≡ cond ((a && not (has (handed_in m) (name_of ns names m))) && same_node (body_around ns m) (At (record { 0 = c }))) (error8 n m) []
-      go true q = rw (current_is ns m (use_kind m q), class_same c (body_around ns m)) (by (same_node (body_around ns m) (At (record { 0 = c }))) refl)
+          → cond (a && is_class c (current_class ns m)) (listed (cond (is_declared ns names c (name_of ns names m)) None (error_at ns code.private_field_undeclared n m context.none))) []
+          ≡ cond ((a && not (has (handed_in m) (name_of ns names m))) && same_node (body_around ns m) (Some (record { 0 = c }))) (error8 n m) []
+      go true q = rw (current_is ns m (use_kind m q), class_same c (body_around ns m)) (by (same_node (body_around ns m) (Some (record { 0 = c }))) refl)
       go false q = refl
 
   refs : (n c : ℕ) → undeclared_in ns names n c ≡ flat_map (λ m. cond (is_table_use ns m && is_class c (current_class ns m)) (listed (undeclared_at ns names n c m)) []) (upto (c + 1) (count ns))
   unfolding undeclared_in references is_table_use
   refs n c = flat_keep (λ m. listed (undeclared_at ns names n c m)) (λ m. is_table_use ns m && is_class c (current_class ns m)) (upto (c + 1) (count ns))
 
-  early : (c x : ℕ) → c < count ns → x < c + 1 → (invalid_here x && same_node (body_around ns x) (At (record { 0 = c }))) ≡ false
-  early c x h l = go (same_node (body_around ns x) (At (record { 0 = c }))) refl (invalid_here x)
+  early : (c x : ℕ) → c < count ns → x < c + 1 → (invalid_here x && same_node (body_around ns x) (Some (record { 0 = c }))) ≡ false
+  early c x h l = go (same_node (body_around ns x) (Some (record { 0 = c }))) refl (invalid_here x)
     where
-      go : (b : Bool) → same_node (body_around ns x) (At (record { 0 = c })) ≡ b → (a : Bool) → (a && same_node (body_around ns x) (At (record { 0 = c }))) ≡ false
+      go : (b : Bool) → same_node (body_around ns x) (Some (record { 0 = c })) ≡ b → (a : Bool) → (a && same_node (body_around ns x) (Some (record { 0 = c }))) ≡ false
       go true e a =
           let o = (over ns w k.ClassBody k.ClassBody x c (omega arith) (around_is ns x ∙ same_found c (body_around ns x) e)).less in
           absurd (omega arith)
       go false e true = e
       go false e false = refl
 
-  in_class_lem : (n c : ℕ) → c < count ns → undeclared_in ns names n c ≡ flat_map (error8 n) (keep (λ m. same_node (body_around ns m) (At (record { 0 = c }))) (invalid_in_table ns names))
+  in_class_lem : (n c : ℕ) → c < count ns → undeclared_in ns names n c ≡ flat_map (error8 n) (keep (λ m. same_node (body_around ns m) (Some (record { 0 = c }))) (invalid_in_table ns names))
   in_class_lem n c h =
       refs n c
-      ∙ flat_upto (λ m. cond (is_table_use ns m && is_class c (current_class ns m)) (listed (undeclared_at ns names n c m)) []) (λ m. cond (invalid_here m && same_node (body_around ns m) (At (record { 0 = c }))) (error8 n m) [])
+      ∙ flat_upto (λ m. cond (is_table_use ns m && is_class c (current_class ns m)) (listed (undeclared_at ns names n c m)) []) (λ m. cond (invalid_here m && same_node (body_around ns m) (Some (record { 0 = c }))) (error8 n m) [])
       (c + 1) (count ns) (λ m a b. piece n c m b)
-      ∙ sym (flat_keep (error8 n) (λ m. invalid_here m && same_node (body_around ns m) (At (record { 0 = c }))) (upto (c + 1) (count ns)))
+      ∙ sym (flat_keep (error8 n) (λ m. invalid_here m && same_node (body_around ns m) (Some (record { 0 = c }))) (upto (c + 1) (count ns)))
       ∙ ap (flat_map (error8 n))
-      (sym (keep_from (λ m. invalid_here m && same_node (body_around ns m) (At (record { 0 = c }))) (count ns) (c + 1) (omega arith) (λ x l. early c x h l))
-      ∙ sym (keep_keep (λ m. same_node (body_around ns m) (At (record { 0 = c }))) invalid_here (upto 0 (count ns)))
-      ∙ ap (keep (λ m. same_node (body_around ns m) (At (record { 0 = c })))) (sym (invalid_list ns names (is_table_use ns) (private_entered ns) w)))
+      (sym (keep_from (λ m. invalid_here m && same_node (body_around ns m) (Some (record { 0 = c }))) (count ns) (c + 1) (omega arith) (λ x l. early c x h l))
+      ∙ sym (keep_keep (λ m. same_node (body_around ns m) (Some (record { 0 = c }))) invalid_here (upto 0 (count ns)))
+      ∙ ap (keep (λ m. same_node (body_around ns m) (Some (record { 0 = c })))) (sym (invalid_list ns names (is_table_use ns) (private_entered ns) w)))
 
-  in_found : (n : ℕ) (f : Found) → class_body_of ns n ≡ f → undeclared_by ns names n (class_at f) ≡ flat_map (error8 n) (keep (λ m. same_node (body_around ns m) f) (invalid_in_table ns names))
+  in_found : (n : ℕ) (f : Option NodeId) → class_body_of ns n ≡ f → undeclared_by ns names n (class_at f) ≡ flat_map (error8 n) (keep (λ m. same_node (body_around ns m) f) (invalid_in_table ns names))
   unfolding flat_map
-  in_found n (At c) e = in_class_lem n c.0 (found_child ns n k.ClassBody k.ClassBody 0 7 (n + 1) c.0 e).below
-  in_found n Nothing e = sym (ap (flat_map (error8 n)) (keep_none (λ m. same_node (body_around ns m) Nothing) (invalid_in_table ns names) (λ x m. go (body_around ns x))))
+  in_found n (Some c) e = in_class_lem n c.0 (found_child ns n k.ClassBody k.ClassBody 0 7 (n + 1) c.0 e).below
+  in_found n None e = sym (ap (flat_map (error8 n)) (keep_none (λ m. same_node (body_around ns m) None) (invalid_in_table ns names) (λ x m. go (body_around ns x))))
     where
-      go : (f : Found) → same_node f Nothing ≡ false
-      go (At a) = refl
-      go Nothing = refl
+      go : (f : Option NodeId) → same_node f None ≡ false
+      go (Some a) = refl
+      go None = refl
 
   at_class_lem : (n : ℕ) → eqb (kind_of ns n) k.Class ≡ true → current_class ns n ≡ class_at (class_body_of ns n)
   unfolding current_class
@@ -420,14 +417,14 @@ module _ (ns : List ℕ) (w : Tree ns) (listed' : Listed ns) (shaped : Shaped ns
       go false q z = never (sym z)
   single (c ∷ l) a s m = absurd (omega arith)
 
-  pub body_of_class : class_body_of ns up ≡ At (record { 0 = b })
+  pub body_of_class : class_body_of ns up ≡ Some (record { 0 = b })
   body_of_class = go (class_body_of ns up) refl
     where
-      go : (f : Found) → class_body_of ns up ≡ f → f ≡ At (record { 0 = b })
-      go (At a) q =
+      go : (f : Option NodeId) → class_body_of ns up ≡ f → f ≡ Some (record { 0 = b })
+      go (Some a) q =
           let z = kept_first_lem (is_child ns up k.ClassBody k.ClassBody 0 7) (count ns) (up + 1) a.0 q in
-          ap (λ (x : ℕ). At (record { 0 = x }))
+          ap (λ (x : ℕ). Some (record { 0 = x }))
           (single (keep (is_child ns up k.ClassBody k.ClassBody 0 7) (upto (a.0 + 1) (count ns))) a.0 (sym (ap length z) ∙ one_body) (sym (ap (member b) z) ∙ member_body))
-      go Nothing q =
+      go None q =
           let z = kept_none (is_child ns up k.ClassBody k.ClassBody 0 7) (count ns) (up + 1) q in
           never (sym (sym (ap (member b) z) ∙ member_body))

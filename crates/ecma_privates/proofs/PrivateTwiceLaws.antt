@@ -1,5 +1,6 @@
 -- THE FINDINGS WITH CODE 1 AT A CLASS ARE BREACHES OF 15.7.1's RULE ON PrivateBoundIdentifiers.
-use Rattle.std.specs.Prelude.{ℕ, ◌+◌, ◌-◌, ◌≤◌, ◌≡◌, Bool, ◌&&◌, ◌||◌, length}
+use Rattle.table_records.specs.declared.NodeId.{NodeId}
+use Rattle.std.specs.Prelude.{ℕ, ◌+◌, ◌-◌, ◌≤◌, ◌≡◌, Bool, ◌&&◌, ◌||◌, length, Option, Some, None}
 use Rattle.std.proofs.Math.Path.{refl, ap, sym}
 use Rattle.std.proofs.Common.{◌∙◌, arith}
 use mathlib.Core.List.{List, [], ◌∷◌, ◌++◌, foldl, flat_map}
@@ -10,15 +11,12 @@ use Rattle.base_common.specs.Upto.{upto, any}
 use Rattle.base_common.proofs.Bools.{never}
 use Rattle.base_walk.specs.On.{member}
 use Rattle.table_records.specs.Table.{parent_of, count}
-use Rattle.table_records.specs.declared.Found.{Found}
-use Rattle.table_records.specs.declared.Found.TheVariants.{At, Nothing}
 use Rattle.table_names.specs.Name.{same}
 use Rattle.table_names.proofs.NameLaws.{same_self, same_eq}
 use Rattle.table_children.specs.Children.{keep, children, key_of, value_of}
 use Rattle.table_children.proofs.ChildrenLaws.{keep_keep}
 use Rattle.ecma_trees.specs.Walk.{some}
 use Rattle.check_diagnostics.specs.Finding.{listed}
-use Rattle.check_diagnostics.specs.declared.Raised.TheVariants.{Clear}
 use Rattle.check_class_table.specs.Elements.{name_at, has_name_at, element_name, is_definition, is_private}
 use Rattle.check_class_table.specs.Elements as e
 use Rattle.check_duplicates.specs.declared.Place.{Place}
@@ -93,7 +91,7 @@ module _ (ns : List ℕ) where
     unfolding clash_in keep
     clash_second b l r = rw (before_second b l r) (go (not (xor (is_setter ns a) (is_setter ns b))))
       where
-        go : (x : Bool) → unlike ns b (or_found (last (cond x (a ∷ []) [])) (At (record { 0 = a }))) ≡ not (matched ns a b)
+        go : (x : Bool) → unlike ns b (or_found (last (cond x (a ∷ []) [])) (Some (record { 0 = a }))) ≡ not (matched ns a b)
         go true = refl
         go false = refl
 
@@ -103,7 +101,7 @@ module _ (ns : List ℕ) where
     clash_third b c l r m = rw (before_third b c l r) (go (sort ns a) (sort ns b) (sort ns c))
       where
         go : Sort ns a → Sort ns b → Sort ns c
-            → unlike ns c (or_found (last (keep (λ d. not (xor (is_setter ns d) (is_setter ns c))) (a ∷ b ∷ []))) (At (record { 0 = b }))) ≡ true
+            → unlike ns c (or_found (last (keep (λ d. not (xor (is_setter ns d) (is_setter ns c))) (a ∷ b ∷ []))) (Some (record { 0 = b }))) ≡ true
         go (gets p q x) (gets r s y) z = never (sym m ∙ unmatched a b (rw (p, s)) (rw (q)))
         go (gets p q x) (sets r s y) (gets t u v) = rw (q, s, u, unmatched a c (rw (p, u)) (rw q))
         go (gets p q x) (sets r s y) (sets t u v) = rw (q, s, u, unmatched b c (rw r) (rw (s, t)))
@@ -206,15 +204,15 @@ module _ (ns names : List ℕ) (l : List ℕ) (r : Rising l) where
       (λ e m. one_or_two e (entries ns names l e) (rising_named e) (self_named e m) (w e m))
 
 -- THE CHECK
-abbrev place_or : Place → Found → Place
-place_or p (At m) = here m.0
-place_or p Nothing = p
+abbrev place_or : Place → Option NodeId → Place
+place_or p (Some m) = here m.0
+place_or p None = p
 
-last_some : (b : ℕ) (l : List ℕ) → last (b ∷ l) ≡ Nothing → ⊥
+last_some : (b : ℕ) (l : List ℕ) → last (b ∷ l) ≡ None → ⊥
 last_some b [] h = let z : ◌≡◌ {A = ℕ} 0 1 = cc in omega arith
 last_some b (c ∷ l) h = last_some c l h
 
-last_none : (l : List ℕ) → last l ≡ Nothing → l ≡ []
+last_none : (l : List ℕ) → last l ≡ None → l ≡ []
 last_none [] h = refl
 last_none (b ∷ l) h = absurd (last_some b l h)
 
@@ -239,9 +237,9 @@ pub name_is_lem : (ns names : List ℕ) (e : ℕ) → element_name ns names e �
 unfolding element_name key_name
 name_is_lem ns names e = go (key_of ns e)
   where
-    go : (f : Found) → name_at ns names f ≡ name_found ns names f
-    go (At m) = refl
-    go Nothing = refl
+    go : (f : Option NodeId) → name_at ns names f ≡ name_found ns names f
+    go (Some m) = refl
+    go None = refl
 
 module _ (ns names : List ℕ) (c e : ℕ) where
   abbrev before : List ℕ
@@ -309,19 +307,19 @@ module _ (ns names : List ℕ) (c e : ℕ) where
   unfolding previous_of
   prev_is = rw (prev_own, prev_other) (go (last mine) refl)
     where
-      go : (f : Found) → last mine ≡ f
+      go : (f : Option NodeId) → last mine ≡ f
           → or_else (place_or nowhere f) (place_or nowhere (last (keep (λ d. xor (is_setter ns d) (is_setter ns e)) before))) ≡ place_or nowhere (or_found f (last before))
-      go (At m) q = refl
-      go Nothing q = ap (λ (l : List ℕ). place_or nowhere (last l)) (all_other (last_none mine q))
+      go (Some m) q = refl
+      go None q = ap (λ (l : List ℕ). place_or nowhere (last l)) (all_other (last_none mine q))
 
-  raised_by_lem : (f : Found) → raised 1 (listed (duplicate_by ns e (place_or nowhere f))) ≡ cond (unlike ns e f) (0 ∷ []) []
+  raised_by_lem : (f : Option NodeId) → raised 1 (listed (duplicate_by ns e (place_or nowhere f))) ≡ cond (unlike ns e f) (0 ∷ []) []
   unfolding duplicate_by redeclaration nodes_of with_code
-  raised_by_lem (At d) = rw (duplicate_is ns d.0 e) (go (not (matched ns d.0 e)))
+  raised_by_lem (Some d) = rw (duplicate_is ns d.0 e) (go (not (matched ns d.0 e)))
     where
-      go : (b : Bool) → raised 1 (listed (cond b (redeclaration ns d.0 e) Clear)) ≡ cond b (0 ∷ []) []
+      go : (b : Bool) → raised 1 (listed (cond b (redeclaration ns d.0 e) None)) ≡ cond b (0 ∷ []) []
       go true = refl
       go false = refl
-  raised_by_lem Nothing = refl
+  raised_by_lem None = refl
 
   raised_here : raised 1 (listed (duplicate_at ns names c e)) ≡ cond (clash_in ns (entries ns names (privates ns c) e) e) (0 ∷ []) []
   unfolding clash_in
@@ -332,9 +330,9 @@ entered_is : (ns : List ℕ) (e : ℕ) → enters ns e ≡ is_entered ns e
 unfolding enters is_entered e.has_body
 entered_is ns e = rw (body_in_lem ns (value_of ns e), go (key_of ns e))
   where
-    go : (f : Found) → has_name_at ns f ≡ named ns f
-    go (At m) = refl
-    go Nothing = refl
+    go : (f : Option NodeId) → has_name_at ns f ≡ named ns f
+    go (Some m) = refl
+    go None = refl
 
 pub privates_are : (ns : List ℕ) (b : ℕ) → privates ns b ≡ private_entered ns b
 unfolding privates elements private_entered is_private_bound

@@ -1,12 +1,11 @@
 -- THE RULES AS THE RUST HAS THEM, where they are not the standard's, and the conditions on which they are: in the order of the codes 1 (at a class), 7 and 8.
-use Rattle.std.specs.Prelude.{ℕ, ◌<◌, ◌≤◌, ◌≡◌, List, [], ◌∷◌, Bool, true, false, not, ◌&&◌, eqb, ltb, length}
+use Rattle.table_records.specs.declared.NodeId.{NodeId}
+use Rattle.std.specs.Prelude.{ℕ, ◌<◌, ◌≤◌, ◌≡◌, List, [], ◌∷◌, Bool, true, false, not, ◌&&◌, eqb, ltb, length, Option, Some, None}
 use Rattle.std.specs.Bool.{xor}
 use Rattle.base_common.specs.Tests.{within}
 use Rattle.base_walk.specs.On.{member}
 use Rattle.table_records.specs.Table.{kind_of, parent_of, name_len_of, count}
 use Rattle.table_records.specs.Kinds as k
-use Rattle.table_records.specs.declared.Found.{Found}
-use Rattle.table_records.specs.declared.Found.TheVariants.{At, Nothing}
 use Rattle.table_children.specs.Children.{keep, children, key_of, value_of, found}
 use Rattle.ecma_trees.specs.Rose.{tree_of}
 use Rattle.ecma_elements.specs.Changed.{is_table_constructor, body_in}
@@ -18,9 +17,9 @@ use Rattle.ecma_privates.specs.Raised.{body_around}
 abbrev pub bodiless : List ℕ → ℕ → Bool
 bodiless ns e = eqb (kind_of ns e) k.MethodDefinition && not (body_in ns (value_of ns e))
 
-abbrev pub named : List ℕ → Found → Bool
-named ns (At m) = not (eqb (kind_of ns m.0) k.IdentifierReference) && not (eqb (name_len_of ns m.0) 0)
-named ns Nothing = false
+abbrev pub named : List ℕ → Option NodeId → Bool
+named ns (Some m) = not (eqb (kind_of ns m.0) k.IdentifierReference) && not (eqb (name_len_of ns m.0) 0)
+named ns None = false
 
 -- no constructor, no method without a body and nothing without a name (an IdentifierReference as key gives none) is entered
 unfoldable pub is_entered : List ℕ → ℕ → Bool
@@ -34,18 +33,18 @@ abbrev pub PrivatesEntered : List ℕ → ℕ → Type 0
 PrivatesEntered ns b = (e : ℕ) → member e (children ns b) ≡ true → is_private_bound ns e ≡ true → is_entered ns e ≡ true
 
 -- An entry is held against one earlier entry: the last one that is a setter just if this one is, or else the last one.
-abbrev pub last : List ℕ → Found
-last [] = Nothing
-last (a ∷ []) = At (record { 0 = a })
+abbrev pub last : List ℕ → Option NodeId
+last [] = None
+last (a ∷ []) = Some (record { 0 = a })
 last (a ∷ b ∷ l) = last (b ∷ l)
 
-abbrev pub or_found : Found → Found → Found
-or_found (At m) g = At m
-or_found Nothing g = g
+abbrev pub or_found : Option NodeId → Option NodeId → Option NodeId
+or_found (Some m) g = Some m
+or_found None g = g
 
-abbrev pub unlike : List ℕ → ℕ → Found → Bool
-unlike ns e (At d) = not (matched ns d.0 e)
-unlike ns e Nothing = false
+abbrev pub unlike : List ℕ → ℕ → Option NodeId → Bool
+unlike ns e (Some d) = not (matched ns d.0 e)
+unlike ns e None = false
 
 -- e clashes with an earlier one of l, the entries of its name
 unfoldable pub clash_in : List ℕ → List ℕ → ℕ → Bool

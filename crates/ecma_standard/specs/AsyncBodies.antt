@@ -6,7 +6,7 @@ use Rattle.base_common.specs.Upto.{all}
 use Rattle.base_common.specs.Tests.{within}
 use Rattle.base_walk.specs.On.{member}
 use Rattle.table_records.specs.Table.{count}
-use Rattle.refusal_verdict.specs.declared.Verdict.TheVariants.{Passed}
+use Rattle.refusal_verdict.specs.Verdict.{Passed}
 use Rattle.refusal_input.specs.Input.{input_refusal}
 use Rattle.refusal_input.proofs.InputLaws.{input_well_formed}
 use Rattle.check_dispatch.specs.Findings.{findings_at, findings_of}

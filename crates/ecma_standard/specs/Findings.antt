@@ -7,7 +7,7 @@ use mathlib.Core.List.{List, ◌++◌, flat_map}
 use Rattle.base_common.specs.Upto.{upto}
 use Rattle.table_records.specs.Table.{count}
 use Rattle.table_children.specs.Children.{keep}
-use Rattle.refusal_verdict.specs.declared.Verdict.TheVariants.{Passed}
+use Rattle.refusal_verdict.specs.Verdict.{Passed}
 use Rattle.refusal_input.specs.Input.{input_refusal}
 use Rattle.refusal_input.proofs.InputLaws.{input_well_formed}
 use Rattle.check_dispatch.specs.Findings.{findings_of}

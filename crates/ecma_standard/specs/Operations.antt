@@ -1,14 +1,13 @@
 -- THE OPERATIONS OF ECMA-262 AND THE FINDINGS: of a unit, as the standard states its rules, an operation is true exactly if a finding is raised at one of the nodes that it finds there.
 -- On the conditions of the codes.
-use Rattle.std.specs.Prelude.{ℕ, ◌+◌, ◌≤◌, ◌<◌, ◌≡◌, List, [], ◌++◌, ◌↔◌, Bool, true, false, cond, not, ◌&&◌, ◌||◌, eqb}
+use Rattle.std.specs.Prelude.{ℕ, ◌+◌, ◌≤◌, ◌<◌, ◌≡◌, List, [], ◌++◌, ◌↔◌, Bool, true, false, cond, not, ◌&&◌, ◌||◌, eqb, Some}
 use Rattle.base_common.specs.Upto.{upto}
 use Rattle.base_common.specs.Tests.{within}
 use Rattle.table_records.specs.Table.{kind_of, parent_of, count}
 use Rattle.table_records.specs.Kinds as k
-use Rattle.table_records.specs.declared.Found.TheVariants.{At}
 use Rattle.table_children.specs.Children.{function_body_of, class_body_of}
 use Rattle.check_diagnostics.specs.declared.Finding.{Finding}
-use Rattle.refusal_verdict.specs.declared.Verdict.TheVariants.{Passed}
+use Rattle.refusal_verdict.specs.Verdict.{Passed}
 use Rattle.refusal_input.specs.Input.{input_refusal}
 use Rattle.refusal_input.proofs.InputLaws.{input_well_formed}
 use Rattle.check_dispatch.specs.Findings.{findings_at, findings_of}
@@ -77,13 +76,13 @@ module _ (told : Telling) (t : ℕ) (ns ss source names : List ℕ) where
     pub is_labelled_function : (u : ℕ) → u < count ns → ends_in_statement ns u ≡ true
         → ends_in_labelled ns u ≡ some (each (λ j. cond (eqb (unit_of ns (label_edge ns) j) u && labels_function ns j) (at 16 j ++ at 15 j) []) (upto (u + 1) (count ns)))
     -- 15.2.2 FunctionBodyContainsUseStrict, of the FunctionBody b of a function or an arrow f whose parameters are not simple
-    pub body_contains_use_strict : scopes_follow ns ss ≡ true → (f b : ℕ) → function_body_of ns f ≡ At (record { 0 = b }) → within (kind_of ns f) k.Function k.Arrow ≡ true → simple_parameters ns f ≡ false
+    pub body_contains_use_strict : scopes_follow ns ss ≡ true → (f b : ℕ) → function_body_of ns f ≡ Some (record { 0 = b }) → within (kind_of ns f) k.Function k.Arrow ≡ true → simple_parameters ns f ≡ false
         → contains_use_strict ns names b ≡ some (each (λ j. cond (eqb (parent_of ns j) b) (at 12 j) []) (upto (b + 1) (count ns)))
     -- 15.7.7 AllPrivateIdentifiersValid, and the PrivateIdentifiers at which it is false
     pub private_identifiers_valid : PrivatesPlain ns → UsedOutside ns → all_private_identifiers_valid ns names ≡ not (some (raised 7 (findings_of t ns ss source names)) || some (raised 8 (findings_of t ns ss source names)))
     pub valid_lists : all_private_identifiers_valid ns names ≡ not (some (invalid_identifiers ns names))
     -- 8 is raised at one Class: the parent of the ClassBody
-    pub class_above : (b : ℕ) → b < count ns → kind_of ns b ≡ k.ClassBody → (kind_of ns (parent_of ns b) ≡ k.Class) × (class_body_of ns (parent_of ns b) ≡ At (record { 0 = b }))
+    pub class_above : (b : ℕ) → b < count ns → kind_of ns b ≡ k.ClassBody → (kind_of ns (parent_of ns b) ≡ k.Class) × (class_body_of ns (parent_of ns b) ≡ Some (record { 0 = b }))
     -- 8.5.1 Contains and 15.4.2 HasDirectSuper, of a unit u
     pub super_bare : (u : ℕ) → u < count ns → bare_error ns names u ≡ some (in_unit ns (standard_bare ns names) u)
     pub super_call : (u : ℕ) → u < count ns → call_error told ns names u ≡ some (in_unit ns (standard_stray told ns names) u)

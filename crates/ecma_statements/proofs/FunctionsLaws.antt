@@ -1,5 +1,7 @@
 -- What the checks of functions in statement position raise is what the rules say.
-use Rattle.std.specs.Prelude.{ℕ, ◌<◌, ◌≡◌, List, [], Bool, cond, not, ◌&&◌, ◌||◌}
+use Rattle.check_diagnostics.specs.declared.Finding.{Finding}
+use Rattle.table_records.specs.declared.NodeId.{NodeId}
+use Rattle.std.specs.Prelude.{ℕ, ◌<◌, ◌≡◌, List, [], Bool, cond, not, ◌&&◌, ◌||◌, Option, Some, None}
 use Rattle.std.proofs.Math.Path.{refl, ap}
 use Rattle.std.proofs.Common.{sym, ◌∙◌, eq-eqb, eqb-true}
 use Rattle.std.proofs.Math.Bool.{true, false}
@@ -10,14 +12,10 @@ use Rattle.base_common.proofs.UptoLaws.{and_left_lem, and_right_lem}
 use Rattle.table_records.specs.Table.{kind_of, parent_of, count}
 use Rattle.table_records.specs.Facts.{Tree}
 use Rattle.table_records.specs.Kinds as k
-use Rattle.table_records.specs.declared.Found.{Found}
-use Rattle.table_records.specs.declared.Found.TheVariants.{At, Nothing}
 use Rattle.table_children.specs.Children.{held_of, alternate_of}
 use Rattle.check_diagnostics.specs.Finding.{error_at}
 use Rattle.check_diagnostics.specs.Codes as code
 use Rattle.check_diagnostics.specs.Contexts as context
-use Rattle.check_diagnostics.specs.declared.Raised.{Raised}
-use Rattle.check_diagnostics.specs.declared.Raised.TheVariants.{Clear}
 use Rattle.check_statements.specs.Statements.{check_found, check_function_declaration, check_body, check_consequent, check_alternate, labelled_function, check_labeled_item, check_function_declaration_in_labeled_statement}
 use Rattle.check_statements.proofs.StatementsLaws.{function_on, function_held, function_free, function_root}
 use Rattle.ecma_trees.specs.Walk.{only}
@@ -49,25 +47,25 @@ module _ (ns ss : List ℕ) (n : ℕ) where
   ordinary_allowed i e f s = rw s (and_true (eqb (kind_of ns n) k.If || eqb (kind_of ns n) k.Labeled) ∙ e)
 
   -- so in strict code every function is misplaced
-  pub strict_misplaced : (told : Telling) (r : Found) → strict_code ns ss n ≡ true → misplaced told ns ss n r ≡ is_function ns r
-  strict_misplaced told (At m) s = ap (λ v. eqb (kind_of ns m.0) k.Function && not v) (strict_denied told m.0 s) ∙ and_true (eqb (kind_of ns m.0) k.Function)
-  strict_misplaced told Nothing s = refl
+  pub strict_misplaced : (told : Telling) (r : Option NodeId) → strict_code ns ss n ≡ true → misplaced told ns ss n r ≡ is_function ns r
+  strict_misplaced told (Some m) s = ap (λ v. eqb (kind_of ns m.0) k.Function && not v) (strict_denied told m.0 s) ∙ and_true (eqb (kind_of ns m.0) k.Function)
+  strict_misplaced told None s = refl
 
   -- what is raised for the statement that was found: f it is a function, s strict code, v Annex B allows it; i the holder is an if
-  held15 : (f s v : Bool) (m : ℕ) (x : Raised) → of_check 15 x ≡ [] → (s ≡ true → v ≡ false)
-      → of_check 15 (cond f (cond s (error_at ns code.function_declaration_strict n m context.none) x) Clear) ≡ only (s && (f && not v)) n
+  held15 : (f s v : Bool) (m : ℕ) (x : Option Finding) → of_check 15 x ≡ [] → (s ≡ true → v ≡ false)
+      → of_check 15 (cond f (cond s (error_at ns code.function_declaration_strict n m context.none) x) None) ≡ only (s && (f && not v)) n
   held15 true true true m x q e = never (e refl)
   held15 true true false m x q e = refl
   held15 true false v m x q e = q
   held15 false true v m x q e = refl
   held15 false false v m x q e = refl
 
-  other15 : (i : Bool) (m : ℕ) → of_check 15 (cond i Clear (error_at ns code.function_declaration_non_strict n m context.none)) ≡ []
+  other15 : (i : Bool) (m : ℕ) → of_check 15 (cond i None (error_at ns code.function_declaration_non_strict n m context.none)) ≡ []
   other15 true m = refl
   other15 false m = refl
 
   held16 : (f s i v : Bool) (m : ℕ) → (s ≡ false → v ≡ i)
-      → of_check 16 (cond f (cond s (error_at ns code.function_declaration_strict n m context.none) (cond i Clear (error_at ns code.function_declaration_non_strict n m context.none))) Clear)
+      → of_check 16 (cond f (cond s (error_at ns code.function_declaration_strict n m context.none) (cond i None (error_at ns code.function_declaration_non_strict n m context.none))) None)
       ≡ only (not s && (f && not v)) n
   held16 true true i v m e = refl
   held16 true false true true m e = refl
@@ -81,18 +79,18 @@ module _ (ns ss : List ℕ) (n : ℕ) where
   and_false true = refl
   and_false false = refl
 
-  found15 : (told : Telling) (i : Bool) (r : Found) → of_check 15 (check_found r (check_function_declaration ns ss n i)) ≡ only (strict_code ns ss n && misplaced told ns ss n r) n
+  found15 : (told : Telling) (i : Bool) (r : Option NodeId) → of_check 15 (check_found r (check_function_declaration ns ss n i)) ≡ only (strict_code ns ss n && misplaced told ns ss n r) n
   unfolding check_function_declaration
-  found15 told i (At m) =
+  found15 told i (Some m) =
       held15 (eqb (kind_of ns m.0) k.Function) (strict_code ns ss n) (annex_allows told ns ss n m.0) m.0
-      (cond i Clear (error_at ns code.function_declaration_non_strict n m.0 context.none)) (other15 i m.0) (strict_denied told m.0)
-  found15 told i Nothing = and_false (strict_code ns ss n)
+      (cond i None (error_at ns code.function_declaration_non_strict n m.0 context.none)) (other15 i m.0) (strict_denied told m.0)
+  found15 told i None = and_false (strict_code ns ss n)
 
-  found16 : (i : Bool) → (eqb (kind_of ns n) k.If || eqb (kind_of ns n) k.Labeled) ≡ i → (r : Found)
+  found16 : (i : Bool) → (eqb (kind_of ns n) k.If || eqb (kind_of ns n) k.Labeled) ≡ i → (r : Option NodeId)
       → of_check 16 (check_found r (check_function_declaration ns ss n i)) ≡ only (not (strict_code ns ss n) && misplaced ordinary ns ss n r) n
   unfolding check_function_declaration
-  found16 i e (At m) = held16 (eqb (kind_of ns m.0) k.Function) (strict_code ns ss n) i (annex_allows ordinary ns ss n m.0) m.0 (ordinary_allowed i e m.0)
-  found16 i e Nothing = and_false (not (strict_code ns ss n))
+  found16 i e (Some m) = held16 (eqb (kind_of ns m.0) k.Function) (strict_code ns ss n) i (annex_allows ordinary ns ss n m.0) m.0 (ordinary_allowed i e m.0)
+  found16 i e None = and_false (not (strict_code ns ss n))
 
   -- CODE 15 at a loop or With, and at both Statements of an If
   pub body_strict : (told : Telling) → ends_in_statement ns n ≡ true → of_check code.function_declaration_strict (check_body ns ss n) ≡ only (strict_function told ns ss n) n
@@ -136,16 +134,16 @@ module _ (ns ss : List ℕ) (n : ℕ) where
       free false true true true e = refl
       free false true true false e = never (sym (e refl))
 
-      go : (x : Bool) (r : Found) → (not (strict_code ns ss n) && (x && misplaced ordinary ns ss n r)) ≡ false
-      go x (At m) =
+      go : (x : Bool) (r : Option NodeId) → (not (strict_code ns ss n) && (x && misplaced ordinary ns ss n r)) ≡ false
+      go x (Some m) =
           free (strict_code ns ss n) x (eqb (kind_of ns m.0) k.Function) (annex_allows ordinary ns ss n m.0)
           (ordinary_allowed true (either (eqb (kind_of ns n) k.If) (eqb (kind_of ns n) k.Labeled) q) m.0)
-      go x Nothing = free (strict_code ns ss n) x false true (λ e. refl)
+      go x None = free (strict_code ns ss n) x false true (λ e. refl)
 
 -- A LABELLED FUNCTION
 module _ (ns : List ℕ) (t : Tree ns) (n s : ℕ) where
-  abbrev labelled_raised : ℕ → Raised
-  labelled_raised u = cond (ends_in_statement ns u) (error_at ns code.function_declaration_non_strict n s context.none) Clear
+  abbrev labelled_raised : ℕ → Option Finding
+  labelled_raised u = cond (ends_in_statement ns u) (error_at ns code.function_declaration_non_strict n s context.none) None
 
   labelled_is : (i : ℕ) → i < count ns → labelled_function ns n s i ≡ labelled_raised (unit_of ns (label_edge ns) i)
   labelled_is = upward ns t (λ i. labelled_function ns n s i ≡ labelled_raised (unit_of ns (label_edge ns) i)) first step
@@ -165,30 +163,30 @@ module _ (ns : List ℕ) (t : Tree ns) (n s : ℕ) where
               function_free ns t n s i (parent_of ns i) z h refl (eqb-false (kind_of ns (parent_of ns i)) k.Labeled x) e ∙ sym (ap labelled_raised (unit_here ns t (label_edge ns) i z h (rw x)) ∙ rw e)
 
 module _ (ns ss : List ℕ) (t : Tree ns) (n : ℕ) (h : n < count ns) where
-  item15 : (l : Bool) (m : ℕ) → of_check 15 (cond l (error_at ns code.function_declaration_non_strict n m context.none) Clear) ≡ []
+  item15 : (l : Bool) (m : ℕ) → of_check 15 (cond l (error_at ns code.function_declaration_non_strict n m context.none) None) ≡ []
   item15 true m = refl
   item15 false m = refl
 
   item16 : (f s l : Bool) (m : ℕ)
-      → of_check 16 (cond f (cond s (error_at ns code.function_declaration_strict n m context.none) (cond l (error_at ns code.function_declaration_non_strict n m context.none) Clear)) Clear) ≡ only (f && (not s && l)) n
+      → of_check 16 (cond f (cond s (error_at ns code.function_declaration_strict n m context.none) (cond l (error_at ns code.function_declaration_non_strict n m context.none) None)) None) ≡ only (f && (not s && l)) n
   item16 true true l m = refl
   item16 true false true m = refl
   item16 true false false m = refl
   item16 false s l m = refl
 
-  labelled15 : (told : Telling) (r : Found) → of_check 15 (check_found r (check_labeled_item ns ss n)) ≡ only (strict_code ns ss n && misplaced told ns ss n r) n
+  labelled15 : (told : Telling) (r : Option NodeId) → of_check 15 (check_found r (check_labeled_item ns ss n)) ≡ only (strict_code ns ss n && misplaced told ns ss n r) n
   unfolding check_labeled_item
-  labelled15 told (At m) =
+  labelled15 told (Some m) =
       let l = ends_in_statement ns (unit_of ns (label_edge ns) n) in
       rw (labelled_is ns t n m.0 n h)
       (held15 ns ss n (eqb (kind_of ns m.0) k.Function) (strict_code ns ss n) (annex_allows told ns ss n m.0) m.0
-      (cond l (error_at ns code.function_declaration_non_strict n m.0 context.none) Clear) (item15 l m.0) (strict_denied ns ss n told m.0))
-  labelled15 told Nothing = and_false ns ss n (strict_code ns ss n)
+      (cond l (error_at ns code.function_declaration_non_strict n m.0 context.none) None) (item15 l m.0) (strict_denied ns ss n told m.0))
+  labelled15 told None = and_false ns ss n (strict_code ns ss n)
 
-  labelled16 : (r : Found) → of_check 16 (check_found r (check_labeled_item ns ss n)) ≡ only (is_function ns r && (not (strict_code ns ss n) && ends_in_statement ns (unit_of ns (label_edge ns) n))) n
+  labelled16 : (r : Option NodeId) → of_check 16 (check_found r (check_labeled_item ns ss n)) ≡ only (is_function ns r && (not (strict_code ns ss n) && ends_in_statement ns (unit_of ns (label_edge ns) n))) n
   unfolding check_labeled_item
-  labelled16 (At m) = rw (labelled_is ns t n m.0 n h) (item16 (eqb (kind_of ns m.0) k.Function) (strict_code ns ss n) (ends_in_statement ns (unit_of ns (label_edge ns) n)) m.0)
-  labelled16 Nothing = refl
+  labelled16 (Some m) = rw (labelled_is ns t n m.0 n h) (item16 (eqb (kind_of ns m.0) k.Function) (strict_code ns ss n) (ends_in_statement ns (unit_of ns (label_edge ns) n)) m.0)
+  labelled16 None = refl
 
   -- CODE 15 at a Labeled
   pub label_strict : (told : Telling) → kind_of ns n ≡ k.Labeled → of_check code.function_declaration_strict (check_function_declaration_in_labeled_statement ns ss n) ≡ only (strict_function told ns ss n) n
@@ -233,13 +231,13 @@ module _ (told : Telling) (ns ss : List ℕ) (n : ℕ) where
       go true e = let q = ap not (c e) in cc
       go false e = rw e
 
-  misplaced_same : (r : Found) → (annex_holder ns ss n ≡ true → special_function told ns r ≡ false) → misplaced ordinary ns ss n r ≡ misplaced told ns ss n r
-  misplaced_same (At m) c = by (eqb (kind_of ns m.0) k.Function) refl
+  misplaced_same : (r : Option NodeId) → (annex_holder ns ss n ≡ true → special_function told ns r ≡ false) → misplaced ordinary ns ss n r ≡ misplaced told ns ss n r
+  misplaced_same (Some m) c = by (eqb (kind_of ns m.0) k.Function) refl
     where
       by : (f : Bool) → eqb (kind_of ns m.0) k.Function ≡ f → (f && not (annex_allows ordinary ns ss n m.0)) ≡ (f && not (annex_allows told ns ss n m.0))
       by true e = ap not (allows_same m.0 (λ a. sym (rw e) ∙ c a))
       by false e = refl
-  misplaced_same Nothing c = refl
+  misplaced_same None c = refl
 
   pub misplaced_agrees : OrdinaryHeld told ns ss n → labelled_function_at ns n ≡ false → function_misplaced ordinary ns ss n ≡ function_misplaced told ns ss n
   unfolding function_misplaced
@@ -250,9 +248,9 @@ module _ (told : Telling) (ns ss : List ℕ) (n : ℕ) where
   misplaced_else_agrees c = ap (λ b. eqb (kind_of ns n) k.If && b) (misplaced_same (alternate_of ns n) c.behind_else)
 
   -- elsewhere it is not: of a function there that is special the standard's rule says an error, and the changed one none
-  pub misplaced_differs : (r : Found) → annex_holder ns ss n ≡ true → special_function told ns r ≡ true → (misplaced told ns ss n r ≡ true) × (misplaced ordinary ns ss n r ≡ false)
-  misplaced_differs (At m) a q =
+  pub misplaced_differs : (r : Option NodeId) → annex_holder ns ss n ≡ true → special_function told ns r ≡ true → (misplaced told ns ss n r ≡ true) × (misplaced ordinary ns ss n r ≡ false)
+  misplaced_differs (Some m) a q =
       let d = special_denied ns ss n told m.0 (and_right_lem (eqb (kind_of ns m.0) k.Function) (async_or_generator told m.0) q) in
       let f = and_left_lem (eqb (kind_of ns m.0) k.Function) (async_or_generator told m.0) q in
       (ap (λ v. eqb (kind_of ns m.0) k.Function && not v) d ∙ rw f, rw (f, a))
-  misplaced_differs Nothing a q = never (sym q)
+  misplaced_differs None a q = never (sym q)

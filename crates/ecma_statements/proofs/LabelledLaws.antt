@@ -1,5 +1,6 @@
 -- IsLabelledFunction, node by node: it is true of a Statement just where a label of a function has its way up, label by label, to that Statement.
-use Rattle.std.specs.Prelude.{ℕ, suc, ◌+◌, ◌≤◌, ◌<◌, ◌≡◌, Bool, not, ◌&&◌, ◌||◌, ◌⊎◌, eqb, length}
+use Rattle.table_records.specs.declared.NodeId.{NodeId}
+use Rattle.std.specs.Prelude.{ℕ, suc, ◌+◌, ◌≤◌, ◌<◌, ◌≡◌, Bool, not, ◌&&◌, ◌||◌, ◌⊎◌, eqb, length, Option, Some, None}
 use Rattle.std.proofs.Math.Path.{refl, ap, sym}
 use Rattle.std.proofs.Common.{◌∙◌, eq-or-lt_of_le, arith, eq-eqb, ne_eqb, eqb-true}
 use mathlib.Core.List.{List, [], ◌∷◌, foldr}
@@ -12,8 +13,6 @@ use Rattle.base_common.proofs.Bools.{in_range_lem, range_of}
 use Rattle.table_records.specs.Table.{kind_of, parent_of, role_of, count}
 use Rattle.table_records.specs.Facts.{Tree}
 use Rattle.table_records.specs.Roles as role
-use Rattle.table_records.specs.declared.Found.{Found}
-use Rattle.table_records.specs.declared.Found.TheVariants.{At, Nothing}
 use Rattle.table_children.specs.Children.{keep, how_many, is_child, first_node, held_of}
 use Rattle.table_children.proofs.ChildrenLaws.{child_other, tally, tally_all}
 use Rattle.refusal_fields.specs.Fields.{Listed}
@@ -44,9 +43,9 @@ length_keep q (x ∷ l) = go (q x) (length_keep q l)
 
 module _ (ns : List ℕ) where
   -- the first part with role 3, and how many there are
-  abbrev held_in : Roses → Found
-  held_in rnil = Nothing
-  held_in (rcons x xs) = cond (eqb (role_of ns (idx x)) role.Held) (At (record { 0 = idx x })) (held_in xs)
+  abbrev held_in : Roses → Option NodeId
+  held_in rnil = None
+  held_in (rcons x xs) = cond (eqb (role_of ns (idx x)) role.Held) (Some (record { 0 = idx x })) (held_in xs)
 
   abbrev held_count : Roses → ℕ
   held_count rnil = 0
@@ -65,10 +64,10 @@ module _ (ns : List ℕ) where
     held_is : (n : ℕ) → n < count ns → held_of ns n ≡ held_in (parts_of ns n)
     unfolding first_node
     held_is n h =
-        fold_parts_is (λ k r. cond (is_child ns n 0 55 3 3 k) (At (record { 0 = k })) r) Nothing ns t n (λ j r m. rw (child_other ns n 0 55 3 3 j m)) h
+        fold_parts_is (λ k r. cond (is_child ns n 0 55 3 3 k) (Some (record { 0 = k })) r) None ns t n (λ j r m. rw (child_other ns n 0 55 3 3 j m)) h
         ∙ go (parts_of ns n) (parts_placed ns n h)
       where
-        go : (ks : Roses) → PlacedAll ns n ks → fold_parts (λ k r. cond (is_child ns n 0 55 3 3 k) (At (record { 0 = k })) r) Nothing ks ≡ held_in ks
+        go : (ks : Roses) → PlacedAll ns n ks → fold_parts (λ k r. cond (is_child ns n 0 55 3 3 k) (Some (record { 0 = k })) r) None ks ≡ held_in ks
         go rnil p = refl
         go (rcons x xs) p = rw (fit n (idx x) p.0, go xs p.2)
 
@@ -131,7 +130,7 @@ module _ (ns : List ℕ) where
         alone false false c e = sym e
 
         go : (b : Bool) → eqb (role_of ns (idx x)) 3 ≡ b → cond b (suc (held_count xs)) (held_count xs) ≤ 1 → (held_count xs ≤ 1 → labelled_item ns xs ≡ (is_function ns (held_in xs) || among xs))
-            → cond b (eqb (kind_of ns (idx x)) 1 || is_labelled_function ns x) (labelled_item ns xs) ≡ (is_function ns (cond b (At (record { 0 = idx x })) (held_in xs)) || (is_labelled_function ns x || among xs))
+            → cond b (eqb (kind_of ns (idx x)) 1 || is_labelled_function ns x) (labelled_item ns xs) ≡ (is_function ns (cond b (Some (record { 0 = idx x })) (held_in xs)) || (is_labelled_function ns x || among xs))
         go true y e r = alone (eqb (kind_of ns (idx x)) 1) (is_labelled_function ns x) (among xs) (none_held n q xs p.2 (omega arith))
         go false y e r = rw (is_not x (not_labeled n (idx x) q p.0 y)) (r e)
 

@@ -1,5 +1,6 @@
 -- What the checks of statements raise is what the rules say.
-use Rattle.std.specs.Prelude.{ℕ, ◌+◌, ◌≤◌, ◌≡◌, Bool, cond, ◌&&◌, ◌||◌, length}
+use Rattle.table_records.specs.declared.NodeId.{NodeId}
+use Rattle.std.specs.Prelude.{ℕ, ◌+◌, ◌≤◌, ◌≡◌, Bool, cond, ◌&&◌, ◌||◌, length, Option, Some, None}
 use Rattle.std.proofs.Math.Path.{refl, ap}
 use Rattle.std.proofs.Common.{sym, ◌∙◌, arith}
 use mathlib.Core.List.{List, [], ◌∷◌}
@@ -12,15 +13,12 @@ use Rattle.table_source.proofs.SourceTypeLaws.{no_typescript}
 use Rattle.table_records.specs.Table.{kind_of, parent_of, count, extra_of, span_start_of, span_end_of}
 use Rattle.table_records.specs.Kinds as k
 use Rattle.table_records.specs.Extras as extra
-use Rattle.table_records.specs.declared.Found.{Found}
-use Rattle.table_records.specs.declared.Found.TheVariants.{At, Nothing}
 use Rattle.table_children.specs.Children.{keep, is_child}
 use Rattle.table_children.proofs.ChildrenLaws.{tally, tally_all}
 use Rattle.check_diagnostics.proofs.Gather.{kept_first_lem, kept_none}
 use Rattle.check_diagnostics.specs.Finding.{error_at}
 use Rattle.check_diagnostics.specs.Codes as code
 use Rattle.check_diagnostics.specs.Contexts as context
-use Rattle.check_diagnostics.specs.declared.Raised.TheVariants.{Clear}
 use Rattle.check_statements.specs.Statements.{check_found, check_with_statement, declarator_of, declarators, check_initialiser, check_left, check_for_statement_left, check_using}
 use Rattle.ecma_trees.specs.Walk.{only}
 use Rattle.ecma_base.specs.Nodes.{of_check}
@@ -76,31 +74,31 @@ module _ (ns ss : List ℕ) (n : ℕ) (f : Bool) (e : eqb (kind_of ns n) k.ForIn
   several : (d a b : ℕ) (l : List ℕ) → declarators_of ns d ≡ a ∷ b ∷ l → (bad_head ns ss n d && not (unsaid ns n d)) ≡ false
   several d a b l q = rw (q, lt-leb (length (a ∷ b ∷ l)) 1 (omega arith)) (and_false (bad_head ns ss n d))
 
-  head_left : (d : ℕ) → (x : Bool) → eqb (kind_of ns d) k.VariableDeclaration ≡ x → (r : Found) → declarator_of ns d ≡ r
-      → of_check 24 (cond x (cond (single (declarators_of ns d)) (check_found r (check_initialiser ns ss n f d)) Clear) Clear) ≡ only (bad_head ns ss n d && not (unsaid ns n d)) n
+  head_left : (d : ℕ) → (x : Bool) → eqb (kind_of ns d) k.VariableDeclaration ≡ x → (r : Option NodeId) → declarator_of ns d ≡ r
+      → of_check 24 (cond x (cond (single (declarators_of ns d)) (check_found r (check_initialiser ns ss n f d)) None) None) ≡ only (bad_head ns ss n d && not (unsaid ns n d)) n
   unfolding bad_head annex_head check_initialiser
   head_left d false x r q = rw x
-  head_left d true x Nothing q =
+  head_left d true x None q =
       let z : declarators_of ns d ≡ [] = kept_none (is_child ns d 25 25 0 7) (count ns) (d + 1) q in
       rw (x, z)
-  head_left d true x (At v) q = go (keep (is_child ns d 25 25 0 7) (upto (v.0 + 1) (count ns))) (kept_first_lem (is_child ns d 25 25 0 7) (count ns) (d + 1) v.0 q)
+  head_left d true x (Some v) q = go (keep (is_child ns d 25 25 0 7) (upto (v.0 + 1) (count ns))) (kept_first_lem (is_child ns d 25 25 0 7) (count ns) (d + 1) v.0 q)
     where
       go : (l : List ℕ) → declarators_of ns d ≡ v.0 ∷ l
-          → of_check 24 (cond true (cond (single (declarators_of ns d)) (check_initialiser ns ss n f d v.0) Clear) Clear) ≡ only (bad_head ns ss n d && not (unsaid ns n d)) n
+          → of_check 24 (cond true (cond (single (declarators_of ns d)) (check_initialiser ns ss n f d v.0) None) None) ≡ only (bad_head ns ss n d && not (unsaid ns n d)) n
       go [] z =
           rw (x, z, or_false (initialized ns v.0), and_true (plain_name ns v.0), e)
-          (ap (λ b. of_check 24 (cond b (error_at ns code.unexpected_initializer_in_for_loop_head n d context.none) Clear))
+          (ap (λ b. of_check 24 (cond b (error_at ns code.unexpected_initializer_in_for_loop_head n d context.none) None))
           (one_head (initialized ns v.0) (strict_code ns ss n) (eqb (extra_of ns d) extra.Var) f (plain_name ns v.0))
           ∙ if_only 24 (span_start_of ns d) (span_end_of ns d) n context.none
           ((initialized ns v.0 && not ((f && eqb (extra_of ns d) extra.Var) && (plain_name ns v.0 && not (strict_code ns ss n)))) && not ((f && not (eqb (extra_of ns d) extra.Var)) && plain_name ns v.0)))
       go (b ∷ l) z =
           let y : single (declarators_of ns d) ≡ false = ap (λ (m : List ℕ). single m) z ∙ lt-leb (length (v.0 ∷ b ∷ l)) 1 (omega arith) in
-          ap (λ b. of_check 24 (cond true (cond b (check_initialiser ns ss n f d v.0) Clear) Clear)) y ∙ ap (λ y. only y n) (sym (several d v.0 b l z))
+          ap (λ b. of_check 24 (cond true (cond b (check_initialiser ns ss n f d v.0) None) None)) y ∙ ap (λ y. only y n) (sym (several d v.0 b l z))
 
-  head_by : (r : Found) → of_check 24 (check_found r (check_left ns ss n f)) ≡ only (of_head (λ d. bad_head ns ss n d && not (unsaid ns n d)) r) n
+  head_by : (r : Option NodeId) → of_check 24 (check_found r (check_left ns ss n f)) ≡ only (of_head (λ d. bad_head ns ss n d && not (unsaid ns n d)) r) n
   unfolding check_left
-  head_by (At d) = rw (how_many_is ns d.0) (head_left d.0 (eqb (kind_of ns d.0) k.VariableDeclaration) refl (declarator_of ns d.0) refl)
-  head_by Nothing = refl
+  head_by (Some d) = rw (how_many_is ns d.0) (head_left d.0 (eqb (kind_of ns d.0) k.VariableDeclaration) refl (declarator_of ns d.0) refl)
+  head_by None = refl
 
   pub head_is : within (kind_of ns n) k.ForIn k.ForOf ≡ true → of_check code.unexpected_initializer_in_for_loop_head (check_for_statement_left ns ss n f) ≡ only (said_head ns ss n) n
   unfolding said_head
@@ -116,9 +114,9 @@ head_agrees ns ss n e = ap (λ b. within (kind_of ns n) k.ForIn k.ForOf && b) (g
     by true false q = refl
     by false u q = refl
 
-    go : (r : Found) → of_head (λ d. bad_head ns ss n d && unsaid ns n d) r ≡ false → of_head (λ d. bad_head ns ss n d && not (unsaid ns n d)) r ≡ of_head (bad_head ns ss n) r
-    go (At d) q = by (bad_head ns ss n d.0) (unsaid ns n d.0) q
-    go Nothing q = refl
+    go : (r : Option NodeId) → of_head (λ d. bad_head ns ss n d && unsaid ns n d) r ≡ false → of_head (λ d. bad_head ns ss n d && not (unsaid ns n d)) r ≡ of_head (bad_head ns ss n) r
+    go (Some d) q = by (bad_head ns ss n d.0) (unsaid ns n d.0) q
+    go None q = refl
 
 -- CODE 13
 pub using_is : (source_type : ℕ) (ns ss : List ℕ) (n : ℕ) → kind_of ns n ≡ k.VariableDeclaration

@@ -1,13 +1,12 @@
 -- THE RULES AS THE RUST HAS THEM, where they are not the standard's, and the conditions on which they are: in the order of the
 -- files Statements and Functions.
-use Rattle.std.specs.Prelude.{ℕ, ◌≡◌, List, Bool, true, false, not, ◌&&◌, ◌||◌, eqb}
+use Rattle.table_records.specs.declared.NodeId.{NodeId}
+use Rattle.std.specs.Prelude.{ℕ, ◌≡◌, List, Bool, true, false, not, ◌&&◌, ◌||◌, eqb, Option, Some, None}
 use Rattle.base_common.specs.Upto.{all, any}
 use Rattle.base_common.specs.Tests.{within}
 use Rattle.table_records.specs.Table.{kind_of, parent_of, extra_of, ancestors}
 use Rattle.table_records.specs.Kinds as k
 use Rattle.table_records.specs.Extras as extra
-use Rattle.table_records.specs.declared.Found.{Found}
-use Rattle.table_records.specs.declared.Found.TheVariants.{At, Nothing}
 use Rattle.table_children.specs.Children.{held_of, alternate_of}
 use Rattle.ecma_trees.specs.Trail.{unit_of}
 use Rattle.ecma_base.specs.Telling.{Telling, async_or_generator}
@@ -69,9 +68,9 @@ sloppy_function_else told ns ss n = not (strict_code ns ss n) && function_mispla
 -- The rules are function_misplaced and function_misplaced_else at the telling `ordinary`: every function that is found counts as neither async nor a generator.
 
 -- it is a function, and one of the two
-abbrev pub special_function : Telling → List ℕ → Found → Bool
-special_function told ns (At m) = eqb (kind_of ns m.0) k.Function && async_or_generator told m.0
-special_function told ns Nothing = false
+abbrev pub special_function : Telling → List ℕ → Option NodeId → Bool
+special_function told ns (Some m) = eqb (kind_of ns m.0) k.Function && async_or_generator told m.0
+special_function told ns None = false
 
 -- where they agree: where Annex B lets n hold a function, it holds none of these, unless the function is an error as a labelled one. So in strict code, and at the loops and with, they always agree.
 pub record OrdinaryHeld (told : Telling) (ns ss : List ℕ) (n : ℕ) : Type 0 where

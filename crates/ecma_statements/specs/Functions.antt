@@ -1,12 +1,11 @@
 -- ECMA-262, functions in statement position: 14.6 The if Statement, 14.7 Iteration Statements, 14.11 The with Statement, 14.13 Labelled Statements, with B.3.1 Labelled Function Declarations and
 -- B.3.3 FunctionDeclarations in IfStatement Statement Clauses.
-use Rattle.std.specs.Prelude.{ℕ, List, Bool, false, cond, not, ◌&&◌, ◌||◌, eqb}
+use Rattle.table_records.specs.declared.NodeId.{NodeId}
+use Rattle.std.specs.Prelude.{ℕ, List, Bool, false, cond, not, ◌&&◌, ◌||◌, eqb, Option, Some, None}
 use Rattle.base_common.specs.Tests.{within}
 use Rattle.table_records.specs.Table.{kind_of, role_of}
 use Rattle.table_records.specs.Kinds as k
 use Rattle.table_records.specs.Roles as role
-use Rattle.table_records.specs.declared.Found.{Found}
-use Rattle.table_records.specs.declared.Found.TheVariants.{At, Nothing}
 use Rattle.table_children.specs.Children.{held_of, alternate_of}
 use Rattle.ecma_trees.specs.Rose.{Rose, Roses, node, rnil, rcons, idx, parts_of}
 use Rattle.ecma_trees.specs.Trail.{unit_of}
@@ -14,9 +13,9 @@ use Rattle.ecma_base.specs.Strict.{strict_code}
 use Rattle.ecma_base.specs.Telling.{Telling, async_or_generator}
 
 -- 15.2, 15.5, 15.6, 15.8: a FunctionDeclaration, GeneratorDeclaration, AsyncFunctionDeclaration or AsyncGeneratorDeclaration: a function that is held as a statement is one of these
-abbrev pub is_function : List ℕ → Found → Bool
-is_function ns (At m) = eqb (kind_of ns m.0) k.Function
-is_function ns Nothing = false
+abbrev pub is_function : List ℕ → Option NodeId → Bool
+is_function ns (Some m) = eqb (kind_of ns m.0) k.Function
+is_function ns None = false
 
 -- 14.6, 14.7, 14.11: the statements that end in a Statement: if, the loops, with
 abbrev pub ends_in_statement : List ℕ → ℕ → Bool
@@ -32,9 +31,9 @@ annex_allows told ns ss n f = annex_holder ns ss n && not (async_or_generator to
 
 -- 14.6, 14.7, 14.11, 14.13: no Statement is a FunctionDeclaration, GeneratorDeclaration, AsyncFunctionDeclaration or AsyncGeneratorDeclaration. 14.13.1, LabelledItem :
 -- FunctionDeclaration: "It is a Syntax Error if any source text is matched by this production." Of a part of n: it is a function, and Annex B does not allow it.
-abbrev pub misplaced : Telling → List ℕ → List ℕ → ℕ → Found → Bool
-misplaced told ns ss n (At m) = eqb (kind_of ns m.0) k.Function && not (annex_allows told ns ss n m.0)
-misplaced told ns ss n Nothing = false
+abbrev pub misplaced : Telling → List ℕ → List ℕ → ℕ → Option NodeId → Bool
+misplaced told ns ss n (Some m) = eqb (kind_of ns m.0) k.Function && not (annex_allows told ns ss n m.0)
+misplaced told ns ss n None = false
 
 -- of the Statement of n, or its LabelledItem; of an if the first Statement
 unfoldable pub function_misplaced : Telling → List ℕ → List ℕ → ℕ → Bool

@@ -1,5 +1,6 @@
 -- ECMA-262, 14.11 The with Statement, 14.11.1 Static Semantics: Early Errors; 14.7.5 The for-in, for-of, and for-await-of Statements, with B.3.5 Initializers in ForIn Statement Heads; 14.3.1.1 Static Semantics: Early Errors, of using.
-use Rattle.std.specs.Prelude.{ℕ, ◌+◌, List, Bool, false, not, ◌&&◌, ◌||◌, eqb, leb, length}
+use Rattle.table_records.specs.declared.NodeId.{NodeId}
+use Rattle.std.specs.Prelude.{ℕ, ◌+◌, List, Bool, false, not, ◌&&◌, ◌||◌, eqb, leb, length, Option, Some, None}
 use Rattle.base_common.specs.Upto.{upto, all, any}
 use Rattle.base_common.specs.Tests.{within}
 use Rattle.table_records.specs.Table.{kind_of, parent_of, count, flags_of, extra_of, has_flag, ancestors}
@@ -7,8 +8,6 @@ use Rattle.table_records.specs.Kinds as k
 use Rattle.table_records.specs.Roles as role
 use Rattle.table_records.specs.Extras as extra
 use Rattle.table_records.specs.NodeFlag as flag
-use Rattle.table_records.specs.declared.Found.{Found}
-use Rattle.table_records.specs.declared.Found.TheVariants.{At, Nothing}
 use Rattle.table_children.specs.Children.{keep, is_child, first_child}
 use Rattle.ecma_base.specs.Strict.{strict_code}
 
@@ -43,12 +42,12 @@ unfoldable pub bad_head : List ℕ → List ℕ → ℕ → ℕ → Bool
 bad_head ns ss n d = eqb (kind_of ns d) k.VariableDeclaration && (any (initialized ns) (declarators_of ns d) && not (annex_head ns ss n d))
 
 -- 14.7.5: the left of a for-in or a for-of
-abbrev pub head_of : List ℕ → ℕ → Found
+abbrev pub head_of : List ℕ → ℕ → Option NodeId
 head_of ns n = first_child ns n 0 55 role.Left role.Left
 
-abbrev pub of_head : (ℕ → Bool) → Found → Bool
-of_head p (At d) = p d.0
-of_head p Nothing = false
+abbrev pub of_head : (ℕ → Bool) → Option NodeId → Bool
+of_head p (Some d) = p d.0
+of_head p None = false
 
 -- 14.7.5, B.3.5: of n, a ForInOfStatement
 unfoldable pub initialized_head : List ℕ → List ℕ → ℕ → Bool

@@ -1,5 +1,6 @@
 -- Functions in statement position with the option on: 15, 16 and 34 are the standard's rules, without a condition on what an if or a label holds.
-use Rattle.std.specs.Prelude.{ℕ, ◌<◌, ◌≡◌, Bool, cond, not, ◌&&◌, ◌||◌}
+use Rattle.table_records.specs.declared.NodeId.{NodeId}
+use Rattle.std.specs.Prelude.{ℕ, ◌<◌, ◌≡◌, Bool, cond, not, ◌&&◌, ◌||◌, Option, Some, None}
 use Rattle.std.proofs.Math.Path.{refl, ap}
 use Rattle.std.proofs.Common.{sym, ◌∙◌, eqb-true}
 use mathlib.Core.List.{List, [], ◌++◌}
@@ -8,12 +9,9 @@ use Rattle.std.proofs.Math.Dec.{eqb}
 use Rattle.base_common.proofs.Bools.{never}
 use Rattle.table_records.specs.Table.{kind_of, flags_of, has_flag, count}
 use Rattle.table_records.specs.Kinds as k
-use Rattle.table_records.specs.declared.Found.{Found}
-use Rattle.table_records.specs.declared.Found.TheVariants.{At, Nothing}
 use Rattle.table_children.specs.Children.{held_of, alternate_of}
 use Rattle.check_diagnostics.specs.Contexts as context
 use Rattle.check_diagnostics.specs.Finding.{error_at, listed}
-use Rattle.check_diagnostics.specs.declared.Raised.TheVariants.{Clear}
 use Rattle.check_statements.specs.Statements.{check_found}
 use Rattle.check_bodies.specs.Bodies.{AsyncOrGenerator, async_body, check_async_body, check_async_held, check_async_alternate, async_bodies_at}
 use Rattle.check_dispatch.specs.Findings.{findings_at}
@@ -39,9 +37,9 @@ module _ (told : Telling) (ns ss : List ℕ) (n : ℕ) where
   ordinary_of false true x = refl
   ordinary_of false false x = refl
 
-  ordinary_found : (r : Found) → misplaced ordinary ns ss n r ≡ (not (annex_holder ns ss n) && misplaced told ns ss n r)
-  ordinary_found (At m) = ordinary_of (eqb (kind_of ns m.0) k.Function) (annex_holder ns ss n) (async_or_generator told m.0)
-  ordinary_found Nothing = go (annex_holder ns ss n)
+  ordinary_found : (r : Option NodeId) → misplaced ordinary ns ss n r ≡ (not (annex_holder ns ss n) && misplaced told ns ss n r)
+  ordinary_found (Some m) = ordinary_of (eqb (kind_of ns m.0) k.Function) (annex_holder ns ss n) (async_or_generator told m.0)
+  ordinary_found None = go (annex_holder ns ss n)
     where
       go : (h : Bool) → false ≡ (not h && false)
       go true = refl
@@ -65,7 +63,7 @@ module _ (told : Telling) (ns ss : List ℕ) (n : ℕ) where
 
   -- 34: what the check raises for a part, where Annex B lets n hold ordinary functions
   module _ (flagged : Flagged told ns) where
-    one : (f b h x : Bool) (m : ℕ) → h ≡ true → (f ≡ true → x ≡ b) → of_check 34 (cond f (cond b (error_at ns async_body n m context.none) Clear) Clear) ≡ only (f && not (h && not x)) n
+    one : (f b h x : Bool) (m : ℕ) → h ≡ true → (f ≡ true → x ≡ b) → of_check 34 (cond f (cond b (error_at ns async_body n m context.none) None) None) ≡ only (f && not (h && not x)) n
     one true true true true m e q = refl
     one true true true false m e q = never (sym (q refl))
     one true false true true m e q = never (q refl)
@@ -74,12 +72,12 @@ module _ (told : Telling) (ns ss : List ℕ) (n : ℕ) where
     one true false false x m e q = never (sym e)
     one false b h x m e q = refl
 
-    found34 : (r : Found) → annex_holder ns ss n ≡ true → raised 34 (listed (check_found r (check_async_body ns n))) ≡ only (misplaced told ns ss n r) n
+    found34 : (r : Option NodeId) → annex_holder ns ss n ≡ true → raised 34 (listed (check_found r (check_async_body ns n))) ≡ only (misplaced told ns ss n r) n
     unfolding check_async_body
-    found34 (At m) a =
+    found34 (Some m) a =
         raised_listed 34 (check_async_body ns n m.0)
         ∙ one (eqb (kind_of ns m.0) k.Function) (has_flag (flags_of ns m.0) AsyncOrGenerator) (annex_holder ns ss n) (async_or_generator told m.0) m.0 a (λ q. flagged m.0 (eqb-true (kind_of ns m.0) k.Function q))
-    found34 Nothing a = raised_nil 34
+    found34 None a = raised_nil 34
 
     pub code34 : raised 34 (async_bodies_at ns ss n) ≡ only (annex_holder ns ss n && function_misplaced told ns ss n) n ++ only (annex_holder ns ss n && function_misplaced_else told ns ss n) n
     unfolding async_bodies_at function_misplaced function_misplaced_else

@@ -1,13 +1,11 @@
 -- From what one check raises to the findings of a node, and from these to the findings of the tree.
-use Rattle.std.specs.Prelude.{ℕ, ◌<◌, ◌≡◌, refl, Bool, true, false, cond, eqb}
+use Rattle.std.specs.Prelude.{ℕ, ◌<◌, ◌≡◌, refl, Bool, true, false, cond, eqb, Option, Some, None}
 use Rattle.std.proofs.Common.{ap, sym, ◌∙◌}
 use mathlib.Core.List.{List, [], ◌∷◌, ◌++◌, flat_map}
 use Rattle.base_common.specs.Upto.{upto}
 use Rattle.base_walk.specs.On.{member}
 use Rattle.table_records.specs.Table.{count}
 use Rattle.check_diagnostics.specs.declared.Finding.{Finding}
-use Rattle.check_diagnostics.specs.declared.Raised.{Raised}
-use Rattle.check_diagnostics.specs.declared.Raised.TheVariants.{Error, Clear}
 use Rattle.check_diagnostics.specs.Finding.{listed}
 use Rattle.check_dispatch.specs.Findings.{findings_at, findings_of}
 use Rattle.ecma_trees.specs.Walk.{each, only}
@@ -19,14 +17,14 @@ use Rattle.ecma_dispatch.proofs.NodesOfLaws.{nodes_append, raised_nil, raised_ag
 use Rattle.ecma_base.specs.Nodes.{of_check}
 
 -- a check
-pub raised_listed : (c : ℕ) (r : Raised) → raised c (listed r) ≡ of_check c r
+pub raised_listed : (c : ℕ) (r : Option Finding) → raised c (listed r) ≡ of_check c r
 unfolding nodes_of with_code
-raised_listed c (Error f) = go (eqb f.code c)
+raised_listed c (Some f) = go (eqb f.code c)
   where
     go : (b : Bool) → nodes_of (cond b (f ∷ []) []) ≡ only b f.node.0
     go true = refl
     go false = refl
-raised_listed c Clear = refl
+raised_listed c None = refl
 
 -- a check that is made where a test says so, given what the findings with the code are
 pub raised_if : (c : ℕ) (b : Bool) (fs gs : List Finding) → raised c (cond b fs gs) ≡ cond b (raised c fs) (raised c gs)
@@ -37,7 +35,7 @@ pub raised_by : (c : ℕ) (fs gs : List Finding) → with_code c fs ≡ gs → r
 raised_by c fs gs e = sym (raised_again c fs) ∙ ap (raised c) e
 
 -- one check, at the nodes where k says so; there it raises what the rule says, and elsewhere the rule says nothing
-module _ (c n : ℕ) (fs : List Finding) (k rule : Bool) (r : Raised) (yes : k ≡ true → of_check c r ≡ only rule n) (not' : k ≡ false → rule ≡ false) where
+module _ (c n : ℕ) (fs : List Finding) (k rule : Bool) (r : Option Finding) (yes : k ≡ true → of_check c r ≡ only rule n) (not' : k ≡ false → rule ≡ false) where
   pub by_test : cond k (of_check c r) [] ≡ only rule n
   by_test = go k refl
     where
@@ -52,7 +50,7 @@ module _ (c n : ℕ) (fs : List Finding) (k rule : Bool) (r : Raised) (yes : k �
   at_with e = raised_by c fs (cond k (with_code c (listed r)) []) e ∙ raised_if c k (with_code c (listed r)) [] ∙ rw (raised_again c (listed r), raised_listed c r, raised_nil c) by_test
 
 -- two checks, at nodes of two kinds
-module _ (c n : ℕ) (fs : List Finding) (k j rule : Bool) (r s : Raised) (yes : k ≡ true → of_check c r ≡ only rule n) (other : k ≡ false → j ≡ true → of_check c s ≡ only rule n)
+module _ (c n : ℕ) (fs : List Finding) (k j rule : Bool) (r s : Option Finding) (yes : k ≡ true → of_check c r ≡ only rule n) (other : k ≡ false → j ≡ true → of_check c s ≡ only rule n)
     (not' : k ≡ false → j ≡ false → rule ≡ false)
   where
     by_tests : cond k (of_check c r) (cond j (of_check c s) []) ≡ only rule n

@@ -1,5 +1,6 @@
 -- What the checks that search upward raise is what the operations that go down find: codes 4, 5, 6, 33, and 3, 14, 25.
-use Rattle.std.specs.Prelude.{ℕ, ◌+◌, ◌≤◌, ◌<◌, ◌≡◌, List, Bool, true, cond, not, ◌&&◌, ◌||◌, eqb}
+use Rattle.check_diagnostics.specs.declared.Finding.{Finding}
+use Rattle.std.specs.Prelude.{ℕ, ◌+◌, ◌≤◌, ◌<◌, ◌≡◌, List, Bool, true, cond, not, ◌&&◌, ◌||◌, eqb, Option, None}
 use Rattle.std.proofs.Math.Path.{refl}
 use Rattle.std.proofs.Common.{ap, sym, ◌∙◌, ⊎_elim, eq-or-lt_of_le, arith, eq-eqb, ne_eqb, eqb-true}
 use Rattle.std.proofs.Math.Bool.{false}
@@ -19,8 +20,6 @@ use Rattle.table_ancestry.proofs.AncestryLaws.{parent_in, ancestors_up}
 use Rattle.check_diagnostics.specs.Finding.{error_at}
 use Rattle.check_diagnostics.specs.Codes as code
 use Rattle.check_diagnostics.specs.Contexts as context
-use Rattle.check_diagnostics.specs.declared.Raised.{Raised}
-use Rattle.check_diagnostics.specs.declared.Raised.TheVariants.{Clear}
 use Rattle.table_scoping.specs.Scoping.{in_static_block}
 use Rattle.check_identifiers.specs.Identifiers as its
 use Rattle.check_identifiers.proofs.IdentifierLaws.{let_found, let_function, let_on, let_root, arguments_function, arguments_found, arguments_on, arguments_root}
@@ -44,16 +43,16 @@ or_true false = refl
 
 -- CODES 4 AND 5
 module _ (ns : List ℕ) (t : Tree ns) (n : ℕ) where
-  abbrev let_raised : ℕ → Raised
-  let_raised u = cond (lexical_declaration ns u) (error_at ns code.invalid_let_declaration n n context.none) Clear
+  abbrev let_raised : ℕ → Option Finding
+  let_raised u = cond (lexical_declaration ns u) (error_at ns code.invalid_let_declaration n n context.none) None
 
-  not_let : (u : ℕ) → eqb (kind_of ns u) k.VariableDeclaration ≡ false → let_raised u ≡ Clear
+  not_let : (u : ℕ) → eqb (kind_of ns u) k.VariableDeclaration ≡ false → let_raised u ≡ None
   not_let u e = rw e
 
   bound : (u : ℕ) → kind_of ns u ≡ k.VariableDeclaration → its.let_bound ns n u ≡ let_raised u
   bound u e = rw (eq-eqb (kind_of ns u) k.VariableDeclaration e) (go (eqb (extra_of ns u) extra.Var))
     where
-      go : (b : Bool) → cond b Clear (error_at ns code.invalid_let_declaration n n context.none) ≡ cond (not b) (error_at ns code.invalid_let_declaration n n context.none) Clear
+      go : (b : Bool) → cond b None (error_at ns code.invalid_let_declaration n n context.none) ≡ cond (not b) (error_at ns code.invalid_let_declaration n n context.none) None
       go true = refl
       go false = refl
 
@@ -91,7 +90,7 @@ module _ (ns : List ℕ) (t : Tree ns) (n : ℕ) where
   module _ (source_type : ℕ) (ss names : List ℕ) (h : n < count ns) where
     -- s: strict code, e: eval or arguments, l: `let`, d: a lexical declaration binds it
     binding4 : (s e l d : Bool) (x : ℕ)
-        → of_check 4 (cond s (cond e (error_at ns code.unexpected_identifier_assign n n x) Clear) (cond l (cond d (error_at ns code.invalid_let_declaration n n context.none) Clear) Clear)) ≡ only (e && s) n
+        → of_check 4 (cond s (cond e (error_at ns code.unexpected_identifier_assign n n x) None) (cond l (cond d (error_at ns code.invalid_let_declaration n n context.none) None) None)) ≡ only (e && s) n
     binding4 true true l d x = refl
     binding4 true false l d x = refl
     binding4 false true true true x = refl
@@ -102,7 +101,7 @@ module _ (ns : List ℕ) (t : Tree ns) (n : ℕ) where
     binding4 false false false d x = refl
 
     binding5 : (s e l d : Bool) (x : ℕ)
-        → of_check 5 (cond s (cond e (error_at ns code.unexpected_identifier_assign n n x) Clear) (cond l (cond d (error_at ns code.invalid_let_declaration n n context.none) Clear) Clear)) ≡ only (l && (not s && d)) n
+        → of_check 5 (cond s (cond e (error_at ns code.unexpected_identifier_assign n n x) None) (cond l (cond d (error_at ns code.invalid_let_declaration n n context.none) None) None)) ≡ only (l && (not s && d)) n
     binding5 true true true d x = refl
     binding5 true true false d x = refl
     binding5 true false true d x = refl
@@ -127,8 +126,8 @@ module _ (ns : List ℕ) (t : Tree ns) (n : ℕ) where
 
 -- CODES 4 AND 6, AT A REFERENCE
 module _ (ns : List ℕ) (t : Tree ns) (n : ℕ) where
-  abbrev arguments_raised : ℕ → Raised
-  arguments_raised u = cond (field_home ns u) (error_at ns code.unexpected_arguments n n context.none) Clear
+  abbrev arguments_raised : ℕ → Option Finding
+  arguments_raised u = cond (field_home ns u) (error_at ns code.unexpected_arguments n n context.none) None
 
   -- the test of the search is that of the edge
   abbrev found : ℕ → Bool
@@ -232,7 +231,7 @@ module _ (ns : List ℕ) (t : Tree ns) (n : ℕ) where
 
     -- v: an invalid target, a: `arguments`, c: in a class, f: in a field or a static block
     reference6 : (v a c f : Bool) (x : ℕ) → (f ≡ true → c ≡ true)
-        → of_check 6 (cond v (error_at ns code.unexpected_identifier_assign n n x) (cond (a && c) (cond f (error_at ns code.unexpected_arguments n n context.none) Clear) Clear)) ≡ only (a && (not v && f)) n
+        → of_check 6 (cond v (error_at ns code.unexpected_identifier_assign n n x) (cond (a && c) (cond f (error_at ns code.unexpected_arguments n n context.none) None) None)) ≡ only (a && (not v && f)) n
     reference6 true true c f x h = refl
     reference6 true false c f x h = refl
     reference6 false true true true x h = refl
@@ -242,7 +241,7 @@ module _ (ns : List ℕ) (t : Tree ns) (n : ℕ) where
     reference6 false false c f x h = refl
 
     reference4 : (v a c f : Bool) (x : ℕ)
-        → of_check 4 (cond v (error_at ns code.unexpected_identifier_assign n n x) (cond (a && c) (cond f (error_at ns code.unexpected_arguments n n context.none) Clear) Clear)) ≡ only v n
+        → of_check 4 (cond v (error_at ns code.unexpected_identifier_assign n n x) (cond (a && c) (cond f (error_at ns code.unexpected_arguments n n context.none) None) None)) ≡ only v n
     reference4 true a c f x = refl
     reference4 false true true true x = refl
     reference4 false true true false x = refl

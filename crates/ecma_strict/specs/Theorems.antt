@@ -20,7 +20,7 @@ use Rattle.check_literals.specs.Literals.{check_number_literal, check_string_lit
 use Rattle.check_expressions.specs.Expressions.{check_unary_expression, in_parameter, in_block}
 use Rattle.check_dispatch.specs.Findings.{findings_at, findings_of}
 use Rattle.refusal_input.specs.WellFormed.{WellFormed}
-use Rattle.refusal_verdict.specs.declared.Verdict.TheVariants.{Passed}
+use Rattle.refusal_verdict.specs.Verdict.{Passed}
 use Rattle.refusal_input.specs.Input.{input_refusal}
 use Rattle.refusal_input.proofs.InputLaws.{input_well_formed}
 use Rattle.ecma_trees.specs.Walk.{each, only}

@@ -1,5 +1,5 @@
 -- THE OPERATIONS OF THE STANDARD AND THE FINDINGS: an operation is true of the node where it begins exactly if a finding is raised at one of the nodes that it finds there.
-use Rattle.std.specs.Prelude.{ℕ, ◌+◌, ◌<◌, ◌≡◌, Bool, not, ◌&&◌, ◌||◌}
+use Rattle.std.specs.Prelude.{ℕ, ◌+◌, ◌<◌, ◌≡◌, Bool, not, ◌&&◌, ◌||◌, Some}
 use Rattle.std.proofs.Math.Path.{refl, ap, sym}
 use Rattle.std.proofs.Common.{◌∙◌}
 use mathlib.Core.List.{List, [], ◌∷◌, ◌++◌}
@@ -12,7 +12,6 @@ use Rattle.base_common.proofs.UptoLaws.{and_left_lem, and_right_lem}
 use Rattle.base_common.specs.Tests.{within}
 use Rattle.base_common.proofs.Bools.{never, or_first, or_second, in_range_lem, range_of}
 use Rattle.table_records.specs.Table.{kind_of, parent_of, count, extra_of}
-use Rattle.table_records.specs.declared.Found.TheVariants.{At}
 use Rattle.table_children.specs.Children.{keep, children, value_of, held_of, function_body_of, is_node}
 use Rattle.table_children.proofs.ChildrenLaws.{found_child}
 use Rattle.table_records.specs.Kinds as k
@@ -269,7 +268,7 @@ module _ (t : ℕ) (ns ss source names : List ℕ) (w : WellFormed t ns ss sourc
           (or_right (sloppy_function ordinary ns ss j) (labelled_function_said ns ss j) (rw (f, x, e, q))))
 
   -- 15.2.1: FunctionBodyContainsUseStrict, of a function or an arrow f whose parameters are not simple, with body b: 12 at a directive
-  pub body_contains_use_strict : scopes_follow ns ss ≡ true → (f b : ℕ) → function_body_of ns f ≡ At (record { 0 = b }) → within (kind_of ns f) k.Function k.Arrow ≡ true → simple_parameters ns f ≡ false
+  pub body_contains_use_strict : scopes_follow ns ss ≡ true → (f b : ℕ) → function_body_of ns f ≡ Some (record { 0 = b }) → within (kind_of ns f) k.Function k.Arrow ≡ true → simple_parameters ns f ≡ false
       → contains_use_strict ns names b ≡ some (each (λ j. cond (eqb (parent_of ns j) b) (at 12 j) []) (upto (b + 1) (count ns)))
   unfolding children use_strict_there
   body_contains_use_strict s f b e q p =

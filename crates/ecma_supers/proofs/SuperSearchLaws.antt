@@ -1,5 +1,6 @@
 -- The Rust's search through the scopes, where these are the tree's, ends as the unit says in which the Super is.
-use Rattle.std.specs.Prelude.{ℕ, zero, suc, ◌≤◌, ◌<◌, ◌≡◌, List, ◌∷◌, Bool, ◌&&◌, ◌||◌, ◌⊎◌, eqb}
+use Rattle.table_records.specs.declared.NodeId.{NodeId}
+use Rattle.std.specs.Prelude.{ℕ, zero, suc, ◌≤◌, ◌<◌, ◌≡◌, List, ◌∷◌, Bool, ◌&&◌, ◌||◌, ◌⊎◌, eqb, Option, Some, None}
 use Rattle.std.proofs.Math.Path.{refl, ap}
 use Rattle.std.proofs.Common.{sym, subst, ◌∙◌, inl, inr, eq-or-lt_of_le, arith}
 use Rattle.std.proofs.Math.Bool.{true, false, cond}
@@ -11,8 +12,6 @@ use Rattle.base_walk.proofs.AboveLaws.{above_root}
 use Rattle.table_records.specs.Table.{kind_of, parent_of, extra_of, scope_of, count, outer, scope_parent_of, scope_node_of}
 use Rattle.table_records.specs.Facts.{Tree, Chained, Scoped}
 use Rattle.table_records.specs.Kinds as k
-use Rattle.table_records.specs.declared.Found.{Found}
-use Rattle.table_records.specs.declared.Found.TheVariants.{At, Nothing}
 use Rattle.table_children.specs.Children.{value_of, is_node}
 use Rattle.table_ancestry.proofs.AncestryLaws.{nearest_stop, nearest_on, nearest_root}
 use Rattle.check_class_table.proofs.ClassesLaws.{within_one, over}
@@ -98,7 +97,7 @@ module _ (ns ss : List ℕ) (tree : Tree ns) (chained : Chained ss) (scoped : Sc
   pub above_other : (j : ℕ) → 0 < j → j < count ns → (kind_of ns (parent_of ns j) ≡ k.ClassBody → ⊥) → class_above ns j ≡ class_above ns (parent_of ns j)
   above_other j z h e = nearest_on ns tree k.ClassBody k.ClassBody j (parent_of ns j) z h refl (within_one (kind_of ns (parent_of ns j)) k.ClassBody ∙ ne_eqb (kind_of ns (parent_of ns j)) k.ClassBody e)
 
-  pub above_body : (j : ℕ) → 0 < j → j < count ns → kind_of ns (parent_of ns j) ≡ k.ClassBody → class_above ns j ≡ At (record { 0 = parent_of ns j })
+  pub above_body : (j : ℕ) → 0 < j → j < count ns → kind_of ns (parent_of ns j) ≡ k.ClassBody → class_above ns j ≡ Some (record { 0 = parent_of ns j })
   above_body j z h e = nearest_stop ns tree k.ClassBody k.ClassBody j (parent_of ns j) z h refl (within_one (kind_of ns (parent_of ns j)) k.ClassBody ∙ eq-eqb (kind_of ns (parent_of ns j)) k.ClassBody e)
 
   -- the class that is found above j is a Class, before j, and makes its scope
@@ -109,7 +108,7 @@ module _ (ns ss : List ℕ) (tree : Tree ns) (chained : Chained ss) (scoped : Sc
     fall : parent_of ns b < b
     maker : scope_node_of ss (extra_of ns (parent_of ns b)) ≡ parent_of ns b
 
-  around : (j b : ℕ) → j < count ns → class_above ns j ≡ At (record { 0 = b }) → Around j b
+  around : (j b : ℕ) → j < count ns → class_above ns j ≡ Some (record { 0 = b }) → Around j b
   around j b h e =
       let o = over ns tree k.ClassBody k.ClassBody j b h e in
       let l = o.less in
@@ -120,12 +119,12 @@ module _ (ns ss : List ℕ) (tree : Tree ns) (chained : Chained ss) (scoped : Sc
       record { less = l; kind = q; parent = c; fall = f; maker = fit.class (parent_of ns b) (omega arith) c }
 
   -- a scope made by a node that is not the class around is not that class's
-  no_class : (j s : ℕ) → j < count ns → ((b : ℕ) → class_above ns j ≡ At (record { 0 = b }) → scope_node_of ss s ≡ parent_of ns b → ⊥) → is_class_scope ns (class_above ns j) s ≡ false
+  no_class : (j s : ℕ) → j < count ns → ((b : ℕ) → class_above ns j ≡ Some (record { 0 = b }) → scope_node_of ss s ≡ parent_of ns b → ⊥) → is_class_scope ns (class_above ns j) s ≡ false
   no_class j s h w = go (class_above ns j) refl
     where
-      go : (f : Found) → class_above ns j ≡ f → is_class_scope ns f s ≡ false
-      go (At b) e = ne_eqb s (extra_of ns (parent_of ns b.0)) (λ q. w b.0 e (ap (scope_node_of ss) q ∙ (around j b.0 h e).maker))
-      go Nothing e = refl
+      go : (f : Option NodeId) → class_above ns j ≡ f → is_class_scope ns f s ≡ false
+      go (Some b) e = ne_eqb s (extra_of ns (parent_of ns b.0)) (λ q. w b.0 e (ap (scope_node_of ss) q ∙ (around j b.0 h e).maker))
+      go None e = refl
 
   -- a scope of its own
   module _ (j start : ℕ) (z : 0 < j) (h : j < count ns) (own : Made ns ss j) (c : is_class_scope ns (class_above ns j) (scope_of ns j) ≡ false) where
@@ -271,7 +270,7 @@ module _ (ns ss : List ℕ) (tree : Tree ns) (chained : Chained ss) (scoped : Sc
       the_scope : scope_of ns j ≡ scope_of ns b
       the_scope = let x = p_later.1 in fit.element j z h e1 e2 ∙ (fit.in_body p p_later.0 (omega arith) b_kind).0
 
-      the_class : class_above ns j ≡ At (record { 0 = b })
+      the_class : class_above ns j ≡ Some (record { 0 = b })
       the_class = let x = p_later.1 in above_other j z h (λ q. omega arith) ∙ above_body p p_later.0 (omega arith) b_kind
 
       step_is : step_at ns ss n call (class_above ns j) start (scope_of ns j) ≡ at_class call (part_of ns p j)

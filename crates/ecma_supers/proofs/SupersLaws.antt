@@ -1,5 +1,5 @@
 -- THE FINDINGS WITH CODES 28, 29 AND 30 ARE BREACHES OF THE EARLY ERRORS ON `super`.
-use Rattle.std.specs.Prelude.{ℕ, zero, suc, ◌≤◌, ◌<◌, ◌≡◌, List, [], Bool, ◌&&◌, ◌||◌, ◌⊎◌}
+use Rattle.std.specs.Prelude.{ℕ, zero, suc, ◌≤◌, ◌<◌, ◌≡◌, List, [], Bool, ◌&&◌, ◌||◌, ◌⊎◌, Some}
 use Rattle.std.proofs.Math.Path.{refl, ap, sym}
 use Rattle.std.proofs.Common.{subst, ◌∙◌, eq-or-lt_of_le, arith, ne_eqb, eqb-true}
 use Rattle.std.proofs.Math.Bool.{true, false, cond, not}
@@ -14,7 +14,6 @@ use Rattle.table_records.specs.Facts.{Tree, Chained, Scoped}
 use Rattle.table_records.specs.Kinds as k
 use Rattle.table_records.specs.Extras as extra
 use Rattle.table_records.specs.NodeFlag as flag
-use Rattle.table_records.specs.declared.Found.TheVariants.{At}
 use Rattle.refusal_standing.specs.Standing.{Placed}
 use Rattle.ecma_trees.specs.Walk.{only}
 use Rattle.ecma_trees.specs.Trail.{unit_of}
@@ -111,7 +110,7 @@ module _ (ns ss : List ℕ) (tree : Tree ns) (chained : Chained ss) (scoped : Sc
         let l = tree.falls u z h in
         let r : 0 < p = no_root ns ss tree chained scoped placed fit n call p (λ x. omega arith) in
         let b : kind_of ns (parent_of ns p) ≡ k.ClassBody = placed.element p (omega arith) (omega arith) (omega arith) in
-        let c : class_above ns u ≡ At (record { 0 = parent_of ns p }) =
+        let c : class_above ns u ≡ Some (record { 0 = parent_of ns p }) =
         above_other ns ss tree chained scoped placed fit n call u z h (λ x. omega arith) ∙ above_body ns ss tree chained scoped placed fit n call p r (omega arith) b in
         rw (ne_eqb u 0 (λ q. omega arith), c, q, value_is ns p u, e) (go (is_value ns p u) (eqb (extra_of ns p) extra.Constructor) call (has_flag (flags_of ns (class_of ns u)) flag.Heritage))
       where

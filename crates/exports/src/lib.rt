@@ -11,13 +11,9 @@ ghost use Rattle.call_marks.specs.Calls.{stop_answer, stop_code, stop_slice, sto
 ghost use Rattle.call_walk.specs.Walked.{walk_answer, walk_slice};
 ghost use Rattle.exports.specs.Numbers.{check_numbers, code_numbers, route_numbers, shared_numbers, rename_numbers};
 
-use call_check::Checked;
-use call_rename::Relabelled;
-use call_routes::Coded;
-use call_shared::Beginning;
-use refusal_verdict::refusals;
+use refusal_verdict::Refused;
 use route_marks::Marks;
-use route_viewer::Routed;
+use route_viewer::Route;
 
 // A check's answer: the refusal's number (0 where there is none) and place, how many findings were written, and after 10 the length needed.
 #[repr(C)]
@@ -71,27 +67,21 @@ pub struct RenameAnswer {
     pub needed: u64,
 }
 
-fn check_numbers(answer: Checked) -> CheckAnswer
+fn check_numbers(answer: Result<usize, Refused>) -> CheckAnswer
     ensures { result ≡ check_numbers answer }
 {
     match answer {
-        Checked::Findings(count) => CheckAnswer {
+        Ok(count) => CheckAnswer {
             refusal: 0,
             place: 0,
             findings: count as u64,
             needed: 0,
         },
-        Checked::Refused(number, place) => CheckAnswer {
-            refusal: number,
-            place: place,
+        Err(refused) => CheckAnswer {
+            refusal: refused.number(),
+            place: refused.place(),
             findings: 0,
-            needed: 0,
-        },
-        Checked::Short(needed) => CheckAnswer {
-            refusal: refusals::FINDINGS_SLICE,
-            place: 0,
-            findings: 0,
-            needed: needed as u64,
+            needed: refused.needed(),
         },
     }
 }
@@ -120,27 +110,21 @@ pub fn velkunshe_check(
     ))
 }
 
-fn code_numbers(answer: Coded) -> CodeAnswer
+fn code_numbers(answer: Result<usize, Refused>) -> CodeAnswer
     ensures { result ≡ code_numbers answer }
 {
     match answer {
-        Coded::Code(length) => CodeAnswer {
+        Ok(length) => CodeAnswer {
             refusal: 0,
             place: 0,
             length: length as u64,
             needed: 0,
         },
-        Coded::Refused(number, place) => CodeAnswer {
-            refusal: number,
-            place: place,
+        Err(refused) => CodeAnswer {
+            refusal: refused.number(),
+            place: refused.place(),
             length: 0,
-            needed: 0,
-        },
-        Coded::Short(needed) => CodeAnswer {
-            refusal: refusals::CODE_SLICE,
-            place: 0,
-            length: 0,
-            needed: needed as u64,
+            needed: refused.needed(),
         },
     }
 }
@@ -171,39 +155,23 @@ pub fn velkunshe_code(
     ))
 }
 
-fn route_numbers(answer: Routed) -> RouteAnswer
+fn route_numbers(answer: Result<Route, Refused>) -> RouteAnswer
     ensures { result ≡ route_numbers answer }
 {
     match answer {
-        Routed::Route(end, entries, taken) => RouteAnswer {
+        Ok(route) => RouteAnswer {
             refusal: 0,
             place: 0,
-            entries: entries as u64,
+            entries: route.entries as u64,
             needed: 0,
-            taken: taken,
-            end: end,
+            taken: route.taken,
+            end: route.end,
         },
-        Routed::Refused(number, place) => RouteAnswer {
-            refusal: number,
-            place: place,
+        Err(refused) => RouteAnswer {
+            refusal: refused.number(),
+            place: refused.place(),
             entries: 0,
-            needed: 0,
-            taken: 0,
-            end: 0,
-        },
-        Routed::Short(needed) => RouteAnswer {
-            refusal: refusals::ROUTE_SLICE,
-            place: 0,
-            entries: 0,
-            needed: needed,
-            taken: 0,
-            end: 0,
-        },
-        Routed::CodeShort(needed) => RouteAnswer {
-            refusal: refusals::CODE_SLICE,
-            place: 0,
-            entries: 0,
-            needed: needed as u64,
+            needed: refused.needed(),
             taken: 0,
             end: 0,
         },
@@ -241,27 +209,21 @@ pub fn velkunshe_route(
     ))
 }
 
-fn shared_numbers(answer: Beginning) -> SharedAnswer
+fn shared_numbers(answer: Result<u64, Refused>) -> SharedAnswer
     ensures { result ≡ shared_numbers answer }
 {
     match answer {
-        Beginning::Entries(shared) => SharedAnswer {
+        Ok(shared) => SharedAnswer {
             refusal: 0,
             place: 0,
-            shared: shared,
+            shared,
             needed: 0,
         },
-        Beginning::Refused(number, place) => SharedAnswer {
-            refusal: number,
-            place: place,
+        Err(refused) => SharedAnswer {
+            refusal: refused.number(),
+            place: refused.place(),
             shared: 0,
-            needed: 0,
-        },
-        Beginning::Short(needed) => SharedAnswer {
-            refusal: refusals::CODE_SLICE,
-            place: 0,
-            shared: 0,
-            needed: needed as u64,
+            needed: refused.needed(),
         },
     }
 }
@@ -324,27 +286,21 @@ pub fn velkunshe_walk(
     ))
 }
 
-fn rename_numbers(answer: Relabelled) -> RenameAnswer
+fn rename_numbers(answer: Result<usize, Refused>) -> RenameAnswer
     ensures { result ≡ rename_numbers answer }
 {
     match answer {
-        Relabelled::Names(length) => RenameAnswer {
+        Ok(length) => RenameAnswer {
             refusal: 0,
             place: 0,
             names: length as u64,
             needed: 0,
         },
-        Relabelled::Refused(number, place) => RenameAnswer {
-            refusal: number,
-            place: place,
+        Err(refused) => RenameAnswer {
+            refusal: refused.number(),
+            place: refused.place(),
             names: 0,
-            needed: 0,
-        },
-        Relabelled::Short(needed) => RenameAnswer {
-            refusal: refusals::RENAMED_SLICES,
-            place: 0,
-            names: 0,
-            needed: needed as u64,
+            needed: refused.needed(),
         },
     }
 }

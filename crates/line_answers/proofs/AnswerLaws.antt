@@ -1,15 +1,15 @@
 -- The text of an answer, line by line, and how long it is.
-use Rattle.std.specs.Prelude.{ℕ, zero, suc, ◌+◌, ◌-◌, ◌*◌, ◌≤◌, ◌<◌, ◌≡◌, refl, List, [], ◌∷◌, ◌++◌, length, get_or, take, drop}
+use Rattle.refusal_verdict.specs.declared.Refusal.TheVariants as refusal
+use Rattle.refusal_verdict.specs.declared.Refused.TheVariants.{Short}
+use Rattle.std.specs.Prelude.{ℕ, zero, suc, ◌+◌, ◌-◌, ◌*◌, ◌≤◌, ◌<◌, ◌≡◌, refl, List, [], ◌∷◌, ◌++◌, length, get_or, take, drop, Result, Ok, Err}
 use Rattle.std.proofs.Common.{ap, subst, ◌∙◌, arith, length-append, length-take, drop-drop}
 use Rattle.base_common.specs.Wrote.{Wrote, put}
 use Rattle.base_common.proofs.WroteLaws.{wrote_start, wrote_put, length_put}
 use Rattle.table_put.proofs.Writes.{put_put}
 use Rattle.line_print.specs.Print.{line_of}
 use Rattle.line_print.specs.PrintLaws.{line_numbers}
-use Rattle.refusal_verdict.specs.Refusals as refusal
-use Rattle.call_check.specs.declared.Checked.{Checked}
-use Rattle.call_check.specs.declared.Checked.TheVariants.{Findings, Refused, Short}
-use Rattle.line_answers.specs.Answer.{finding_lines, findings_text, refusal_text, answer_text, Counted}
+use Rattle.refusal_verdict.specs.declared.Refused.{Refused}
+use Rattle.line_answers.specs.Answer.{refusal_line, finding_lines, findings_text, refusal_text, answer_text, Counted}
 
 lines_cons : (n : ℕ) (l : List ℕ) → finding_lines (suc n) l ≡ line_of 70 (take 7 l) ++ finding_lines n (drop 7 l)
 unfolding finding_lines
@@ -104,18 +104,19 @@ module _ (f g : List ℕ) (n : ℕ) (l : List ℕ) (h : length (findings_text n 
       ∙ put_put f 0 (finding_lines n l) (line_of 69 (n ∷ [])) (omega arith)
 
 -- an answer by its kind
-module _ (r : Checked) (l : List ℕ) where
-  pub counted_findings : (n : ℕ) → r ≡ Findings n → Counted r (length l) → 7 * n ≤ length l
-  counted_findings n e h = subst (λ (x : Checked). Counted x (length l)) e h
+module _ (r : Result ℕ Refused) (l : List ℕ) where
+  pub counted_findings : (n : ℕ) → r ≡ Ok n → Counted r (length l) → 7 * n ≤ length l
+  counted_findings n e h = subst (λ (x : Result ℕ Refused). Counted x (length l)) e h
 
-  pub text_findings : (n : ℕ) → r ≡ Findings n → answer_text r l ≡ findings_text n l
+  pub text_findings : (n : ℕ) → r ≡ Ok n → answer_text r l ≡ findings_text n l
   unfolding answer_text
   text_findings n e = rw e
 
-  pub text_refused : (number place : ℕ) → r ≡ Refused number place → answer_text r l ≡ refusal_text number place
+  pub text_refused : (f : Refused) → r ≡ Err f → answer_text r l ≡ refusal_text f
   unfolding answer_text
-  text_refused number place e = rw e
+  text_refused f e = rw e
 
-  pub text_short : (needed : ℕ) → r ≡ Short needed → answer_text r l ≡ refusal_text refusal.FindingsSlice 0
+module _ (r : Result ℕ Refused) (l : List ℕ) where
+  pub text_short : (needed : ℕ) → r ≡ Err (Short refusal.FindingsSlice needed) → answer_text r l ≡ refusal_line 10 0
   unfolding answer_text
   text_short needed e = rw e

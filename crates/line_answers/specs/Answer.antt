@@ -1,10 +1,9 @@
 -- What is printed of a check's answer (document 01, "The reader program"): "It prints F with the seven numbers, then E with the count, or only R with
 -- number and place".
-use Rattle.std.specs.Prelude.{ℕ, zero, suc, ◌*◌, ◌≤◌, List, [], ◌∷◌, ◌++◌, take, drop}
+use Rattle.std.specs.Prelude.{ℕ, zero, suc, ◌*◌, ◌≤◌, List, [], ◌∷◌, ◌++◌, take, drop, Result, Ok, Err}
 use Rattle.line_print.specs.Print.{line_of}
-use Rattle.refusal_verdict.specs.Refusals as refusal
-use Rattle.call_check.specs.declared.Checked.{Checked}
-use Rattle.call_check.specs.declared.Checked.TheVariants.{Findings, Refused, Short}
+use Rattle.refusal_verdict.specs.declared.Refused.{Refused}
+use Rattle.refusal_verdict.specs.Refusals.{number_of, place_of}
 
 -- a line F for each of n findings, which stand one behind the other, seven numbers each
 unfoldable pub finding_lines : ℕ → List ℕ → List ℕ
@@ -16,20 +15,21 @@ abbrev pub findings_text : ℕ → List ℕ → List ℕ
 findings_text n l = finding_lines n l ++ line_of 69 (n ∷ [])
 
 -- a line R
-abbrev pub refusal_text : ℕ → ℕ → List ℕ
-refusal_text number place = line_of 82 (number ∷ place ∷ [])
+abbrev pub refusal_line : ℕ → ℕ → List ℕ
+refusal_line number place = line_of 82 (number ∷ place ∷ [])
+
+abbrev pub refusal_text : Refused → List ℕ
+refusal_text e = refusal_line (number_of e) (place_of e)
 
 -- a slice that is too short for the findings is refusal 10, place 0
-unfoldable pub answer_text : Checked → List ℕ → List ℕ
-answer_text (Findings n) l = findings_text n l
-answer_text (Refused number place) l = refusal_text number place
-answer_text (Short needed) l = refusal_text refusal.FindingsSlice 0
+unfoldable pub answer_text : Result ℕ Refused → List ℕ → List ℕ
+answer_text (Ok n) l = findings_text n l
+answer_text (Err e) l = refusal_text e
 
 -- the findings that an answer counts stand in a slice of this length
-abbrev pub Counted : Checked → ℕ → Type 0
-Counted (Findings n) len = 7 * n ≤ len
-Counted (Refused number place) len = Unit {0}
-Counted (Short needed) len = Unit {0}
+abbrev pub Counted : Result ℕ Refused → ℕ → Type 0
+Counted (Ok n) len = 7 * n ≤ len
+Counted (Err e) len = Unit {0}
 
 -- A program's room: for 8,192 findings of seven numbers, and for their lines, of at most 79 bytes each, with the line of their count.
 abbrev pub findings_room : ℕ

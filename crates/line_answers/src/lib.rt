@@ -4,10 +4,9 @@
 ghost use Rattle.std.specs.Prelude.{◌≡◌, ◌+◌, ◌*◌, ◌≤◌, ◌<◌, length, take, drop};
 ghost use Rattle.base_common.specs.Wrote.{put};
 ghost use Rattle.line_print.specs.Print.{line_of};
-ghost use Rattle.line_answers.specs.Answer.{finding_lines, findings_text, refusal_text, answer_text, Counted, findings_room, text_room};
+ghost use Rattle.line_answers.specs.Answer.{finding_lines, findings_text, refusal_line, refusal_text, answer_text, Counted, findings_room, text_room};
 
-use call_check::Checked;
-use refusal_verdict::refusals;
+use refusal_verdict::Refused;
 
 // Room for 8,192 findings, and for the text of so many.
 pub const FINDINGS_ROOM: usize = 7 * 8192;
@@ -31,10 +30,8 @@ fn put_findings(findings: &[u32], count: usize, out: &mut [u8]) -> usize
     ensures { (result ≡ length (finding_lines count findings.now)) × (out.new ≡ put out.old 0 (finding_lines count findings.now)) }
 {
     let mut at: usize = 0;
-    let mut i: usize = 0;
-    while i < count {
+    for i in 0..count {
         at = put_finding(findings, i * 7, out, at);
-        i += 1;
     }
     at
 }
@@ -51,24 +48,31 @@ fn findings_text(findings: &[u32], count: usize, out: &mut [u8]) -> usize
     line_print::line(b'E', &e, out, at)
 }
 
-// Writes a refusal's line. Says where it ends.
-pub fn refusal_text(number: u32, place: u32, out: &mut [u8]) -> usize
+// Writes the line of a refusal's number and place. Says where it ends.
+pub fn refusal_line(number: u32, place: u32, out: &mut [u8]) -> usize
     requires { 24 ≤ length out.old }
-    ensures { (result ≡ length (refusal_text «number» «place»)) × (out.new ≡ put out.old 0 (refusal_text «number» «place»)) }
+    ensures { (result ≡ length (refusal_line «number» «place»)) × (out.new ≡ put out.old 0 (refusal_line «number» «place»)) }
 {
     let r = [number, place];
     line_print::line(b'R', &r, out, 0)
 }
 
+// Writes a refusal's line. Says where it ends.
+pub fn refusal_text(refused: Refused, out: &mut [u8]) -> usize
+    requires { 24 ≤ length out.old }
+    ensures { (result ≡ length (refusal_text refused)) × (out.new ≡ put out.old 0 (refusal_text refused)) }
+{
+    refusal_line(refused.number(), refused.place(), out)
+}
+
 // Writes what an answer of `check` prints, with the findings that it wrote. Says where that ends.
-pub fn answer_text(answer: Checked, findings: &[u32], out: &mut [u8]) -> usize
+pub fn answer_text(answer: Result<usize, Refused>, findings: &[u32], out: &mut [u8]) -> usize
     requires counted { Counted answer (length findings.now) }
     requires findings_len_bound { (length findings.now ≤ findings_room) × (text_room ≤ length out.old) }
     ensures { (result ≡ length (answer_text answer findings.now)) × (out.new ≡ put out.old 0 (answer_text answer findings.now)) }
 {
     match answer {
-        Checked::Findings(count) => findings_text(findings, count, out),
-        Checked::Refused(number, place) => refusal_text(number, place, out),
-        Checked::Short(_) => refusal_text(refusals::FINDINGS_SLICE, 0, out),
+        Ok(count) => findings_text(findings, count, out),
+        Err(refused) => refusal_text(refused, out),
     }
 }

@@ -77,10 +77,12 @@ hex_pair (a ∷ b ∷ l) e h =
       byte = refl;
     }
 
-pub bytes_end : (l : List ℕ) → length l ≡ 0 → bytes_of l ≡ []
+-- of fewer than two digits no byte is left
+pub bytes_end : (l : List ℕ) → length l < 2 → bytes_of l ≡ []
 unfolding bytes_of
 bytes_end [] h = refl
-bytes_end (c ∷ l) h = absurd (omega arith)
+bytes_end (a ∷ []) h = refl
+bytes_end (a ∷ b ∷ l) h = absurd (omega arith)
 
 pub length_bytes : (l : List ℕ) → length (bytes_of l) ≡ length l / 2
 unfolding bytes_of
@@ -124,5 +126,5 @@ module _ (f₀ f : List ℕ) (k : ℕ) (t whole : List ℕ) (e : is_hex t ≡ tr
       → (is_hex (take (length t - 2) (drop 2 t)) ≡ true) × Wrote f₀ (set f k (a * 16 + b)) (k + 1) (bytes_of (take (length t - 2) (drop 2 t))) whole
   byte_turn a b p q = rw (part_from t 2, p, q) ((hex_pair t e h).rest, wrote_one f₀ f k _ _ whole left)
 
-pub bytes_done : (f₀ f : List ℕ) (k : ℕ) (t whole : List ℕ) → length t ≡ 0 → Wrote f₀ f k (bytes_of t) whole → (k ≡ length whole) × (f ≡ whole ++ drop (length whole) f₀)
+pub bytes_done : (f₀ f : List ℕ) (k : ℕ) (t whole : List ℕ) → length t < 2 → Wrote f₀ f k (bytes_of t) whole → (k ≡ length whole) × (f ≡ whole ++ drop (length whole) f₀)
 bytes_done f₀ f k t whole h o = wrote_done f₀ f k whole (rw (bytes_end t h) at o)

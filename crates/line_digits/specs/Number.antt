@@ -1,10 +1,8 @@
 -- Numbers in lines: decimal digits, and bytes in hexadecimal. Bytes are ASCII.
-use Rattle.std.specs.Prelude.{ℕ, ◌+◌, ◌-◌, ◌*◌, Bool, true, false, cond, not, ◌&&◌, leb}
+use Rattle.std.specs.Prelude.{ℕ, ◌+◌, ◌-◌, ◌*◌, Bool, true, false, cond, not, ◌&&◌, leb, Option, Some, None}
 use mathlib.Core.List.{List, [], ◌∷◌, foldl}
 use Rattle.base_common.specs.Tests.{within}
 use Rattle.base_common.specs.Upto.{all}
-use Rattle.line_digits.specs.declared.Numeral.{Numeral}
-use Rattle.line_digits.specs.declared.Numeral.TheVariants.{Value, NoNumber}
 
 -- one of 0 to 9
 abbrev pub is_digit : ℕ → Bool
@@ -25,5 +23,5 @@ is_nil (c ∷ l) = false
 unfoldable pub is_number : List ℕ → Bool
 is_number l = not (is_nil l) && (all is_digit l && leb (value_of l) 4294967295)
 
-unfoldable pub number_of : List ℕ → Numeral
-number_of l = cond (is_number l) (Value (value_of l)) NoNumber
+unfoldable pub number_of : List ℕ → Option ℕ
+number_of l = cond (is_number l) (Some (value_of l)) None

@@ -6,100 +6,63 @@ ghost use Rattle.line_digits.specs.Hex.{is_hex_digit, nibble_of, is_hex, bytes_o
 ghost use Rattle.line_digits.specs.HexLaws.{Nibble};
 ghost use Rattle.line_digits.specs.Number.{is_number, value_of, number_of};
 
-#[derive(Clone, Copy)]
-pub enum Numeral {
-    Value(u32),
-    NoNumber,
-}
-
-fn wide(x: u8) -> u64
-    ensures { result ≡ x }
-{
-    x as u64
-}
+// The largest number that a line can name.
+const MOST: u64 = u32::MAX as u64;
 
 // The number that the bytes spell.
-pub fn number(s: &[u8]) -> Numeral
+pub fn number(s: &[u8]) -> Option<u32>
     ensures { result ≡ number_of s.now }
 {
-    if s.len() == 0 {
-        return Numeral::NoNumber;
+    if s.is_empty() {
+        return None;
     }
     let mut v: u64 = 0;
-    let mut i = 0;
-    while i < s.len() {
-        let c = s[i];
-        if c < 48 {
-            return Numeral::NoNumber;
+    for c in s {
+        if !c.is_ascii_digit() {
+            return None;
         }
-        if 57 < c {
-            return Numeral::NoNumber;
+        v = v * 10 + u64::from(*c - b'0');
+        if MOST < v {
+            return None;
         }
-        v = v * 10 + wide(c - 48);
-        if 4294967295 < v {
-            return Numeral::NoNumber;
-        }
-        i += 1;
     }
-    Numeral::Value(v as u32)
+    Some(v as u32)
 }
 
 pub fn is_number(s: &[u8]) -> bool
     ensures { result ≡ is_number s.now }
 {
-    match number(s) {
-        Numeral::Value(_) => true,
-        Numeral::NoNumber => false,
-    }
+    number(s).is_some()
 }
 
 pub fn value(s: &[u8]) -> u32
     requires { is_number s.now ≡ true }
     ensures { result ≡ value_of s.now }
 {
-    match number(s) {
-        Numeral::Value(v) => v,
-        Numeral::NoNumber => 0,
-    }
+    number(s).unwrap()
 }
 
 fn is_hex_digit(c: u8) -> bool
     ensures { result ≡ is_hex_digit c }
 {
-    let k = c as u32;
-    base_common::or(
-        base_common::within(k, 48, 57),
-        base_common::or(
-            base_common::within(k, 65, 70),
-            base_common::within(k, 97, 102),
-        ),
-    )
+    matches!(c, b'0'..=b'9' | b'A'..=b'F' | b'a'..=b'f')
 }
 
 fn nibble(c: u8) -> u8
     requires { Nibble c }
     ensures { (result ≡ nibble_of c) × (result < 16) }
 {
-    if c <= 57 {
-        return c - 48;
+    match c {
+        ..=b'9' => c - b'0',
+        ..=b'F' => c - (b'A' - 10),
+        _ => c - (b'a' - 10),
     }
-    if c <= 70 {
-        return c - 55;
-    }
-    c - 87
 }
 
 pub fn is_hex(s: &[u8]) -> bool
     ensures { result ≡ is_hex s.now }
 {
-    let mut i = 0;
-    while i < s.len() {
-        if !is_hex_digit(s[i]) {
-            return false;
-        }
-        i += 1;
-    }
-    s.len() % 2 == 0
+    s.iter().all(|c| is_hex_digit(*c)) && s.len() % 2 == 0
 }
 
 // Writes the bytes that the digits spell to the front of a slice, and says how many they are.
@@ -107,12 +70,11 @@ pub fn write_bytes(s: &[u8], out: &mut [u8]) -> usize
     requires { (is_hex s.now ≡ true) × (length (bytes_of s.now) ≤ length out.old) }
     ensures { (result ≡ length (bytes_of s.now)) × (out.new ≡ bytes_of s.now ++ drop (length (bytes_of s.now)) out.old) }
 {
-    let mut t = s;
     let mut k = 0;
-    while 0 < t.len() {
-        out[k] = nibble(t[0]) * 16 + nibble(t[1]);
-        let u = &t[2..];
-        t = u;
+    let mut t = s;
+    while let [high, low, rest @ ..] = t {
+        out[k] = nibble(*high) * 16 + nibble(*low);
+        t = rest;
         k += 1;
     }
     k

@@ -59,34 +59,10 @@ count_turn l h = ap length (fields_turn l h) ∙ sym (add-one (length (fields_in
 pub count_end : (l : List ℕ) → length l ≡ 0 → length (fields_in l) ≡ 0
 count_end l h = ap length (fields_end l h)
 
-drop_turn : {A : Type 0} (n : ℕ) (x : A) (xs : List A) → 0 < n → drop n (x ∷ xs) ≡ drop (n - 1) xs
-drop_turn n x xs h =
-    let e : n ≡ suc (n - 1) = omega arith in
-    ap (λ (k : ℕ). drop k (x ∷ xs)) e
-
-drop_nothing : {A : Type 0} (n : ℕ) → drop {A = A} n [] ≡ []
-drop_nothing zero = refl
-drop_nothing (suc n) = refl
-
--- fields passed over
-module _ (n : ℕ) (l : List ℕ) where
-  pub past_turn : 0 < n → drop n (fields_in l) ≡ drop (n - 1) (fields_in (next_of l))
-  past_turn h = go l
-    where
-      go : (k : List ℕ) → drop n (fields_in k) ≡ drop (n - 1) (fields_in (next_of k))
-      go [] = ap (drop n) (fields_end [] refl) ∙ drop_nothing n ∙ sym (ap (drop (n - 1)) (fields_end (next_of []) (omega (arith, next_short []))) ∙ drop_nothing (n - 1))
-      go (c ∷ k) = ap (drop n) (fields_turn (c ∷ k) (omega arith)) ∙ drop_turn n (field_of (c ∷ k)) (fields_in (next_of (c ∷ k))) h
-
-  pub past_none : n ≡ 0 → drop n (fields_in l) ≡ fields_in l
-  past_none e = rw e
-
--- lines passed over
-pub lines_turn : (n : ℕ) (ls : List (List ℕ)) → 0 < n → drop n ls ≡ drop (n - 1) (drop 1 ls)
-lines_turn n [] h = drop_nothing n ∙ sym (drop_nothing (n - 1))
-lines_turn n (l ∷ ls) h = drop_turn n l ls h
-
-pub lines_none : (n : ℕ) (ls : List (List ℕ)) → n ≡ 0 → drop n ls ≡ ls
-lines_none n ls e = rw e
+-- the fields behind the first
+pub fields_next : (l : List ℕ) → fields_in (next_of l) ≡ drop 1 (fields_in l)
+fields_next [] = fields_end (next_of []) (omega (arith, next_short [])) ∙ sym (ap (drop 1) (fields_end [] refl))
+fields_next (c ∷ l) = sym (ap (drop 1) (fields_turn (c ∷ l) (omega arith)))
 
 -- the values of the first n fields, written one a turn
 module _ (f₀ f : List ℕ) (w n : ℕ) (l whole : List ℕ) where
@@ -112,3 +88,31 @@ module _ (n : ℕ) (l : List ℕ) (h : 0 < n) (k : 0 < length l) (a : all is_num
 
   pub numbers_rest : all is_number (firsts (n - 1) (next_of l)) ≡ true
   numbers_rest = and_right_lem (is_number (field_of l)) (all is_number (firsts (n - 1) (next_of l))) parts
+
+drop_turn : {A : Type 0} (n : ℕ) (x : A) (xs : List A) → 0 < n → drop n (x ∷ xs) ≡ drop (n - 1) xs
+drop_turn n x xs h =
+    let e : n ≡ suc (n - 1) = omega arith in
+    ap (λ (k : ℕ). drop k (x ∷ xs)) e
+
+drop_nothing : {A : Type 0} (n : ℕ) → drop {A = A} n [] ≡ []
+drop_nothing zero = refl
+drop_nothing (suc n) = refl
+
+module _ (n : ℕ) (l : List ℕ) where
+  pub past_turn : 0 < n → drop n (fields_in l) ≡ drop (n - 1) (fields_in (next_of l))
+  past_turn h = go l
+    where
+      go : (k : List ℕ) → drop n (fields_in k) ≡ drop (n - 1) (fields_in (next_of k))
+      go [] = ap (drop n) (fields_end [] refl) ∙ drop_nothing n ∙ sym (ap (drop (n - 1)) (fields_end (next_of []) (omega (arith, next_short []))) ∙ drop_nothing (n - 1))
+      go (c ∷ k) = ap (drop n) (fields_turn (c ∷ k) (omega arith)) ∙ drop_turn n (field_of (c ∷ k)) (fields_in (next_of (c ∷ k))) h
+
+  pub past_none : n ≡ 0 → drop n (fields_in l) ≡ fields_in l
+  past_none e = rw e
+
+-- lines passed over
+pub lines_turn : (n : ℕ) (ls : List (List ℕ)) → 0 < n → drop n ls ≡ drop (n - 1) (drop 1 ls)
+lines_turn n [] h = drop_nothing n ∙ sym (drop_nothing (n - 1))
+lines_turn n (l ∷ ls) h = drop_turn n l ls h
+
+pub lines_none : (n : ℕ) (ls : List (List ℕ)) → n ≡ 0 → drop n ls ≡ ls
+lines_none n ls e = rw e

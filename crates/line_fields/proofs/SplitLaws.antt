@@ -1,12 +1,16 @@
 -- Laws of lines and fields as code finds them: what stands before the first byte d, and what from it on.
-use Rattle.std.specs.Prelude.{ℕ, ◌+◌, ◌≤◌, ◌<◌, ◌≡◌, Bool, cond, length, get_or, take, drop}
+use borrow.Author.Tests.{eq-eqb, ne_eqb}
+use Rattle.line_digits.specs.Lists.{drop_step, drop_end}
+use Rattle.std.specs.Prelude.{Some, None, ℕ, ◌+◌, ◌≤◌, ◌<◌, ◌≡◌, Bool, cond, length, get_or, take, drop}
 use Rattle.std.proofs.Math.Path.{refl}
 use Rattle.std.proofs.Common.{ap, sym, ◌∙◌, arith}
 use Rattle.std.proofs.Math.Bool.{true, false}
 use mathlib.Core.List.{List, [], ◌∷◌}
-use Rattle.std.proofs.Math.Dec.{eqb}
-use borrow.Author.Tests.{eq-eqb, ne_eqb, eqb-true}
-use Rattle.line_digits.specs.Lists.{drop_step, drop_end}
+use Rattle.std.proofs.Math.Dec.{eqb, ltb}
+use borrow.Author.Tests.{eqb-true, ltb-false}
+use Rattle.std.specs.Option.{unwrap_or}
+use Rattle.std.specs.List.{position_or_len}
+use Rattle.std.proofs.lemmas.List.Recursion.{is_position_or_len}
 use Rattle.line_fields.specs.Split.{ahead, lines_of, fields_of, joined, before, onward, to_first, fields_in}
 
 module _ (d : ℕ) where
@@ -31,19 +35,21 @@ module _ (d : ℕ) where
   pub before_short : (l : List ℕ) → to_first d l ≤ length l
   before_short = by_first_lem (λ l b o. length b ≤ length l) (omega arith) (λ c l e. omega arith) (λ c l h. omega arith)
 
--- a search for d: what is left equals the whole
-module _ (s : List ℕ) (d i : ℕ) where
-  pub first_on : i < length s → (get_or s i 0 ≡ d → ⊥) → i + to_first d (drop i s) ≡ (i + 1) + to_first d (drop (i + 1) s)
-  unfolding before
-  first_on h n = rw (drop_step s i h, ne_eqb (get_or s i 0) d n) (omega arith)
+-- the place that a search for d finds
+pub first_place : (d : ℕ) (l : List ℕ) → to_first d l ≡ position_or_len (λ c. eqb c d) l
+unfolding before
+first_place d = is_position_or_len (to_first d) (λ c. eqb c d) refl (λ c l. go c (eqb c d) l)
+  where
+    go : (c : ℕ) (t : Bool) (l : List ℕ) → length (cond t [] (c ∷ before d l)) ≡ cond t 0 (1 + to_first d l)
+    go c true l = refl
+    go c false l = omega arith
 
-  pub first_hit : i < length s → get_or s i 0 ≡ d → i + to_first d (drop i s) ≡ i
-  unfolding before
-  first_hit h e = rw (drop_step s i h, eq-eqb (get_or s i 0) d e) (omega arith)
-
-  pub first_end : length s ≤ i → i + to_first d (drop i s) ≡ i
-  unfolding before
-  first_end h = rw (drop_end s i h) (omega arith)
+pub place_or_end : (p n : ℕ) → p ≤ n → unwrap_or (cond (ltb p n) (Some p) None) n ≡ p
+place_or_end p n h = go (ltb p n) refl
+  where
+    go : (t : Bool) → ltb p n ≡ t → unwrap_or (cond t (Some p) None) n ≡ p
+    go true e = refl
+    go false e = omega (arith, ltb-false p n e)
 
 pub fields_first : (l : List ℕ) → fields_of l ≡ before 44 l ∷ fields_in (onward 44 l)
 unfolding before onward fields_in fields_of
@@ -143,3 +149,16 @@ pub joined_tail : (l : List ℕ) → joined (fields_in l) ≡ drop 1 l
 unfolding fields_in
 joined_tail [] = joined_none
 joined_tail (c ∷ l) = joined_fields l
+
+module _ (s : List ℕ) (d i : ℕ) where
+  pub first_on : i < length s → (get_or s i 0 ≡ d → ⊥) → i + to_first d (drop i s) ≡ (i + 1) + to_first d (drop (i + 1) s)
+  unfolding before
+  first_on h n = rw (drop_step s i h, ne_eqb (get_or s i 0) d n) (omega arith)
+
+  pub first_hit : i < length s → get_or s i 0 ≡ d → i + to_first d (drop i s) ≡ i
+  unfolding before
+  first_hit h e = rw (drop_step s i h, eq-eqb (get_or s i 0) d e) (omega arith)
+
+  pub first_end : length s ≤ i → i + to_first d (drop i s) ≡ i
+  unfolding before
+  first_end h = rw (drop_end s i h) (omega arith)

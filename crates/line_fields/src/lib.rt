@@ -6,41 +6,37 @@ ghost use Rattle.base_common.specs.Upto.{all};
 ghost use Rattle.line_digits.specs.Number.{is_number};
 ghost use Rattle.line_fields.specs.Split.{lines_of, before, onward, to_first, fields_in, field_of, next_of, firsts};
 
+// What ends a line, and what stands between its fields.
+const NEW_LINE: u8 = b'\n';
+
+pub const COMMA: u8 = b',';
+
 // How many bytes stand before the first d; all, if there is none.
 fn to_first(s: &[u8], d: u8) -> usize
     ensures { (result ≡ to_first d s.now) × (result ≤ length s.now) }
 {
-    let mut i = 0;
-    while i < s.len() {
-        if s[i] == d {
-            return i;
-        }
-        i += 1;
-    }
-    i
+    s.iter().position(|x| *x == d).unwrap_or(s.len())
 }
 
 pub fn before(s: &[u8], d: u8) -> &[u8]
     ensures { result.now ≡ before d s.now }
 {
-    let e = to_first(s, d);
-    &s[..e]
+    &s[..to_first(s, d)]
 }
 
 pub fn onward(s: &[u8], d: u8) -> &[u8]
     ensures { result.now ≡ onward d s.now }
 {
-    let e = to_first(s, d);
-    &s[e..]
+    &s[to_first(s, d)..]
 }
 
 pub fn behind(s: &[u8]) -> &[u8]
     ensures { result.now ≡ drop 1 s.now }
 {
-    if s.len() == 0 {
-        return s;
+    match s {
+        [_, rest @ ..] => rest,
+        [] => s,
     }
-    &s[1..]
 }
 
 // A tail is what follows a line's letter or a field: nothing, or a comma and more.
@@ -48,14 +44,14 @@ pub fn behind(s: &[u8]) -> &[u8]
 pub fn field(tail: &[u8]) -> &[u8]
     ensures { result.now ≡ field_of tail.now }
 {
-    before(behind(tail), 44)
+    before(behind(tail), COMMA)
 }
 
 // The tail behind that field.
 pub fn next(tail: &[u8]) -> &[u8]
     ensures { (result.now ≡ next_of tail.now) × (length result.now ≤ length tail.now - 1) }
 {
-    onward(behind(tail), 44)
+    onward(behind(tail), COMMA)
 }
 
 pub fn count(tail: &[u8]) -> usize
@@ -63,9 +59,8 @@ pub fn count(tail: &[u8]) -> usize
 {
     let mut t = tail;
     let mut n = 0;
-    while 0 < t.len() {
-        let u = next(t);
-        t = u;
+    while !t.is_empty() {
+        t = next(t);
         n += 1;
     }
     n
@@ -76,17 +71,14 @@ pub fn are_numbers(tail: &[u8], n: usize) -> bool
     ensures { result ≡ all is_number (firsts n tail.now) }
 {
     let mut t = tail;
-    let mut left = n;
-    while 0 < left {
-        if t.len() == 0 {
+    for _ in 0..n {
+        if t.is_empty() {
             return true;
         }
         if !line_digits::is_number(field(t)) {
             return false;
         }
-        let u = next(t);
-        t = u;
-        left -= 1;
+        t = next(t);
     }
     true
 }
@@ -96,11 +88,8 @@ pub fn skip(tail: &[u8], n: usize) -> &[u8]
     ensures { fields_in result.now ≡ drop n (fields_in tail.now) }
 {
     let mut t = tail;
-    let mut left = n;
-    while 0 < left {
-        let u = next(t);
-        t = u;
-        left -= 1;
+    for _ in 0..n {
+        t = next(t);
     }
     t
 }
@@ -109,14 +98,14 @@ pub fn skip(tail: &[u8], n: usize) -> &[u8]
 pub fn line(b: &[u8]) -> &[u8]
     ensures { result.now ≡ get_or (lines_of b.now) 0 [] }
 {
-    before(b, 10)
+    before(b, NEW_LINE)
 }
 
 // The bytes after the first line.
 pub fn after(b: &[u8]) -> &[u8]
     ensures { lines_of result.now ≡ drop 1 (lines_of b.now) }
 {
-    behind(onward(b, 10))
+    behind(onward(b, NEW_LINE))
 }
 
 // The bytes after the first n lines.
@@ -124,11 +113,8 @@ pub fn skip_lines(b: &[u8], n: usize) -> &[u8]
     ensures { lines_of result.now ≡ drop n (lines_of b.now) }
 {
     let mut t = b;
-    let mut left = n;
-    while 0 < left {
-        let u = after(t);
-        t = u;
-        left -= 1;
+    for _ in 0..n {
+        t = after(t);
     }
     t
 }

@@ -4,77 +4,62 @@
 ghost use Rattle.std.specs.Prelude.{◌≡◌, ◌≤◌};
 ghost use Rattle.line_forms.specs.Forms.{lettered, is_numbers, fits, is_n, name_of, is_x};
 
+use line_fields::COMMA;
+
+// A line that can be read has at most so many bytes ..
+pub const LONGEST: usize = 2100;
+
+// .. and at most so many nodes, scopes, bytes of source, bytes of names and answers can be read.
+pub const MOST: usize = 1024;
+
+// A node's line has so many numbers in front of its name.
+pub const NODE_NUMBERS: usize = 8;
+
 // A line that isn't too long, whose first field is the letter.
 pub fn lettered(l: &[u8], c: u8) -> bool
     ensures { result ≡ lettered c l.now }
 {
-    if 2100 < l.len() {
-        return false;
-    }
-    let f = line_fields::before(l, 44);
-    if f.len() != 1 {
-        return false;
-    }
-    f[0] == c
+    l.len() <= LONGEST && line_fields::before(l, COMMA) == [c].as_slice()
 }
 
 // The letter and n numbers.
 pub fn is_numbers(l: &[u8], c: u8, n: usize) -> bool
     ensures { result ≡ is_numbers c n l.now }
 {
-    if !lettered(l, c) {
-        return false;
-    }
-    let t = line_fields::onward(l, 44);
-    if line_fields::count(t) != n {
-        return false;
-    }
-    line_fields::are_numbers(t, n)
+    let tail = line_fields::onward(l, COMMA);
+    lettered(l, c) && line_fields::count(tail) == n && line_fields::are_numbers(tail, n)
 }
 
 pub fn is_node(l: &[u8]) -> bool
     ensures { result ≡ is_n l.now }
 {
-    if !lettered(l, 78) {
-        return false;
-    }
-    let t = line_fields::onward(l, 44);
-    if line_fields::count(t) < 9 {
-        return false;
-    }
-    line_fields::are_numbers(t, 8)
+    let tail = line_fields::onward(l, COMMA);
+    lettered(l, b'N')
+        && NODE_NUMBERS < line_fields::count(tail)
+        && line_fields::are_numbers(tail, NODE_NUMBERS)
 }
 
 // The rest of a node's line, behind its eight numbers.
 pub fn name(l: &[u8]) -> &[u8]
     ensures { result.now ≡ name_of l.now }
 {
-    line_fields::behind(line_fields::skip(line_fields::onward(l, 44), 8))
+    line_fields::behind(line_fields::skip(line_fields::onward(l, COMMA), NODE_NUMBERS))
 }
 
 pub fn fits(n: usize, each: usize, room: usize) -> bool
     requires { each ≤ 10 }
     ensures { result ≡ fits n each room }
 {
-    if 1024 < n {
-        return false;
-    }
-    n * each <= room
+    n <= MOST && n * each <= room
 }
 
 pub fn is_source(l: &[u8], room: usize) -> bool
     ensures { result ≡ is_x room l.now }
 {
-    if !lettered(l, 88) {
-        return false;
-    }
-    let t = line_fields::onward(l, 44);
-    if line_fields::count(t) != 1 {
-        return false;
-    }
-    let h = line_fields::field(t);
-    if !line_digits::is_hex(h) {
-        return false;
-    }
-    fits(h.len() / 2, 1, room)
+    let tail = line_fields::onward(l, COMMA);
+    let digits = line_fields::field(tail);
+    lettered(l, b'X')
+        && line_fields::count(tail) == 1
+        && line_digits::is_hex(digits)
+        && fits(digits.len() / 2, 1, room)
 }

@@ -1,9 +1,9 @@
 -- The lines that `rulecheck` reads (document 01, "The reader program"), in their order, and what they give.
-use Rattle.std.specs.Prelude.{ℕ, ◌+◌, ◌-◌, min, ◌≡◌, Bool, cond, List, [], ◌∷◌, ◌++◌, leb, eqb, length, get_or, take, drop}
+use Rattle.std.specs.Prelude.{Result, Ok, Err, ℕ, ◌+◌, ◌-◌, min, ◌≡◌, Bool, cond, List, [], ◌∷◌, ◌++◌, leb, eqb, length, get_or, take, drop}
 use Rattle.line_fields.specs.Split.{lines_of}
 use Rattle.line_forms.specs.Forms.{rest, numbers_of, kind_in, nodes_in, scopes_in, is_j, is_s, is_n, name_of, source_of, is_x}
-use Rattle.line_input.specs.declared.Input.{Input}
-use Rattle.line_input.specs.declared.Input.TheVariants.{Tables, Unread}
+use Rattle.line_input.specs.declared.Tables.{Tables}
+use Rattle.line_input.specs.declared.Unread.{Unread}
 
 -- the lines before the first that fails a test
 unfoldable pub leading : (List ℕ → Bool) → List (List ℕ) → List (List ℕ)
@@ -38,9 +38,13 @@ unfoldable pub nodes_of : ℕ → List (List ℕ) → List ℕ
 nodes_of start [] = []
 nodes_of start (l ∷ ls) = node_of start l ++ nodes_of (start + length (name_of l)) ls
 
+-- the line that can't be read or is missing
+abbrev pub unread : ℕ → Unread
+unread k = record { line = k }
+
 -- what is answered, and what stands at the front of each slice afterwards
 pub record Reading : Type 0 where
-  pub answer : Input
+  pub answer : Result Tables Unread
   pub nodes : List ℕ
   pub scopes : List ℕ
   pub source : List ℕ
@@ -48,12 +52,21 @@ pub record Reading : Type 0 where
 
 -- a line can't be read or is missing: its number, from 1; the lines before it are read
 abbrev pub stopped : ℕ → List (List ℕ) → List (List ℕ) → Reading
-stopped k ss ns = record { answer = Unread k; nodes = nodes_of 0 ns; scopes = scopes_of ss; source = []; names = names_of ns }
+stopped k ss ns = record { answer = Err (unread k); nodes = nodes_of 0 ns; scopes = scopes_of ss; source = []; names = names_of ns }
 
 -- all lines are read: the source type, and how much of each slice is used
+abbrev pub sizes : ℕ → List (List ℕ) → List (List ℕ) → List ℕ → Tables
+sizes kind ss ns x = record {
+  kind = kind;
+  nodes = length (nodes_of 0 ns);
+  scopes = length (scopes_of ss);
+  source = length (source_of x);
+  names = length (names_of ns);
+}
+
 abbrev pub tables : ℕ → List (List ℕ) → List (List ℕ) → List ℕ → Reading
 tables kind ss ns x = record {
-  answer = Tables kind (length (nodes_of 0 ns)) (length (scopes_of ss)) (length (source_of x)) (length (names_of ns));
+  answer = Ok (sizes kind ss ns x);
   nodes = nodes_of 0 ns;
   scopes = scopes_of ss;
   source = source_of x;

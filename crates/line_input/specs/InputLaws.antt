@@ -1,8 +1,8 @@
 -- The whole input, in the order in which it is read.
-use Rattle.std.specs.Prelude.{ℕ, ◌+◌, ◌*◌, ◌≤◌, Bool, ◌&&◌, List, [], ◌∷◌, map, eqb, length, get_or, drop}
+use Rattle.std.specs.Prelude.{Option, Some, None, Result, Ok, Err, ℕ, ◌+◌, ◌*◌, ◌≤◌, Bool, ◌&&◌, List, [], ◌∷◌, map, eqb, length, get_or, drop}
 use Rattle.std.proofs.Math.Path.{◌≡◌, refl}
 use Rattle.std.proofs.Common.{ap, sym, ◌∙◌, append-nil, arith, drop_of_length-le}
-use Rattle.std.proofs.Math.Bool.{true, false, cond}
+use Rattle.std.proofs.Math.Bool.{true, false, cond, and-false}
 use Rattle.std.proofs.lemmas.List.{length-map}
 use borrow.Author.Tests.{eq-eqb, ne_eqb, eqb-true}
 use Rattle.base_common.proofs.Bools.{never}
@@ -12,34 +12,35 @@ use Rattle.line_digits.specs.Hex.{is_hex, bytes_of}
 use Rattle.line_digits.specs.Number.{value_of}
 use Rattle.line_fields.specs.Split.{field_of, firsts}
 use Rattle.line_input.specs.declared.Head.{Head}
-use Rattle.line_input.specs.declared.Head.TheVariants.{Counts, NoHead}
-use Rattle.line_input.specs.declared.Input.{Input}
-use Rattle.line_input.specs.declared.Input.TheVariants.{Tables, Unread}
+use Rattle.line_input.specs.declared.Tables.{Tables}
+use Rattle.line_input.specs.declared.Unread.{Unread}
 use Rattle.line_forms.specs.Forms.{lettered, rest, numbers_of, is_numbers, fits, kind_in, nodes_in, scopes_in, is_j, is_x, source_of}
-use Rattle.line_input.specs.Format.{nodes_of, scopes_of, names_of, Room, Reading, stopped, tables, ss_in, ns_in, x_in, read_behind, read_lines, front, Given}
-use Rattle.line_digits.proofs.NumberLaws.{and_no}
+use Rattle.line_input.specs.Format.{unread, sizes, nodes_of, scopes_of, names_of, Room, Reading, stopped, tables, ss_in, ns_in, x_in, read_behind, read_lines, front, Given}
 use Rattle.line_forms.proofs.FormLaws.{rest_tail, numbers_told, source_field, fits_told}
 use Rattle.line_forms.specs.Forms.{tail_of}
 use Rattle.line_input.specs.ReadLaws.{first_of, nodes_nil_lem, scopes_nil, names_nil, empty_numbers}
 
 -- what the J line says
-unfoldable pub head_of : ℕ → ℕ → List ℕ → Head
-head_of nodes scopes l = cond (is_j nodes scopes l) (Counts (kind_in l) (nodes_in l) (scopes_in l)) NoHead
+abbrev pub head_in : List ℕ → Head
+head_in l = record { kind = kind_in l; nodes = nodes_in l; scopes = scopes_in l }
+
+unfoldable pub head_of : ℕ → ℕ → List ℕ → Option Head
+head_of nodes scopes l = cond (is_j nodes scopes l) (Some (head_in l)) None
 
 module _ (nodes scopes : ℕ) (l : List ℕ) where
-  pub head_numbers : is_numbers 74 3 l ≡ false → head_of nodes scopes l ≡ NoHead
+  pub head_numbers : is_numbers 74 3 l ≡ false → head_of nodes scopes l ≡ None
   unfolding head_of is_j
   head_numbers e = rw e
 
-  pub head_nodes : fits (nodes_in l) 10 nodes ≡ false → head_of nodes scopes l ≡ NoHead
+  pub head_nodes : fits (nodes_in l) 10 nodes ≡ false → head_of nodes scopes l ≡ None
   unfolding head_of is_j
-  head_nodes e = rw (e, and_no (is_numbers 74 3 l))
+  head_nodes e = rw (e, and-false (is_numbers 74 3 l))
 
-  pub head_scopes : is_numbers 74 3 l ≡ true → fits (nodes_in l) 10 nodes ≡ true → fits (scopes_in l) 3 scopes ≡ false → head_of nodes scopes l ≡ NoHead
+  pub head_scopes : is_numbers 74 3 l ≡ true → fits (nodes_in l) 10 nodes ≡ true → fits (scopes_in l) 3 scopes ≡ false → head_of nodes scopes l ≡ None
   unfolding head_of is_j
   head_scopes e f g = rw (e, f, g)
 
-  pub head_is_lem : is_numbers 74 3 l ≡ true → fits (nodes_in l) 10 nodes ≡ true → fits (scopes_in l) 3 scopes ≡ true → head_of nodes scopes l ≡ Counts (kind_in l) (nodes_in l) (scopes_in l)
+  pub head_is_lem : is_numbers 74 3 l ≡ true → fits (nodes_in l) 10 nodes ≡ true → fits (scopes_in l) 3 scopes ≡ true → head_of nodes scopes l ≡ Some (head_in l)
   unfolding head_of is_j
   head_is_lem e f g = rw (e, f, g)
 
@@ -57,7 +58,7 @@ source_told room l e =
     rw (sym q) (refl, and_left_lem (is_hex h) (fits (length (bytes_of h)) 1 room) b, omega arith)
 
 -- what the answer and the slices must be
-pub record Gives (d : Reading) (r : Input) (n₀ s₀ x₀ m₀ n s x m : List ℕ) : Type 0 where
+pub record Gives (d : Reading) (r : Result Tables Unread) (n₀ s₀ x₀ m₀ n s x m : List ℕ) : Type 0 where
   pub answer : r ≡ d.answer
   pub nodes : n ≡ front d.nodes n₀
   pub scopes : s ≡ front d.scopes s₀
@@ -106,18 +107,17 @@ head_array l e a f t h q p =
 
 -- reading stops at a line, or comes to its end
 module _ (d : Reading) (n₀ s₀ x₀ m₀ n s x m : List ℕ) (ss ns : List (List ℕ)) where
-  pub gives_scopes : (k k' : ℕ) → d ≡ stopped k ss [] → k' ≡ k → s ≡ front (scopes_of ss) s₀ → Gives d (Unread k') n₀ s₀ x₀ m₀ n₀ s x₀ m₀
+  pub gives_scopes : (k k' : ℕ) → d ≡ stopped k ss [] → k' ≡ k → s ≡ front (scopes_of ss) s₀ → Gives d (Err (unread k')) n₀ s₀ x₀ m₀ n₀ s x₀ m₀
   gives_scopes k k' e h b =
       rw (e, h) (record { answer = refl; nodes = ap (λ (l : List ℕ). front l n₀) (sym (nodes_nil_lem 0)); scopes = b; source = refl; names = ap (λ (l : List ℕ). front l m₀) (sym names_nil) })
 
-  pub gives_stopped : (k k' : ℕ) → d ≡ stopped k ss ns → k' ≡ k → s ≡ front (scopes_of ss) s₀ → n ≡ front (nodes_of 0 ns) n₀ → m ≡ front (names_of ns) m₀ → Gives d (Unread k') n₀ s₀ x₀ m₀ n s x₀ m
+  pub gives_stopped : (k k' : ℕ) → d ≡ stopped k ss ns → k' ≡ k → s ≡ front (scopes_of ss) s₀ → n ≡ front (nodes_of 0 ns) n₀ → m ≡ front (names_of ns) m₀ → Gives d (Err (unread k')) n₀ s₀ x₀ m₀ n s x₀ m
   gives_stopped k k' e h b a c = rw (e, h) (record { answer = refl; nodes = a; scopes = b; source = refl; names = c })
 
-  pub gives_tables : (kind : ℕ) (l : List ℕ) (a b c e : ℕ) → d ≡ tables kind ss ns l
-      → a ≡ length (nodes_of 0 ns) → b ≡ length (scopes_of ss) → c ≡ length (source_of l) → e ≡ length (names_of ns)
+  pub gives_tables : (kind : ℕ) (l : List ℕ) (t : Tables) → d ≡ tables kind ss ns l → t ≡ sizes kind ss ns l
       → s ≡ front (scopes_of ss) s₀ → n ≡ front (nodes_of 0 ns) n₀ → m ≡ front (names_of ns) m₀ → x ≡ front (source_of l) x₀
-      → Gives d (Tables kind a b c e) n₀ s₀ x₀ m₀ n s x m
-  gives_tables kind l a b c e q h i j k f g o p = rw (q, h, i, j, k) (record { answer = refl; nodes = g; scopes = f; source = p; names = o })
+      → Gives d (Ok t) n₀ s₀ x₀ m₀ n s x m
+  gives_tables kind l t q h f g o p = rw (q, h) (record { answer = refl; nodes = g; scopes = f; source = p; names = o })
 
 empty_head : (nodes scopes : ℕ) → is_j nodes scopes [] ≡ false
 unfolding is_j
@@ -137,20 +137,20 @@ lines_on room (j ∷ ls) e = rw e
 
 -- what the answer on the J line tells
 module _ (nodes scopes : ℕ) (l : List ℕ) where
-  pub head_none : head_of nodes scopes l ≡ NoHead → is_j nodes scopes l ≡ false
+  pub head_none : head_of nodes scopes l ≡ None → is_j nodes scopes l ≡ false
   unfolding head_of
   head_none = go (is_j nodes scopes l)
     where
-      go : (t : Bool) → cond t (Counts (kind_in l) (nodes_in l) (scopes_in l)) NoHead ≡ NoHead → t ≡ false
+      go : (t : Bool) → cond t (Some (head_in l)) None ≡ None → t ≡ false
       go true e = let z : ◌≡◌ {A = ℕ} 0 1 = cc in absurd (omega arith)
       go false e = refl
 
-  pub head_some_lem : (k n s : ℕ) → head_of nodes scopes l ≡ Counts k n s → (is_j nodes scopes l ≡ true) × (k ≡ kind_in l) × (n ≡ nodes_in l) × (s ≡ scopes_in l)
+  pub head_some_lem : (h : Head) → head_of nodes scopes l ≡ Some h → (is_j nodes scopes l ≡ true) × (h ≡ head_in l)
   unfolding head_of
-  head_some_lem k n s = go (is_j nodes scopes l)
+  head_some_lem h = go (is_j nodes scopes l)
     where
-      go : (t : Bool) → cond t (Counts (kind_in l) (nodes_in l) (scopes_in l)) NoHead ≡ Counts k n s → (t ≡ true) × (k ≡ kind_in l) × (n ≡ nodes_in l) × (s ≡ scopes_in l)
-      go true e = (refl, cc, cc, cc)
+      go : (t : Bool) → cond t (Some (head_in l)) None ≡ Some h → (t ≡ true) × (h ≡ head_in l)
+      go true e = (refl, cc)
       go false e = let z : ◌≡◌ {A = ℕ} 0 1 = cc in absurd (omega arith)
 
   pub head_room : is_j nodes scopes l ≡ true → (nodes_in l ≤ 1024) × (scopes_in l ≤ 1024) × (nodes_in l * 10 ≤ nodes) × (scopes_in l * 3 ≤ scopes)
@@ -162,11 +162,11 @@ module _ (nodes scopes : ℕ) (l : List ℕ) where
       (p.0, q.0, p.1, q.1)
 
 -- the parts, as the public contract has them
-module _ (d d' : Reading) (r : Input) (n₀ s₀ x₀ m₀ n s x m : List ℕ) where
+module _ (d d' : Reading) (r : Result Tables Unread) (n₀ s₀ x₀ m₀ n s x m : List ℕ) where
   pub gives_parts : d ≡ d' → Gives d r n₀ s₀ x₀ m₀ n s x m → (r ≡ d'.answer) × Given d' n₀ s₀ x₀ m₀ n s x m
   gives_parts e g = rw (sym e) (g.answer, record { nodes = g.nodes; scopes = g.scopes; source = g.source; names = g.names })
 
-pub none_read : (n₀ s₀ x₀ m₀ : List ℕ) → Gives (stopped 1 [] []) (Unread 1) n₀ s₀ x₀ m₀ n₀ s₀ x₀ m₀
+pub none_read : (n₀ s₀ x₀ m₀ : List ℕ) → Gives (stopped 1 [] []) (Err (unread 1)) n₀ s₀ x₀ m₀ n₀ s₀ x₀ m₀
 none_read n₀ s₀ x₀ m₀ =
     record {
       answer = refl;
@@ -177,9 +177,9 @@ none_read n₀ s₀ x₀ m₀ =
     }
 
 -- the counts that the code has of the J line, and the lines that it goes on with
-pub lines_behind : (room : Room) (ls : List (List ℕ)) (k n s : ℕ) (l : List ℕ) (ks : List (List ℕ)) → l ≡ first_of ls → ks ≡ drop 1 ls → head_of room.nodes room.scopes l ≡ Counts k n s
-    → read_behind room k n s ks ≡ read_lines room ls
-lines_behind room ls k n s l ks e f h =
-    let t = head_some_lem room.nodes room.scopes l k n s h in
+pub lines_behind : (room : Room) (ls : List (List ℕ)) (h : Head) (l : List ℕ) (ks : List (List ℕ)) → l ≡ first_of ls → ks ≡ drop 1 ls → head_of room.nodes room.scopes l ≡ Some h
+    → read_behind room h.kind h.nodes h.scopes ks ≡ read_lines room ls
+lines_behind room ls h l ks e f g =
+    let t = head_some_lem room.nodes room.scopes l h g in
     let j : is_j room.nodes room.scopes (first_of ls) ≡ true = rw (sym e) t.0 in
-    rw (f, t.1, t.2, t.3, e) (sym (lines_on room ls j))
+    rw (f, t.1, e) (sym (lines_on room ls j))

@@ -300,6 +300,15 @@ node_put f w a b vs e h =
     let k : w + 8 ≡ w + length vs = omega arith in
     rw (s, k) (sets-eq (a ∷ b ∷ []) g (w + length vs) (omega arith) ∙ put_put f w vs (a ∷ b ∷ []) (omega arith))
 
+-- .. the last one by the place behind
+pub node_put_on : (f : List ℕ) (w a b : ℕ) (vs : List ℕ) → length vs ≡ 8 → w + 10 ≤ length f → set (set (put f w vs) (w + 8) a) (w + 8 + 1) b ≡ put f w (vs ++ a ∷ b ∷ [])
+node_put_on f w a b vs e h =
+    let g = put f w vs in
+    let lg : length g ≡ length f = length_put f w vs (omega arith) in
+    let s : w + 8 + 1 ≡ suc (w + 8) = omega arith in
+    let k : w + 8 ≡ w + length vs = omega arith in
+    rw (s, k) (sets-eq (a ∷ b ∷ []) g (w + length vs) (omega arith) ∙ put_put f w vs (a ∷ b ∷ []) (omega arith))
+
 -- a turn, with what the code has in the place of each
 pub noding_again : (n₀ n m₀ m : List ℕ) (room count : ℕ) (whole : List (List ℕ)) (i used : ℕ) (ls : List (List ℕ)) → Noding n₀ n m₀ m room count whole i used ls
     → i < count → is_n (first_of ls) ≡ true → length (name_of (first_of ls)) ≤ room - used

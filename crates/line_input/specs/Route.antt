@@ -1,14 +1,13 @@
 -- The two lines that `ruleroute` reads behind `rulecheck`'s: "U,unit", and "A" with up to 1,024 answers.
-use Rattle.std.specs.Prelude.{ℕ, ◌+◌, ◌/◌, Bool, cond, ◌&&◌, List, [], length, get_or}
+use Rattle.std.specs.Prelude.{Result, Ok, Err, ℕ, ◌+◌, ◌/◌, Bool, cond, ◌&&◌, List, [], length, get_or}
 use Rattle.base_common.specs.Upto.{all}
 use Rattle.line_digits.specs.Number.{is_number}
 use Rattle.line_fields.specs.Split.{lines_of}
-use Rattle.line_input.specs.declared.Input.{Input}
-use Rattle.line_input.specs.declared.Input.TheVariants.{Tables, Unread}
-use Rattle.line_input.specs.declared.Route.{Route}
-use Rattle.line_input.specs.declared.Route.TheVariants.{Asked, Unasked}
+use Rattle.line_input.specs.declared.Tables.{Tables}
+use Rattle.line_input.specs.declared.Asked.{Asked}
+use Rattle.line_input.specs.declared.Unread.{Unread}
 use Rattle.line_forms.specs.Forms.{lettered, rest, numbers_of, is_numbers, fits}
-use Rattle.line_input.specs.Format.{Room, read_input}
+use Rattle.line_input.specs.Format.{unread, Room, read_input}
 
 abbrev pub is_u : List ℕ → Bool
 is_u l = is_numbers 85 1 l
@@ -22,27 +21,28 @@ is_a room l = lettered 65 l && (all is_number (rest l) && fits (length (rest l))
 
 -- what is answered, and what stands at the front of the answers' slice
 pub record Asking : Type 0 where
-  pub answer : Route
+  pub answer : Result Asked Unread
   pub answers : List ℕ
 
 abbrev pub unasked : ℕ → Asking
-unasked k = record { answer = Unasked k; answers = [] }
+unasked k = record { answer = Err (unread k); answers = [] }
 
 -- the U line follows the J line, a line for each scope and node, and the X line
 abbrev pub lines_before : ℕ → ℕ → ℕ
 lines_before nodes scopes = 2 + scopes / 3 + nodes / 10
 
-unfoldable pub asked_by : ℕ → List (List ℕ) → Input → Asking
-asked_by room ls (Unread k) = unasked k
-asked_by room ls (Tables kind n s x m) =
-    cond (is_u (get_or ls (lines_before n s) []))
-    (cond (is_a room (get_or ls (lines_before n s + 1) []))
-    (record {
-      answer = Asked kind n s x m (unit_in (get_or ls (lines_before n s) [])) (length (rest (get_or ls (lines_before n s + 1) [])));
-      answers = numbers_of (rest (get_or ls (lines_before n s + 1) []));
-    })
-    (unasked (lines_before n s + 2)))
-    (unasked (lines_before n s + 1))
+-- with the U line and the A line
+abbrev pub asked : Tables → List ℕ → List ℕ → Asking
+asked t u a = record { answer = Ok (record { tables = t; unit = unit_in u; answers = length (rest a) }); answers = numbers_of (rest a) }
+
+unfoldable pub asked_by : ℕ → List (List ℕ) → Result Tables Unread → Asking
+asked_by room ls (Err e) = unasked e.line
+asked_by room ls (Ok t) =
+    cond (is_u (get_or ls (lines_before t.nodes t.scopes) []))
+    (cond (is_a room (get_or ls (lines_before t.nodes t.scopes + 1) []))
+    (asked t (get_or ls (lines_before t.nodes t.scopes) []) (get_or ls (lines_before t.nodes t.scopes + 1) []))
+    (unasked (lines_before t.nodes t.scopes + 2)))
+    (unasked (lines_before t.nodes t.scopes + 1))
 
 abbrev pub read_route : Room → ℕ → List ℕ → Asking
 read_route room answers b = asked_by answers (lines_of b) (read_input room b).answer

@@ -1,8 +1,8 @@
 -- The two lines as they are tested and read.
-use Rattle.std.specs.Prelude.{ℕ, ◌+◌, ◌≤◌, ◌<◌, min, Bool, cond, ◌&&◌, eqb, get_or, drop}
+use Rattle.std.specs.Prelude.{Result, Ok, Err, ℕ, ◌+◌, ◌≤◌, ◌<◌, min, Bool, cond, ◌&&◌, eqb, get_or, drop}
 use Rattle.std.proofs.Math.Path.{◌≡◌, refl, ap, sym}
 use Rattle.std.proofs.Common.{◌∙◌, zero-add, add-zero, take_all, get_or-drop, drop-drop}
-use Rattle.std.proofs.Math.Bool.{true, false}
+use Rattle.std.proofs.Math.Bool.{true, false, and-false}
 use mathlib.Core.List.{List, [], ◌∷◌, ◌++◌, map}
 use native.Mathlib.Omega.{arith}
 use Rattle.std.proofs.Math.ListN.{length}
@@ -14,19 +14,18 @@ use Rattle.line_fields.specs.Split.{fields_in, field_of, firsts}
 use Rattle.line_fields.proofs.SplitLaws.{fields_turn}
 use Rattle.line_fields.proofs.FieldLaws.{tail_some, number_first}
 use Rattle.line_input.specs.declared.Two.{Two}
-use Rattle.line_input.specs.declared.Two.TheVariants.{Both, NoUnit, NoAnswers}
-use Rattle.line_input.specs.declared.Input.{Input}
-use Rattle.line_input.specs.declared.Input.TheVariants.{Tables, Unread}
-use Rattle.line_input.specs.declared.Route.{Route}
-use Rattle.line_input.specs.declared.Route.TheVariants.{Asked, Unasked}
+use Rattle.line_input.specs.declared.Missing.{Missing}
+use Rattle.line_input.specs.declared.Missing.TheVariants.{NoUnit, NoAnswers}
+use Rattle.line_input.specs.declared.Tables.{Tables}
+use Rattle.line_input.specs.declared.Unread.{Unread}
+use Rattle.line_input.specs.declared.Asked.{Asked}
 use Rattle.line_forms.specs.Forms.{lettered, rest, numbers_of, is_numbers, fits, is_j, kind_in, nodes_in, scopes_in, is_x}
-use Rattle.line_input.specs.Format.{nodes_of, scopes_of, Room, stopped, tables, ss_in, ns_in, x_in, read_behind, read_lines, front}
-use Rattle.line_digits.proofs.NumberLaws.{and_no}
+use Rattle.line_input.specs.Format.{unread, sizes, nodes_of, scopes_of, Room, stopped, tables, ss_in, ns_in, x_in, read_behind, read_lines, front}
 use Rattle.line_forms.proofs.FormLaws.{rest_tail, numbers_told, fits_told}
 use Rattle.line_forms.specs.Forms.{tail_of}
 use Rattle.line_input.specs.ReadLaws.{first_of, scopes_sized, nodes_sized}
 use Rattle.line_input.specs.InputLaws.{head_room}
-use Rattle.line_input.specs.Route.{is_u, unit_in, is_a, Asking, unasked, lines_before, asked_by}
+use Rattle.line_input.specs.Route.{asked, is_u, unit_in, is_a, Asking, unasked, lines_before, asked_by}
 
 all_fields : (l : List ℕ) → firsts (length (fields_in (tail_of l))) (tail_of l) ≡ rest l
 unfolding firsts
@@ -40,7 +39,7 @@ module _ (room : ℕ) (l : List ℕ) where
 
   pub answers_bad : all is_number (firsts (length (fields_in (tail_of l))) (tail_of l)) ≡ false → is_a room l ≡ false
   unfolding is_a
-  answers_bad e = rw (sym (ap (all is_number) (all_fields l)) ∙ e) (and_no (lettered 65 l))
+  answers_bad e = rw (sym (ap (all is_number) (all_fields l)) ∙ e) (and-false (lettered 65 l))
 
   pub answers_is : lettered 65 l ≡ true → all is_number (firsts (length (fields_in (tail_of l))) (tail_of l)) ≡ true → is_a room l ≡ fits (length (fields_in (tail_of l))) 1 room
   unfolding is_a
@@ -72,65 +71,68 @@ module _ (l : List ℕ) (e : is_numbers 85 1 l ≡ true) where
       (number_first 1 (tail_of l) (omega arith) s t.1, sym (ap (λ (fs : List (List ℕ)). get_or (numbers_of fs) 0 0) (rest_tail l ∙ fields_turn (tail_of l) s)))
 
 -- what the first two of some lines say
-unfoldable pub two_of : ℕ → List (List ℕ) → Two
-two_of room ls = cond (is_u (first_of ls)) (cond (is_a room (first_of (drop 1 ls))) (Both (unit_in (first_of ls)) (length (rest (first_of (drop 1 ls))))) NoAnswers) NoUnit
+abbrev pub two_in : List ℕ → List ℕ → Two
+two_in u a = record { unit = unit_in u; answers = length (rest a) }
+
+unfoldable pub two_of : ℕ → List (List ℕ) → Result Two Missing
+two_of room ls = cond (is_u (first_of ls)) (cond (is_a room (first_of (drop 1 ls))) (Ok (two_in (first_of ls) (first_of (drop 1 ls)))) (Err NoAnswers)) (Err NoUnit)
 
 unfoldable pub two_answers : ℕ → List (List ℕ) → List ℕ
 two_answers room ls = cond (is_u (first_of ls)) (cond (is_a room (first_of (drop 1 ls))) (numbers_of (rest (first_of (drop 1 ls)))) []) []
 
 module _ (room : ℕ) (ls : List (List ℕ)) (f₀ : List ℕ) where
-  pub two_unit : is_u (first_of ls) ≡ false → (NoUnit ≡ two_of room ls) × (f₀ ≡ front (two_answers room ls) f₀)
+  pub two_unit : is_u (first_of ls) ≡ false → (Err NoUnit ≡ two_of room ls) × (f₀ ≡ front (two_answers room ls) f₀)
   unfolding two_of two_answers
   two_unit e = rw e (refl, refl)
 
-  pub two_answers_lem : is_u (first_of ls) ≡ true → is_a room (first_of (drop 1 ls)) ≡ false → (NoAnswers ≡ two_of room ls) × (f₀ ≡ front (two_answers room ls) f₀)
+  pub two_answers_lem : is_u (first_of ls) ≡ true → is_a room (first_of (drop 1 ls)) ≡ false → (Err NoAnswers ≡ two_of room ls) × (f₀ ≡ front (two_answers room ls) f₀)
   unfolding two_of two_answers
   two_answers_lem e h = rw (e, h) (refl, refl)
 
   pub two_both : is_u (first_of ls) ≡ true → is_a room (first_of (drop 1 ls)) ≡ true → (u n : ℕ) (f : List ℕ)
       → u ≡ unit_in (first_of ls) → n ≡ length (rest (first_of (drop 1 ls))) → f ≡ front (numbers_of (rest (first_of (drop 1 ls)))) f₀
-      → (Both u n ≡ two_of room ls) × (f ≡ front (two_answers room ls) f₀)
+      → (Ok (record { unit = u; answers = n }) ≡ two_of room ls) × (f ≡ front (two_answers room ls) f₀)
   unfolding two_of two_answers
   two_both e h u n f p q r = rw (e, h, p, q) (refl, r)
 
 -- the whole answer, where k lines stand before the two
-abbrev pub route_by : ℕ → ℕ → ℕ → ℕ → ℕ → ℕ → Two → Route
-route_by kind n s x m k (Both u a) = Asked kind n s x m u a
-route_by kind n s x m k NoUnit = Unasked (k + 1)
-route_by kind n s x m k NoAnswers = Unasked (k + 2)
+abbrev pub route_by : Tables → ℕ → Result Two Missing → Result Asked Unread
+route_by t k (Ok two) = Ok (record { tables = t; unit = two.unit; answers = two.answers })
+route_by t k (Err NoUnit) = Err (unread (k + 1))
+route_by t k (Err NoAnswers) = Err (unread (k + 2))
 
 line_at : (ls : List (List ℕ)) (k : ℕ) → first_of (drop k ls) ≡ get_or ls k []
 line_at ls k = get_or-drop k ls 0 [] ∙ ap (λ (j : ℕ). get_or ls j []) (add-zero k)
 
-pub asked_two : (room : ℕ) (ls : List (List ℕ)) (kind n s x m : ℕ)
-    → asked_by room ls (Tables kind n s x m) ≡ record { answer = route_by kind n s x m (lines_before n s) (two_of room (drop (lines_before n s) ls)); answers = two_answers room (drop (lines_before n s) ls) }
+pub asked_two : (room : ℕ) (ls : List (List ℕ)) (t : Tables)
+    → asked_by room ls (Ok t) ≡ record { answer = route_by t (lines_before t.nodes t.scopes) (two_of room (drop (lines_before t.nodes t.scopes) ls)); answers = two_answers room (drop (lines_before t.nodes t.scopes) ls) }
 unfolding asked_by two_of two_answers
-asked_two room ls kind n s x m =
-    let k = lines_before n s in
+asked_two room ls t =
+    let k = lines_before t.nodes t.scopes in
     let u : first_of (drop k ls) ≡ get_or ls k [] = line_at ls k in
     let a : first_of (drop 1 (drop k ls)) ≡ get_or ls (k + 1) [] = ap first_of (drop-drop 1 k ls) ∙ line_at ls (k + 1) in
-    rw (u, a) (go (is_u (get_or ls k [])) (is_a room (get_or ls (k + 1) [])))
+    rw (u, a) (go k (get_or ls k []) (get_or ls (k + 1) []) (is_u (get_or ls k [])) (is_a room (get_or ls (k + 1) [])))
   where
-    go : (p q : Bool)
-        → ◌≡◌ {A = Asking} (cond p (cond q (record { answer = Asked kind n s x m (unit_in (get_or ls (lines_before n s) [])) (length (rest (get_or ls (lines_before n s + 1) []))); answers = numbers_of (rest (get_or ls (lines_before n s + 1) [])) }) (unasked (lines_before n s + 2))) (unasked (lines_before n s + 1)))
+    go : (k : ℕ) (u a : List ℕ) (p q : Bool)
+        → ◌≡◌ {A = Asking} (cond p (cond q (asked t u a) (unasked (k + 2))) (unasked (k + 1)))
         (record {
-          answer = route_by kind n s x m (lines_before n s) (cond p (cond q (Both (unit_in (get_or ls (lines_before n s) [])) (length (rest (get_or ls (lines_before n s + 1) [])))) NoAnswers) NoUnit);
-          answers = cond p (cond q (numbers_of (rest (get_or ls (lines_before n s + 1) []))) []) [];
+          answer = route_by t k (cond p (cond q (Ok (two_in u a)) (Err NoAnswers)) (Err NoUnit));
+          answers = cond p (cond q (numbers_of (rest a)) []) [];
         })
-    go true true = refl
-    go true false = refl
-    go false q = refl
+    go k u a true true = refl
+    go k u a true false = refl
+    go k u a false q = refl
 
-pub asked_none : (room : ℕ) (ls : List (List ℕ)) (k : ℕ) → asked_by room ls (Unread k) ≡ unasked k
+pub asked_none : (room : ℕ) (ls : List (List ℕ)) (e : Unread) → asked_by room ls (Err e) ≡ unasked e.line
 unfolding asked_by
-asked_none room ls k = refl
+asked_none room ls e = refl
 
 -- tables that are read are small
 module _ (room : Room) where
-  small_behind : (kind nodes scopes : ℕ) (ls : List (List ℕ)) → nodes ≤ 1024 → scopes ≤ 1024 → (k n s x m : ℕ)
-      → (read_behind room kind nodes scopes ls).answer ≡ Tables k n s x m → (n ≤ 10240) × (s ≤ 3072)
+  small_behind : (kind nodes scopes : ℕ) (ls : List (List ℕ)) → nodes ≤ 1024 → scopes ≤ 1024 → (got : Tables)
+      → (read_behind room kind nodes scopes ls).answer ≡ Ok got → (got.nodes ≤ 10240) × (got.scopes ≤ 3072)
   unfolding read_behind
-  small_behind kind nodes scopes ls h g k n s x m =
+  small_behind kind nodes scopes ls h g got =
       go (eqb (length (ss_in room kind nodes scopes ls)) scopes) (eqb (length (ns_in room kind nodes scopes ls)) nodes) (is_x room.source (x_in room kind nodes scopes ls))
     where
       ss : List (List ℕ)
@@ -139,13 +141,14 @@ module _ (room : Room) where
       ns : List (List ℕ)
       ns = ns_in room kind nodes scopes ls
 
-      never : (i : ℕ) → ◌≡◌ {A = Input} (Unread i) (Tables k n s x m) → (n ≤ 10240) × (s ≤ 3072)
+      never : (i : ℕ) → ◌≡◌ {A = Result Tables Unread} (Err (unread i)) (Ok got) → (got.nodes ≤ 10240) × (got.scopes ≤ 3072)
       never i e = let z : ◌≡◌ {A = ℕ} 0 1 = cc in absurd (omega arith)
 
-      all_read : (t : List ℕ) → (tables kind ss ns t).answer ≡ Tables k n s x m → (n ≤ 10240) × (s ≤ 3072)
+      all_read : (t : List ℕ) → (tables kind ss ns t).answer ≡ Ok got → (got.nodes ≤ 10240) × (got.scopes ≤ 3072)
       all_read t e =
-          let p : n ≡ length (nodes_of 0 ns) = cc in
-          let q : s ≡ length (scopes_of ss) = cc in
+          let r : sizes kind ss ns t ≡ got = cc in
+          let p : length (nodes_of 0 ns) ≡ got.nodes = ap (λ (g : Tables). g.nodes) r in
+          let q : length (scopes_of ss) ≡ got.scopes = ap (λ (g : Tables). g.scopes) r in
           let a = nodes_sized (min 1024 room.names) nodes 0 (drop scopes ls) in
           let b = scopes_sized scopes ls in
           let af = a.few in
@@ -154,24 +157,24 @@ module _ (room : Room) where
           let bz = b.size in
           (omega arith, omega arith)
 
-      go : (p q r : Bool) → (cond p (cond q (cond r (tables kind ss ns (x_in room kind nodes scopes ls)) (stopped (2 + scopes + nodes) ss ns)) (stopped (2 + scopes + length ns) ss ns)) (stopped (2 + length ss) ss [])).answer ≡ Tables k n s x m
-          → (n ≤ 10240) × (s ≤ 3072)
+      go : (p q r : Bool) → (cond p (cond q (cond r (tables kind ss ns (x_in room kind nodes scopes ls)) (stopped (2 + scopes + nodes) ss ns)) (stopped (2 + scopes + length ns) ss ns)) (stopped (2 + length ss) ss [])).answer ≡ Ok got
+          → (got.nodes ≤ 10240) × (got.scopes ≤ 3072)
       go true true true e = all_read (x_in room kind nodes scopes ls) e
       go true true false e = never (2 + scopes + nodes) e
       go true false r e = never (2 + scopes + length ns) e
       go false q r e = never (2 + length ss) e
 
-  pub tables_small : (ls : List (List ℕ)) (k n s x m : ℕ) → (read_lines room ls).answer ≡ Tables k n s x m → (n ≤ 10240) × (s ≤ 3072)
+  pub tables_small : (ls : List (List ℕ)) (got : Tables) → (read_lines room ls).answer ≡ Ok got → (got.nodes ≤ 10240) × (got.scopes ≤ 3072)
   unfolding read_lines
-  tables_small [] k n s x m e = let z : ◌≡◌ {A = ℕ} 0 1 = cc in absurd (omega arith)
-  tables_small (j ∷ ls) k n s x m e = go (is_j room.nodes room.scopes j) refl e
+  tables_small [] got e = let z : ◌≡◌ {A = ℕ} 0 1 = cc in absurd (omega arith)
+  tables_small (j ∷ ls) got e = go (is_j room.nodes room.scopes j) refl e
     where
-      go : (t : Bool) → is_j room.nodes room.scopes j ≡ t → (cond t (read_behind room (kind_in j) (nodes_in j) (scopes_in j) ls) (stopped 1 [] [])).answer ≡ Tables k n s x m → (n ≤ 10240) × (s ≤ 3072)
-      go true f e = let h = head_room room.nodes room.scopes j f in small_behind (kind_in j) (nodes_in j) (scopes_in j) ls h.0 h.1 k n s x m e
+      go : (t : Bool) → is_j room.nodes room.scopes j ≡ t → (cond t (read_behind room (kind_in j) (nodes_in j) (scopes_in j) ls) (stopped 1 [] [])).answer ≡ Ok got → (got.nodes ≤ 10240) × (got.scopes ≤ 3072)
+      go true f e = let h = head_room room.nodes room.scopes j f in small_behind (kind_in j) (nodes_in j) (scopes_in j) ls h.0 h.1 got e
       go false f e = let z : ◌≡◌ {A = ℕ} 0 1 = cc in absurd (omega arith)
 
-pub asked_as : (room : ℕ) (ls : List (List ℕ)) (kind n s x m : ℕ) (f₀ : List ℕ) (ks : List (List ℕ)) (two : Two) (f : List ℕ) (r : Route)
-    → ks ≡ drop (lines_before n s) ls → two ≡ two_of room ks → f ≡ front (two_answers room ks) f₀ → r ≡ route_by kind n s x m (lines_before n s) two
-    → (r ≡ (asked_by room ls (Tables kind n s x m)).answer) × (f ≡ front (asked_by room ls (Tables kind n s x m)).answers f₀)
-asked_as room ls kind n s x m f₀ ks two f r e p q h =
-    rw (asked_two room ls kind n s x m, sym e) (h ∙ ap (route_by kind n s x m (lines_before n s)) p, q)
+pub asked_as : (room : ℕ) (ls : List (List ℕ)) (t : Tables) (f₀ : List ℕ) (ks : List (List ℕ)) (two : Result Two Missing) (f : List ℕ) (r : Result Asked Unread)
+    → ks ≡ drop (lines_before t.nodes t.scopes) ls → two ≡ two_of room ks → f ≡ front (two_answers room ks) f₀ → r ≡ route_by t (lines_before t.nodes t.scopes) two
+    → (r ≡ (asked_by room ls (Ok t)).answer) × (f ≡ front (asked_by room ls (Ok t)).answers f₀)
+asked_as room ls t f₀ ks two f r e p q h =
+    rw (asked_two room ls t, sym e) (h ∙ ap (route_by t (lines_before t.nodes t.scopes)) p, q)

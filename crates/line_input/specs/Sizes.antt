@@ -1,18 +1,18 @@
 -- The sizes that are answered are those of what was read, which stands at the front of the slices.
-use Rattle.std.specs.Prelude.{ℕ, ◌+◌, ◌≡◌, refl, Bool, true, false, cond, List, [], ◌∷◌, eqb, length, get_or, take, drop}
+use Rattle.std.specs.Prelude.{Result, Ok, Err, ℕ, ◌+◌, ◌≡◌, refl, Bool, true, false, cond, List, [], ◌∷◌, eqb, length, get_or, take, drop}
 use Rattle.std.proofs.Common.{ap, ◌∙◌, arith, take_at}
 use Rattle.std.proofs.lemmas.List.{length-map}
 use Rattle.line_digits.specs.Number.{value_of}
-use Rattle.line_forms.specs.Forms.{rest, numbers_of, kind_in, nodes_in, scopes_in, is_j, is_x}
-use Rattle.line_input.specs.declared.Input.{Input}
-use Rattle.line_input.specs.declared.Input.TheVariants.{Tables, Unread}
-use Rattle.line_input.specs.declared.Route.TheVariants.{Asked}
-use Rattle.line_input.specs.Route.{is_u, is_a, unit_in, Asking, unasked, lines_before, asked_by}
+use Rattle.line_forms.specs.Forms.{rest, kind_in, nodes_in, scopes_in, is_j, is_x}
+use Rattle.line_input.specs.declared.Tables.{Tables}
+use Rattle.line_input.specs.declared.Asked.{Asked}
+use Rattle.line_input.specs.declared.Unread.{Unread}
+use Rattle.line_input.specs.Route.{asked, is_u, is_a, unit_in, unasked, lines_before, asked_by}
 use Rattle.line_input.specs.Format.{Room, room_of, Reading, stopped, tables, lent, ss_in, ns_in, x_in, read_behind, read_lines, front}
 
-abbrev pub Sized : Input → Reading → Type 0
-Sized (Unread line) d = Unit {0}
-Sized (Tables kind n s x m) d = (length d.nodes ≡ n) × (length d.scopes ≡ s) × (length d.source ≡ x) × (length d.names ≡ m)
+abbrev pub Sized : Result Tables Unread → Reading → Type 0
+Sized (Err e) d = Unit {0}
+Sized (Ok t) d = (length d.nodes ≡ t.nodes) × (length d.scopes ≡ t.scopes) × (length d.source ≡ t.source) × (length d.names ≡ t.names)
 
 abbrev pub Told : Reading → Type 0
 Told d = Sized d.answer d
@@ -53,20 +53,28 @@ pub part : (l f g : List ℕ) (n : ℕ) → length l ≡ n → g ≡ front l f �
 part l f g n e h = ap (take n) h ∙ take_at l (drop (length l) f) n e
 
 -- an answer with a unit is one with tables, and its answers are as many as it says
-pub asked_told : (room : ℕ) (ls : List (List ℕ)) (i : Input) (kind n s x m u a : ℕ) → (asked_by room ls i).answer ≡ Asked kind n s x m u a
-    → (i ≡ Tables kind n s x m) × (length (asked_by room ls i).answers ≡ a)
+pub asked_told : (room : ℕ) (ls : List (List ℕ)) (i : Result Tables Unread) (got : Asked) → (asked_by room ls i).answer ≡ Ok got
+    → (i ≡ Ok got.tables) × (length (asked_by room ls i).answers ≡ got.answers)
 unfolding asked_by
-asked_told room ls (Unread k) kind n s x m u a e = let z : ◌≡◌ {A = ℕ} 0 1 = cc in absurd (omega arith)
-asked_told room ls (Tables kind' n' s' x' m') kind n s x m u a e = go (is_u (get_or ls (lines_before n' s') [])) (is_a room (get_or ls (lines_before n' s' + 1) [])) e
+asked_told room ls (Err k) got e = let z : ◌≡◌ {A = ℕ} 0 1 = cc in absurd (omega arith)
+asked_told room ls (Ok t) got e = go (is_u l) (is_a room a) e
   where
+    k : ℕ
+    k = lines_before t.nodes t.scopes
+
     l : List ℕ
-    l = get_or ls (lines_before n' s' + 1) []
+    l = get_or ls k []
 
-    asked : Asking
-    asked = record { answer = Asked kind' n' s' x' m' (unit_in (get_or ls (lines_before n' s') [])) (length (rest l)); answers = numbers_of (rest l) }
+    a : List ℕ
+    a = get_or ls (k + 1) []
 
-    go : (p q : Bool) → (cond p (cond q asked (unasked (lines_before n' s' + 2))) (unasked (lines_before n' s' + 1))).answer ≡ Asked kind n s x m u a
-        → (Tables kind' n' s' x' m' ≡ Tables kind n s x m) × (length (cond p (cond q asked (unasked (lines_before n' s' + 2))) (unasked (lines_before n' s' + 1))).answers ≡ a)
-    go true true e = (cc, length-map (rest l) value_of ∙ cc)
+    asked_as : Asked
+    asked_as = record { tables = t; unit = unit_in l; answers = length (rest a) }
+
+    go : (p q : Bool) → (cond p (cond q (asked t l a) (unasked (k + 2))) (unasked (k + 1))).answer ≡ Ok got
+        → (◌≡◌ {A = Result Tables Unread} (Ok t) (Ok got.tables)) × (length (cond p (cond q (asked t l a) (unasked (k + 2))) (unasked (k + 1))).answers ≡ got.answers)
+    go true true e =
+        let r : asked_as ≡ got = cc in
+        (ap (λ (g : Asked). Ok g.tables) r, length-map (rest a) value_of ∙ ap (λ (g : Asked). g.answers) r)
     go true false e = let z : ◌≡◌ {A = ℕ} 0 1 = cc in absurd (omega arith)
     go false q e = let z : ◌≡◌ {A = ℕ} 0 1 = cc in absurd (omega arith)

@@ -3,7 +3,7 @@
 use Prim.Native.Nat.{ℕ, zero, suc, ◌+◌, ◌-◌, ◌*◌, ◌≤◌, ◌<◌, min}
 use Rattle.std.proofs.Math.Path.{◌≡◌, refl, sym}
 use Rattle.std.proofs.Common.{ap, ◌∙◌, inl, inr, length-take, take_all, drop-drop, leb-true, leb-false, eqb-true, eq-eqb}
-use Rattle.std.specs.Prelude.{Bool, cond, ◌&&◌, ◌⊎◌, List, [], ◌∷◌, leb, eqb, length, take, drop}
+use Rattle.std.specs.Prelude.{Result, Ok, Err, Bool, cond, ◌&&◌, ◌⊎◌, List, [], ◌∷◌, leb, eqb, length, take, drop}
 use Rattle.std.proofs.Math.Bool.{true, false}
 use native.Mathlib.Omega.{arith}
 use Rattle.std.proofs.Math.Seq.{take-nil}
@@ -13,9 +13,9 @@ use Rattle.line_fields.specs.Split.{lines_of, before, onward}
 use Rattle.line_fields.proofs.SplitLaws.{line_first, lines_after}
 use Rattle.line_forms.specs.Forms.{kind_in, nodes_in, scopes_in, name_of, is_j, is_s, is_n, is_x}
 use Rattle.line_forms.proofs.FormLaws.{lettered_long, numbers_letter, node_letter, source_letter}
-use Rattle.line_input.specs.declared.Input.{Input}
-use Rattle.line_input.specs.declared.Input.TheVariants.{Tables, Unread}
-use Rattle.line_input.specs.Format.{scope_lines, node_lines, nodes_of, scopes_of, Room, Reading, tables, read_behind, read_lines, read_input}
+use Rattle.line_input.specs.declared.Tables.{Tables}
+use Rattle.line_input.specs.declared.Unread.{Unread}
+use Rattle.line_input.specs.Format.{unread, sizes, scope_lines, node_lines, nodes_of, scopes_of, Room, Reading, tables, read_behind, read_lines, read_input}
 use Rattle.line_input.specs.Route.{is_u, is_a, lines_before, asked_by, read_route}
 use Rattle.line_input.specs.ReadLaws.{first_of, scopes_turn, scopes_bad, scopes_none, nodes_turn, nodes_bad, nodes_full, nodes_none, scopes_sized, nodes_sized}
 use Rattle.line_input.specs.RouteLaws.{answers_letter, two_of, two_answers, asked_two, asked_none}
@@ -296,8 +296,8 @@ record Behind (room : Room) (kind nodes scopes : ℕ) (ls : List (List ℕ)) (n 
   few_nodes : n ≡ nodes * 10
   few_scopes : s ≡ scopes * 3
 
-behind_told : (room : Room) (kind nodes scopes : ℕ) (ls : List (List ℕ)) (k n s x m : ℕ) → (read_behind room kind nodes scopes ls).answer ≡ Tables k n s x m → Behind room kind nodes scopes ls n s
-behind_told room kind nodes scopes ls k n s x m h = by (eqb (length ss) scopes) refl
+behind_told : (room : Room) (kind nodes scopes : ℕ) (ls : List (List ℕ)) (got : Tables) → (read_behind room kind nodes scopes ls).answer ≡ Ok got → Behind room kind nodes scopes ls got.nodes got.scopes
+behind_told room kind nodes scopes ls got h = by (eqb (length ss) scopes) refl
   where
     ss : List (List ℕ)
     ss = scope_lines scopes ls
@@ -308,24 +308,25 @@ behind_told room kind nodes scopes ls k n s x m h = by (eqb (length ss) scopes) 
     l : List ℕ
     l = first_of (drop nodes (drop scopes ls))
 
-    no : {A : Type 0} (i : ℕ) → ◌≡◌ {A = Input} (Unread i) (Tables k n s x m) → A
+    no : {A : Type 0} (i : ℕ) → ◌≡◌ {A = Result Tables Unread} (Err (unread i)) (Ok got) → A
     no i e = let z : ◌≡◌ {A = ℕ} 0 1 = cc in absurd (omega arith)
 
-    by_source : length ss ≡ scopes → length ns ≡ nodes → (t : Bool) → is_x room.source l ≡ t → Behind room kind nodes scopes ls n s
+    by_source : length ss ≡ scopes → length ns ≡ nodes → (t : Bool) → is_x room.source l ≡ t → Behind room kind nodes scopes ls got.nodes got.scopes
     by_source f g true e =
-        let d : (tables kind ss ns l).answer ≡ Tables k n s x m = sym (ap (λ (r : Reading). r.answer) (behind_all room kind nodes scopes ls f g e)) ∙ h in
-        let p : n ≡ length (nodes_of 0 ns) = cc in
-        let q : s ≡ length (scopes_of ss) = cc in
+        let d : (tables kind ss ns l).answer ≡ Ok got = sym (ap (λ (r : Reading). r.answer) (behind_all room kind nodes scopes ls f g e)) ∙ h in
+        let r : sizes kind ss ns l ≡ got = cc in
+        let p : length (nodes_of 0 ns) ≡ got.nodes = ap (λ (t : Tables). t.nodes) r in
+        let q : length (scopes_of ss) ≡ got.scopes = ap (λ (t : Tables). t.scopes) r in
         let a = (nodes_sized (min 1024 room.names) nodes 0 (drop scopes ls)).size in
         let b = (scopes_sized scopes ls).size in
         record { all_scopes = f; all_nodes = g; source = e; few_nodes = omega arith; few_scopes = omega arith }
     by_source f g false e = no (2 + scopes + nodes) (sym (ap (λ (r : Reading). r.answer) (behind_source room kind nodes scopes ls f g e)) ∙ h)
 
-    by_nodes : length ss ≡ scopes → (t : Bool) → eqb (length ns) nodes ≡ t → Behind room kind nodes scopes ls n s
+    by_nodes : length ss ≡ scopes → (t : Bool) → eqb (length ns) nodes ≡ t → Behind room kind nodes scopes ls got.nodes got.scopes
     by_nodes f true e = by_source f (eqb-true (length ns) nodes e) (is_x room.source l) refl
     by_nodes f false e = no (2 + scopes + length ns) (sym (ap (λ (r : Reading). r.answer) (behind_nodes room kind nodes scopes ls f (λ g. never (sym (eq-eqb (length ns) nodes g) ∙ e)))) ∙ h)
 
-    by : (t : Bool) → eqb (length ss) scopes ≡ t → Behind room kind nodes scopes ls n s
+    by : (t : Bool) → eqb (length ss) scopes ≡ t → Behind room kind nodes scopes ls got.nodes got.scopes
     by true e = by_nodes (eqb-true (length ss) scopes e) (eqb (length ns) nodes) refl
     by false e = no (2 + length ss) (sym (ap (λ (r : Reading). r.answer) (behind_scopes room kind nodes scopes ls (λ f. never (sym (eq-eqb (length ss) scopes f) ∙ e)))) ∙ h)
 
@@ -342,31 +343,31 @@ behind_lines ls nodes scopes n s p q =
     rw (drop-drop scopes 1 ls, drop-drop nodes (1 + scopes) ls, drop-drop 1 (1 + scopes + nodes) ls, z)
 
 -- and the lines behind X are alike
-module _ (room : Room) (ls ks : List (List ℕ)) (kind n s x m : ℕ) where
+module _ (room : Room) (ls ks : List (List ℕ)) (got : Tables) where
   asked_on : (k : ℕ) → 2051 ≤ k → Alike k (drop 1 ls) (drop 1 ks) → is_j room.nodes room.scopes (first_of ls) ≡ true
-      → (read_behind room (kind_in (first_of ls)) (nodes_in (first_of ls)) (scopes_in (first_of ls)) (drop 1 ls)).answer ≡ Tables kind n s x m → Alike 2 (drop (lines_before n s) ls) (drop (lines_before n s) ks)
+      → (read_behind room (kind_in (first_of ls)) (nodes_in (first_of ls)) (scopes_in (first_of ls)) (drop 1 ls)).answer ≡ Ok got → Alike 2 (drop (lines_before got.nodes got.scopes) ls) (drop (lines_before got.nodes got.scopes) ks)
   asked_on k h a f e =
       let nodes = nodes_in (first_of ls) in
       let scopes = scopes_in (first_of ls) in
       let r = head_room room.nodes room.scopes (first_of ls) f in
       let r0 = r.0 in
       let r1 = r.1 in
-      let t = behind_told room (kind_in (first_of ls)) nodes scopes (drop 1 ls) kind n s x m e in
+      let t = behind_told room (kind_in (first_of ls)) nodes scopes (drop 1 ls) got e in
       let j : ℕ = k - scopes - nodes - 1 in
       let b = scopes_on scopes k (drop 1 ls) (drop 1 ks) (nodes + suc j) (omega arith) a t.all_scopes in
       let c = nodes_on nodes (nodes + suc j) (min 1024 room.names) (drop scopes (drop 1 ls)) (drop scopes (drop 1 ks)) (suc j) refl b t.all_nodes in
       let d = first_on j (drop nodes (drop scopes (drop 1 ls))) (drop nodes (drop scopes (drop 1 ks))) c (λ g. never (sym t.source ∙ long_source (first_of (drop nodes (drop scopes (drop 1 ls)))) g room.source)) in
-      rw (sym (behind_lines ls nodes scopes n s t.few_nodes t.few_scopes), sym (behind_lines ks nodes scopes n s t.few_nodes t.few_scopes))
+      rw (sym (behind_lines ls nodes scopes got.nodes got.scopes t.few_nodes t.few_scopes), sym (behind_lines ks nodes scopes got.nodes got.scopes t.few_nodes t.few_scopes))
       (less_alike 2 j (drop 1 (drop nodes (drop scopes (drop 1 ls)))) (drop 1 (drop nodes (drop scopes (drop 1 ks)))) (omega arith) d.1)
 
-  tables_on : (k : ℕ) → 2051 ≤ k → Alike (suc k) ls ks → (read_lines room ls).answer ≡ Tables kind n s x m → Alike 2 (drop (lines_before n s) ls) (drop (lines_before n s) ks)
+  tables_on : (k : ℕ) → 2051 ≤ k → Alike (suc k) ls ks → (read_lines room ls).answer ≡ Ok got → Alike 2 (drop (lines_before got.nodes got.scopes) ls) (drop (lines_before got.nodes got.scopes) ks)
   unfolding Alike
   tables_on k h a e = by (is_j room.nodes room.scopes (first_of ls)) refl a
     where
-      no : {A : Type 0} → ◌≡◌ {A = Input} (Unread 1) (Tables kind n s x m) → A
+      no : {A : Type 0} → ◌≡◌ {A = Result Tables Unread} (Err (unread 1)) (Ok got) → A
       no g = let z : ◌≡◌ {A = ℕ} 0 1 = cc in absurd (omega arith)
 
-      by : (t : Bool) → is_j room.nodes room.scopes (first_of ls) ≡ t → Alike (suc k) ls ks → Alike 2 (drop (lines_before n s) ls) (drop (lines_before n s) ks)
+      by : (t : Bool) → is_j room.nodes room.scopes (first_of ls) ≡ t → Alike (suc k) ls ks → Alike 2 (drop (lines_before got.nodes got.scopes) ls) (drop (lines_before got.nodes got.scopes) ks)
       by true f (inl a) = asked_on k h a.1 f (sym (ap (λ (r : Reading). r.answer) (lines_on room ls f)) ∙ e)
       by true f (inr a) = never (sym f ∙ long_head (first_of ls) a.0 room.nodes room.scopes)
       by false f a = no (sym (ap (λ (r : Reading). r.answer) (lines_no room ls f)) ∙ e)
@@ -377,11 +378,12 @@ two_alike room ls ks (inl (e, inl (f, a))) = rw (e, f) (refl, refl)
 two_alike room ls ks (inl (e, inr (p, q))) = rw (e, long_answers (first_of (drop 1 ls)) p room, long_answers (first_of (drop 1 ks)) q room) (refl, refl)
 two_alike room ls ks (inr (p, q)) = rw (long_unit (first_of ls) p, long_unit (first_of ks) q) (refl, refl)
 
-asked_alike : (room : Room) (answers : ℕ) (ls ks : List (List ℕ)) → Alike 2052 ls ks → (i : Input) → (read_lines room ls).answer ≡ i → asked_by answers ls i ≡ asked_by answers ks i
-asked_alike room answers ls ks a (Unread k) e = asked_none answers ls k ∙ sym (asked_none answers ks k)
-asked_alike room answers ls ks a (Tables kind n s x m) e =
-    let t = two_alike answers (drop (lines_before n s) ls) (drop (lines_before n s) ks) (tables_on room ls ks kind n s x m 2051 (omega arith) a e) in
-    asked_two answers ls kind n s x m ∙ rw (t.0, t.1) (sym (asked_two answers ks kind n s x m))
+asked_alike : (room : Room) (answers : ℕ) (ls ks : List (List ℕ)) → Alike 2052 ls ks → (i : Result Tables Unread) → (read_lines room ls).answer ≡ i → asked_by answers ls i ≡ asked_by answers ks i
+asked_alike room answers ls ks a (Err k) e = asked_none answers ls k ∙ sym (asked_none answers ks k)
+asked_alike room answers ls ks a (Ok got) e =
+    let k = lines_before got.nodes got.scopes in
+    let t = two_alike answers (drop k ls) (drop k ks) (tables_on room ls ks got 2051 (omega arith) a e) in
+    asked_two answers ls got ∙ rw (t.0, t.1) (sym (asked_two answers ks got))
 
 -- The same of what ruleroute reads.
 pub route_whole : (room : Room) (answers : ℕ) (b : List ℕ) → read_route room answers (take enough b) ≡ read_route room answers b

@@ -1,12 +1,12 @@
 -- A reader that goes from field to field.
-use Rattle.std.specs.Prelude.{ℕ, ◌+◌, ◌-◌, ◌≤◌, ◌≡◌, refl, Bool, true, false, List, leb, length, drop}
+use Rattle.line_reader.specs.declared.Number.{Number}
+use Rattle.std.specs.Prelude.{Some, None, ℕ, ◌+◌, ◌-◌, ◌≤◌, ◌≡◌, refl, Bool, true, false, List, leb, length, drop, Option}
 use Rattle.std.proofs.Common.{ap, sym, ◌∙◌, arith, leb-true, leb-false, length-drop, drop_of_length-le, drop-drop}
 use Rattle.std.proofs.Math.Seq.{drop-length}
-use Rattle.line_digits.specs.Number.{is_number, value_of}
+use Rattle.line_digits.specs.Number.{is_number}
 use Rattle.line_fields.specs.Split.{to_first, field_of, next_of}
 use Rattle.line_fields.proofs.SplitLaws.{drop_onward}
-use Rattle.line_reader.specs.declared.Step.TheVariants.{Number, Stop}
-use Rattle.line_reader.specs.Step.{past_at, step_at}
+use Rattle.line_reader.specs.Step.{past_at, number_at, step_at}
 
 -- a part at the end of a list, found again by its length
 drop_back : (l : List ℕ) (m : ℕ) → drop (length l - length (drop m l)) l ≡ drop m l
@@ -34,20 +34,21 @@ past_drop l at =
 
 -- what a step tells
 module _ (l : List ℕ) (at : ℕ) where
-  pub step_number : is_number (field_of (drop at l)) ≡ true → step_at l at ≡ Number (value_of (field_of (drop at l))) (past_at l at)
+  pub step_number : is_number (field_of (drop at l)) ≡ true → step_at l at ≡ Some (number_at l at)
   unfolding step_at
   step_number e = rw e
 
-  pub step_stop : is_number (field_of (drop at l)) ≡ false → step_at l at ≡ Stop
+  pub step_stop : is_number (field_of (drop at l)) ≡ false → step_at l at ≡ None
   unfolding step_at
   step_stop e = rw e
-
-  pub step_never : is_number (field_of (drop at l)) ≡ true → step_at l at ≡ Stop → ⊥
-  step_never e s =
-      let n = step_number e in
-      let z : ◌≡◌ {A = ℕ} 0 1 = cc in
-      omega arith
 
 pub past_is : (l : List ℕ) (at : ℕ) (t : List ℕ) → t ≡ next_of (drop at l) → length l - length t ≡ past_at l at
 unfolding past_at
 past_is l at t e = rw e
+
+module _ (l : List ℕ) (at : ℕ) where
+  pub step_never : is_number (field_of (drop at l)) ≡ true → step_at l at ≡ None → ⊥
+  step_never e s =
+      let n : ◌≡◌ {A = Option Number} (Some (number_at l at)) None = sym (step_number l at e) ∙ s in
+      let z : ◌≡◌ {A = ℕ} 0 1 = cc in
+      omega arith

@@ -9,45 +9,33 @@ ghost use Rattle.line_digits.specs.Number.{is_number, value_of};
 ghost use Rattle.line_fields.specs.Split.{fields_in, firsts};
 ghost use Rattle.line_reader.specs.Step.{step_at};
 
-use line_digits::Numeral;
-
 #[derive(Clone, Copy)]
 pub struct Reader<'a> {
     pub line: &'a [u8],
     pub at: usize,
 }
 
-// The number of the field behind the comma at the place, and where that field ends; or that it is no number.
+// The number of the field behind the comma at a place, and where that field ends.
 #[derive(Clone, Copy)]
-pub enum Step {
-    Number { value: u32, past: usize },
-    Stop,
+pub struct Number {
+    pub value: u32,
+    pub past: usize,
 }
 
 fn from(line: &[u8], at: usize) -> &[u8]
     ensures { result.now ≡ drop at line.now }
 {
-    if at < line.len() {
-        return &line[at..];
-    }
-    &line[line.len()..]
+    line.get(at..).unwrap_or(&[])
 }
 
-// The work: the step from a place of a line.
-pub fn step_at(line: &[u8], at: usize) -> Step
+// The work: the step from a place of a line, if the field behind it is a number.
+pub fn step_at(line: &[u8], at: usize) -> Option<Number>
     ensures { result ≡ step_at line.now at }
 {
-    let t = from(line, at);
-    match line_digits::number(line_fields::field(t)) {
-        Numeral::Value(v) => {
-            let rest = line_fields::next(t);
-            Step::Number {
-                value: v,
-                past: line.len() - rest.len(),
-            }
-        }
-        Numeral::NoNumber => Step::Stop,
-    }
+    let tail = from(line, at);
+    let value = line_digits::number(line_fields::field(tail))?;
+    let past = line.len() - line_fields::next(tail).len();
+    Some(Number { value, past })
 }
 
 pub fn open<'a>(line: &'a [u8], at: usize) -> Reader<'a>
@@ -56,13 +44,13 @@ pub fn open<'a>(line: &'a [u8], at: usize) -> Reader<'a>
     Reader { line, at }
 }
 
-pub fn next<'a>(r: Reader<'a>) -> Step
+pub fn next<'a>(r: Reader<'a>) -> Option<Number>
     ensures { result ≡ step_at r.entry.line.now r.entry.at }
 {
     step_at(r.line, r.at)
 }
 
-pub fn next_from(line: &[u8], at: usize) -> Step
+pub fn next_from(line: &[u8], at: usize) -> Option<Number>
     ensures { result ≡ step_at line.now at }
 {
     next(open(line, at))
@@ -75,15 +63,9 @@ pub fn write_numbers(tail: &[u8], n: usize, out: &mut [u32], w: usize)
     ensures { out.new ≡ put out.old w (map value_of (firsts n tail.now)) }
 {
     let mut at = 0;
-    let mut left = n;
-    let mut k = w;
-    while 0 < left {
-        let Step::Number { value, past } = next_from(tail, at) else {
-            return;
-        };
-        out[k] = value;
-        at = past;
-        k += 1;
-        left -= 1;
+    for k in w..w + n {
+        let number = next_from(tail, at).unwrap();
+        out[k] = number.value;
+        at = number.past;
     }
 }

@@ -1,5 +1,5 @@
 -- Laws of counting, and what is known where no node has a wrong number of children.
-use Rattle.std.specs.Prelude.{ℕ, zero, suc, ◌+◌, ◌≤◌, ◌<◌, ◌≡◌, List, ◌∷◌, Bool, not, ◌||◌, eqb, ltb}
+use Rattle.std.specs.Prelude.{ℕ, zero, suc, ◌+◌, ◌≤◌, ◌<◌, ◌≡◌, List, ◌∷◌, Bool, not, ◌||◌, eqb, ltb, None}
 use Rattle.std.proofs.Math.Path.{refl}
 use Rattle.std.proofs.Common.{◌∙◌, ⊎_elim}
 use Rattle.std.proofs.Math.Bool.{true, false, cond}
@@ -14,7 +14,6 @@ use Rattle.table_records.specs.Table.{kind_of, parent_of, count}
 use Rattle.table_records.specs.Facts.{Tree}
 use Rattle.table_records.specs.Kinds as k
 use Rattle.table_records.specs.Roles as r
-use Rattle.refusal_verdict.specs.declared.Place.TheVariants.{Nowhere}
 use Rattle.refusal_verdict.specs.First.{first}
 use Rattle.refusal_verdict.proofs.FirstLaws.{first_none, le_or_lt}
 use Rattle.table_children.specs.Children.{keep, how_many}
@@ -62,7 +61,7 @@ module _ (ns : List ℕ) (p : ℕ) where
 one_of_lem : (n : ℕ) → not (eqb n 1) ≡ false → n ≡ 1
 one_of_lem n e = eqb-true n 1 (not-false (eqb n 1) e)
 
-module _ (ns : List ℕ) (e : first (wrong_count_at ns) 0 (count ns) ≡ Nowhere) (i : ℕ) (l : i < count ns) where
+module _ (ns : List ℕ) (e : first (wrong_count_at ns) 0 (count ns) ≡ None) (i : ℕ) (l : i < count ns) where
   groups : (wrong_statement ns i ≡ false) × (wrong_part ns i ≡ false) × (wrong_home ns i ≡ false)
   unfolding wrong_count_at
   groups = or3 (wrong_statement ns i) (wrong_part ns i) (wrong_home ns i) (first_none (wrong_count_at ns) (count ns) 0 e i (omega arith) l)
@@ -109,7 +108,7 @@ module _ (ns : List ℕ) (e : first (wrong_count_at ns) 0 (count ns) ≡ Nowhere
       go true w = omega (arith, one_of_lem (with_role ns i 1) w)
       go false w = ltb-false 1 (with_role ns i 1) w
 
-pub counted_of : (ns : List ℕ) → first (wrong_count_at ns) 0 (count ns) ≡ Nowhere → Counted ns
+pub counted_of : (ns : List ℕ) → first (wrong_count_at ns) 0 (count ns) ≡ None → Counted ns
 unfolding wrong_body wrong_alternate wrong_default wrong_clause wrong_function wrong_class
 counted_of ns e = record {
   body = λ i l p q. one_of_lem (with_role ns i 3) (rw (in_range_lem (kind_of ns i) 6 13 p q) at (of_statement ns e i l).0);

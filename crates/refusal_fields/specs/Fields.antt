@@ -2,7 +2,7 @@
 use Rattle.std.specs.Prelude.{ℕ, ◌+◌, ◌/◌, ◌%◌, ◌*◌, ◌≤◌, ◌<◌, ◌≡◌, List, Bool, cond, not, ◌&&◌, ◌||◌, true, eqb, ltb, leb, length}
 use Rattle.base_common.specs.Tests.{within}
 use Rattle.table_source.specs.SourceType.{Typescript, is_typescript}
-use Rattle.table_records.specs.Table.{kind_of, role_of, flags_of, extra_of, span_start_of, span_end_of, name_start_of, name_len_of, count, count_scopes, Some}
+use Rattle.table_records.specs.Table.{kind_of, role_of, flags_of, extra_of, span_start_of, span_end_of, name_start_of, name_len_of, count, count_scopes, IsTableSize}
 use Rattle.table_records.specs.Kinds as k
 use Rattle.table_records.specs.Roles as role
 use Rattle.table_records.specs.Extras as extra
@@ -58,8 +58,8 @@ stray_at ns source names i =
 
 -- what is known where no size is wrong
 pub record Sizes (source_type : ℕ) (ns ss source names : List ℕ) : Type 0 where
-  pub nodes : Some (count ns)
-  pub scopes : Some (count_scopes ss)
+  pub nodes : IsTableSize (count ns)
+  pub scopes : IsTableSize (count_scopes ss)
   pub whole : length ns ≡ count ns * 10
   pub whole_scopes : length ss ≡ count_scopes ss * 3
   pub bytes : length source ≤ 1048576

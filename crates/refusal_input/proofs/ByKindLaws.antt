@@ -1,5 +1,5 @@
 -- Counting by role and counting by kind and role, where no child is misplaced.
-use Rattle.std.specs.Prelude.{ℕ, zero, suc, ◌+◌, ◌≤◌, ◌<◌, ◌≡◌, List, Bool, ◌&&◌, ◌||◌}
+use Rattle.std.specs.Prelude.{ℕ, zero, suc, ◌+◌, ◌≤◌, ◌<◌, ◌≡◌, List, Bool, ◌&&◌, ◌||◌, None}
 use Rattle.std.proofs.Math.Path.{refl, sym}
 use Rattle.std.proofs.Common.{ap, ◌∙◌, ⊎_elim, arith, eq-eqb, eqb-true}
 use Rattle.std.proofs.Math.Bool.{true, false}
@@ -15,7 +15,6 @@ use Rattle.table_records.specs.Kinds as k
 use Rattle.table_records.specs.Roles as r
 use Rattle.table_children.specs.Children.{children, is_child}
 use Rattle.table_children.proofs.ChildrenLaws.{tally, tally_all, keep_keep}
-use Rattle.refusal_verdict.specs.declared.Place.TheVariants.{Nowhere}
 use Rattle.refusal_verdict.specs.First.{first}
 use Rattle.refusal_verdict.proofs.FirstLaws.{le_or_lt}
 use Rattle.refusal_fields.specs.Fields.{Listed}
@@ -90,7 +89,7 @@ held_statement ns placed p c role h l q e a b u v =
     (λ z. ⊎_elim (λ (s : may_be_statement (kind_of ns c) ≡ true). second (is_statement (kind_of ns c)) (may_be_statement (kind_of ns c)) s) (λ s. let y = s.1 in absurd (omega arith)) z)
     (placed.held c (omega arith) l (omega arith) (omega arith) (holder (kind_of ns (parent_of ns c)) (omega arith) (omega arith)))
 
-pub by_kind : (ns : List ℕ) → Tree ns → Listed ns → first (misplaced_child_at ns) 0 (count ns) ≡ Nowhere → ByKind ns
+pub by_kind : (ns : List ℕ) → Tree ns → Listed ns → first (misplaced_child_at ns) 0 (count ns) ≡ None → ByKind ns
 unfolding try_part
 by_kind ns t listed e =
     let d = placed_of ns t e in

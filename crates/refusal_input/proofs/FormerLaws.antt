@@ -4,11 +4,10 @@ use Rattle.std.proofs.Common.{arith}
 use Rattle.base_common.proofs.Bools.{or_first, or_second}
 use Rattle.table_records.specs.Table.{count, count_scopes}
 use Rattle.check_supers.specs.Super.{fails_at}
-use Rattle.refusal_verdict.specs.declared.Verdict.{Verdict}
-use Rattle.refusal_verdict.specs.declared.Verdict.TheVariants.{Passed}
+use Rattle.refusal_verdict.specs.Verdict.{Verdict, Passed}
 use Rattle.refusal_verdict.specs.First.{first}
 use Rattle.refusal_verdict.proofs.FirstLaws.{first_none, first_nowhere}
-use Rattle.refusal_verdict.specs.Refusals as refusal
+use Rattle.refusal_verdict.specs.declared.Refusal.TheVariants as refusal
 use Rattle.refusal_verdict.proofs.VerdictLaws.{passed, pass_on_lem, pass_on_test}
 use Rattle.refusal_fields.specs.Fields.{wrong_sizes, unlisted_at, stray_at}
 use Rattle.refusal_tree.specs.Tree.{misplaced_at}

@@ -3,10 +3,10 @@ use Rattle.std.specs.Prelude.{ℕ, ◌≡◌, List}
 use native.Mathlib.Omega.{arith}
 use Rattle.table_records.specs.Table.{count, count_scopes}
 use Rattle.check_supers.specs.Super.{fails_at}
-use Rattle.refusal_verdict.specs.declared.Verdict.TheVariants.{Passed}
+use Rattle.refusal_verdict.specs.Verdict.{Passed}
 use Rattle.refusal_verdict.specs.First.{first}
 use Rattle.refusal_verdict.proofs.FirstLaws.{first_none}
-use Rattle.refusal_verdict.specs.Refusals as refusal
+use Rattle.refusal_verdict.specs.declared.Refusal.TheVariants as refusal
 use Rattle.refusal_verdict.proofs.VerdictLaws.{passed, passed_test}
 use Rattle.refusal_fields.specs.Fields.{wrong_sizes, unlisted_at, stray_at}
 use Rattle.refusal_fields.proofs.FieldsLaws.{sizes_of, listed_of, sourced_of, named_of}

@@ -3,11 +3,9 @@
 use Rattle.std.specs.Prelude.{ℕ, List, Bool, ◌||◌}
 use Rattle.table_records.specs.Table.{count}
 use Rattle.check_supers.specs.Super.{fails_at}
-use Rattle.refusal_verdict.specs.declared.Verdict.{Verdict}
-use Rattle.refusal_verdict.specs.declared.Verdict.TheVariants.{Passed}
+use Rattle.refusal_verdict.specs.Verdict.{Verdict, Passed, or_next}
 use Rattle.refusal_verdict.specs.First.{first}
-use Rattle.refusal_verdict.specs.Refusals as refusal
-use Rattle.refusal_verdict.specs.Verdict.{or_next}
+use Rattle.refusal_verdict.specs.declared.Refusal.TheVariants as refusal
 use Rattle.refusal_standing.specs.Standing.{misplaced_child_at}
 use Rattle.refusal_counts.specs.Counts.{wrong_count_at}
 use Rattle.refusal_input.specs.Input.{tables_or}

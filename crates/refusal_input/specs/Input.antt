@@ -1,13 +1,12 @@
 -- The refusal of the input: document 01, "Turned down: the input", and document 02, requests 4 and 5. "Tables and their tree are well-formed exactly if none of 1-6 turns them
 -- down"; "Well-formed tables are free of both" 13 and 14, and "free of 15 too": they are those of which `input_refusal` is `Passed`.
-use Rattle.std.specs.Prelude.{ℕ, List, cond}
+use Rattle.std.specs.Prelude.{ℕ, List, cond, Err}
 use Rattle.table_records.specs.Table.{count, count_scopes}
 use Rattle.check_supers.specs.Super.{fails_at}
-use Rattle.refusal_verdict.specs.declared.Verdict.{Verdict}
-use Rattle.refusal_verdict.specs.declared.Verdict.TheVariants.{Refused, Passed}
+use Rattle.refusal_verdict.specs.declared.Refused.TheVariants.{At}
+use Rattle.refusal_verdict.specs.Verdict.{Verdict, Passed, or_next}
 use Rattle.refusal_verdict.specs.First.{first}
-use Rattle.refusal_verdict.specs.Refusals as refusal
-use Rattle.refusal_verdict.specs.Verdict.{or_next}
+use Rattle.refusal_verdict.specs.declared.Refusal.TheVariants as refusal
 use Rattle.refusal_fields.specs.Fields.{wrong_sizes, unlisted_at, stray_at}
 use Rattle.refusal_tree.specs.Tree.{misplaced_at}
 use Rattle.refusal_scopes.specs.Scopes.{broken_at, misscoped_at}
@@ -18,7 +17,7 @@ use Rattle.refusal_return.specs.Return.{return_in_static}
 -- 1, 2, 3, 4, 5 (scope records, then nodes), or else what comes after them. The place of 1 is 0.
 unfoldable pub tables_or : ℕ → List ℕ → List ℕ → List ℕ → List ℕ → Verdict → Verdict
 tables_or source_type ns ss source names later =
-    cond (wrong_sizes source_type ns ss source names) (Refused refusal.Sizes 0)
+    cond (wrong_sizes source_type ns ss source names) (Err (At refusal.Sizes 0))
     (or_next refusal.Unlisted (first (unlisted_at source_type ns) 0 (count ns))
     (or_next refusal.Tree (first (misplaced_at ns) 0 (count ns))
     (or_next refusal.Bytes (first (stray_at ns source names) 0 (count ns))

@@ -1,6 +1,7 @@
 -- Document 02, request 12: "the tables stay well-formed".
 -- Refusals 1 to 6 and 13 to 15 ask of a name only that it lies within the bytes.
-use Rattle.std.specs.Prelude.{ℕ, ◌+◌, ◌-◌, ◌*◌, ◌≤◌, ◌<◌, ◌≡◌, refl, Bool, List, true, false, cond, ◌&&◌, ◌||◌, eqb, ltb, length}
+use Rattle.table_records.specs.declared.NodeId.{NodeId}
+use Rattle.std.specs.Prelude.{ℕ, ◌+◌, ◌-◌, ◌*◌, ◌≤◌, ◌<◌, ◌≡◌, refl, Bool, List, true, false, cond, ◌&&◌, ◌||◌, eqb, ltb, length, Option, Some, None}
 use Rattle.std.proofs.Common.{sym, ◌∙◌, ⊎_elim, arith}
 use Rattle.std.proofs.Math.Path.{ap, fun_ext}
 use Rattle.std.proofs.Math.Bool.{not}
@@ -12,11 +13,9 @@ use Rattle.base_walk.specs.Above.{above}
 use Rattle.base_walk.proofs.PreorderLaws.{lt_or_ge}
 use Rattle.table_records.specs.Table.{count, kind_of, parent_of, name_start_of, name_len_of, ancestors, depth_of, scope_node_of, outer}
 use Rattle.table_records.specs.Facts.{Named}
-use Rattle.table_records.specs.declared.Found.{Found}
-use Rattle.table_records.specs.declared.Found.TheVariants.{At, Nothing}
 use Rattle.table_children.specs.Children.{is_child}
 use Rattle.check_supers.specs.Super.{fails_at}
-use Rattle.refusal_verdict.specs.declared.Verdict.TheVariants.{Passed}
+use Rattle.refusal_verdict.specs.Verdict.{Passed}
 use Rattle.refusal_fields.specs.Fields.{wrong_sizes, unlisted_at, stray_at}
 use Rattle.refusal_tree.specs.Tree.{misplaced_at}
 use Rattle.refusal_scopes.specs.Scopes.{chain_on, misscoped_at}
@@ -72,9 +71,9 @@ module _ (ns ms : List ℕ) (a : Fields ns ms) where
   unfolding fails_at
   fails ss = fun_ext (λ i. simp (tables, reach, a))
 
-  static : (f : Found) → is_static ns f ≡ is_static ms f
-  static (At u) = simp (tables, a)
-  static Nothing = refl
+  static : (f : Option NodeId) → is_static ns f ≡ is_static ms f
+  static (Some u) = simp (tables, a)
+  static None = refl
 
   returns : return_in_static ns ≡ return_in_static ms
   unfolding return_in_static

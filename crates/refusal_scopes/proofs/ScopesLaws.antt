@@ -1,8 +1,9 @@
 -- Laws of scopes, and what is known where refusal 5 does not apply.
-use Rattle.std.specs.Prelude.{ℕ, zero, suc, ◌+◌, ◌≤◌, ◌<◌, ◌≡◌, refl, List, Bool, true, false, cond, not, ◌&&◌, ◌||◌, eqb, ltb, length, get_or, set}
+use borrow.Author.Tests.{le-leb, lt-leb}
+use Rattle.std.specs.Prelude.{ℕ, zero, suc, ◌+◌, ◌≤◌, ◌<◌, ◌≡◌, refl, List, Bool, true, false, cond, not, ◌&&◌, ◌||◌, eqb, ltb, length, get_or, set, None}
 use Rattle.std.proofs.Common.{sym, subst, ◌∙◌, ⊎_elim, eq-or-lt_of_le, arith, get_or-set_same, get_or-set_other}
 use Rattle.std.proofs.Math.Bool.{and-true, and-false}
-use borrow.Author.Tests.{eq-eqb, ne_eqb, le-leb, lt-leb, eqb-true, ltb-false, leb-false, not-false}
+use borrow.Author.Tests.{eq-eqb, ne_eqb, eqb-true, ltb-false, leb-false, not-false}
 use Rattle.std.proofs.Math.Dec.{leb}
 use Rattle.base_common.proofs.UptoLaws.{and_left_lem, and_right_lem}
 use Rattle.base_common.proofs.Bools.{never, or_first, or_second, or3}
@@ -10,9 +11,8 @@ use Rattle.base_walk.proofs.AboveLaws.{above_up, above_root}
 use Rattle.base_walk.specs.On.{on}
 use Rattle.base_walk.proofs.OnLaws.{on_cases, on_le, on_trans, on_linear}
 use Rattle.base_walk.proofs.PreorderLaws.{lt_or_ge}
-use Rattle.table_records.specs.Table.{kind_of, parent_of, scope_of, extra_of, count, count_scopes, scope_parent_of, scope_flags_of, scope_node_of, Some}
+use Rattle.table_records.specs.Table.{kind_of, parent_of, scope_of, extra_of, count, count_scopes, scope_parent_of, scope_flags_of, scope_node_of, IsTableSize}
 use Rattle.table_records.specs.Facts.{Tree, Chained, Scoped}
-use Rattle.refusal_verdict.specs.declared.Place.TheVariants.{Nowhere}
 use Rattle.refusal_verdict.specs.First.{first}
 use Rattle.refusal_verdict.proofs.FirstLaws.{first_none}
 use Rattle.refusal_scopes.specs.Scopes.{broken_at, chain_on, misscoped_at}
@@ -86,22 +86,8 @@ module _ (ns ss deep : List ℕ) where
       (λ (q : j < s). rw (get_or-set_other deep s j m 0 (λ e. omega arith)) (d j q i b))
       (eq-or-lt_of_le (omega arith))
 
--- the test of a node, by its parts
-module _ (ns ss : List ℕ) (i : ℕ) where
-  pub mis_missing : count_scopes ss ≤ scope_of ns i → misscoped_at ns ss i ≡ true
-  unfolding misscoped_at
-  mis_missing h = rw (le-leb (count_scopes ss) (scope_of ns i) h)
-
-  pub mis_extra : scope_of ns i < count_scopes ss → (eqb (kind_of ns i) 26 && leb (count_scopes ss) (extra_of ns i)) ≡ true → misscoped_at ns ss i ≡ true
-  unfolding misscoped_at
-  mis_extra h e = rw (lt-leb (count_scopes ss) (scope_of ns i) h, e)
-
-  pub mis_chain : scope_of ns i < count_scopes ss → (eqb (kind_of ns i) 26 && leb (count_scopes ss) (extra_of ns i)) ≡ false → misscoped_at ns ss i ≡ not (chain_on ns ss (scope_of ns i) i)
-  unfolding misscoped_at
-  mis_chain h e = rw (lt-leb (count_scopes ss) (scope_of ns i) h, e)
-
 -- no scope record is broken: the facts
-pub chained_of : (ss : List ℕ) → Some (count_scopes ss) → first (broken_at ss) 0 (count_scopes ss) ≡ Nowhere → Chained ss
+pub chained_of : (ss : List ℕ) → IsTableSize (count_scopes ss) → first (broken_at ss) 0 (count_scopes ss) ≡ None → Chained ss
 unfolding broken_at
 chained_of ss s e = record {
   some = s.some;
@@ -135,7 +121,7 @@ module _ (ns ss : List ℕ) (c : Chained ss) where
       (on_cases (scope_parent_of ss) (count_scopes ss) c.falls t s l o))
       (eq-or-lt_of_le (omega arith))
 
-  pub scoped_of : first (misscoped_at ns ss) 0 (count ns) ≡ Nowhere → Scoped ns ss
+  pub scoped_of : first (misscoped_at ns ss) 0 (count ns) ≡ None → Scoped ns ss
   unfolding misscoped_at
   scoped_of e = record {
     scope = scope;
@@ -151,3 +137,16 @@ module _ (ns ss : List ℕ) (c : Chained ss) where
 
       scope : (i : ℕ) → i < count ns → scope_of ns i < count_scopes ss
       scope i l = leb-false (count_scopes ss) (scope_of ns i) (fine i l).0
+
+module _ (ns ss : List ℕ) (i : ℕ) where
+  pub mis_missing : count_scopes ss ≤ scope_of ns i → misscoped_at ns ss i ≡ true
+  unfolding misscoped_at
+  mis_missing h = rw (le-leb (count_scopes ss) (scope_of ns i) h)
+
+  pub mis_extra : scope_of ns i < count_scopes ss → (eqb (kind_of ns i) 26 && leb (count_scopes ss) (extra_of ns i)) ≡ true → misscoped_at ns ss i ≡ true
+  unfolding misscoped_at
+  mis_extra h e = rw (lt-leb (count_scopes ss) (scope_of ns i) h, e)
+
+  pub mis_chain : scope_of ns i < count_scopes ss → (eqb (kind_of ns i) 26 && leb (count_scopes ss) (extra_of ns i)) ≡ false → misscoped_at ns ss i ≡ not (chain_on ns ss (scope_of ns i) i)
+  unfolding misscoped_at
+  mis_chain h e = rw (lt-leb (count_scopes ss) (scope_of ns i) h, e)

@@ -1,5 +1,5 @@
 -- What is known where no child is misplaced.
-use Rattle.std.specs.Prelude.{ℕ, ◌≤◌, ◌<◌, ◌≡◌, List, true, false, ◌&&◌, ◌||◌, ◌⊎◌}
+use Rattle.std.specs.Prelude.{ℕ, ◌≤◌, ◌<◌, ◌≡◌, List, true, false, ◌&&◌, ◌||◌, ◌⊎◌, None}
 use Rattle.std.proofs.Math.Path.{ap}
 use Rattle.std.proofs.Common.{sym, subst, ◌∙◌, eq-or-lt_of_le, arith}
 use Rattle.std.proofs.Math.Logic.{inl, inr, ⊎_elim}
@@ -12,7 +12,6 @@ use Rattle.table_records.specs.Table.{kind_of, role_of, count}
 use Rattle.table_records.specs.Facts.{Tree}
 use Rattle.table_records.specs.Kinds as k
 use Rattle.table_records.specs.Roles as r
-use Rattle.refusal_verdict.specs.declared.Place.TheVariants.{Nowhere}
 use Rattle.refusal_verdict.specs.First.{first}
 use Rattle.refusal_verdict.proofs.FirstLaws.{first_none}
 use Rattle.refusal_standing.specs.Standing.{is_statement, may_be_statement, is_holder, is_held, stray_statement, stray_held, stray_alternate, stray_in_switch, stray_case, try_part, stray_in_try, stray_clause, stray_in_clause, stray_function_body, stray_class_body, stray_element, stray_value, misplaced_statement, misplaced_part, misplaced_element, misplaced, misplaced_child_at, parent_kind, Placed}
@@ -111,7 +110,7 @@ module _ (ns : List ℕ) (t : Tree ns) where
   unfolding is_statement
   statement_later i s = no_program i (λ q. never (sym s ∙ ap is_statement q))
 
-  module _ (e : first (misplaced_child_at ns) 0 (count ns) ≡ Nowhere) where
+  module _ (e : first (misplaced_child_at ns) 0 (count ns) ≡ None) where
     fine : (i : ℕ) → i < count ns → 0 < i → misplaced (kind_of ns i) (role_of ns i) (parent_kind ns i) ≡ false
     unfolding misplaced_child_at
     fine i l h = rw (lt-ltb 0 i h) at (first_none (misplaced_child_at ns) (count ns) 0 e i (omega arith) l)

@@ -1,5 +1,6 @@
 -- Laws of refusals 7 and 9 as loops meet them. Where the tree has no findings, each break and continue has its target.
-use Rattle.std.specs.Prelude.{ℕ, zero, suc, ◌+◌, ◌≤◌, ◌<◌, ◌≡◌, Bool, ◌&&◌, ltb, length, get_or}
+use Rattle.table_records.specs.declared.NodeId.{NodeId}
+use Rattle.std.specs.Prelude.{ℕ, zero, suc, ◌+◌, ◌≤◌, ◌<◌, ◌≡◌, Bool, ◌&&◌, ltb, length, get_or, Option, Some, None, Ok, Err}
 use Rattle.std.proofs.Math.Path.{refl, ap}
 use Rattle.std.proofs.Common.{sym, subst, ◌∙◌, eq-or-lt_of_le, arith}
 use mathlib.Core.List.{List, [], ◌∷◌, ◌++◌, flat_map}
@@ -16,22 +17,15 @@ use Rattle.base_common.proofs.WroteLaws.{length_put}
 use Rattle.table_records.specs.Table.{kind_of, parent_of, count}
 use Rattle.table_records.specs.Kinds as k
 use Rattle.table_records.specs.Facts.{Tree}
-use Rattle.table_records.specs.declared.Found.{Found}
-use Rattle.table_records.specs.declared.Found.TheVariants.{At, Nothing}
 use Rattle.table_children.specs.Children.{label_of}
 use Rattle.table_ancestry.proofs.AncestryLaws.{ancestors_up}
 use Rattle.refusal_verdict.specs.First.{first}
 use Rattle.refusal_verdict.proofs.FirstLaws.{first_on, first_end, le_or_lt}
-use Rattle.refusal_verdict.specs.declared.Place.{Place}
-use Rattle.refusal_verdict.specs.declared.Place.TheVariants.{Here, Nowhere}
-use Rattle.refusal_verdict.specs.declared.Verdict.{Verdict}
-use Rattle.refusal_verdict.specs.declared.Verdict.TheVariants.{Refused, Passed}
-use Rattle.refusal_verdict.specs.Refusals as refusal
-use Rattle.refusal_verdict.specs.Verdict.{or_next}
+use Rattle.refusal_verdict.specs.declared.Refused.TheVariants.{At}
+use Rattle.refusal_verdict.specs.Verdict.{Verdict, Passed, or_next}
+use Rattle.refusal_verdict.specs.declared.Refusal.TheVariants as refusal
 use Rattle.refusal_verdict.proofs.VerdictLaws.{no_pass, passed}
 use Rattle.check_diagnostics.specs.declared.Finding.{Finding}
-use Rattle.check_diagnostics.specs.declared.Raised.{Raised}
-use Rattle.check_diagnostics.specs.declared.Raised.TheVariants.{Error, Clear}
 use Rattle.check_diagnostics.specs.Codes as code
 use Rattle.check_diagnostics.specs.Contexts as context
 use Rattle.check_diagnostics.specs.Finding.{listed, numbers, sink, error_at}
@@ -45,112 +39,112 @@ use Rattle.check_dispatch.specs.Reported.{reported}
 use Rattle.check_dispatch.proofs.ReportedLaws.{none_reported}
 use Rattle.refusal_state.specs.Targets.{names_unit, seek, plain_break, named_break, plain_continue, named_continue, break_target, continue_target, has_target, lost_at, finding_or, state_place, unit_refusal, refused_or, state_answer, Sound}
 
-raised : {A : Type 0} → (f : Finding) → Error f ≡ Clear → A
+raised : {A : Type 0} → (f : Finding) → Some f ≡ None → A
 raised f e = let z : ◌≡◌ {A = ℕ} 0 1 = cc in absurd (omega arith)
 
 -- A check that raises nothing on its way up to the unit has found what is sought.
-module _ (ns : List ℕ) (t : Tree ns) (says : ℕ → Raised → Raised) (answer : ℕ → Bool → Bool)
-    (unit : (a : ℕ) (r : Raised) → is_unit (kind_of ns a) ≡ true → says a r ≡ Clear → ⊥)
-    (step : (a : ℕ) (r : Raised) (x : Bool) → is_unit (kind_of ns a) ≡ false → says a r ≡ Clear → (r ≡ Clear → x ≡ true) → answer a x ≡ true) where
+module _ (ns : List ℕ) (t : Tree ns) (says : ℕ → Option Finding → Option Finding) (answer : ℕ → Bool → Bool)
+    (unit : (a : ℕ) (r : Option Finding) → is_unit (kind_of ns a) ≡ true → says a r ≡ None → ⊥)
+    (step : (a : ℕ) (r : Option Finding) (x : Bool) → is_unit (kind_of ns a) ≡ false → says a r ≡ None → (r ≡ None → x ≡ true) → answer a x ≡ true) where
   seek_up : (i : ℕ) → 0 < i → i < count ns → seek ns answer i ≡ cond (is_unit (kind_of ns (parent_of ns i))) false (answer (parent_of ns i) (seek ns answer (parent_of ns i)))
   unfolding seek
   seek_up i h l = ancestors_up _ _ ns t i h l
 
-  found_by : (f i : ℕ) → i ≤ f → 0 < i → i < count ns → walk_up ns says i ≡ Clear → seek ns answer i ≡ true
+  found_by : (f i : ℕ) → i ≤ f → 0 < i → i < count ns → walk_up ns says i ≡ None → seek ns answer i ≡ true
   found_by zero i hf h l e = absurd (omega arith)
   found_by (suc f) i hf h l e =
       let p = parent_of ns i in
       let w = t.falls i h l in
       go (is_unit (kind_of ns p)) refl (sym (walk_up_lem ns says t i p h l refl) ∙ e) (λ z c. found_by f p (omega arith) z (omega arith) c)
     where
-      go : (x : Bool) → is_unit (kind_of ns (parent_of ns i)) ≡ x → says (parent_of ns i) (walk_up ns says (parent_of ns i)) ≡ Clear
-          → (0 < parent_of ns i → walk_up ns says (parent_of ns i) ≡ Clear → seek ns answer (parent_of ns i) ≡ true) → seek ns answer i ≡ true
+      go : (x : Bool) → is_unit (kind_of ns (parent_of ns i)) ≡ x → says (parent_of ns i) (walk_up ns says (parent_of ns i)) ≡ None
+          → (0 < parent_of ns i → walk_up ns says (parent_of ns i) ≡ None → seek ns answer (parent_of ns i) ≡ true) → seek ns answer i ≡ true
       go true x s r = absurd (unit (parent_of ns i) (walk_up ns says (parent_of ns i)) x s)
       go false x s r =
           seek_up i h l ∙ rw x
           (step (parent_of ns i) (walk_up ns says (parent_of ns i)) (seek ns answer (parent_of ns i)) x s
           (r (⊎_elim (λ (z : 0 ≡ parent_of ns i). never (sym (ap (λ (y : ℕ). is_unit y) t.root) ∙ ap (λ (j : ℕ). is_unit (kind_of ns j)) z ∙ x)) (λ z. z) (eq-or-lt_of_le (omega arith)))))
 
-  pub found : (i : ℕ) → 0 < i → i < count ns → walk_up ns says i ≡ Clear → seek ns answer i ≡ true
+  pub found : (i : ℕ) → 0 < i → i < count ns → walk_up ns says i ≡ None → seek ns answer i ≡ true
   found i = found_by i i (omega arith)
 
 module _ (ns names : List ℕ) (t : Tree ns) (n : ℕ) (h : 0 < n) (l : n < count ns) where
-  plain_break_lem : walk_up ns (plain_break_at ns n) n ≡ Clear → seek ns (plain_break ns) n ≡ true
+  plain_break_lem : walk_up ns (plain_break_at ns n) n ≡ None → seek ns (plain_break ns) n ≡ true
   unfolding plain_break_at plain_break
   plain_break_lem = found ns t (plain_break_at ns n) (plain_break ns) (λ a r u e. raised _ (rw u at e)) (λ a r x u e w. go a r x (is_breakable (kind_of ns a)) refl (rw u at e) w) n h l
     where
-      go : (a : ℕ) (r : Raised) (x b : Bool) → is_breakable (kind_of ns a) ≡ b → cond (is_breakable (kind_of ns a)) Clear r ≡ Clear → (r ≡ Clear → x ≡ true) → cond (is_breakable (kind_of ns a)) true x ≡ true
+      go : (a : ℕ) (r : Option Finding) (x b : Bool) → is_breakable (kind_of ns a) ≡ b → cond (is_breakable (kind_of ns a)) None r ≡ None → (r ≡ None → x ≡ true) → cond (is_breakable (kind_of ns a)) true x ≡ true
       go a r x true q e w = rw q
       go a r x false q e w = rw q (w (rw q at e))
 
-  plain_continue_lem : walk_up ns (plain_continue_at ns n) n ≡ Clear → seek ns (plain_continue ns) n ≡ true
+  plain_continue_lem : walk_up ns (plain_continue_at ns n) n ≡ None → seek ns (plain_continue ns) n ≡ true
   unfolding plain_continue_at plain_continue
   plain_continue_lem = found ns t (plain_continue_at ns n) (plain_continue ns) (λ a r u e. raised _ (rw u at e)) (λ a r x u e w. go a r x (is_iteration (kind_of ns a)) refl (rw u at e) w) n h l
     where
-      go : (a : ℕ) (r : Raised) (x b : Bool) → is_iteration (kind_of ns a) ≡ b → cond (is_iteration (kind_of ns a)) Clear r ≡ Clear → (r ≡ Clear → x ≡ true) → cond (is_iteration (kind_of ns a)) true x ≡ true
+      go : (a : ℕ) (r : Option Finding) (x b : Bool) → is_iteration (kind_of ns a) ≡ b → cond (is_iteration (kind_of ns a)) None r ≡ None → (r ≡ None → x ≡ true) → cond (is_iteration (kind_of ns a)) true x ≡ true
       go a r x true q e w = rw q
       go a r x false q e w = rw q (w (rw q at e))
 
   module _ (m : ℕ) where
-    no_label_lem : (kind : ℕ) → no_label ns n m kind ≡ Clear → ⊥
+    no_label_lem : (kind : ℕ) → no_label ns n m kind ≡ None → ⊥
     unfolding no_label
     no_label_lem kind = go (eqb kind k.Program)
       where
-        go : (b : Bool) → cond b (error_at ns code.invalid_label_target n m context.none) (error_at ns code.invalid_label_jump_target n m context.none) ≡ Clear → ⊥
+        go : (b : Bool) → cond b (error_at ns code.invalid_label_target n m context.none) (error_at ns code.invalid_label_jump_target n m context.none) ≡ None → ⊥
         go true e = raised _ e
         go false e = raised _ e
 
-    named_break_lem : walk_up ns (labelled_break_at ns names n m) n ≡ Clear → seek ns (named_break ns names m) n ≡ true
+    named_break_lem : walk_up ns (labelled_break_at ns names n m) n ≡ None → seek ns (named_break ns names m) n ≡ true
     unfolding labelled_break_at named_break
     named_break_lem =
         found ns t (labelled_break_at ns names n m) (named_break ns names m) (λ a r u e. no_label_lem (kind_of ns a) (rw u at e))
         (λ a r x u e w. go (same_label ns names m a) r x (rw u at e) w) n h l
       where
-        go : (y : Found) (r : Raised) (x : Bool) → when_found y (λ j. Clear) r ≡ Clear → (r ≡ Clear → x ≡ true) → when_found y (λ j. true) x ≡ true
-        go (At j) r x e w = refl
-        go Nothing r x e w = w e
+        go : (y : Option NodeId) (r : Option Finding) (x : Bool) → when_found y (λ j. None) r ≡ None → (r ≡ None → x ≡ true) → when_found y (λ j. true) x ≡ true
+        go (Some j) r x e w = refl
+        go None r x e w = w e
 
-    named_continue_lem : walk_up ns (labelled_continue_at ns names n m) n ≡ Clear → seek ns (named_continue ns names m) n ≡ true
+    named_continue_lem : walk_up ns (labelled_continue_at ns names n m) n ≡ None → seek ns (named_continue ns names m) n ≡ true
     unfolding labelled_continue_at named_continue continue_to
     named_continue_lem =
         found ns t (labelled_continue_at ns names n m) (named_continue ns names m) (λ a r u e. no_label_lem (kind_of ns a) (rw u at e))
         (λ a r x u e w. go a (same_label ns names m a) r x (rw u at e) w) n h l
       where
-        to : (a j : ℕ) (b : Bool) → is_iteration (kind_of ns (labeled_item ns a)) ≡ b → continue_to ns n m a j ≡ Clear → is_iteration (kind_of ns (labeled_item ns a)) ≡ true
+        to : (a j : ℕ) (b : Bool) → is_iteration (kind_of ns (labeled_item ns a)) ≡ b → continue_to ns n m a j ≡ None → is_iteration (kind_of ns (labeled_item ns a)) ≡ true
         to a j true q e = q
         to a j false q e = raised _ (rw q at e)
 
-        go : (a : ℕ) (y : Found) (r : Raised) (x : Bool) → when_found y (λ j. continue_to ns n m a j) r ≡ Clear → (r ≡ Clear → x ≡ true)
+        go : (a : ℕ) (y : Option NodeId) (r : Option Finding) (x : Bool) → when_found y (λ j. continue_to ns n m a j) r ≡ None → (r ≡ None → x ≡ true)
             → when_found y (λ j. is_iteration (kind_of ns (labeled_item ns a))) x ≡ true
-        go a (At j) r x e w = to a j.0 (is_iteration (kind_of ns (labeled_item ns a))) refl e
-        go a Nothing r x e w = w e
+        go a (Some j) r x e w = to a j.0 (is_iteration (kind_of ns (labeled_item ns a))) refl e
+        go a None r x e w = w e
 
   -- a Break that raises nothing has its target ..
-  break_found : check_break_statement ns names n ≡ Clear → break_target ns names n ≡ true
+  break_found : check_break_statement ns names n ≡ None → break_target ns names n ≡ true
   break_found = go (label_of ns n)
     where
-      go : (y : Found) → when_found y (λ m. walk_up ns (labelled_break_at ns names n m) n) (walk_up ns (plain_break_at ns n) n) ≡ Clear
+      go : (y : Option NodeId) → when_found y (λ m. walk_up ns (labelled_break_at ns names n m) n) (walk_up ns (plain_break_at ns n) n) ≡ None
           → when_found y (λ m. seek ns (named_break ns names m) n) (seek ns (plain_break ns) n) ≡ true
-      go (At m) e = named_break_lem m.0 e
-      go Nothing e = plain_break_lem e
+      go (Some m) e = named_break_lem m.0 e
+      go None e = plain_break_lem e
 
   -- .. and so a Continue
-  continue_found : check_continue_statement ns names n ≡ Clear → continue_target ns names n ≡ true
+  continue_found : check_continue_statement ns names n ≡ None → continue_target ns names n ≡ true
   continue_found = go (label_of ns n)
     where
-      go : (y : Found) → when_found y (λ m. walk_up ns (labelled_continue_at ns names n m) n) (walk_up ns (plain_continue_at ns n) n) ≡ Clear
+      go : (y : Option NodeId) → when_found y (λ m. walk_up ns (labelled_continue_at ns names n m) n) (walk_up ns (plain_continue_at ns n) n) ≡ None
           → when_found y (λ m. seek ns (named_continue ns names m) n) (seek ns (plain_continue ns) n) ≡ true
-      go (At m) e = named_continue_lem m.0 e
-      go Nothing e = plain_continue_lem e
+      go (Some m) e = named_continue_lem m.0 e
+      go None e = plain_continue_lem e
 
 -- lists of findings
 none_both : (xs ys : List Finding) → xs ++ ys ≡ [] → (xs ≡ []) × (ys ≡ [])
 none_both [] ys e = (refl, e)
 none_both (x ∷ xs) ys e = let z : ◌≡◌ {A = ℕ} 0 1 = cc in absurd (omega arith)
 
-none_listed : (r : Raised) → listed r ≡ [] → r ≡ Clear
-none_listed (Error f) e = let z : ◌≡◌ {A = ℕ} 0 1 = cc in absurd (omega arith)
-none_listed Clear e = refl
+none_listed : (r : Option Finding) → listed r ≡ [] → r ≡ None
+none_listed (Some f) e = let z : ◌≡◌ {A = ℕ} 0 1 = cc in absurd (omega arith)
+none_listed None e = refl
 
 module _ (f : ℕ → List Finding) (n : ℕ) where
   none_by : (g i : ℕ) → n ≤ i + g → flat_map f (upto i n) ≡ [] → (j : ℕ) → i ≤ j → j < n → f j ≡ []
@@ -177,11 +171,11 @@ module _ (source_type : ℕ) (ns ss source names : List ℕ) where
   none_at e n l = none_by (findings_at source_type ns ss source names) (count ns) (count ns) 0 (omega arith) (none_both (duplicate_elements source_type ns names) (flat_map (findings_at source_type ns ss source names) (upto 0 (count ns))) e).1 n (omega arith) l
 
   module _ (n : ℕ) where
-    at_break : kind_of ns n ≡ k.Break → findings_at source_type ns ss source names n ≡ [] → check_break_statement ns names n ≡ Clear
+    at_break : kind_of ns n ≡ k.Break → findings_at source_type ns ss source names n ≡ [] → check_break_statement ns names n ≡ None
     unfolding findings_at
     at_break q e = none_listed (check_break_statement ns names n) (rw q at e)
 
-    at_continue : kind_of ns n ≡ k.Continue → findings_at source_type ns ss source names n ≡ [] → check_continue_statement ns names n ≡ Clear
+    at_continue : kind_of ns n ≡ k.Continue → findings_at source_type ns ss source names n ≡ [] → check_continue_statement ns names n ≡ None
     unfolding findings_at
     at_continue q e = none_listed (check_continue_statement ns names n) (rw q at e)
 
@@ -209,7 +203,7 @@ module _ (source_type : ℕ) (ns ss source names : List ℕ) where
         go true q = let w = range_of (kind_of ns n) k.Break k.Continue q in rw (targets_found n l w.0 w.1)
         go false q = refl
 
-    none_first_lem : (f i : ℕ) → count ns ≤ i + f → first (lost_at ns names) i (count ns) ≡ Nowhere
+    none_first_lem : (f i : ℕ) → count ns ≤ i + f → first (lost_at ns names) i (count ns) ≡ None
     none_first_lem zero i hf = first_end (lost_at ns names) i (count ns) (omega arith)
     none_first_lem (suc f) i hf =
         ⊎_elim (λ (h : count ns ≤ i). first_end (lost_at ns names) i (count ns) h)
@@ -217,11 +211,11 @@ module _ (source_type : ℕ) (ns ss source names : List ℕ) where
 
   -- the place of refusal 9, where there are no findings, and where the first was written to a slice of seven
   module _ (async_bodies : ℕ) where
-    place_clear : Tree ns → reported (rule source_type async_bodies ns ss source names) ≡ [] → state_place (rule source_type async_bodies ns ss source names) ≡ Nowhere
+    place_clear : Tree ns → reported (rule source_type async_bodies ns ss source names) ≡ [] → state_place (rule source_type async_bodies ns ss source names) ≡ None
     unfolding state_place
     place_clear t e = ap (λ l. finding_or l (first (lost_at ns names) 0 (count ns))) e ∙ none_first_lem t (none_reported (rule source_type async_bodies ns ss source names) e) (count ns) 0 (omega arith)
 
-    pub place_none : Tree ns → length (reported (rule source_type async_bodies ns ss source names)) ≡ 0 → state_place (rule source_type async_bodies ns ss source names) ≡ Nowhere
+    pub place_none : Tree ns → length (reported (rule source_type async_bodies ns ss source names)) ≡ 0 → state_place (rule source_type async_bodies ns ss source names) ≡ None
     place_none t h = place_clear t (go (reported (rule source_type async_bodies ns ss source names)) h)
       where
         go : (l : List Finding) → length l ≡ 0 → l ≡ []
@@ -229,19 +223,19 @@ module _ (source_type : ℕ) (ns ss source names : List ℕ) where
         go (f ∷ fs) h = absurd (omega arith)
 
     pub place_some : (s : List ℕ) → length s ≡ 7 → (length (reported (rule source_type async_bodies ns ss source names)) ≡ 0 → ⊥)
-        → state_place (rule source_type async_bodies ns ss source names) ≡ Here (get_or (sink s 0 (reported (rule source_type async_bodies ns ss source names))) 1 0)
+        → state_place (rule source_type async_bodies ns ss source names) ≡ Some (get_or (sink s 0 (reported (rule source_type async_bodies ns ss source names))) 1 0)
     unfolding state_place
     place_some s q h = go (reported (rule source_type async_bodies ns ss source names)) h
       where
-        go : (l : List Finding) → (length l ≡ 0 → ⊥) → finding_or l (first (lost_at ns names) 0 (count ns)) ≡ Here (get_or (sink s 0 l) 1 0)
+        go : (l : List Finding) → (length l ≡ 0 → ⊥) → finding_or l (first (lost_at ns names) 0 (count ns)) ≡ Some (get_or (sink s 0 l) 1 0)
         go [] h = absurd (h refl)
-        go (f ∷ fs) h = ap Here (sym (first_written s f fs q))
+        go (f ∷ fs) h = ap Some (sym (first_written s f fs q))
 
 refused_or_lem : (v r : Verdict) → refused_or v r ≡ Passed → (v ≡ Passed) × (r ≡ Passed)
-refused_or_lem (Refused number place) r e = no_pass number place e
-refused_or_lem Passed r e = (refl, e)
+refused_or_lem (Err f) r e = no_pass f e
+refused_or_lem (Ok u) r e = (refl, e)
 
-no_finding : (fs : List Finding) (lost : Place) → finding_or fs lost ≡ Nowhere → fs ≡ []
+no_finding : (fs : List Finding) (lost : Option ℕ) → finding_or fs lost ≡ None → fs ≡ []
 no_finding [] lost e = refl
 no_finding (f ∷ fs) lost e = let z : ◌≡◌ {A = ℕ} 0 1 = cc in absurd (omega arith)
 
@@ -249,9 +243,9 @@ unit_passed : (ns : List ℕ) (u : ℕ) → unit_refusal ns u ≡ Passed → nam
 unfolding unit_refusal
 unit_passed ns u = go (names_unit ns u)
   where
-    go : (x : Bool) → cond x Passed (Refused refusal.Unit u) ≡ Passed → x ≡ true
+    go : (x : Bool) → cond x Passed (Err (At refusal.Unit u)) ≡ Passed → x ≡ true
     go true e = refl
-    go false e = no_pass refusal.Unit u e
+    go false e = no_pass (At refusal.Unit u) e
 
 pub state_passed : (source_type async_bodies : ℕ) (ns ss source names : List ℕ) (u : ℕ) → state_answer (rule source_type async_bodies ns ss source names) u ≡ Passed → Sound source_type ns ss source names u
 unfolding state_answer state_place names_unit

@@ -1,17 +1,14 @@
 -- Refusals 7 and 9 of document 01, which the calls `code` and `route` give, and the targets of jumps.
-use Rattle.std.specs.Prelude.{ℕ, Bool, true, false, cond, not, ◌&&◌, eqb, ltb, ◌<◌, ◌≡◌}
+use Rattle.std.specs.Prelude.{ℕ, Bool, true, false, cond, not, ◌&&◌, eqb, ltb, ◌<◌, ◌≡◌, Option, Some, Ok, Err}
 use mathlib.Core.List.{List, [], ◌∷◌, foldr}
 use Rattle.base_common.specs.Tests.{within}
 use Rattle.table_records.specs.Table.{kind_of, count, ancestors}
 use Rattle.table_records.specs.Kinds as k
 use Rattle.table_children.specs.Children.{label_of}
 use Rattle.refusal_verdict.specs.First.{first}
-use Rattle.refusal_verdict.specs.declared.Place.{Place}
-use Rattle.refusal_verdict.specs.declared.Place.TheVariants.{Here}
-use Rattle.refusal_verdict.specs.declared.Verdict.{Verdict}
-use Rattle.refusal_verdict.specs.declared.Verdict.TheVariants.{Refused, Passed}
-use Rattle.refusal_verdict.specs.Refusals as refusal
-use Rattle.refusal_verdict.specs.Verdict.{or_next}
+use Rattle.refusal_verdict.specs.declared.Refused.TheVariants.{At}
+use Rattle.refusal_verdict.specs.Verdict.{Verdict, Passed, or_next}
+use Rattle.refusal_verdict.specs.declared.Refusal.TheVariants as refusal
 use Rattle.check_diagnostics.specs.declared.Finding.{Finding}
 use Rattle.check_jumps.specs.Jumps.{is_unit, is_iteration, is_breakable, when_found, same_label, labeled_item}
 use Rattle.check_dispatch.specs.Rule.{Rule}
@@ -58,20 +55,20 @@ unfoldable pub lost_at : List ℕ → List ℕ → ℕ → Bool
 lost_at ns names n = within (kind_of ns n) k.Break k.Continue && not (has_target ns names n)
 
 -- "9 the first finding's node or, without findings, the lowest such Break or Continue"
-abbrev pub finding_or : List Finding → Place → Place
+abbrev pub finding_or : List Finding → Option ℕ → Option ℕ
 finding_or [] lost = lost
-finding_or (f ∷ fs) lost = Here f.node.0
+finding_or (f ∷ fs) lost = Some f.node.0
 
-unfoldable pub state_place : Rule → Place
+unfoldable pub state_place : Rule → Option ℕ
 state_place r = finding_or (reported r) (first (lost_at r.nodes r.names) 0 (count r.nodes))
 
 -- 7 and 9 in their order: "The lowest number wins"; 7 gives "the unit's number". Request 1: "8 is no longer given".
 unfoldable pub unit_refusal : List ℕ → ℕ → Verdict
-unit_refusal ns u = cond (names_unit ns u) Passed (Refused refusal.Unit u)
+unit_refusal ns u = cond (names_unit ns u) Passed (Err (At refusal.Unit u))
 
 abbrev pub refused_or : Verdict → Verdict → Verdict
-refused_or (Refused number place) r = Refused number place
-refused_or Passed r = r
+refused_or (Err e) r = Err e
+refused_or (Ok u) r = r
 
 unfoldable pub state_answer : Rule → ℕ → Verdict
 state_answer r u = refused_or (unit_refusal r.nodes u) (or_next refusal.Findings (state_place r) Passed)

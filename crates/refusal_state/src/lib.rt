@@ -7,7 +7,7 @@ ghost use Rattle.check_dispatch.specs.Rule.{rule};
 ghost use Rattle.refusal_state.specs.Targets.{names_unit, state_place, unit_refusal, state_answer};
 
 use base_common::within;
-use refusal_verdict::{Place, Verdict, refusals};
+use refusal_verdict::{Refusal, Refused};
 use table_records::{NodeId, kinds};
 
 // Whether a number names a unit: a Program, a Function, an Arrow or a StaticBlock.
@@ -25,13 +25,13 @@ fn names_unit(nodes: &[u32], u: u32) -> bool
 }
 
 // Refusal 7.
-pub fn unit_refusal(nodes: &[u32], u: u32) -> Verdict
+pub fn unit_refusal(nodes: &[u32], u: u32) -> Result<(), Refused>
     ensures { result ≡ unit_refusal nodes.now u }
 {
     if !names_unit(nodes, u) {
-        return Verdict::Refused(refusals::UNIT, u);
+        return Err(Refused::At(Refusal::Unit, u));
     }
-    Verdict::Passed
+    Ok(())
 }
 
 // The place of refusal 9. Where there are no findings each jump has its target, so that none is sought.
@@ -42,7 +42,7 @@ pub fn state_place(
     scopes: &[u32],
     source: &[u8],
     names: &[u8],
-) -> Place
+) -> Option<u32>
     requires input { Input nodes.now scopes.now names.now }
     requires sourced { Sourced nodes.now source.now }
     ensures { result ≡ state_place (rule source_type async_bodies nodes.now scopes.now source.now names.now) }
@@ -58,9 +58,9 @@ pub fn state_place(
         &mut first,
     );
     if written == 0 {
-        return Place::Nowhere;
+        return None;
     }
-    Place::Here(first[1])
+    Some(first[1])
 }
 
 // Refusals 7 and 9 of well-formed tables, in their order.
@@ -72,24 +72,12 @@ pub fn state_refusal(
     source: &[u8],
     names: &[u8],
     u: u32,
-) -> Verdict
+) -> Result<(), Refused>
     requires input { Input nodes.now scopes.now names.now }
     requires sourced { Sourced nodes.now source.now }
     ensures { result ≡ state_answer (rule source_type async_bodies nodes.now scopes.now source.now names.now) u }
 {
-    let verdict = unit_refusal(nodes, u);
-    match verdict {
-        Verdict::Refused(_, _) => verdict,
-        Verdict::Passed => match state_place(
-            source_type,
-            async_bodies,
-            nodes,
-            scopes,
-            source,
-            names,
-        ) {
-            Place::Here(n) => Verdict::Refused(refusals::FINDINGS, n),
-            Place::Nowhere => Verdict::Passed,
-        },
-    }
+    unit_refusal(nodes, u)?;
+    let place = state_place(source_type, async_bodies, nodes, scopes, source, names);
+    Refusal::Findings.at(place)
 }

@@ -1,5 +1,5 @@
 -- Laws of depths, and what is known where refusal 3 does not apply.
-use Rattle.std.specs.Prelude.{ℕ, ◌+◌, ◌-◌, ◌≤◌, ◌<◌, ◌≡◌, List, Bool, not, ◌||◌, eqb, ltb, length}
+use Rattle.std.specs.Prelude.{ℕ, ◌+◌, ◌-◌, ◌≤◌, ◌<◌, ◌≡◌, List, Bool, not, ◌||◌, eqb, ltb, length, None, Some}
 use Rattle.std.proofs.Math.Path.{refl, sym, subst}
 use Rattle.std.proofs.Common.{ap, ◌∙◌, ⊎_elim, eq-or-lt_of_le, add-one, arith}
 use Rattle.std.proofs.Math.Bool.{true, false, cond}
@@ -10,12 +10,10 @@ use Rattle.base_walk.specs.On.{on}
 use Rattle.base_walk.proofs.OnLaws.{on_self, on_le}
 use Rattle.base_walk.specs.Preorder.{Preorder}
 use Rattle.base_walk.proofs.PreorderLaws.{falls}
-use Rattle.table_records.specs.Table.{kind_of, parent_of, count, depth_of, Some}
+use Rattle.table_records.specs.Table.{kind_of, parent_of, count, depth_of, IsTableSize}
 use Rattle.table_records.specs.Facts.{Tree}
-use Rattle.refusal_verdict.specs.declared.Place.TheVariants.{Nowhere}
 use Rattle.refusal_verdict.specs.First.{first}
 use Rattle.refusal_verdict.proofs.FirstLaws.{first_none}
-use Rattle.refusal_tree.specs.declared.Depth.TheVariants.{Of, Off}
 use Rattle.refusal_tree.specs.Tree.{misplaced_at, depth_from, depth_if}
 
 module _ (ns : List ℕ) where
@@ -25,38 +23,38 @@ module _ (ns : List ℕ) where
   pub depth_up : (n : ℕ) → Falls (parent_of ns) n → (i : ℕ) → 0 < i → i < n → depth_of ns i ≡ depth_of ns (parent_of ns i) + 1
   depth_up n t i h hc = ap length (above_up (parent_of ns) n t i h hc) ∙ sym (add-one (depth_of ns (parent_of ns i)))
 
-  pub from_hit : (at p a : ℕ) → on (parent_of ns) p a ≡ on (parent_of ns) p at → a ≡ p → depth_from ns at p ≡ Of (depth_of ns a)
+  pub from_hit : (at p a : ℕ) → on (parent_of ns) p a ≡ on (parent_of ns) p at → a ≡ p → depth_from ns at p ≡ Some (depth_of ns a)
   unfolding depth_from
   from_hit at p a e q =
       let h : on (parent_of ns) p at ≡ true = sym e ∙ subst (λ (x : ℕ). on (parent_of ns) p x ≡ true) (sym q) (on_self (parent_of ns) p) in
       rw (h, q)
 
-  pub from_miss : (n at p a : ℕ) → Falls (parent_of ns) n → a < n → on (parent_of ns) p a ≡ on (parent_of ns) p at → a < p → depth_from ns at p ≡ Off
+  pub from_miss : (n at p a : ℕ) → Falls (parent_of ns) n → a < n → on (parent_of ns) p a ≡ on (parent_of ns) p at → a < p → depth_from ns at p ≡ None
   unfolding depth_from
   from_miss n at p a t hc e l = go (on (parent_of ns) p at) refl
     where
-      go : (x : Bool) → on (parent_of ns) p at ≡ x → cond (on (parent_of ns) p at) (Of (depth_of ns p)) Off ≡ Off
+      go : (x : Bool) → on (parent_of ns) p at ≡ x → cond (on (parent_of ns) p at) (Some (depth_of ns p)) None ≡ None
       go true h = absurd (omega (arith, on_le (parent_of ns) n t p a hc (e ∙ h)))
       go false h = rw h
 
 -- two answers are no number
-of_off : {A : Type 0} → (d : ℕ) → Of d ≡ Off → A
+of_off : {A : Type 0} → (d : ℕ) → Some d ≡ None → A
 of_off d e = let z : ◌≡◌ {A = ℕ} 0 1 = cc in absurd (omega arith)
 
 module _ (ns : List ℕ) where
-  from_of : (at p d : ℕ) → depth_from ns at p ≡ Of d → (on (parent_of ns) p at ≡ true) × (depth_of ns p ≡ d)
+  from_of : (at p d : ℕ) → depth_from ns at p ≡ Some d → (on (parent_of ns) p at ≡ true) × (depth_of ns p ≡ d)
   unfolding depth_from
   from_of at p d e = go (on (parent_of ns) p at) refl e
     where
-      go : (x : Bool) → on (parent_of ns) p at ≡ x → cond x (Of (depth_of ns p)) Off ≡ Of d → (on (parent_of ns) p at ≡ true) × (depth_of ns p ≡ d)
+      go : (x : Bool) → on (parent_of ns) p at ≡ x → cond x (Some (depth_of ns p)) None ≡ Some d → (on (parent_of ns) p at ≡ true) × (depth_of ns p ≡ d)
       go true h e = (h, cc)
       go false h e = of_off d (sym e)
 
-  from_off : (at p : ℕ) → depth_from ns at p ≡ Off → on (parent_of ns) p at ≡ false
+  from_off : (at p : ℕ) → depth_from ns at p ≡ None → on (parent_of ns) p at ≡ false
   unfolding depth_from
   from_off at p e = go (on (parent_of ns) p at) refl e
     where
-      go : (x : Bool) → on (parent_of ns) p at ≡ x → cond x (Of (depth_of ns p)) Off ≡ Off → on (parent_of ns) p at ≡ false
+      go : (x : Bool) → on (parent_of ns) p at ≡ x → cond x (Some (depth_of ns p)) None ≡ None → on (parent_of ns) p at ≡ false
       go true h e = of_off (depth_of ns p) e
       go false h e = h
 
@@ -81,47 +79,47 @@ module _ (ns : List ℕ) where
     if_on : (kind_of ns i ≡ 0 → ⊥) → on (parent_of ns) (parent_of ns i) (i - 1) ≡ true → misplaced_at ns i ≡ ltb 512 (depth_of ns i)
     if_on n e = later i h false true _ (ne_eqb _ _ n) e refl
 
-    pub at_program : kind_of ns i ≡ 0 → depth_if ns i ≡ Off
+    pub at_program : kind_of ns i ≡ 0 → depth_if ns i ≡ None
     unfolding depth_if
     at_program e = rw (if_program e)
 
-    pub at_stray : (kind_of ns i ≡ 0 → ⊥) → depth_from ns (i - 1) (parent_of ns i) ≡ Off → depth_if ns i ≡ Off
+    pub at_stray : (kind_of ns i ≡ 0 → ⊥) → depth_from ns (i - 1) (parent_of ns i) ≡ None → depth_if ns i ≡ None
     unfolding depth_if
     at_stray n e = rw (if_stray n (from_off (i - 1) (parent_of ns i) e))
 
-    module _ (t : Falls (parent_of ns) i) (n : kind_of ns i ≡ 0 → ⊥) (d : ℕ) (e : depth_from ns (i - 1) (parent_of ns i) ≡ Of d) where
+    module _ (t : Falls (parent_of ns) i) (n : kind_of ns i ≡ 0 → ⊥) (d : ℕ) (e : depth_from ns (i - 1) (parent_of ns i) ≡ Some d) where
       depth_here : depth_of ns i ≡ d + 1
       depth_here =
           let w = from_of (i - 1) (parent_of ns i) d e in
           depth_up ns (i + 1) (falls_more i t h w.0) i h (omega arith) ∙ ap (λ (x : ℕ). x + 1) w.1
 
-      pub at_deep : 511 < d → depth_if ns i ≡ Off
+      pub at_deep : 511 < d → depth_if ns i ≡ None
       unfolding depth_if
       at_deep l =
           let w = from_of (i - 1) (parent_of ns i) d e in
           let x = depth_here in
           rw (if_on n w.0 ∙ lt-ltb 512 (depth_of ns i) (omega arith))
 
-      pub at_fine : d ≤ 511 → depth_if ns i ≡ Of (d + 1)
+      pub at_fine : d ≤ 511 → depth_if ns i ≡ Some (d + 1)
       unfolding depth_if
       at_fine l =
           let w = from_of (i - 1) (parent_of ns i) d e in
           let x = depth_here in
           rw (if_on n w.0 ∙ le-ltb 512 (depth_of ns i) (omega arith), x)
 
-  pub if_off : (i : ℕ) → depth_if ns i ≡ Off → misplaced_at ns i ≡ true
+  pub if_off : (i : ℕ) → depth_if ns i ≡ None → misplaced_at ns i ≡ true
   unfolding depth_if
   if_off i e = go (misplaced_at ns i) e
     where
-      go : (x : Bool) → cond x Off (Of (depth_of ns i)) ≡ Off → x ≡ true
+      go : (x : Bool) → cond x None (Some (depth_of ns i)) ≡ None → x ≡ true
       go true e = refl
       go false e = of_off (depth_of ns i) e
 
-  pub if_of_lem : (i d : ℕ) → depth_if ns i ≡ Of d → (misplaced_at ns i ≡ false) × (depth_of ns i ≡ d)
+  pub if_of_lem : (i d : ℕ) → depth_if ns i ≡ Some d → (misplaced_at ns i ≡ false) × (depth_of ns i ≡ d)
   unfolding depth_if
   if_of_lem i d e = go (misplaced_at ns i) e
     where
-      go : (x : Bool) → cond x Off (Of (depth_of ns i)) ≡ Of d → (x ≡ false) × (depth_of ns i ≡ d)
+      go : (x : Bool) → cond x None (Some (depth_of ns i)) ≡ Some d → (x ≡ false) × (depth_of ns i ≡ d)
       go true e = of_off d (sym e)
       go false e = (refl, cc)
 
@@ -172,7 +170,7 @@ module _ (ns : List ℕ) (i : ℕ) (h : 0 < i) (e : misplaced_at ns i ≡ false)
   fine_depth = ltb-false 512 (depth_of ns i) fine_parts.2
 
 -- no node is out of place: the facts
-pub tree_of : (ns : List ℕ) → Some (count ns) → first (misplaced_at ns) 0 (count ns) ≡ Nowhere → Tree ns
+pub tree_of : (ns : List ℕ) → IsTableSize (count ns) → first (misplaced_at ns) 0 (count ns) ≡ None → Tree ns
 tree_of ns s e = record {
   some = s.some;
   small = s.small;

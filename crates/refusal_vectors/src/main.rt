@@ -4,13 +4,17 @@
 
 ghost use Rattle.std.specs.Prelude.{◌<◌};
 
-use refusal_verdict::Verdict;
+use refusal_verdict::Refused;
 use std::io;
 
-fn say(rt: &impl Print, label: &str, v: Verdict) -> io::Result<()> {
+fn say(rt: &impl Print, label: &str, v: Result<(), Refused>) -> io::Result<()> {
     match v {
-        Verdict::Refused(n, p) => println!(rt; "{label}: {n},{p}"),
-        Verdict::Passed => println!(rt; "{label}: passed"),
+        Err(refused) => {
+            let number = refused.number();
+            let place = refused.place();
+            println!(rt; "{label}: {number},{place}")
+        }
+        Ok(()) => println!(rt; "{label}: passed"),
     }
 }
 
@@ -61,8 +65,7 @@ fn default_flag(row: u32) -> u32 {
 
 // The nodes after the Program.
 fn fill(rows: &[u32], nodes: &mut [u32; 170]) {
-    let mut i = 0;
-    while i < 16 {
+    for i in 0..16 {
         if i < rows.len() {
             let n = rows[i];
             nodes[i * 10 + 10] = n / 1000 % 100;
@@ -70,7 +73,6 @@ fn fill(rows: &[u32], nodes: &mut [u32; 170]) {
             nodes[i * 10 + 12] = n % 10;
             nodes[i * 10 + 16] = default_flag(n);
         }
-        i += 1;
     }
 }
 
@@ -571,12 +573,10 @@ fn scope_records(rt: &impl Print) -> io::Result<()> {
 
 // 3. Depth above 512 (node 0 has depth 0): each node under the one before.
 fn chain(nodes: &mut [u32; 5140]) {
-    let mut i: u32 = 1;
-    while i < 514 {
-        let at = table_records::wide(i) * 10;
+    for i in 1..514u32 {
+        let at = i as usize * 10;
         nodes[at] = 55;
         nodes[at + 1] = i - 1;
-        i += 1;
     }
 }
 

@@ -4,17 +4,11 @@
 ghost use Rattle.std.specs.Prelude.{◌≡◌, set};
 ghost use Rattle.route_list.specs.Listing.{next};
 
-// "A length above 18,446,744,073,709,551,615 is given as that number."
-const MOST: u64 = 18446744073709551615;
-
-// One entry more.
+// One entry more. "A length above 18,446,744,073,709,551,615 is given as that number."
 pub fn next(entries: u64) -> u64
     ensures { result ≡ next entries }
 {
-    if entries == MOST {
-        return entries;
-    }
-    entries + 1
+    entries.saturating_add(1)
 }
 
 // The node of entry k is written if the slice goes that far.

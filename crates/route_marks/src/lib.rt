@@ -2,18 +2,19 @@
 // at a mark, is stopped, and is shown where it fits.
 #![tactic(auto)]
 
-ghost use Rattle.std.specs.Prelude.{◌≡◌, true, ◌↔◌, ◌+◌, ◌*◌, ◌/◌, ◌%◌, ◌<◌, ◌≤◌, length, get_or};
+ghost use Rattle.std.specs.Prelude.{◌≡◌, true, ◌↔◌, ◌+◌, ◌*◌, ◌<◌, ◌≤◌, length, get_or};
 ghost use Rattle.std.proofs.lemmas.List.Edits.{sets};
 ghost use Rattle.code_flat.specs.Machine.{room, pos};
 ghost use Rattle.code_marks.specs.Begins.{width, Begins};
-ghost use Rattle.code_machine.specs.Pending.{half, frame_by, frame_of, stack};
+ghost use Rattle.code_machine.specs.Pending.{stack};
 ghost use Rattle.code_machine.specs.Halted.{route_to, StandsAt, Told};
 ghost use Rattle.route_viewer.specs.Shown.{shown_answer, shown_slice};
 ghost use Rattle.route_marks.specs.Marks.{marks as marksMany, part_at, is_set, place_of, ends_at, mark_at, ends_numbers, set_mark};
 ghost use Rattle.route_marks.specs.Taken.{begin_at, Ready, stop_of, marks_shown};
 
-use code_machine::{Halt, Landing, opcodes};
-use route_viewer::Routed;
+use code_machine::{Halt, Landing, run_end};
+use refusal_verdict::{Refusal, Refused};
+use route_viewer::Route;
 
 const MARKS: u32 = 8;
 
@@ -24,39 +25,28 @@ const PART: usize = 1026;
 const MOST_FIRST: u32 = 513;
 
 // All parts.
-pub type Marks = [u32; 8208];
+pub type Marks = [u32; MARKS as usize * PART];
 
 // Where a route begins: at its start, or at a mark.
+// It has Option's shape, but None would not say where a route without a mark begins.
 #[derive(Clone, Copy)]
 pub enum Begin {
     Start,
     Mark(u32),
 }
 
-fn wide(x: u32) -> usize
-    ensures { result ≡ x }
-{
-    x as usize
-}
-
 fn part_at(mark: u32) -> usize
     requires { mark < marksMany }
     ensures { result ≡ part_at mark }
 {
-    wide(mark) * PART
+    mark as usize * PART
 }
 
 // A mark can be taken up: there is one of that number, and it is set.
 pub fn is_set(marks: &Marks, mark: u32) -> bool
     ensures { result ≡ is_set marks.now mark }
 {
-    if mark < MARKS {
-        let first = marks[part_at(mark)];
-        if 1 <= first {
-            return first <= MOST_FIRST;
-        }
-    }
-    false
+    mark < MARKS && matches!(marks[part_at(mark)], 1..=MOST_FIRST)
 }
 
 // The place in the code that a mark holds.
@@ -67,37 +57,18 @@ pub fn place_at(marks: &Marks, mark: u32) -> u32
     marks[part_at(mark) + 1]
 }
 
-// How many numbers the instruction takes that begins with this one; 0 where none does.
-fn width(first: u32) -> usize
-    ensures { result ≡ width first }
-{
-    match first {
-        opcodes::LIST => 2,
-        opcodes::LEAVE => 3,
-        opcodes::ASK => 4,
-        opcodes::SELECT => 4,
-        opcodes::OPEN => 2,
-        opcodes::END => 2,
-        opcodes::CASE => 4,
-        _ => 0,
-    }
-}
-
-// .. at a place; past the code none does.
+// How many numbers the instruction takes that begins at a place; 0 where none does, and past the code.
 fn width_at(code: &[u32], at: usize) -> usize
     ensures { result ≡ width (get_or code.now at 0) }
 {
-    if at < code.len() {
-        return width(code[at]);
-    }
-    0
+    code_machine::width(code_machine::word(code, at))
 }
 
 // An instruction of the code begins at a place: what refusal 17 asks.
 pub fn begins(code: &[u32], place: u32) -> bool
     ensures { (result ≡ true) ↔ Begins code.now place }
 {
-    let x = wide(place);
+    let x = place as usize;
     let mut at = 0;
     while at < x {
         let w = width_at(code, at);
@@ -106,33 +77,7 @@ pub fn begins(code: &[u32], place: u32) -> bool
         }
         at += w;
     }
-    if at != x {
-        return false;
-    }
-    let here = width_at(code, x);
-    if here == 0 {
-        return false;
-    }
-    true
-}
-
-// The end of a run that is stopped.
-const STOPPED: u32 = 4;
-
-// A pending end is one number to the machine: in its lower half the place.
-const HALF: u64 = 4294967296;
-
-fn long(x: u32) -> u64
-    ensures { result ≡ x }
-{
-    x as u64
-}
-
-// The pending end that two numbers of a mark stand for.
-fn end_of(place: u32, above: u32) -> u64
-    ensures { frame_of result ≡ frame_by above place }
-{
-    long(above) * HALF + long(place)
+    at == x && width_at(code, x) != 0
 }
 
 // Reads so many pending ends of the array from a place on.
@@ -141,11 +86,9 @@ fn load(marks: &Marks, at: usize, pending: usize, ends: &mut [u64])
     requires pending_in_bounds { pending ≤ length ends.old }
     ensures { stack ends.new pending ≡ ends_at marks.now at pending }
 {
-    let mut i = 0;
-    while i < pending {
+    for i in 0..pending {
         let k = at + i * 2;
-        ends[i] = end_of(marks[k], marks[k + 1]);
-        i += 1;
+        ends[i] = code_machine::pending_end(marks[k], marks[k + 1]);
     }
 }
 
@@ -157,11 +100,11 @@ fn taken_up(marks: &Marks, mark: u32, ends: &mut [u64]) -> Landing
     ensures most { result.pending ≤ room }
 {
     let part = part_at(mark);
-    let pending = wide(marks[part]) - 1;
+    let pending = marks[part] as usize - 1;
     load(marks, part + 2, pending, ends);
     Landing {
         place: marks[part + 1],
-        pending: pending,
+        pending,
     }
 }
 
@@ -181,32 +124,17 @@ fn begin_at(marks: &Marks, begin: Begin, ends: &mut [u64]) -> Landing
     }
 }
 
-// The two numbers of a pending end.
-fn lower(end: u64) -> u32
-    ensures { result ≡ end % half }
-{
-    (end % HALF) as u32
-}
-
-fn upper(end: u64) -> u32
-    ensures { result ≡ end / half }
-{
-    (end / HALF) as u32
-}
-
 // Writes so many pending ends to the array from a place on.
 fn save(marks: &mut Marks, at: usize, pending: usize, ends: &[u64])
     requires pending_bound { at + pending * 2 ≤ 8208 }
     requires pending_in_bounds { pending ≤ length ends.now }
     ensures { marks.new ≡ sets marks.old at (ends_numbers (stack ends.now pending)) }
 {
-    let mut i = 0;
-    while i < pending {
+    for i in 0..pending {
         let k = at + i * 2;
         let end = ends[i];
-        marks[k] = lower(end);
-        marks[k + 1] = upper(end);
-        i += 1;
+        marks[k] = code_machine::place_of(end);
+        marks[k + 1] = code_machine::above_of(end);
     }
 }
 
@@ -252,7 +180,7 @@ pub fn show(
     code: &[u32],
     answers: &[u32],
     out: &mut [u32],
-) -> Routed
+) -> Result<Route, Refused>
     requires ready { Ready marks.old begin }
     requires to_lt_marks_many { to < marksMany }
     ensures answer { result ≡ shown_answer (route_to (stop_of marks.old code.now answers.now begin stop)) (length out.old) }
@@ -263,12 +191,17 @@ pub fn show(
     let mut none: [u32; 1] = [0; 1];
     let counted = run_from(marks, begin, code, answers, &mut ends, stop, &mut none);
     if (out.len() as u64) < counted.entries {
-        return Routed::Short(counted.entries);
+        return Err(Refused::Short(Refusal::RouteSlice, counted.entries));
     }
     let halt = run_from(marks, begin, code, answers, &mut ends, stop, out);
-    if halt.end == STOPPED {
+    if halt.end == run_end::STOPPED {
         let at = halt.at;
         set_mark(marks, to, at.place, at.pending, &ends);
     }
-    Routed::Route(halt.end, halt.entries as usize, halt.taken)
+    let route = Route {
+        end: halt.end,
+        entries: halt.entries as usize,
+        taken: halt.taken,
+    };
+    Ok(route)
 }

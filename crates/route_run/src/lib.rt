@@ -4,22 +4,26 @@
 ghost use Rattle.std.specs.Prelude.{◌≡◌, length};
 ghost use Rattle.route_run.specs.Run.{run_answer, run_slice};
 
-// Refusal 18, with its place; or what a route comes to: its end, entries and answers taken, or 12 with the length needed.
+use refusal_verdict::Refused;
+use route_viewer::Route;
+
+// Why a code slice shows no route: refusal 18, with its place, which may be above 32 bits; or 12, with the length needed.
 #[derive(Clone, Copy)]
-pub enum Ran {
+pub enum NoRoute {
     Invalid(u64),
-    Shown(route_viewer::Routed),
+    Refused(Refused),
 }
 
 // The run of the code over the answers.
-pub fn run(code: &[u32], answers: &[u32], out: &mut [u32]) -> Ran
+pub fn run(code: &[u32], answers: &[u32], out: &mut [u32]) -> Result<Route, NoRoute>
     ensures value { result ≡ run_answer code.now answers.now (length out.old) }
     ensures out_after { out.new ≡ run_slice code.now answers.now out.old }
 {
-    let verdict = code_valid::check(code);
-    let code_valid::Verdict::BadAt(place) = verdict else {
-        let shown = route_viewer::show(code, answers, out);
-        return Ran::Shown(shown);
-    };
-    Ran::Invalid(place)
+    if let Err(place) = code_valid::check(code) {
+        return Err(NoRoute::Invalid(place));
+    }
+    match route_viewer::show(code, answers, out) {
+        Ok(route) => Ok(route),
+        Err(refused) => Err(NoRoute::Refused(refused)),
+    }
 }

@@ -6,8 +6,6 @@ ghost use Rattle.std.specs.Prelude.{◌≡◌, length};
 ghost use Rattle.code_flat.specs.Machine.{room};
 ghost use Rattle.route_shared.specs.Shared.{shared_entries};
 
-use code_machine::Next;
-
 // Each run has an array of its own for its pending ends.
 fn shared_over(
     code: &[u32],
@@ -24,20 +22,18 @@ fn shared_over(
     let mut q = code_machine::start(code);
     let mut entries = 0;
     loop {
-        let one = code_machine::next_entry(code, first, ends, p);
-        let Next::Listed(x, after_x) = one else {
+        let Ok(one) = code_machine::next_entry(code, first, ends, p) else {
             return entries;
         };
-        let other = code_machine::next_entry(code, second, others, q);
-        let Next::Listed(y, after_y) = other else {
+        let Ok(other) = code_machine::next_entry(code, second, others, q) else {
             return entries;
         };
-        if x != y {
+        if one.node != other.node {
             return entries;
         }
         entries = route_list::next(entries);
-        p = after_x;
-        q = after_y;
+        p = one.then;
+        q = other.then;
     }
 }
 

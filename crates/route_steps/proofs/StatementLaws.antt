@@ -1,8 +1,9 @@
 -- What each statement of the tables does, by its shape.
+use Rattle.table_records.specs.declared.NodeId.{NodeId}
 use Prim.Native.Nat.{ℕ, zero, suc, ◌+◌, ◌<◌}
 use Rattle.std.proofs.Math.Path.{◌≡◌, refl, ap}
 use Rattle.std.proofs.Common.{sym, ◌∙◌, inl, inr, eq-eqb, ne_eqb, eqb-true}
-use Rattle.std.specs.Prelude.{◌⊎◌, Bool, ◌||◌, eqb, ltb, length}
+use Rattle.std.specs.Prelude.{◌⊎◌, Bool, ◌||◌, eqb, ltb, length, Option, Some, None}
 use mathlib.Core.List.{List, [], ◌∷◌, ◌++◌, foldr, append-nil}
 use Rattle.std.proofs.Math.Bool.{true, false, cond}
 use Rattle.std.proofs.Math.ListN.{drop}
@@ -13,8 +14,6 @@ use Rattle.table_records.specs.Table.{count, role_of, kind_of}
 use Rattle.table_records.specs.Roles as role
 use Rattle.table_records.specs.Kinds as k
 use Rattle.table_children.specs.Children.{label_of}
-use Rattle.table_records.specs.declared.Found.{Found}
-use Rattle.table_records.specs.declared.Found.TheVariants.{At, Nothing}
 use Rattle.table_children.specs.Children.{keep}
 use Rattle.route_completion.specs.Tree.{Stmt, if2, if3, nil, try_c, try_f}
 use Rattle.route_completion.specs.Sem.{out, elem, breaks, continues, returns, throws, plain, more, normal, ask, pick, is_yes, unbreak, unlabel, loops, comp_of, and_then, exec, execs, exec_from, entry, default_at as defaultPlace, count as countCases}
@@ -96,17 +95,17 @@ module _ (ns names : List ℕ) (g : Good ns) where
     ifs [] (inr (inr w)) e = let z : ◌≡◌ {A = ℕ} 0 1 = cc w.2 in absurd (omega arith)
     ifs (c ∷ []) w e = ap (ask j qs) (λ i a r. one (is_yes a) r i)
       where
-        one : (b : Bool) (r : List ℕ) → pick b (exec (S c) [] r) (out [] normal r) ≡ ran_of S (pick b (At (record { 0 = c })) Nothing) r
+        one : (b : Bool) (r : List ℕ) → pick b (exec (S c) [] r) (out [] normal r) ≡ ran_of S (pick b (Some (record { 0 = c })) None) r
         one true r = refl
         one false r = refl
     ifs (c ∷ d ∷ ds) w e = go (eqb (role_of ns c) role.Alternate)
       where
-        two : (x y : ℕ) (b : Bool) (r : List ℕ) → pick b (exec (S x) [] r) (exec (S y) [] r) ≡ ran_of S (pick b (At (record { 0 = x })) (At (record { 0 = y }))) r
+        two : (x y : ℕ) (b : Bool) (r : List ℕ) → pick b (exec (S x) [] r) (exec (S y) [] r) ≡ ran_of S (pick b (Some (record { 0 = x })) (Some (record { 0 = y }))) r
         two x y true r = refl
         two x y false r = refl
 
         go : (t : Bool) → exec (cond t (if3 j (S c) (S d)) (if2 j (S c) (S d))) ls qs
-            ≡ ask j qs (λ a r. ran_of S (cond t (pick (is_yes a) (At (record { 0 = d })) (At (record { 0 = c }))) (pick (is_yes a) (At (record { 0 = c })) (At (record { 0 = d })))) r)
+            ≡ ask j qs (λ a r. ran_of S (cond t (pick (is_yes a) (Some (record { 0 = d })) (Some (record { 0 = c }))) (pick (is_yes a) (Some (record { 0 = c })) (Some (record { 0 = d })))) r)
         go true = ap (ask j qs) (λ i a r. two d c (is_yes a) r i)
         go false = ap (ask j qs) (λ i a r. two c d (is_yes a) r i)
 
@@ -303,7 +302,7 @@ module _ (ns names : List ℕ) (g : Good ns) where
   unfolding body_of statement order
   body_is b x = ap (λ s. list_of (stmt_at ns names (count ns)) (order_by ns s (P b))) x
 
-  pub unit_is_lem : (u b : ℕ) → holder_of ns u ≡ At (record { 0 = b }) → shape_at ns b ≡ Block → unit_of ns names u ≡ list_of S (P b)
+  pub unit_is_lem : (u b : ℕ) → holder_of ns u ≡ Some (record { 0 = b }) → shape_at ns b ≡ Block → unit_of ns names u ≡ list_of S (P b)
   unfolding unit_of
   unit_is_lem u b e x = ap (unit_by ns names) e ∙ body_is b x
 
@@ -346,7 +345,7 @@ module _ (ns names : List ℕ) (j m : ℕ) (e : m ≡ kind_of ns j) where
   alike : (n : ℕ) → m ≡ n → eqb (kind_of ns j) n ≡ true
   alike n d = eq-eqb (kind_of ns j) n (sym e ∙ d)
 
-  module _ (x : Found) (q : x ≡ label_of ns j) where
+  module _ (x : Option NodeId) (q : x ≡ label_of ns j) where
     pub comp_break : m ≡ k.Break → breaks (lab_by ns names x) ≡ comp_of (leaf_at ns names j)
     unfolding leaf_at
     comp_break a = rw (alike k.Break a) (ap (λ y. breaks (lab_by ns names y)) q)
@@ -368,6 +367,6 @@ module _ (ns names : List ℕ) (j m : ℕ) (e : m ≡ kind_of ns j) where
   comp_normal a b c d = rw (unlike k.Break a, unlike k.Continue b, unlike k.Return c, unlike k.Throw d)
 
 -- A unit that no node holds statements of.
-pub unit_none : (ns names : List ℕ) (u : ℕ) → holder_of ns u ≡ Nothing → unit_of ns names u ≡ nil
+pub unit_none : (ns names : List ℕ) (u : ℕ) → holder_of ns u ≡ None → unit_of ns names u ≡ nil
 unfolding unit_of
 unit_none ns names u e = ap (unit_by ns names) e

@@ -1,5 +1,6 @@
 -- Laws of the searches for a part.
-use Rattle.std.specs.Prelude.{ℕ, zero, suc, ◌+◌, ◌≤◌, ◌<◌, ◌≡◌, Bool, true, false, ◌&&◌, eqb, length, drop}
+use Rattle.table_records.specs.declared.NodeId.{NodeId}
+use Rattle.std.specs.Prelude.{ℕ, zero, suc, ◌+◌, ◌≤◌, ◌<◌, ◌≡◌, Bool, true, false, ◌&&◌, eqb, length, drop, Option, Some, None}
 use Rattle.std.proofs.Math.Path.{refl, ap, sym}
 use Rattle.std.proofs.Common.{◌∙◌, subst, arith, eq-eqb, ne_eqb, eqb-true, lt-ltb, le-ltb}
 use mathlib.Core.List.{List, [], ◌∷◌}
@@ -8,8 +9,6 @@ use Rattle.std.proofs.Math.Decide.{dec_lt}
 use Rattle.base_common.proofs.UptoLaws.{and_left_lem, and_right_lem}
 use Rattle.table_records.specs.Table.{count, role_of}
 use Rattle.table_records.specs.Roles as role
-use Rattle.table_records.specs.declared.Found.{Found}
-use Rattle.table_records.specs.declared.Found.TheVariants.{At, Nothing}
 use Rattle.table_children.specs.Children.{keep}
 use Rattle.route_completion.specs.Sem.{is_yes, pick}
 use Rattle.code_tree.specs.Parts.{up_of, is_part, parts, with_role}
@@ -83,7 +82,7 @@ module _ (ns : List ℕ) (p : ℕ) where
   case_default ps a e = ap (λ x. cond x (drop a ps) (from_default ns ps)) (le-ltb a (length ps) (short ps a e))
 
   -- The search by role.
-  abbrev role_from : ℕ → List ℕ → Found
+  abbrev role_from : ℕ → List ℕ → Option NodeId
   role_from r ps = head_of (with_role ns r ps)
 
   pub role_start : (r : ℕ) → role_from r (parts ns p (p + 1)) ≡ role_in ns p r
@@ -95,12 +94,12 @@ module _ (ns : List ℕ) (p : ℕ) where
   role_on r ps c e f m q n =
       sym (ap (role_from r) f ∙ ap (λ x. head_of (cond x (c ∷ with_role ns r (parts ns p (c + 1))) (with_role ns r (parts ns p (c + 1))))) (ne_eqb (role_of ns c) r (λ d. n (q ∙ d)))) ∙ e
 
-  pub role_hit : (r : ℕ) (ps : List ℕ) (c : ℕ) → role_from r ps ≡ role_in ns p r → ps ≡ c ∷ parts ns p (c + 1) → (m : ℕ) → m ≡ role_of ns c → m ≡ r → At (record { 0 = c }) ≡ role_in ns p r
+  pub role_hit : (r : ℕ) (ps : List ℕ) (c : ℕ) → role_from r ps ≡ role_in ns p r → ps ≡ c ∷ parts ns p (c + 1) → (m : ℕ) → m ≡ role_of ns c → m ≡ r → Some (record { 0 = c }) ≡ role_in ns p r
   unfolding keep
   role_hit r ps c e f m q n =
       sym (ap (role_from r) f ∙ ap (λ x. head_of (cond x (c ∷ with_role ns r (parts ns p (c + 1))) (with_role ns r (parts ns p (c + 1))))) (eq-eqb (role_of ns c) r (sym q ∙ n))) ∙ e
 
-  pub role_none : (r : ℕ) (ps : List ℕ) → role_from r ps ≡ role_in ns p r → ps ≡ [] → Nothing ≡ role_in ns p r
+  pub role_none : (r : ℕ) (ps : List ℕ) → role_from r ps ≡ role_in ns p r → ps ≡ [] → None ≡ role_in ns p r
   unfolding keep
   role_none r ps e f = sym (ap (role_from r) f) ∙ e
 
@@ -126,29 +125,29 @@ yes_is zero n = absurd (n refl)
 yes_is (suc a) n = refl
 
 module _ (ns ps : List ℕ) (a c : ℕ) (cs : List ℕ) (e : ps ≡ c ∷ cs) where
-  pub branch_one_no : cs ≡ [] → a ≡ 0 → Nothing ≡ branch_of ns ps a
+  pub branch_one_no : cs ≡ [] → a ≡ 0 → None ≡ branch_of ns ps a
   branch_one_no f z = sym ((λ i. branch_of ns ((e ∙ ap (λ l. c ∷ l) f) i) (z i)))
 
-  pub branch_one_yes : cs ≡ [] → (a ≡ 0 → ⊥) → At (record { 0 = c }) ≡ branch_of ns ps a
-  branch_one_yes f n = sym (ap (λ l. branch_of ns l a) (e ∙ ap (λ l. c ∷ l) f) ∙ ap (λ b. pick b (At (record { 0 = c })) Nothing) (yes_is a n))
+  pub branch_one_yes : cs ≡ [] → (a ≡ 0 → ⊥) → Some (record { 0 = c }) ≡ branch_of ns ps a
+  branch_one_yes f n = sym (ap (λ l. branch_of ns l a) (e ∙ ap (λ l. c ∷ l) f) ∙ ap (λ b. pick b (Some (record { 0 = c })) None) (yes_is a n))
 
   module _ (d : ℕ) (ds : List ℕ) (f : cs ≡ d ∷ ds) (m : ℕ) (q : m ≡ role_of ns c) where
-    both : (x y : Bool) → eqb m role.Alternate ≡ x → is_yes a ≡ y → cond x (pick y (At (record { 0 = d })) (At (record { 0 = c }))) (pick y (At (record { 0 = c })) (At (record { 0 = d }))) ≡ branch_of ns ps a
+    both : (x y : Bool) → eqb m role.Alternate ≡ x → is_yes a ≡ y → cond x (pick y (Some (record { 0 = d })) (Some (record { 0 = c }))) (pick y (Some (record { 0 = c })) (Some (record { 0 = d }))) ≡ branch_of ns ps a
     both x y u v =
         sym (ap (λ l. branch_of ns l a) (e ∙ ap (λ l. c ∷ l) f)
-        ∙ (λ i. cond (((λ j. eqb (sym q j) role.Alternate) ∙ u) i) (pick (v i) (At (record { 0 = d })) (At (record { 0 = c }))) (pick (v i) (At (record { 0 = c })) (At (record { 0 = d })))))
+        ∙ (λ i. cond (((λ j. eqb (sym q j) role.Alternate) ∙ u) i) (pick (v i) (Some (record { 0 = d })) (Some (record { 0 = c }))) (pick (v i) (Some (record { 0 = c })) (Some (record { 0 = d })))))
 
-    pub branch_alternate_no : m ≡ role.Alternate → a ≡ 0 → At (record { 0 = c }) ≡ branch_of ns ps a
+    pub branch_alternate_no : m ≡ role.Alternate → a ≡ 0 → Some (record { 0 = c }) ≡ branch_of ns ps a
     branch_alternate_no u z = both true false (eq-eqb m role.Alternate u) (ap is_yes z)
 
-    pub branch_alternate_yes : m ≡ role.Alternate → (a ≡ 0 → ⊥) → At (record { 0 = d }) ≡ branch_of ns ps a
+    pub branch_alternate_yes : m ≡ role.Alternate → (a ≡ 0 → ⊥) → Some (record { 0 = d }) ≡ branch_of ns ps a
     branch_alternate_yes u n = both true true (eq-eqb m role.Alternate u) (yes_is a n)
 
-    pub branch_held_no : (m ≡ role.Alternate → ⊥) → a ≡ 0 → At (record { 0 = d }) ≡ branch_of ns ps a
+    pub branch_held_no : (m ≡ role.Alternate → ⊥) → a ≡ 0 → Some (record { 0 = d }) ≡ branch_of ns ps a
     branch_held_no u z = both false false (ne_eqb m role.Alternate u) (ap is_yes z)
 
-    pub branch_held_yes : (m ≡ role.Alternate → ⊥) → (a ≡ 0 → ⊥) → At (record { 0 = c }) ≡ branch_of ns ps a
+    pub branch_held_yes : (m ≡ role.Alternate → ⊥) → (a ≡ 0 → ⊥) → Some (record { 0 = c }) ≡ branch_of ns ps a
     branch_held_yes u n = both false true (ne_eqb m role.Alternate u) (yes_is a n)
 
-pub branch_none : (ns ps : List ℕ) (a : ℕ) → ps ≡ [] → Nothing ≡ branch_of ns ps a
+pub branch_none : (ns ps : List ℕ) (a : ℕ) → ps ≡ [] → None ≡ branch_of ns ps a
 branch_none ns ps a e = sym (ap (λ l. branch_of ns l a) e)

@@ -1,8 +1,7 @@
 -- A walk of the tree by the completion rules: what it lists, what it takes, how it completes.
-use Rattle.std.specs.Prelude.{ℕ, ◌+◌, ◌≤◌, ◌<◌, ◌≡◌, List, [], ◌∷◌, length, drop, set}
+use Rattle.std.specs.Prelude.{ℕ, ◌+◌, ◌≤◌, ◌<◌, ◌≡◌, List, [], ◌∷◌, length, drop, set, Some}
 use Rattle.table_records.specs.Table.{count}
 use Rattle.table_records.specs.Facts.{Tree, Named}
-use Rattle.table_records.specs.declared.Found.TheVariants.{At}
 use Rattle.route_completion.specs.Tree.{near, named}
 use Rattle.route_completion.specs.Sem.{Entry, Comp, normal, breaks, continues, returns, throws, spent, Out}
 use Rattle.route_completion.specs.Route.{node_of, asks, end_of, Route}
@@ -23,7 +22,7 @@ pub record Walkable (ns names : List ℕ) : Type 0 where
 pub record Enterable (ns names : List ℕ) (u : ℕ) : Type 0 where
   pub tree : Tree ns
   pub root : u < count ns
-  pub held : (b : ℕ) → holder_of ns u ≡ At (record { 0 = b }) → Held ns names b
+  pub held : (b : ℕ) → holder_of ns u ≡ Some (record { 0 = b }) → Held ns names b
 
 -- The Completion Record that the walk's number stands for: a label by its node.
 abbrev pub comp_at : List ℕ → List ℕ → Completion → Comp

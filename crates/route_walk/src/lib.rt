@@ -15,15 +15,14 @@ ghost use Rattle.route_walk.specs.Walk.{Walkable, Enterable, comp_at, label_in, 
 ghost use Rattle.route_steps.specs.Statement.{is_labeled, labels_of, statement};
 ghost use Rattle.route_steps.specs.Steps.{First, part_of, branch_of, cases_from, from_default, role_in, ran_of, caught_by, finally_by};
 
-use base_common::and;
 use code_shapes::{shape_of, up_of};
 use code_tree::Shape;
-use table_records::{Found, NodeId, kinds, roles};
+use table_records::{NodeId, kinds, roles};
 
 mod unit_end;
 
 // How a statement completes, as ECMA-262's Completion Record: a break or continue with its label's node where it has one. Or no answer was left.
-#[derive(Clone, Copy)]
+#[derive(Clone, Copy, PartialEq, Eq)]
 pub enum Completion {
     Normal,
     Break,
@@ -46,46 +45,19 @@ pub struct Run {
 fn is_normal(how: Completion) -> bool
     ensures { (ns names : List ℕ) → result ≡ is_normal (comp_at ns names how) }
 {
-    match how {
-        Completion::Normal => true,
-        Completion::Break => false,
-        Completion::BreakTo(_) => false,
-        Completion::Continue => false,
-        Completion::ContinueTo(_) => false,
-        Completion::Return => false,
-        Completion::Throw => false,
-        Completion::Spent => false,
-    }
+    matches!(how, Completion::Normal)
 }
 
 fn is_throw(how: Completion) -> bool
     ensures { (ns names : List ℕ) → result ≡ is_throw (comp_at ns names how) }
 {
-    match how {
-        Completion::Normal => false,
-        Completion::Break => false,
-        Completion::BreakTo(_) => false,
-        Completion::Continue => false,
-        Completion::ContinueTo(_) => false,
-        Completion::Return => false,
-        Completion::Throw => true,
-        Completion::Spent => false,
-    }
+    matches!(how, Completion::Throw)
 }
 
 fn is_spent(how: Completion) -> bool
     ensures { (ns names : List ℕ) → result ≡ is_spent (comp_at ns names how) }
 {
-    match how {
-        Completion::Normal => false,
-        Completion::Break => false,
-        Completion::BreakTo(_) => false,
-        Completion::Continue => false,
-        Completion::ContinueTo(_) => false,
-        Completion::Return => false,
-        Completion::Throw => false,
-        Completion::Spent => true,
-    }
+    matches!(how, Completion::Spent)
 }
 
 // A break without a label, at the loop or switch that it leaves.
@@ -94,14 +66,8 @@ fn unbroken(how: Completion) -> Completion
     ensures by_index_2 { (ns : List ℕ) → label_in ns how → label_in ns result }
 {
     match how {
-        Completion::Normal => Completion::Normal,
         Completion::Break => Completion::Normal,
-        Completion::BreakTo(l) => Completion::BreakTo(l),
-        Completion::Continue => Completion::Continue,
-        Completion::ContinueTo(l) => Completion::ContinueTo(l),
-        Completion::Return => Completion::Return,
-        Completion::Throw => Completion::Throw,
-        Completion::Spent => Completion::Spent,
+        other => other,
     }
 }
 
@@ -112,7 +78,7 @@ fn has_same_label(nodes: &[u32], names: &[u8], p: NodeId, l: NodeId) -> bool
     requires l_bound { l.0 < count nodes.now }
     ensures { result ≡ eqb (name_id nodes.now names.now l.0) (id_at nodes.now names.now p.0) }
 {
-    let Found::At(own) = table_children::label_of(nodes, p) else {
+    let Some(own) = table_children::label_of(nodes, p) else {
         return false;
     };
     table_names::same_name(nodes, names, own, l)
@@ -127,38 +93,15 @@ fn unlabelled(nodes: &[u32], names: &[u8], p: NodeId, how: Completion) -> Comple
     ensures label_in_2 { label_in nodes.now result }
 {
     match how {
-        Completion::BreakTo(l) => {
-            if has_same_label(nodes, names, p, l) {
-                return Completion::Normal;
-            }
-            Completion::BreakTo(l)
-        }
-        Completion::Normal => Completion::Normal,
-        Completion::Break => Completion::Break,
-        Completion::Continue => Completion::Continue,
-        Completion::ContinueTo(l) => Completion::ContinueTo(l),
-        Completion::Return => Completion::Return,
-        Completion::Throw => Completion::Throw,
-        Completion::Spent => Completion::Spent,
+        Completion::BreakTo(l) if has_same_label(nodes, names, p, l) => Completion::Normal,
+        other => other,
     }
 }
 
 fn is_labeled(s: Shape) -> bool
     ensures { result ≡ is_labeled s }
 {
-    match s {
-        Shape::Leaf => false,
-        Shape::Class => false,
-        Shape::If => false,
-        Shape::With => false,
-        Shape::Block => false,
-        Shape::Label => true,
-        Shape::Loop => false,
-        Shape::Switch => false,
-        Shape::Case => false,
-        Shape::Try => false,
-        Shape::Catch => false,
-    }
+    matches!(s, Shape::Label)
 }
 
 // Whether a Labeled of the name of l is p, or stands right above it.
@@ -188,13 +131,8 @@ fn loop_continues(nodes: &[u32], names: &[u8], n: NodeId, how: Completion) -> bo
 {
     match how {
         Completion::ContinueTo(l) => has_label(nodes, names, up_of(nodes, n), l),
-        Completion::Normal => true,
-        Completion::Break => false,
-        Completion::BreakTo(_) => false,
-        Completion::Continue => true,
-        Completion::Return => false,
-        Completion::Throw => false,
-        Completion::Spent => false,
+        Completion::Normal | Completion::Continue => true,
+        _ => false,
     }
 }
 
@@ -205,129 +143,103 @@ fn completion_of(nodes: &[u32], names: &[u8], n: NodeId) -> Completion
     ensures result_value { comp_at nodes.now names.now result ≡ comp_of (leaf_at nodes.now names.now n.0) }
     ensures label_in { label_in nodes.now result }
 {
-    let kind = table_records::kind(nodes, n);
     let label = table_children::label_of(nodes, n);
-    if kind == kinds::BREAK {
-        let Found::At(l) = label else {
-            return Completion::Break;
-        };
-        return Completion::BreakTo(l);
+    match table_records::kind(nodes, n) {
+        kinds::BREAK => match label {
+            Some(l) => Completion::BreakTo(l),
+            None => Completion::Break,
+        },
+        kinds::CONTINUE => match label {
+            Some(l) => Completion::ContinueTo(l),
+            None => Completion::Continue,
+        },
+        kinds::RETURN => Completion::Return,
+        kinds::THROW => Completion::Throw,
+        _ => Completion::Normal,
     }
-    if kind == kinds::CONTINUE {
-        let Found::At(l) = label else {
-            return Completion::Continue;
-        };
-        return Completion::ContinueTo(l);
-    }
-    if kind == kinds::RETURN {
-        return Completion::Return;
-    }
-    if kind == kinds::THROW {
-        return Completion::Throw;
-    }
-    Completion::Normal
 }
 
 // The first part of p from a node on.
-fn next_part(nodes: &[u32], p: NodeId, from: u32) -> Found
+fn next_part(nodes: &[u32], p: NodeId, from: u32) -> Option<NodeId>
     requires tree { Tree nodes.now }
     requires p_lt_from { p.0 < from }
     requires from_bound { from ≤ count nodes.now }
     ensures { First nodes.now p.0 (parts nodes.now p.0 from) result }
 {
     let mut i = from;
+    // `while`, since a range asks for the table's size: nothing that a walk up calls divides.
     while table_records::is_node(nodes, i) {
-        let up = up_of(nodes, NodeId(i));
-        let part = code_shapes::is_part(nodes, NodeId(i));
-        if and(up.0 == p.0, part) {
-            return Found::At(NodeId(i));
+        let n = NodeId(i);
+        if up_of(nodes, n) == p && code_shapes::is_part(nodes, n) {
+            return Some(n);
         }
         i += 1;
     }
-    Found::Nothing
+    None
 }
 
 // The a-th part of p.
-fn nth_part(nodes: &[u32], p: NodeId, a: u32) -> Found
+fn nth_part(nodes: &[u32], p: NodeId, a: u32) -> Option<NodeId>
     requires tree { Tree nodes.now }
     requires p_bound { p.0 < count nodes.now }
     ensures { First nodes.now p.0 (drop a (parts nodes.now p.0 (p.0 + 1))) result }
 {
     let mut from = p.0 + 1;
-    let mut left = a;
-    loop {
-        let Found::At(c) = next_part(nodes, p, from) else {
-            return Found::Nothing;
-        };
-        if left == 0 {
-            return Found::At(c);
-        }
-        left -= 1;
-        from = c.0 + 1;
+    for _passed in 0..a {
+        from = next_part(nodes, p, from)?.0 + 1;
     }
+    next_part(nodes, p, from)
 }
 
+// This walk and that of `part_with_role` differ in one test: the contract of a closure for it would be as long as either.
 // The `default` among the parts of p.
-fn default_part(nodes: &[u32], p: NodeId) -> Found
+fn default_part(nodes: &[u32], p: NodeId) -> Option<NodeId>
     requires tree { Tree nodes.now }
     requires p_bound { p.0 < count nodes.now }
     ensures { First nodes.now p.0 (from_default nodes.now (parts nodes.now p.0 (p.0 + 1))) result }
 {
     let mut from = p.0 + 1;
     loop {
-        let Found::At(c) = next_part(nodes, p, from) else {
-            return Found::Nothing;
-        };
+        let c = next_part(nodes, p, from)?;
         if code_shapes::is_default(nodes, c) {
-            return Found::At(c);
+            return Some(c);
         }
         from = c.0 + 1;
     }
 }
 
 // The case of the switch p that the answer picks.
-fn case_of(nodes: &[u32], p: NodeId, a: u32) -> Found
+fn case_of(nodes: &[u32], p: NodeId, a: u32) -> Option<NodeId>
     requires tree { Tree nodes.now }
     requires p_bound { p.0 < count nodes.now }
     ensures { First nodes.now p.0 (cases_from nodes.now (parts nodes.now p.0 (p.0 + 1)) a) result }
 {
-    let Found::At(c) = nth_part(nodes, p, a) else {
+    let Some(c) = nth_part(nodes, p, a) else {
         return default_part(nodes, p);
     };
-    Found::At(c)
+    Some(c)
 }
 
 // The part of the If p that the answer picks.
-fn branch_of(nodes: &[u32], p: NodeId, a: u32) -> Found
+fn branch_of(nodes: &[u32], p: NodeId, a: u32) -> Option<NodeId>
     requires tree { Tree nodes.now }
     requires p_bound { p.0 < count nodes.now }
     ensures value { result ≡ branch_of nodes.now (parts nodes.now p.0 (p.0 + 1)) a }
     ensures part_of { part_of nodes.now p.0 result }
 {
-    let Found::At(first) = next_part(nodes, p, p.0 + 1) else {
-        return Found::Nothing;
+    let first = next_part(nodes, p, p.0 + 1)?;
+    let Some(other) = next_part(nodes, p, first.0 + 1) else {
+        return if a == 0 { None } else { Some(first) };
     };
-    let second = next_part(nodes, p, first.0 + 1);
-    let Found::At(other) = second else {
-        if a == 0 {
-            return Found::Nothing;
-        }
-        return Found::At(first);
-    };
-    if table_records::role(nodes, first) == roles::ALTERNATE {
-        if a == 0 {
-            return Found::At(first);
-        }
-        return Found::At(other);
+    if (table_records::role(nodes, first) == roles::ALTERNATE) == (a == 0) {
+        Some(first)
+    } else {
+        Some(other)
     }
-    if a == 0 {
-        return Found::At(other);
-    }
-    Found::At(first)
 }
 
 // The first part of p with the role r.
-fn part_with_role(nodes: &[u32], p: NodeId, r: u32) -> Found
+fn part_with_role(nodes: &[u32], p: NodeId, r: u32) -> Option<NodeId>
     requires tree { Tree nodes.now }
     requires p_bound { p.0 < count nodes.now }
     ensures value { result ≡ role_in nodes.now p.0 r }
@@ -335,11 +247,9 @@ fn part_with_role(nodes: &[u32], p: NodeId, r: u32) -> Found
 {
     let mut from = p.0 + 1;
     loop {
-        let Found::At(c) = next_part(nodes, p, from) else {
-            return Found::Nothing;
-        };
+        let c = next_part(nodes, p, from)?;
         if table_records::role(nodes, c) == r {
-            return Found::At(c);
+            return Some(c);
         }
         from = c.0 + 1;
     }
@@ -351,8 +261,8 @@ fn listed(out: &mut [u32], n: NodeId, start: Run) -> Run
 {
     Run {
         entries: route_list::add(out, start.entries, n.0),
-        taken: start.taken,
         how: Completion::Normal,
+        ..start
     }
 }
 
@@ -378,8 +288,8 @@ fn walk_leaf(nodes: &[u32], names: &[u8], out: &mut [u32], n: NodeId, start: Run
     let how = completion_of(nodes, names, n);
     Run {
         entries: route_list::add(out, start.entries, n.0),
-        taken: start.taken,
-        how: how,
+        how,
+        ..start
     }
 }
 
@@ -387,11 +297,9 @@ fn walk_leaf(nodes: &[u32], names: &[u8], out: &mut [u32], n: NodeId, start: Run
 fn left(run: Run) -> Run
     ensures { (ns names qs f g : List ℕ) (start : Run) (o : Out) → Walked ns names qs f start o g run → Walked ns names qs f start (unbreak o) g result }
 {
-    let how = run.how;
     Run {
-        entries: run.entries,
-        taken: run.taken,
-        how: unbroken(how),
+        how: unbroken(run.how),
+        ..run
     }
 }
 
@@ -402,14 +310,13 @@ fn left_label(nodes: &[u32], names: &[u8], p: NodeId, run: Run) -> Run
     requires label_in { label_in nodes.now run.how }
     ensures { (qs f g : List ℕ) (start : Run) (o : Out) → Walked nodes.now names.now qs f start o g run → Walked nodes.now names.now qs f start (unlabel (id_at nodes.now names.now p.0) o) g result }
 {
-    let how = run.how;
     Run {
-        entries: run.entries,
-        taken: run.taken,
-        how: unlabelled(nodes, names, p, how),
+        how: unlabelled(nodes, names, p, run.how),
+        ..run
     }
 }
 
+// The tables, the answers and the list are lent slices, which each of these functions takes one by one.
 // What the node n holds, where that is one statement.
 #[cycle(walk)]
 fn walk_one(
@@ -425,11 +332,10 @@ fn walk_one(
     requires taken_in_bounds { start.taken ≤ length answers.now }
     ensures { Walked nodes.now names.now answers.now out.old start (exec (one_of (statement nodes.now names.now) (parts nodes.now n.0 (n.0 + 1))) (labels_of nodes.now names.now n.0) (drop start.taken answers.now)) out.new result }
 {
-    let Found::At(c) = next_part(nodes, n, n.0 + 1) else {
+    let Some(c) = next_part(nodes, n, n.0 + 1) else {
         return Run {
-            entries: start.entries,
-            taken: start.taken,
             how: Completion::Normal,
+            ..start
         };
     };
     walk_node(nodes, names, answers, out, c, start)
@@ -456,16 +362,14 @@ fn walk_parts(
     let mut run = start;
     let mut i = from;
     loop {
-        let Found::At(c) = next_part(nodes, n, i) else {
+        let Some(c) = next_part(nodes, n, i) else {
             return Run {
-                entries: run.entries,
-                taken: run.taken,
                 how: Completion::Normal,
+                ..run
             };
         };
         let done = walk_node(nodes, names, answers, out, c, run);
-        let how = done.how;
-        if !is_normal(how) {
+        if !is_normal(done.how) {
             return done;
         }
         run = done;
@@ -492,14 +396,13 @@ fn walk_if(
     let at = start.taken;
     if answers.len() <= at {
         return Run {
-            entries: start.entries,
-            taken: start.taken,
             how: Completion::Spent,
+            ..start
         };
     }
     let a = answers[at];
     let next = asked(answers, out, n, start);
-    let Found::At(c) = branch_of(nodes, n, a) else {
+    let Some(c) = branch_of(nodes, n, a) else {
         return next;
     };
     walk_node(nodes, names, answers, out, c, next)
@@ -528,20 +431,18 @@ fn walk_turns(
         let at = run.taken;
         let a = answers[at];
         let next = asked(answers, out, n, run);
-        if and(heeds, a == 0) {
+        if heeds && a == 0 {
             return next;
         }
         let done = walk_one(nodes, names, answers, out, n, next);
-        let how = done.how;
-        if !loop_continues(nodes, names, n, how) {
+        if !loop_continues(nodes, names, n, done.how) {
             return done;
         }
         run = done;
     }
     Run {
-        entries: run.entries,
-        taken: run.taken,
         how: Completion::Spent,
+        ..run
     }
 }
 
@@ -567,8 +468,7 @@ fn walk_loop(
         return left(done);
     }
     let first = walk_one(nodes, names, answers, out, n, start);
-    let how = first.how;
-    if !loop_continues(nodes, names, n, how) {
+    if !loop_continues(nodes, names, n, first.how) {
         return left(first);
     }
     let done = walk_turns(nodes, names, answers, out, n, first);
@@ -594,14 +494,13 @@ fn walk_switch(
     let at = start.taken;
     if answers.len() <= at {
         return Run {
-            entries: start.entries,
-            taken: start.taken,
             how: Completion::Spent,
+            ..start
         };
     }
     let a = answers[at];
     let next = asked(answers, out, n, start);
-    let Found::At(c) = case_of(nodes, n, a) else {
+    let Some(c) = case_of(nodes, n, a) else {
         return next;
     };
     let done = walk_parts(nodes, names, answers, out, n, c.0, next);
@@ -624,20 +523,17 @@ fn walk_caught(
     requires taken_in_bounds { start.taken ≤ length answers.now }
     ensures { Walked nodes.now names.now answers.now out.old start (caught_by (statement nodes.now names.now) (role_in nodes.now n.0 role.Alternate) (ran_of (statement nodes.now names.now) (role_in nodes.now n.0 role.Held) (drop start.taken answers.now))) out.new result }
 {
-    let Found::At(block) = part_with_role(nodes, n, roles::HELD) else {
+    let Some(block) = part_with_role(nodes, n, roles::HELD) else {
         return Run {
-            entries: start.entries,
-            taken: start.taken,
             how: Completion::Normal,
+            ..start
         };
     };
     let done = walk_node(nodes, names, answers, out, block, start);
-    let how = done.how;
-    let handler = part_with_role(nodes, n, roles::ALTERNATE);
-    let Found::At(catch) = handler else {
+    let Some(catch) = part_with_role(nodes, n, roles::ALTERNATE) else {
         return done;
     };
-    if !is_throw(how) {
+    if !is_throw(done.how) {
         return done;
     }
     walk_node(nodes, names, answers, out, catch, done)
@@ -661,20 +557,15 @@ fn walk_try(
 {
     let done = walk_caught(nodes, names, answers, out, n, start);
     let how = done.how;
-    let Found::At(last) = part_with_role(nodes, n, roles::FINALLY) else {
+    let Some(last) = part_with_role(nodes, n, roles::FINALLY) else {
         return done;
     };
     if is_spent(how) {
         return done;
     }
     let end = walk_node(nodes, names, answers, out, last, done);
-    let ends = end.how;
-    if is_normal(ends) {
-        return Run {
-            entries: end.entries,
-            taken: end.taken,
-            how: how,
-        };
+    if is_normal(end.how) {
+        return Run { how, ..end };
     }
     end
 }
@@ -706,14 +597,13 @@ fn walk_node(
             let next = listed(out, n, start);
             walk_one(nodes, names, answers, out, n, next)
         }
-        Shape::Block => walk_parts(nodes, names, answers, out, n, n.0 + 1, start),
+        Shape::Block | Shape::Case => walk_parts(nodes, names, answers, out, n, n.0 + 1, start),
         Shape::Label => {
             let done = walk_one(nodes, names, answers, out, n, start);
             left_label(nodes, names, n, done)
         }
         Shape::Loop => walk_loop(nodes, names, answers, out, n, start),
         Shape::Switch => walk_switch(nodes, names, answers, out, n, start),
-        Shape::Case => walk_parts(nodes, names, answers, out, n, n.0 + 1, start),
         Shape::Try => walk_try(nodes, names, answers, out, n, start),
         Shape::Catch => walk_one(nodes, names, answers, out, n, start),
     }
@@ -725,13 +615,13 @@ pub fn end_of(how: Completion) -> u32
 {
     match how {
         Completion::Normal => unit_end::FELL_THROUGH,
-        Completion::Break => unit_end::ASTRAY,
-        Completion::BreakTo(_) => unit_end::ASTRAY,
-        Completion::Continue => unit_end::ASTRAY,
-        Completion::ContinueTo(_) => unit_end::ASTRAY,
         Completion::Return => unit_end::RETURNED,
         Completion::Throw => unit_end::THROWN,
         Completion::Spent => unit_end::SPENT,
+        Completion::Break
+        | Completion::BreakTo(_)
+        | Completion::Continue
+        | Completion::ContinueTo(_) => unit_end::ASTRAY,
     }
 }
 
@@ -745,7 +635,7 @@ pub fn walk_unit(nodes: &[u32], names: &[u8], answers: &[u32], out: &mut [u32], 
         taken: 0,
         how: Completion::Normal,
     };
-    let Found::At(b) = code_shapes::holder(nodes, u) else {
+    let Some(b) = code_shapes::holder(nodes, u) else {
         return start;
     };
     walk_parts(nodes, names, answers, out, b, b.0 + 1, start)

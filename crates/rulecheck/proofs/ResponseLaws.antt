@@ -1,5 +1,5 @@
 -- The text as the code comes to it: from the answer of `check` and its slice, and from the slices that were read.
-use Rattle.std.specs.Prelude.{ℕ, ◌+◌, ◌*◌, ◌≡◌, Bool, leb, take}
+use Rattle.std.specs.Prelude.{Result, Ok, Err, ℕ, ◌+◌, ◌*◌, ◌≡◌, Bool, leb, take}
 use Rattle.std.proofs.Math.Path.{refl, ap, sym, subst}
 use Rattle.std.proofs.Common.{◌∙◌, zero-add, leb-true}
 use Rattle.std.proofs.Math.Bool.{true, false, cond}
@@ -8,19 +8,18 @@ use Rattle.std.proofs.Math.ListN.{length, drop}
 use Rattle.base_common.specs.Wrote.{put}
 use Rattle.check_diagnostics.specs.declared.Finding.{Finding}
 use Rattle.check_diagnostics.specs.Finding.{numbers, flat}
-use Rattle.refusal_verdict.specs.Refusals as refusal
-use Rattle.refusal_verdict.specs.declared.Verdict.{Verdict}
-use Rattle.refusal_verdict.specs.declared.Verdict.TheVariants as verdict
+use Rattle.refusal_verdict.specs.declared.Refusal.TheVariants as refusal
+use Rattle.refusal_verdict.specs.declared.Refused.{Refused}
+use Rattle.refusal_verdict.specs.declared.Refused.TheVariants.{At, Short}
+use Rattle.refusal_verdict.specs.Verdict.{Verdict, Passed, unless}
 use Rattle.refusal_input.specs.Input.{input_refusal}
 use Rattle.check_dispatch.specs.Rule.{rule}
 use Rattle.check_dispatch.specs.Reported.{reported}
 use Rattle.check_dispatch.proofs.ReportedLaws.{off}
-use Rattle.call_check.specs.declared.Checked.{Checked}
-use Rattle.call_check.specs.declared.Checked.TheVariants.{Findings, Short}
-use Rattle.call_check.specs.Check.{report_answer, report_slice, answer_by, slice_by, check_answer, check_slice}
+use Rattle.call_check.specs.Check.{report_answer, report_slice, check_answer, check_slice}
 use Rattle.line_fields.specs.Split.{lines_of}
-use Rattle.line_input.specs.declared.Input.{Input}
-use Rattle.line_input.specs.declared.Input.TheVariants.{Tables, Unread}
+use Rattle.line_input.specs.declared.Tables.{Tables}
+use Rattle.line_input.specs.declared.Unread.{Unread}
 use Rattle.line_input.specs.Format.{Room, Reading, lent, read_input, front, Given}
 use Rattle.line_input.specs.Sizes.{Sized, lines_told, part}
 use Rattle.line_input.specs.Whole.{enough, input_whole}
@@ -36,31 +35,31 @@ lines_flat (f ∷ fs) r = ap (λ (x : List ℕ). line_of 70 (numbers f) ++ x) (l
 
 -- what `check` answers and leaves gives the text
 module _ (fs : List Finding) (s : List ℕ) (h : length s ≡ findings_room) where
-  report_text : answer_text (report_answer fs (length s)) (report_slice fs s) ≡ verdict_text verdict.Passed fs
+  report_text : answer_text (report_answer fs (length s)) (report_slice fs s) ≡ verdict_text Passed fs
   unfolding report_answer report_slice answer_text verdict_text
   report_text = rw h (go (leb (7 * length fs) findings_room))
     where
-      go : (t : Bool) → answer_text (cond t (Findings (length fs)) (Short (7 * length fs))) (cond t (flat fs ++ drop (7 * length fs) s) s)
-          ≡ cond t (lines_for fs ++ line_of 69 (length fs ∷ [])) (refusal_text refusal.FindingsSlice 0)
+      go : (t : Bool) → answer_text (cond t (Ok (length fs)) (Err (Short refusal.FindingsSlice (7 * length fs)))) (cond t (flat fs ++ drop (7 * length fs) s) s)
+          ≡ cond t (lines_for fs ++ line_of 69 (length fs ∷ [])) (refusal_text (Short refusal.FindingsSlice (7 * length fs)))
       go true = ap (λ (x : List ℕ). x ++ line_of 69 (length fs ∷ [])) (lines_flat fs (drop (7 * length fs) s))
       go false = refl
 
-  by_text : (v : Verdict) → answer_text (answer_by v (report_answer fs (length s))) (slice_by v s (report_slice fs s)) ≡ verdict_text v fs
+  by_text : (v : Verdict) → answer_text (unless v Err (report_answer fs (length s))) (unless v (λ e. s) (report_slice fs s)) ≡ verdict_text v fs
   unfolding answer_text verdict_text
-  by_text (verdict.Refused number place) = refl
-  by_text verdict.Passed = report_text
+  by_text (Err e) = refl
+  by_text (Ok u) = report_text
 
 report_counted : (fs : List Finding) (len : ℕ) → Counted (report_answer fs len) len
 unfolding report_answer
 report_counted fs len = go (leb (7 * length fs) len) refl
   where
-    go : (t : Bool) → leb (7 * length fs) len ≡ t → Counted (cond t (Findings (length fs)) (Short (7 * length fs))) len
+    go : (t : Bool) → leb (7 * length fs) len ≡ t → Counted (cond t (Ok (length fs)) (Err (Short refusal.FindingsSlice (7 * length fs)))) len
     go true e = leb-true (7 * length fs) len e
     go false e = tt
 
-by_counted : (v : Verdict) (fs : List Finding) (len : ℕ) → Counted (answer_by v (report_answer fs len)) len
-by_counted (verdict.Refused number place) fs len = tt
-by_counted verdict.Passed fs len = report_counted fs len
+by_counted : (v : Verdict) (fs : List Finding) (len : ℕ) → Counted (unless v Err (report_answer fs len)) len
+by_counted (Err e) fs len = tt
+by_counted (Ok u) fs len = report_counted fs len
 
 module _ (kind : ℕ) (ns ss source names : List ℕ) where
   pub check_text_lem : (s : List ℕ) → length s ≡ findings_room → answer_text (check_answer (rule kind 0 ns ss source names) (length s)) (check_slice (rule kind 0 ns ss source names) s) ≡ check_text kind ns ss source names
@@ -74,7 +73,7 @@ module _ (kind : ℕ) (ns ss source names : List ℕ) where
   check_counted len = by_counted (input_refusal kind ns ss source names) (reported (rule kind 0 ns ss source names)) len
 
 -- the same of the slices as the code has them
-module _ (kind : ℕ) (s g : List ℕ) (r : Checked) (ns ss xs ms : List ℕ) (h : length s ≡ findings_room) (a : r ≡ check_answer (rule kind 0 ns ss xs ms) (length s)) (b : g ≡ check_slice (rule kind 0 ns ss xs ms) s) where
+module _ (kind : ℕ) (s g : List ℕ) (r : Result ℕ Refused) (ns ss xs ms : List ℕ) (h : length s ≡ findings_room) (a : r ≡ check_answer (rule kind 0 ns ss xs ms) (length s)) (b : g ≡ check_slice (rule kind 0 ns ss xs ms) s) where
   pub checked_counted : length g ≡ length s → Counted r (length g)
   checked_counted e = rw (e, a) (check_counted kind ns ss xs ms (length s))
 
@@ -82,18 +81,18 @@ module _ (kind : ℕ) (s g : List ℕ) (r : Checked) (ns ss xs ms : List ℕ) (h
   checked_text ns' ss' xs' ms' p q u v = rw (a, b, sym p, sym q, sym u, sym v) (check_text_lem kind ns ss xs ms s h)
 
 -- the text by what `read` answers
-module _ (room : Room) (b : List ℕ) (q : room ≡ lent) (r : Input) (a : r ≡ (read_input room b).answer) where
-  pub text_unread : (line : ℕ) → r ≡ Unread line → response b ≡ refusal_text 0 line
+module _ (room : Room) (b : List ℕ) (q : room ≡ lent) (r : Result Tables Unread) (a : r ≡ (read_input room b).answer) where
+  pub text_unread : (d : Unread) → r ≡ Err d → response b ≡ refusal_text (At refusal.Unread d.line)
   unfolding response
-  text_unread line e = rw (sym q, sym a, e)
+  text_unread d e = rw (sym q, sym a, e)
 
-  pub text_tables : (kind n s x m : ℕ) (n₀ s₀ x₀ m₀ ns ss xs ms : List ℕ) → r ≡ Tables kind n s x m → Given (read_input room b) n₀ s₀ x₀ m₀ ns ss xs ms
-      → response b ≡ check_text kind (take n ns) (take s ss) (take x xs) (take m ms)
+  pub text_tables : (got : Tables) (n₀ s₀ x₀ m₀ ns ss xs ms : List ℕ) → r ≡ Ok got → Given (read_input room b) n₀ s₀ x₀ m₀ ns ss xs ms
+      → response b ≡ check_text got.kind (take got.nodes ns) (take got.scopes ss) (take got.source xs) (take got.names ms)
   unfolding response
-  text_tables kind n s x m n₀ s₀ x₀ m₀ ns ss xs ms e g =
+  text_tables got n₀ s₀ x₀ m₀ ns ss xs ms e g =
       let d : Reading = read_input room b in
-      let t : Sized (Tables kind n s x m) d = subst (λ (i : Input). Sized i d) (sym a ∙ e) (lines_told room (lines_of b)) in
-      rw (sym q, sym a, e, part d.nodes n₀ ns n t.0 g.nodes, part d.scopes s₀ ss s t.1 g.scopes, part d.source x₀ xs x t.2 g.source, part d.names m₀ ms m t.3 g.names)
+      let t : Sized (Ok got) d = subst (λ (i : Result Tables Unread). Sized i d) (sym a ∙ e) (lines_told room (lines_of b)) in
+      rw (sym q, sym a, e, part d.nodes n₀ ns got.nodes t.0 g.nodes, part d.scopes s₀ ss got.scopes t.1 g.scopes, part d.source x₀ xs got.source t.2 g.source, part d.names m₀ ms got.names t.3 g.names)
 
 -- a text put at a slice's start
 pub front_put : (f g t u : List ℕ) (r : ℕ) → t ≡ u → (r ≡ length t) × (g ≡ put f 0 t) → (r ≡ length u) × (g ≡ front u f)

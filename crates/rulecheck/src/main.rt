@@ -8,7 +8,8 @@ ghost use Rattle.line_answers.specs.Answer.{findings_room, text_room};
 ghost use Rattle.rulecheck.specs.Response.{check_text, response};
 
 use line_answers::{FINDINGS_ROOM, TEXT_ROOM};
-use line_input::{ENOUGH, Input};
+use line_input::ENOUGH;
+use refusal_verdict::{Refusal, Refused};
 use std::io;
 use std::io::{Read, Write};
 
@@ -35,8 +36,8 @@ fn check_text(
     let answer = call_check::check(
         kind,
         ASYNC_BODIES_OFF,
-        line_print::front_numbers(nodes, n),
-        line_print::front_numbers(scopes, s),
+        line_print::front(nodes, n),
+        line_print::front(scopes, s),
         line_print::front(source, b),
         line_print::front(names, m),
         findings,
@@ -60,15 +61,10 @@ fn respond_by(
 {
     let read = line_input::read(input, nodes, scopes, source, names);
     match read {
-        Input::Unread(line) => line_answers::refusal_text(0, line, out),
-        Input::Tables {
-            kind,
-            nodes: n,
-            scopes: s,
-            source: b,
-            names: m,
-        } => check_text(
-            kind, n, s, b, m, nodes, scopes, source, names, findings, out,
+        Err(unread) => line_answers::refusal_text(Refused::At(Refusal::Unread, unread.line), out),
+        Ok(t) => check_text(
+            t.kind, t.nodes, t.scopes, t.source, t.names, nodes, scopes, source, names, findings,
+            out,
         ),
     }
 }

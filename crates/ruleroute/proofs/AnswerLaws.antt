@@ -1,22 +1,24 @@
 -- The answer as the code comes to it, from the slices that were read.
-use Rattle.std.specs.Prelude.{ℕ, zero, suc, ◌+◌, ◌<◌, ◌≡◌, refl, List, [], ◌∷◌, ◌++◌, length, get_or, take}
+use Rattle.std.specs.Prelude.{Result, Ok, Err, ℕ, zero, suc, ◌+◌, ◌<◌, ◌≡◌, refl, List, [], ◌∷◌, ◌++◌, length, get_or, take}
 use Rattle.std.proofs.Common.{ap, ◌∙◌, arith, append_assoc, append-nil}
 use Rattle.std.proofs.Math.Path.{sym, subst}
-use Rattle.route_viewer.specs.declared.Routed.{Routed}
-use Rattle.route_viewer.specs.declared.Routed.TheVariants as routed
+use Rattle.refusal_verdict.specs.declared.Refusal.TheVariants as refusal
+use Rattle.refusal_verdict.specs.declared.Refused.{Refused}
+use Rattle.refusal_verdict.specs.declared.Refused.TheVariants.{At, Short}
+use Rattle.route_viewer.specs.declared.Route as shown
+use Rattle.route_viewer.specs.Shown.{Routed}
 use Rattle.check_dispatch.specs.Rule.{rule}
 use Rattle.call_routes.specs.Calls.{route_answer, route_slice}
 use Rattle.line_fields.specs.Split.{lines_of}
-use Rattle.line_input.specs.declared.Input.{Input}
-use Rattle.line_input.specs.declared.Input.TheVariants.{Tables}
-use Rattle.line_input.specs.declared.Route.{Route}
-use Rattle.line_input.specs.declared.Route.TheVariants.{Asked, Unasked}
+use Rattle.line_input.specs.declared.Tables.{Tables}
+use Rattle.line_input.specs.declared.Asked.{Asked}
+use Rattle.line_input.specs.declared.Unread.{Unread}
 use Rattle.line_input.specs.Format.{Room, Reading, lent, read_input, front, Given}
 use Rattle.line_input.specs.Route.{read_route}
 use Rattle.line_input.specs.Sizes.{Sized, lines_told, asked_told, part}
 use Rattle.line_input.specs.Whole.{enough, input_whole, route_whole}
 use Rattle.line_print.specs.Print.{line_of}
-use Rattle.line_answers.specs.Answer.{refusal_text}
+use Rattle.line_answers.specs.Answer.{refusal_line, refusal_text}
 use Rattle.ruleroute.specs.Answer.{entry_line, last_line, lines_for, answers_room, code_room, routed_by, entries_by, routed_of, entries_of}
 
 -- the numbers of a line
@@ -32,21 +34,13 @@ words_three a b d p q r (suc (suc (suc i))) = omega arith
 
 -- the last line by the answer
 module _ (r : Routed) where
-  pub last_route : (end entries taken : ℕ) → r ≡ routed.Route end entries taken → last_line r ≡ line_of 90 (end ∷ entries ∷ taken ∷ [])
+  pub last_route : (w : shown.Route) → r ≡ Ok w → last_line r ≡ line_of 90 (w.end ∷ w.entries ∷ w.taken ∷ [])
   unfolding last_line
-  last_route end entries taken e = rw e
+  last_route w e = rw e
 
-  pub last_refused : (number place : ℕ) → r ≡ routed.Refused number place → last_line r ≡ refusal_text number place
+  pub last_refused : (f : Refused) → r ≡ Err f → last_line r ≡ refusal_text f
   unfolding last_line
-  last_refused number place e = rw e
-
-  pub last_short : (needed : ℕ) → r ≡ routed.Short needed → last_line r ≡ refusal_text 12 0
-  unfolding last_line
-  last_short needed e = rw e
-
-  pub last_code_short : (needed : ℕ) → r ≡ routed.CodeShort needed → last_line r ≡ refusal_text 11 0
-  unfolding last_line
-  last_code_short needed e = rw e
+  last_refused f e = rw e
 
 -- the route call's answer for the fronts of the slices
 pub fronted : (kind u len k : ℕ) (ns ss xs ms gs ns' ss' xs' ms' gs' out : List ℕ) (r : Routed) (f : List ℕ) → ns ≡ ns' → ss ≡ ss' → xs ≡ xs' → ms ≡ ms' → gs ≡ gs' → len ≡ code_room
@@ -55,22 +49,22 @@ pub fronted : (kind u len k : ℕ) (ns ss xs ms gs ns' ss' xs' ms' gs' out : Lis
 fronted kind u len k ns ss xs ms gs ns' ss' xs' ms' gs' out r f p q s t v w a b = (rw (sym p, sym q, sym s, sym t, sym v, sym w) a, rw (sym p, sym q, sym s, sym t, sym v, sym w) b)
 
 -- by what `read_route` answers, in slices of the programs' lengths
-module _ (room : Room) (len : ℕ) (b : List ℕ) (q : room ≡ lent) (z : len ≡ answers_room) (r : Route) (e : r ≡ (read_route room len b).answer) where
-  pub routed_unasked : (line : ℕ) (out : List ℕ) → r ≡ Unasked line → (routed.Refused 0 line ≡ routed_of b (length out)) × (out ≡ entries_of b out)
+module _ (room : Room) (len : ℕ) (b : List ℕ) (q : room ≡ lent) (z : len ≡ answers_room) (r : Result Asked Unread) (e : r ≡ (read_route room len b).answer) where
+  pub routed_unasked : (d : Unread) (out : List ℕ) → r ≡ Err d → (Err (At refusal.Unread d.line) ≡ routed_of b (length out)) × (out ≡ entries_of b out)
   unfolding routed_of entries_of routed_by entries_by
-  routed_unasked line out h = rw (sym q, sym z, sym e, h) (refl, refl)
+  routed_unasked d out h = rw (sym q, sym z, sym e, h) (refl, refl)
 
-  module _ (kind n s x m u a : ℕ) (h : r ≡ Asked kind n s x m u a) (n₀ s₀ x₀ m₀ a₀ ns ss xs ms gs : List ℕ)
+  module _ (got : Asked) (h : r ≡ Ok got) (n₀ s₀ x₀ m₀ a₀ ns ss xs ms gs : List ℕ)
       (g : Given (read_input room b) n₀ s₀ x₀ m₀ ns ss xs ms) (k : gs ≡ front (read_route room len b).answers a₀) where
     pub routed_asked : (out : List ℕ)
-        → (route_answer (rule kind 0 (take n ns) (take s ss) (take x xs) (take m ms)) u (take a gs) code_room (length out) ≡ routed_of b (length out))
-        × (route_slice (rule kind 0 (take n ns) (take s ss) (take x xs) (take m ms)) u (take a gs) code_room out ≡ entries_of b out)
+        → (route_answer (rule got.tables.kind 0 (take got.tables.nodes ns) (take got.tables.scopes ss) (take got.tables.source xs) (take got.tables.names ms)) got.unit (take got.answers gs) code_room (length out) ≡ routed_of b (length out))
+        × (route_slice (rule got.tables.kind 0 (take got.tables.nodes ns) (take got.tables.scopes ss) (take got.tables.source xs) (take got.tables.names ms)) got.unit (take got.answers gs) code_room out ≡ entries_of b out)
     unfolding routed_of entries_of routed_by entries_by
     routed_asked out =
         let d : Reading = read_input room b in
-        let o = asked_told len (lines_of b) d.answer kind n s x m u a (sym e ∙ h) in
-        let t : Sized (Tables kind n s x m) d = subst (λ (i : Input). Sized i d) o.0 (lines_told room (lines_of b)) in
-        rw (sym q, sym z, sym e, h, part d.nodes n₀ ns n t.0 g.nodes, part d.scopes s₀ ss s t.1 g.scopes, part d.source x₀ xs x t.2 g.source, part d.names m₀ ms m t.3 g.names, part (read_route room len b).answers a₀ gs a o.1 k)
+        let o = asked_told len (lines_of b) d.answer got (sym e ∙ h) in
+        let t : Sized (Ok got.tables) d = subst (λ (i : Result Tables Unread). Sized i d) o.0 (lines_told room (lines_of b)) in
+        rw (sym q, sym z, sym e, h, part d.nodes n₀ ns got.tables.nodes t.0 g.nodes, part d.scopes s₀ ss got.tables.scopes t.1 g.scopes, part d.source x₀ xs got.tables.source t.2 g.source, part d.names m₀ ms got.tables.names t.3 g.names, part (read_route room len b).answers a₀ gs got.answers o.1 k)
         (refl, refl)
 
 -- Nothing is cut: the program reads at most `enough` bytes, and more of them change nothing.
@@ -95,3 +89,12 @@ lines_more (x ∷ xs) (suc i) h = append_assoc (entry_line x) (lines_for (take i
 
 pub lines_next : (xs : List ℕ) (i : ℕ) → i < length xs → lines_for (take i xs) ++ entry_line (get_or xs i 0) ≡ lines_for (take (i + 1) xs)
 lines_next xs i h = lines_more xs i h ∙ ap (λ k. lines_for (take k xs)) {x = suc i} {y = i + 1} (omega arith)
+
+module _ (r : Routed) where
+  pub last_short : (needed : ℕ) → r ≡ Err (Short refusal.RouteSlice needed) → last_line r ≡ refusal_line 12 0
+  unfolding last_line
+  last_short needed e = rw e
+
+  pub last_code_short : (needed : ℕ) → r ≡ Err (Short refusal.CodeSlice needed) → last_line r ≡ refusal_line 11 0
+  unfolding last_line
+  last_code_short needed e = rw e

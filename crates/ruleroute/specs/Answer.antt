@@ -1,13 +1,14 @@
 -- What `ruleroute` answers for the bytes that it reads, and the lines that it prints of that: a line L for each entry of the route and a line Z with its
 -- end, the number of entries and the answers taken, or only R with number and place.
-use Rattle.std.specs.Prelude.{ℕ, List, [], ◌∷◌, ◌++◌, length, take}
-use Rattle.route_viewer.specs.declared.Routed.{Routed}
-use Rattle.route_viewer.specs.declared.Routed.TheVariants as routed
+use Rattle.std.specs.Prelude.{Result, Ok, Err, ℕ, List, [], ◌∷◌, ◌++◌, length, take}
+use Rattle.refusal_verdict.specs.declared.Refusal.TheVariants as refusal
+use Rattle.refusal_verdict.specs.declared.Refused.TheVariants.{At}
+use Rattle.route_viewer.specs.Shown.{Routed}
 use Rattle.check_dispatch.specs.Rule.{rule}
 use Rattle.code_length.specs.Most.{most_length}
 use Rattle.call_routes.specs.Calls.{route_answer, route_slice}
-use Rattle.line_input.specs.declared.Route.{Route}
-use Rattle.line_input.specs.declared.Route.TheVariants.{Asked, Unasked}
+use Rattle.line_input.specs.declared.Asked.{Asked}
+use Rattle.line_input.specs.declared.Unread.{Unread}
 use Rattle.line_input.specs.Format.{Reading, lent, read_input}
 use Rattle.line_input.specs.Route.{read_route}
 use Rattle.line_print.specs.Print.{line_of}
@@ -18,10 +19,8 @@ entry_line node = line_of 76 (node ∷ [])
 
 -- the last line; a route that finds no room is refusal 12, place 0, and a code 11
 unfoldable pub last_line : Routed → List ℕ
-last_line (routed.Route end entries taken) = line_of 90 (end ∷ entries ∷ taken ∷ [])
-last_line (routed.Refused number place) = refusal_text number place
-last_line (routed.Short needed) = refusal_text 12 0
-last_line (routed.CodeShort needed) = refusal_text 11 0
+last_line (Ok r) = line_of 90 (r.end ∷ r.entries ∷ r.taken ∷ [])
+last_line (Err e) = refusal_text e
 
 -- "up to 1,024 answers"
 abbrev pub answers_room : ℕ
@@ -32,13 +31,13 @@ abbrev pub code_room : ℕ
 code_room = most_length 1024
 
 -- the option on async bodies is off; what was read, the answers among it, and the length of the slice for the route
-unfoldable pub routed_by : Route → Reading → List ℕ → ℕ → Routed
-routed_by (Unasked line) d given room = routed.Refused 0 line
-routed_by (Asked kind n s x m u a) d given room = route_answer (rule kind 0 d.nodes d.scopes d.source d.names) u given code_room room
+unfoldable pub routed_by : Result Asked Unread → Reading → List ℕ → ℕ → Routed
+routed_by (Err e) d given room = Err (At refusal.Unread e.line)
+routed_by (Ok a) d given room = route_answer (rule a.tables.kind 0 d.nodes d.scopes d.source d.names) a.unit given code_room room
 
-unfoldable pub entries_by : Route → Reading → List ℕ → List ℕ → List ℕ
-entries_by (Unasked line) d given out = out
-entries_by (Asked kind n s x m u a) d given out = route_slice (rule kind 0 d.nodes d.scopes d.source d.names) u given code_room out
+unfoldable pub entries_by : Result Asked Unread → Reading → List ℕ → List ℕ → List ℕ
+entries_by (Err e) d given out = out
+entries_by (Ok a) d given out = route_slice (rule a.tables.kind 0 d.nodes d.scopes d.source d.names) a.unit given code_room out
 
 -- the answer for the bytes b, and what the slice for the route holds then
 unfoldable pub routed_of : List ℕ → ℕ → Routed
@@ -54,10 +53,8 @@ lines_for (node ∷ nodes) = entry_line node ++ lines_for nodes
 
 -- how many of the numbers in the slice for the route are entries
 abbrev pub listed : Routed → ℕ
-listed (routed.Route end entries taken) = entries
-listed (routed.Refused number place) = 0
-listed (routed.Short needed) = 0
-listed (routed.CodeShort needed) = 0
+listed (Ok r) = r.entries
+listed (Err e) = 0
 
 -- .. and the last line; of an answer and what the slice holds, and for the bytes b
 abbrev pub text_of : Routed → List ℕ → List ℕ

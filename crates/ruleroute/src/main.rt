@@ -9,9 +9,9 @@ ghost use Rattle.check_dispatch.specs.Rule.{rule};
 ghost use Rattle.call_routes.specs.Calls.{route_answer, route_slice};
 ghost use Rattle.ruleroute.specs.Answer.{entry_line, last_line, answers_room, code_room, routed_of, entries_of, lines_for, listed, text_of, printed};
 
-use line_input::{ENOUGH, Route};
-use refusal_verdict::refusals;
-use route_viewer::Routed;
+use line_input::ENOUGH;
+use refusal_verdict::{Refusal, Refused};
+use route_viewer::Route;
 use std::io;
 use std::io::{Read, Write};
 
@@ -49,15 +49,13 @@ fn end_line(end: u64, entries: u64, taken: u64, out: &mut [u8]) -> usize
 }
 
 // Writes the last line that is printed. Says where it ends.
-fn last_line(answer: Routed, out: &mut [u8]) -> usize
+fn last_line(answer: Result<Route, Refused>, out: &mut [u8]) -> usize
     requires { length out.old ≡ 256 }
     ensures { (result ≡ length (last_line answer)) × (out.new ≡ put out.old 0 (last_line answer)) }
 {
     match answer {
-        Routed::Route(end, entries, taken) => end_line(end as u64, entries as u64, taken, out),
-        Routed::Refused(number, place) => line_answers::refusal_text(number, place, out),
-        Routed::Short(_) => line_answers::refusal_text(refusals::ROUTE_SLICE, 0, out),
-        Routed::CodeShort(_) => line_answers::refusal_text(refusals::CODE_SLICE, 0, out),
+        Ok(route) => end_line(route.end as u64, route.entries as u64, route.taken, out),
+        Err(refused) => line_answers::refusal_text(refused, out),
     }
 }
 
@@ -77,19 +75,19 @@ fn routed(
     answers: &[u32],
     code: &mut [u32],
     out: &mut [u32],
-) -> Routed
+) -> Result<Route, Refused>
     requires { length code.old ≡ code_room }
     ensures { (result ≡ route_answer (rule kind 0 (take n nodes.now) (take s scopes.now) (take b source.now) (take m names.now)) unit (take a answers.now) code_room (length out.old)) × (out.new ≡ route_slice (rule kind 0 (take n nodes.now) (take s scopes.now) (take b source.now) (take m names.now)) unit (take a answers.now) code_room out.old) }
 {
     call_routes::route(
         kind,
         ASYNC_BODIES_OFF,
-        line_print::front_numbers(nodes, n),
-        line_print::front_numbers(scopes, s),
+        line_print::front(nodes, n),
+        line_print::front(scopes, s),
         line_print::front(source, b),
         line_print::front(names, m),
         unit,
-        line_print::front_numbers(answers, a),
+        line_print::front(answers, a),
         code,
         out,
     )
@@ -105,30 +103,35 @@ fn respond_by(
     answers: &mut [u32],
     code: &mut [u32],
     out: &mut [u32],
-) -> Routed
+) -> Result<Route, Refused>
     requires nodes_len { (length nodes.old ≡ 10240) × (length scopes.old ≡ 3072) × (length source.old ≡ 1024) × (length names.old ≡ 1024) }
     requires answers_len { (length answers.old ≡ answers_room) × (length code.old ≡ code_room) }
     ensures { (result ≡ routed_of input.now (length out.old)) × (out.new ≡ entries_of input.now out.old) }
 {
     let read = line_input::read_route(input, nodes, scopes, source, names, answers);
     match read {
-        Route::Unasked(line) => Routed::Refused(0, line),
-        Route::Asked {
-            kind,
-            nodes: n,
-            scopes: s,
-            source: b,
-            names: m,
-            unit,
-            answers: a,
-        } => routed(
-            kind, n, s, b, m, unit, a, nodes, scopes, source, names, answers, code, out,
+        Err(unread) => Err(Refused::At(Refusal::Unread, unread.line)),
+        Ok(asked) => routed(
+            asked.tables.kind,
+            asked.tables.nodes,
+            asked.tables.scopes,
+            asked.tables.source,
+            asked.tables.names,
+            asked.unit,
+            asked.answers,
+            nodes,
+            scopes,
+            source,
+            names,
+            answers,
+            code,
+            out,
         ),
     }
 }
 
 // The same with slices of its own.
-fn respond(input: &[u8], out: &mut [u32]) -> Routed
+fn respond(input: &[u8], out: &mut [u32]) -> Result<Route, Refused>
     ensures { (result ≡ routed_of input.now (length out.old)) × (out.new ≡ entries_of input.now out.old) }
 {
     let mut nodes = [0u32; 10240];
@@ -162,43 +165,39 @@ fn print_entries<O: Write>(writer: &mut O, entries: &[u32], text: &mut [u8]) -> 
     requires { length text.old ≡ 256 }
     ensures { OnOk result (Appends (O.contents writer.old) (O.contents writer.new) (lines_for entries.now)) }
 {
-    let mut i: usize = 0;
-    while i < entries.len() {
+    for i in 0..entries.len() {
         print_entry(writer, entries[i], text)?;
-        i += 1;
     }
     Ok(())
 }
 
 // How many entries there are to print.
-fn listed(answer: Routed) -> usize
+fn listed(answer: Result<Route, Refused>) -> usize
     ensures { result ≡ listed answer }
 {
     match answer {
-        Routed::Route(_, entries, _) => entries,
-        Routed::Refused(_, _) => 0,
-        Routed::Short(_) => 0,
-        Routed::CodeShort(_) => 0,
+        Ok(route) => route.entries,
+        Err(_) => 0,
     }
 }
 
 // Prints the entries of a route, which stand at the front of `out`.
 fn print_route<O: Write>(
     writer: &mut O,
-    answer: Routed,
+    answer: Result<Route, Refused>,
     out: &[u32],
     text: &mut [u8],
 ) -> io::Result<()>
     requires { length text.old ≡ 256 }
     ensures { OnOk result (Appends (O.contents writer.old) (O.contents writer.new) (lines_for (take (listed answer) out.now))) }
 {
-    print_entries(writer, line_print::front_numbers(out, listed(answer)), text)
+    print_entries(writer, line_print::front(out, listed(answer)), text)
 }
 
 // Prints an answer: the lines of the functions above.
 fn print_routed<O: Write>(
     writer: &mut O,
-    answer: Routed,
+    answer: Result<Route, Refused>,
     out: &[u32],
     text: &mut [u8],
 ) -> io::Result<()>

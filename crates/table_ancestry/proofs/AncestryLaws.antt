@@ -1,5 +1,5 @@
 -- Laws of walks up: a fold over the ancestors of a node, or over the scopes around a scope, is one step and the fold from there.
-use Rattle.std.specs.Prelude.{ℕ, ◌≤◌, ◌<◌, ◌≡◌, refl, Bool, true, false, cond, ◌||◌, eqb}
+use Rattle.std.specs.Prelude.{ℕ, ◌≤◌, ◌<◌, ◌≡◌, refl, Bool, true, false, cond, ◌||◌, eqb, Some, None}
 use Rattle.std.proofs.Common.{sym, subst, ◌∙◌, ⊎_elim, eq-or-lt_of_le, arith, eq-eqb, ne_eqb}
 use mathlib.Core.List.{List, [], ◌∷◌, foldr}
 use Rattle.base_common.specs.Upto.{any}
@@ -9,7 +9,6 @@ use Rattle.base_walk.specs.On.{on}
 use Rattle.base_walk.proofs.OnLaws.{on_self, on_le}
 use Rattle.table_records.specs.Table.{kind_of, parent_of, count, ancestors, count_scopes, scope_parent_of, outer}
 use Rattle.table_records.specs.Facts.{Tree, Chained}
-use Rattle.table_records.specs.declared.Found.TheVariants.{At, Nothing}
 use Rattle.table_ancestry.specs.Ancestry.{nearest_of, has_ancestor, is_at}
 
 -- the parent of a node is a node
@@ -44,7 +43,7 @@ on_at ns t a i h l = ⊎_elim (λ (q : i ≡ a). sym (eq-eqb i a q ∙ subst (λ
 
 -- the nearest ancestor of some kinds, as a walk up meets it: p is the parent of i
 module _ (ns : List ℕ) (t : Tree ns) (low high : ℕ) (i p : ℕ) (h : 0 < i) (l : i < count ns) (e : p ≡ parent_of ns i) where
-  pub nearest_stop : within (kind_of ns p) low high ≡ true → nearest_of ns low high i ≡ At (record { 0 = p })
+  pub nearest_stop : within (kind_of ns p) low high ≡ true → nearest_of ns low high i ≡ Some (record { 0 = p })
   unfolding nearest_of
   nearest_stop w = ancestors_up _ _ ns t i h l ∙ rw (← e, w)
 
@@ -52,7 +51,7 @@ module _ (ns : List ℕ) (t : Tree ns) (low high : ℕ) (i p : ℕ) (h : 0 < i) 
   unfolding nearest_of
   nearest_on w = ancestors_up _ _ ns t i h l ∙ rw (← e, w)
 
-pub nearest_root : (ns : List ℕ) (low high : ℕ) → nearest_of ns low high 0 ≡ Nothing
+pub nearest_root : (ns : List ℕ) (low high : ℕ) → nearest_of ns low high 0 ≡ None
 unfolding nearest_of
 nearest_root ns low high = ancestors_root _ _ ns
 
@@ -61,10 +60,10 @@ pub nearest_some : (ns : List ℕ) (low high n : ℕ) → has_ancestor ns low hi
 unfolding nearest_of has_ancestor
 nearest_some ns low high n = go (ancestors ns n)
   where
-    go : (as' : List ℕ) → any (λ a. within (kind_of ns a) low high) as' ≡ is_at (foldr (λ a r. cond (within (kind_of ns a) low high) (At (record { 0 = a })) r) Nothing as')
+    go : (as' : List ℕ) → any (λ a. within (kind_of ns a) low high) as' ≡ is_at (foldr (λ a r. cond (within (kind_of ns a) low high) (Some (record { 0 = a })) r) None as')
     go [] = refl
     go (a ∷ l) = by (within (kind_of ns a) low high) (go l)
       where
-        by : (b : Bool) → any (λ a. within (kind_of ns a) low high) l ≡ is_at (foldr (λ a r. cond (within (kind_of ns a) low high) (At (record { 0 = a })) r) Nothing l) → (b || any (λ a. within (kind_of ns a) low high) l) ≡ is_at (cond b (At (record { 0 = a })) (foldr (λ a r. cond (within (kind_of ns a) low high) (At (record { 0 = a })) r) Nothing l))
+        by : (b : Bool) → any (λ a. within (kind_of ns a) low high) l ≡ is_at (foldr (λ a r. cond (within (kind_of ns a) low high) (Some (record { 0 = a })) r) None l) → (b || any (λ a. within (kind_of ns a) low high) l) ≡ is_at (cond b (Some (record { 0 = a })) (foldr (λ a r. cond (within (kind_of ns a) low high) (Some (record { 0 = a })) r) None l))
         by true h = refl
         by false h = h

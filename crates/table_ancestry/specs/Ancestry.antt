@@ -1,21 +1,19 @@
 -- Searches among the ancestors of a node, which come nearest first.
-use Rattle.std.specs.Prelude.{ℕ, Bool, cond, true, false}
+use Rattle.table_records.specs.declared.NodeId.{NodeId}
+use Rattle.std.specs.Prelude.{ℕ, Bool, cond, Option, Some, None, is_some}
 use mathlib.Core.List.{List, foldr}
 use Rattle.base_common.specs.Upto.{any}
 use Rattle.base_common.specs.Tests.{within}
 use Rattle.table_records.specs.Table.{kind_of, ancestors}
-use Rattle.table_records.specs.declared.Found.{Found}
-use Rattle.table_records.specs.declared.Found.TheVariants.{At, Nothing}
 
 -- the nearest ancestor of n with a kind from low to high
-unfoldable pub nearest_of : List ℕ → ℕ → ℕ → ℕ → Found
-nearest_of ns low high n = foldr (λ a r. cond (within (kind_of ns a) low high) (At (record { 0 = a })) r) Nothing (ancestors ns n)
+unfoldable pub nearest_of : List ℕ → ℕ → ℕ → ℕ → Option NodeId
+nearest_of ns low high n = foldr (λ a r. cond (within (kind_of ns a) low high) (Some (record { 0 = a })) r) None (ancestors ns n)
 
 -- some ancestor of n has a kind from low to high
 unfoldable pub has_ancestor : List ℕ → ℕ → ℕ → ℕ → Bool
 has_ancestor ns low high n = any (λ a. within (kind_of ns a) low high) (ancestors ns n)
 
 -- something was found
-abbrev pub is_at : Found → Bool
-is_at (At m) = true
-is_at Nothing = false
+abbrev pub is_at : Option NodeId → Bool
+is_at o = is_some o

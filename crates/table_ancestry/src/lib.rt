@@ -8,8 +8,7 @@ ghost use Rattle.table_records.specs.Facts.{Tree, Chained};
 ghost use Rattle.table_children.specs.Children.{below};
 ghost use Rattle.table_ancestry.specs.Ancestry.{nearest_of, has_ancestor};
 
-use base_common::within;
-use table_records::{Found, NodeId, ScopeId};
+use table_records::{NodeId, ScopeId};
 
 // The parent of a node other than the program.
 pub fn up(nodes: &[u32], n: NodeId) -> NodeId
@@ -45,7 +44,7 @@ pub fn is_on_path(nodes: &[u32], a: u32, n: NodeId) -> bool
 }
 
 // The nearest ancestor with a kind from low to high.
-pub fn nearest(nodes: &[u32], n: NodeId, low: u32, high: u32) -> Found
+pub fn nearest(nodes: &[u32], n: NodeId, low: u32, high: u32) -> Option<NodeId>
     requires tree { Tree nodes.now }
     requires n_bound { n.0 < count nodes.now }
     ensures value { result ≡ nearest_of nodes.now low high n.0 }
@@ -54,23 +53,21 @@ pub fn nearest(nodes: &[u32], n: NodeId, low: u32, high: u32) -> Found
     let mut at = n;
     while 0 < at.0 {
         at = up(nodes, at);
-        if within(table_records::kind(nodes, at), low, high) {
-            return Found::At(at);
+        if (low..=high).contains(&table_records::kind(nodes, at)) {
+            return Some(at);
         }
     }
-    Found::Nothing
+    None
 }
 
 // Whether an ancestor has a kind from low to high.
+#[tactic(auto, using(crate::proofs::AncestryLaws::nearest_some))]
 pub fn has_ancestor(nodes: &[u32], n: NodeId, low: u32, high: u32) -> bool
     requires tree { Tree nodes.now }
     requires n_bound { n.0 < count nodes.now }
     ensures { result ≡ has_ancestor nodes.now low high n.0 }
 {
-    let Found::At(_) = nearest(nodes, n, low, high) else {
-        return false;
-    };
-    true
+    nearest(nodes, n, low, high).is_some()
 }
 
 // The scope around a scope other than the outermost.

@@ -1,11 +1,13 @@
 -- Laws of children: membership, the interval of p, counts and searches as a loop meets them.
-use Prim.Native.Nat.{ℕ, zero, suc, ◌+◌, ◌-◌, ◌≤◌, ◌<◌}
-use Rattle.std.specs.Prelude.{◌≡◌, List, [], ◌∷◌, Bool, ◌&&◌, ◌||◌, ◌⊎◌, ◌↔◌, leb}
+use Rattle.table_records.specs.declared.NodeId.{NodeId}
+use Prim.Native.Nat.{ℕ, zero, suc, ◌+◌, ◌≤◌, ◌<◌}
+use Rattle.std.specs.Prelude.{◌≡◌, List, [], ◌∷◌, Bool, ◌&&◌, ◌||◌, ◌⊎◌, ◌↔◌, leb, Option, Some, None}
 use Rattle.std.proofs.Math.Path.{refl, sym, subst}
 use Rattle.std.proofs.Common.{ap, ◌∙◌, inl, inr, eq-or-lt_of_le}
 use Rattle.std.proofs.Math.Bool.{true, false, cond}
 use Rattle.std.proofs.Math.Logic.{⊎_elim}
 use native.Mathlib.Omega.{arith}
+use mir.Val.{bool_byte}
 use borrow.Author.Tests.{eq-eqb, ne_eqb, eqb-true, eqb-false, leb-true}
 use Rattle.std.proofs.Math.Dec.{eqb}
 use Rattle.std.proofs.Math.ListN.{length}
@@ -17,12 +19,15 @@ use Rattle.base_walk.specs.On.{member, on}
 use Rattle.base_walk.proofs.PreorderLaws.{child_in, no_child, lt_or_ge}
 use Rattle.table_records.specs.Table.{kind_of, role_of, parent_of, count}
 use Rattle.table_records.specs.Facts.{Tree}
-use Rattle.table_records.specs.declared.Found.{Found}
-use Rattle.table_records.specs.declared.Found.TheVariants.{At, Nothing}
 use Rattle.table_children.specs.Children.{keep, children, fits, how_many, is_child, first_node, next_child}
 
 le_or_lt : (a b : ℕ) → (a ≤ b) ⊎ (b < a)
 le_or_lt a b = ⊎_elim (λ (h : b < a). inr h) (λ (h : a ≤ b). inl h) (lt_or_ge b a)
+
+-- a test, as the number that it adds to a count
+pub one_more : (b : Bool) → (bool_byte b ≡ cond b 1 0) × (bool_byte b ≤ 1)
+one_more true = (refl, omega arith)
+one_more false = (refl, omega arith)
 
 -- the test of one node, and the count from a node on
 unfoldable pub tally : List ℕ → ℕ → ℕ → ℕ → ℕ → ℕ → ℕ → ℕ
@@ -130,15 +135,15 @@ module _ (q : ℕ → Bool) (i n : ℕ) where
   unfolding first_node
   node_on h e = fold_turn _ _ i n h ∙ rw e
 
-  pub node_stop : i < n → q i ≡ true → first_node q i n ≡ At (record { 0 = i })
+  pub node_stop : i < n → q i ≡ true → first_node q i n ≡ Some (record { 0 = i })
   unfolding first_node
   node_stop h e = fold_turn _ _ i n h ∙ rw e
 
-  pub node_end : n ≤ i → first_node q i n ≡ Nothing
+  pub node_end : n ≤ i → first_node q i n ≡ None
   unfolding first_node
   node_end h = fold_end _ _ i n h
 
-no_node_by : (q : ℕ → Bool) (n f i : ℕ) → n ≤ i + f → ((j : ℕ) → i ≤ j → j < n → q j ≡ false) → first_node q i n ≡ Nothing
+no_node_by : (q : ℕ → Bool) (n f i : ℕ) → n ≤ i + f → ((j : ℕ) → i ≤ j → j < n → q j ≡ false) → first_node q i n ≡ None
 no_node_by q n zero i hf nn = node_end q i n (omega arith)
 no_node_by q n (suc f) i hf nn =
     ⊎_elim (λ (h : n ≤ i). node_end q i n h)
@@ -146,7 +151,7 @@ no_node_by q n (suc f) i hf nn =
     (le_or_lt n i)
 
 -- where no node passes, none is found
-pub no_node : (q : ℕ → Bool) (n i : ℕ) → ((j : ℕ) → i ≤ j → j < n → q j ≡ false) → first_node q i n ≡ Nothing
+pub no_node : (q : ℕ → Bool) (n i : ℕ) → ((j : ℕ) → i ≤ j → j < n → q j ≡ false) → first_node q i n ≡ None
 no_node q n i nn = no_node_by q n n i (omega arith) nn
 
 module _ (ns : List ℕ) (p lo hi a b : ℕ) where
@@ -155,7 +160,7 @@ module _ (ns : List ℕ) (p lo hi a b : ℕ) where
   child_other i n = rw (ne_eqb (parent_of ns i) p n)
 
   -- past the nodes below p there is no child of p
-  pub child_out : Tree ns → (i : ℕ) → p < i → i < count ns → parent_of ns i < p → next_child ns p lo hi a b i ≡ Nothing
+  pub child_out : Tree ns → (i : ℕ) → p < i → i < count ns → parent_of ns i < p → next_child ns p lo hi a b i ≡ None
   child_out t i h l u = no_node (is_child ns p lo hi a b) (count ns) i (λ j x y. child_other j (λ e. no_child (parent_of ns) (count ns) t.order p i j h u x y e))
 
   -- what a child that fits is
@@ -185,21 +190,21 @@ module _ (ns : List ℕ) (p lo hi a b : ℕ) where
       }
 
 -- the number of what was found
-abbrev pub number : Found → ℕ
-number (At m) = m.0
-number Nothing = 0
+abbrev pub number : Option NodeId → ℕ
+number (Some m) = m.0
+number None = 0
 
 module _ (ns : List ℕ) (p lo hi a b : ℕ) where
-  found_by : (f i m : ℕ) → count ns ≤ i + f → next_child ns p lo hi a b i ≡ At (record { 0 = m }) → Child ns p lo hi a b i m
-  found_by zero i m hf e = let s : At (record { 0 = m }) ≡ Nothing = sym e ∙ node_end (is_child ns p lo hi a b) i (count ns) (omega arith) in let z : ◌≡◌ {A = ℕ} 0 1 = cc in absurd (omega arith)
+  found_by : (f i m : ℕ) → count ns ≤ i + f → next_child ns p lo hi a b i ≡ Some (record { 0 = m }) → Child ns p lo hi a b i m
+  found_by zero i m hf e = let s : ◌≡◌ {A = Option NodeId} (Some (record { 0 = m })) None = sym e ∙ node_end (is_child ns p lo hi a b) i (count ns) (omega arith) in let z : ◌≡◌ {A = ℕ} 0 1 = cc in absurd (omega arith)
   found_by (suc f) i m hf e =
-      ⊎_elim (λ (h : count ns ≤ i). let s : At (record { 0 = m }) ≡ Nothing = sym e ∙ node_end (is_child ns p lo hi a b) i (count ns) h in let z : ◌≡◌ {A = ℕ} 0 1 = cc in absurd (omega arith))
+      ⊎_elim (λ (h : count ns ≤ i). let s : ◌≡◌ {A = Option NodeId} (Some (record { 0 = m })) None = sym e ∙ node_end (is_child ns p lo hi a b) i (count ns) h in let z : ◌≡◌ {A = ℕ} 0 1 = cc in absurd (omega arith))
       (λ (h : i < count ns). go h (is_child ns p lo hi a b i) refl (λ x. found_by f (i + 1) m (omega arith) (sym (node_on (is_child ns p lo hi a b) i (count ns) h x) ∙ e)))
       (le_or_lt (count ns) i)
     where
       go : i < count ns → (x : Bool) → is_child ns p lo hi a b i ≡ x → (is_child ns p lo hi a b i ≡ false → Child ns p lo hi a b (i + 1) m) → Child ns p lo hi a b i m
       go h true q r =
-          let s : At (record { 0 = i }) ≡ At (record { 0 = m }) = sym (node_stop (is_child ns p lo hi a b) i (count ns) h q) ∙ e in
+          let s : ◌≡◌ {A = Option NodeId} (Some (record { 0 = i })) (Some (record { 0 = m })) = sym (node_stop (is_child ns p lo hi a b) i (count ns) h q) ∙ e in
           let u : i ≡ m = ap number s in
           subst (λ (x : ℕ). Child ns p lo hi a b i x) u (child_here ns p lo hi a b i i (omega arith) h q)
       go h false q r =
@@ -208,5 +213,5 @@ module _ (ns : List ℕ) (p lo hi a b : ℕ) where
           record { from = omega arith; below = w.below; parent = w.parent; kind_low = w.kind_low; kind_high = w.kind_high; role_low = w.role_low; role_high = w.role_high }
 
   -- what is found is a child that fits
-  pub found_child : (i m : ℕ) → next_child ns p lo hi a b i ≡ At (record { 0 = m }) → Child ns p lo hi a b i m
+  pub found_child : (i m : ℕ) → next_child ns p lo hi a b i ≡ Some (record { 0 = m }) → Child ns p lo hi a b i m
   found_child i m e = found_by (count ns) i m (omega arith) e

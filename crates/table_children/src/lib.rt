@@ -1,15 +1,15 @@
 // The children of a node, by scanning the nodes below it and not the table.
 #![tactic(auto)]
 
-ghost use Rattle.std.specs.Prelude.{◌≡◌, cond, ◌+◌, ◌<◌, ◌≤◌};
+ghost use Rattle.std.specs.Prelude.{◌≡◌, ◌+◌, ◌<◌, ◌≤◌};
 ghost use Rattle.table_records.specs.Table.{count};
 ghost use Rattle.table_records.specs.Facts.{Tree};
 ghost use Rattle.table_children.specs.Children.{is_child, next_child, first_child, how_many, label_of, key_of, value_of, held_of, alternate_of, function_body_of, class_body_of, inner_of, below};
 
-use base_common::{and, within};
-use table_records::{Found, NodeId, kinds, roles};
+use table_records::{NodeId, kinds, roles};
 
 // Whether node i is a child of p with a kind from low to high and a role from first to last.
+#[tactic(auto, unfolding(crate::specs::Children::is_child))]
 pub fn is_child(
     nodes: &[u32],
     p: NodeId,
@@ -22,14 +22,9 @@ pub fn is_child(
     requires { i.0 < count nodes.now }
     ensures { result ≡ is_child nodes.now p.0 low high first last i.0 }
 {
-    let q = table_records::parent(nodes, i);
-    and(
-        q.0 == p.0,
-        and(
-            within(table_records::kind(nodes, i), low, high),
-            within(table_records::role(nodes, i), first, last),
-        ),
-    )
+    table_records::parent(nodes, i) == p
+        && (low..=high).contains(&table_records::kind(nodes, i))
+        && (first..=last).contains(&table_records::role(nodes, i))
 }
 
 // The first such child of p from `from` on: reads the nodes below p, and one more.
@@ -41,7 +36,7 @@ pub fn next_child(
     first: u32,
     last: u32,
     from: u32,
-) -> Found
+) -> Option<NodeId>
     requires tree { Tree nodes.now }
     requires p_lt_from { p.0 < from }
     requires from_bound { from ≤ count nodes.now }
@@ -49,21 +44,29 @@ pub fn next_child(
     ensures below { below nodes.now result }
 {
     let mut i = from;
+    // `while`, since a range asks for the table's size: nothing that a walk up calls divides.
     while table_records::is_node(nodes, i) {
         let q = table_records::parent(nodes, NodeId(i));
         if q.0 < p.0 {
-            return Found::Nothing;
+            return None;
         }
         if is_child(nodes, p, low, high, first, last, NodeId(i)) {
-            return Found::At(NodeId(i));
+            return Some(NodeId(i));
         }
         i += 1;
     }
-    Found::Nothing
+    None
 }
 
 // The first such child of p.
-pub fn first_child(nodes: &[u32], p: NodeId, low: u32, high: u32, first: u32, last: u32) -> Found
+pub fn first_child(
+    nodes: &[u32],
+    p: NodeId,
+    low: u32,
+    high: u32,
+    first: u32,
+    last: u32,
+) -> Option<NodeId>
     requires tree { Tree nodes.now }
     requires p_bound { p.0 < count nodes.now }
     ensures value { result ≡ first_child nodes.now p.0 low high first last }
@@ -73,37 +76,24 @@ pub fn first_child(nodes: &[u32], p: NodeId, low: u32, high: u32, first: u32, la
 }
 
 // How many children of p have a kind from low to high and a role from first to last: reads the nodes below p, and one more.
+#[tactic(auto, using(crate::proofs::ChildrenLaws::one_more, crate::proofs::ChildrenLaws::tally_all, crate::proofs::ChildrenLaws::tally_turn, crate::proofs::ChildrenLaws::tally_end, crate::proofs::ChildrenLaws::tally_out))]
 pub fn how_many(nodes: &[u32], p: NodeId, low: u32, high: u32, first: u32, last: u32) -> u32
     requires tree { Tree nodes.now }
     requires p_bound { p.0 < count nodes.now }
     ensures { result ≡ how_many nodes.now p.0 low high first last }
 {
-    let mut i = p.0 + 1;
-    let mut c: u32 = 0;
-    while table_records::is_node(nodes, i) {
-        let q = table_records::parent(nodes, NodeId(i));
-        if q.0 < p.0 {
+    let mut c = 0;
+    for i in p.0 + 1..table_records::size(nodes) {
+        if table_records::parent(nodes, NodeId(i)).0 < p.0 {
             return c;
         }
-        c += tick(is_child(nodes, p, low, high, first, last, NodeId(i)));
-        i += 1;
+        c += u32::from(is_child(nodes, p, low, high, first, last, NodeId(i)));
     }
     c
 }
 
-// One more to count, or none.
-pub fn tick(b: bool) -> u32
-    ensures value { result ≡ cond b 1 0 }
-    ensures upper_bound { result ≤ 1 }
-{
-    if b {
-        return 1;
-    }
-    0
-}
-
 // The label of a Labeled, a Break or a Continue.
-pub fn label_of(nodes: &[u32], n: NodeId) -> Found
+pub fn label_of(nodes: &[u32], n: NodeId) -> Option<NodeId>
     requires tree { Tree nodes.now }
     requires n_bound { n.0 < count nodes.now }
     ensures value { result ≡ label_of nodes.now n.0 }
@@ -120,7 +110,7 @@ pub fn label_of(nodes: &[u32], n: NodeId) -> Found
 }
 
 // The key of an element or a property.
-pub fn key_of(nodes: &[u32], n: NodeId) -> Found
+pub fn key_of(nodes: &[u32], n: NodeId) -> Option<NodeId>
     requires tree { Tree nodes.now }
     requires n_bound { n.0 < count nodes.now }
     ensures value { result ≡ key_of nodes.now n.0 }
@@ -130,7 +120,7 @@ pub fn key_of(nodes: &[u32], n: NodeId) -> Found
 }
 
 // The value of an element or a property, the argument of a unary expression.
-pub fn value_of(nodes: &[u32], n: NodeId) -> Found
+pub fn value_of(nodes: &[u32], n: NodeId) -> Option<NodeId>
     requires tree { Tree nodes.now }
     requires n_bound { n.0 < count nodes.now }
     ensures value { result ≡ value_of nodes.now n.0 }
@@ -140,7 +130,7 @@ pub fn value_of(nodes: &[u32], n: NodeId) -> Found
 }
 
 // The statement that a statement holds.
-pub fn held_of(nodes: &[u32], n: NodeId) -> Found
+pub fn held_of(nodes: &[u32], n: NodeId) -> Option<NodeId>
     requires tree { Tree nodes.now }
     requires n_bound { n.0 < count nodes.now }
     ensures value { result ≡ held_of nodes.now n.0 }
@@ -150,7 +140,7 @@ pub fn held_of(nodes: &[u32], n: NodeId) -> Found
 }
 
 // The alternate of an If.
-pub fn alternate_of(nodes: &[u32], n: NodeId) -> Found
+pub fn alternate_of(nodes: &[u32], n: NodeId) -> Option<NodeId>
     requires tree { Tree nodes.now }
     requires n_bound { n.0 < count nodes.now }
     ensures value { result ≡ alternate_of nodes.now n.0 }
@@ -160,7 +150,7 @@ pub fn alternate_of(nodes: &[u32], n: NodeId) -> Found
 }
 
 // The body of a function or an arrow.
-pub fn function_body_of(nodes: &[u32], n: NodeId) -> Found
+pub fn function_body_of(nodes: &[u32], n: NodeId) -> Option<NodeId>
     requires tree { Tree nodes.now }
     requires n_bound { n.0 < count nodes.now }
     ensures value { result ≡ function_body_of nodes.now n.0 }
@@ -170,7 +160,7 @@ pub fn function_body_of(nodes: &[u32], n: NodeId) -> Found
 }
 
 // The body of a class.
-pub fn class_body_of(nodes: &[u32], n: NodeId) -> Found
+pub fn class_body_of(nodes: &[u32], n: NodeId) -> Option<NodeId>
     requires tree { Tree nodes.now }
     requires n_bound { n.0 < count nodes.now }
     ensures value { result ≡ class_body_of nodes.now n.0 }
@@ -180,7 +170,7 @@ pub fn class_body_of(nodes: &[u32], n: NodeId) -> Found
 }
 
 // What a parenthesis or a chain holds.
-pub fn inner_of(nodes: &[u32], n: NodeId) -> Found
+pub fn inner_of(nodes: &[u32], n: NodeId) -> Option<NodeId>
     requires tree { Tree nodes.now }
     requires n_bound { n.0 < count nodes.now }
     ensures value { result ≡ inner_of nodes.now n.0 }

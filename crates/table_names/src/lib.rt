@@ -8,22 +8,12 @@ ghost use Rattle.table_names.specs.Name.{same, name_of, same_name, name_is};
 
 use table_records::NodeId;
 
-// Whether two strings of bytes are the same; the lengths are compared first.
+// Whether two strings of bytes are the same.
+#[tactic(auto, using(crate::proofs::NameLaws::same_slices))]
 pub fn same(a: &[u8], b: &[u8]) -> bool
     ensures { result ≡ same a.now b.now }
 {
-    let len = a.len();
-    if len != b.len() {
-        return false;
-    }
-    let mut i = 0;
-    while i < len {
-        if a[i] != b[i] {
-            return false;
-        }
-        i += 1;
-    }
-    true
+    a == b
 }
 
 // The name of a node.

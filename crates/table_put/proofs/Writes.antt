@@ -1,6 +1,8 @@
 -- Numbers written to a slice one after another.
-use Rattle.std.specs.Prelude.{ℕ, suc, ◌+◌, ◌≤◌, ◌<◌, ◌≡◌, refl, List, [], ◌∷◌, ◌++◌, length, get_or, set, take, drop}
-use Rattle.std.proofs.Common.{ap, sym, subst, ◌∙◌, append_assoc, append-nil, add-one, arith, length-append, length-drop, drop_of_length-le, length-take-le, take_at, drop_at, drop-drop, drop-cons}
+use Rattle.std.specs.Prelude.{get_or}
+use Rattle.std.proofs.Common.{length-drop, drop_of_length-le, drop-cons}
+use Rattle.std.specs.Prelude.{ℕ, suc, ◌+◌, ◌≤◌, ◌<◌, ◌≡◌, refl, List, [], ◌∷◌, ◌++◌, length, set, take, drop}
+use Rattle.std.proofs.Common.{ap, sym, subst, ◌∙◌, append_assoc, append-nil, add-one, arith, length-append, length-take-le, take_at, drop_at, drop-drop}
 use Rattle.std.proofs.lemmas.List.{set_split}
 use Rattle.base_common.specs.Wrote.{Wrote, put}
 use Rattle.base_common.proofs.WroteLaws.{wrote_put, wrote_end}
@@ -42,7 +44,6 @@ put_put f w a b h =
     let e : w + length (a ++ b) ≡ w + length a + length b = omega (arith, length-append a b) in
     rw (take_at (take w f ++ a) (drop (w + length a) f) (w + length a) p, d, e) (ap (λ (x : List ℕ). x ++ drop (w + length a + length b) f) (append_assoc (take w f) a b))
 
--- a byte of a copy: what is left of src goes behind what is written
 module _ (f₀ f : List ℕ) (w : ℕ) (src : List ℕ) (i : ℕ) (whole : List ℕ) where
   pub copy_turn : i < length src → Wrote f₀ f w (drop i src) whole → Wrote f₀ (set f w (get_or src i 0)) (w + 1) (drop (i + 1) src) whole
   copy_turn h o = wrote_one f₀ f w (get_or src i 0) (drop (i + 1) src) whole (subst (λ r. Wrote f₀ f w r whole) (rw (add-one i) (drop-cons src i 0 h)) o)

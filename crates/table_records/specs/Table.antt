@@ -61,7 +61,7 @@ abbrev pub outer : List ℕ → ℕ → List ℕ
 outer ss s = above (scope_parent_of ss) s
 
 -- a table of nodes, or of scopes, has some records, and not too many
-pub record Some (n : ℕ) : Type 0 where
+pub record IsTableSize (n : ℕ) : Type 0 where
   pub some : 0 < n
   pub small : n ≤ 65535
 

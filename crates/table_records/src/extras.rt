@@ -1,4 +1,4 @@
-// A node's extra number, by its kind.
+// A node's extra number, by its kind: one column of the lent table, which means something else for each kind, and for two kinds is any number.
 // of a VariableDeclaration
 pub const VAR: u32 = 0;
 

@@ -1,4 +1,5 @@
-// The kinds of node, numbered as document 01 does.
+// The kinds of node, numbered as document 01 does. Numbers and no enum: a kind is read off a table that a C caller lends, refusal 2 judges any number there,
+// and the checks ask for ranges of kinds.
 pub const PROGRAM: u32 = 0;
 
 pub const FUNCTION: u32 = 1;

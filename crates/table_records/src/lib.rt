@@ -2,7 +2,7 @@
 #![tactic(auto)]
 
 ghost use Rattle.std.specs.Prelude.{◌≡◌, ◌<◌, ltb};
-ghost use Rattle.table_records.specs.Table.{count, kind_of, parent_of, role_of, span_start_of, span_end_of, name_start_of, name_len_of, scope_of, flags_of, extra_of, count_scopes, scope_parent_of, scope_flags_of, scope_node_of, Some, has_flag};
+ghost use Rattle.table_records.specs.Table.{count, kind_of, parent_of, role_of, span_start_of, span_end_of, name_start_of, name_len_of, scope_of, flags_of, extra_of, count_scopes, scope_parent_of, scope_flags_of, scope_node_of, IsTableSize, has_flag};
 
 pub mod extras;
 pub mod kinds;
@@ -11,37 +11,24 @@ pub mod roles;
 pub mod scope_flag;
 
 // A node, by its place in the node table.
-#[derive(Clone, Copy)]
+#[derive(Clone, Copy, PartialEq, Eq)]
 pub struct NodeId(pub u32);
 
 // A scope, by its place in the scope table.
-#[derive(Clone, Copy)]
+#[derive(Clone, Copy, PartialEq, Eq)]
 pub struct ScopeId(pub u32);
 
 // A class, by the place of its ClassBody in the node table: classes are declared in that order.
-#[derive(Clone, Copy)]
+#[derive(Clone, Copy, PartialEq, Eq)]
 pub struct ClassId(pub u32);
 
 // An element of a class, by its place in the node table.
-#[derive(Clone, Copy)]
+#[derive(Clone, Copy, PartialEq, Eq)]
 pub struct ElementId(pub u32);
-
-// What a search for a node finds.
-#[derive(Clone, Copy)]
-pub enum Found {
-    At(NodeId),
-    Nothing,
-}
-
-pub fn wide(x: u32) -> usize
-    ensures { result ≡ x }
-{
-    x as usize
-}
 
 // How many nodes there are.
 pub fn size(nodes: &[u32]) -> u32
-    requires { Some (count nodes.now) }
+    requires { IsTableSize (count nodes.now) }
     ensures { result ≡ count nodes.now }
 {
     (nodes.len() / 10) as u32
@@ -51,93 +38,82 @@ pub fn size(nodes: &[u32]) -> u32
 pub fn is_node(nodes: &[u32], n: u32) -> bool
     ensures { result ≡ ltb n (count nodes.now) }
 {
-    let i = n as usize;
-    i * 10 + 9 < nodes.len()
+    n as usize * 10 + 9 < nodes.len()
 }
 
 pub fn kind(nodes: &[u32], n: NodeId) -> u32
     requires { n.0 < count nodes.now }
     ensures { result ≡ kind_of nodes.now n.0 }
 {
-    let i = n.0 as usize;
-    nodes[i * 10]
+    nodes[n.0 as usize * 10]
 }
 
 pub fn parent(nodes: &[u32], n: NodeId) -> NodeId
     requires { n.0 < count nodes.now }
     ensures { result.0 ≡ parent_of nodes.now n.0 }
 {
-    let i = n.0 as usize;
-    NodeId(nodes[i * 10 + 1])
+    NodeId(nodes[n.0 as usize * 10 + 1])
 }
 
 pub fn role(nodes: &[u32], n: NodeId) -> u32
     requires { n.0 < count nodes.now }
     ensures { result ≡ role_of nodes.now n.0 }
 {
-    let i = n.0 as usize;
-    nodes[i * 10 + 2]
+    nodes[n.0 as usize * 10 + 2]
 }
 
 pub fn span_start(nodes: &[u32], n: NodeId) -> u32
     requires { n.0 < count nodes.now }
     ensures { result ≡ span_start_of nodes.now n.0 }
 {
-    let i = n.0 as usize;
-    nodes[i * 10 + 3]
+    nodes[n.0 as usize * 10 + 3]
 }
 
 pub fn span_end(nodes: &[u32], n: NodeId) -> u32
     requires { n.0 < count nodes.now }
     ensures { result ≡ span_end_of nodes.now n.0 }
 {
-    let i = n.0 as usize;
-    nodes[i * 10 + 4]
+    nodes[n.0 as usize * 10 + 4]
 }
 
 pub fn scope(nodes: &[u32], n: NodeId) -> ScopeId
     requires { n.0 < count nodes.now }
     ensures { result.0 ≡ scope_of nodes.now n.0 }
 {
-    let i = n.0 as usize;
-    ScopeId(nodes[i * 10 + 5])
+    ScopeId(nodes[n.0 as usize * 10 + 5])
 }
 
 pub fn flags(nodes: &[u32], n: NodeId) -> u32
     requires { n.0 < count nodes.now }
     ensures { result ≡ flags_of nodes.now n.0 }
 {
-    let i = n.0 as usize;
-    nodes[i * 10 + 6]
+    nodes[n.0 as usize * 10 + 6]
 }
 
 pub fn extra(nodes: &[u32], n: NodeId) -> u32
     requires { n.0 < count nodes.now }
     ensures { result ≡ extra_of nodes.now n.0 }
 {
-    let i = n.0 as usize;
-    nodes[i * 10 + 7]
+    nodes[n.0 as usize * 10 + 7]
 }
 
 pub fn name_start(nodes: &[u32], n: NodeId) -> usize
     requires { n.0 < count nodes.now }
     ensures { result ≡ name_start_of nodes.now n.0 }
 {
-    let i = n.0 as usize;
-    wide(nodes[i * 10 + 8])
+    nodes[n.0 as usize * 10 + 8] as usize
 }
 
 pub fn name_len(nodes: &[u32], n: NodeId) -> usize
     requires { n.0 < count nodes.now }
     ensures { result ≡ name_len_of nodes.now n.0 }
 {
-    let i = n.0 as usize;
-    wide(nodes[i * 10 + 9])
+    nodes[n.0 as usize * 10 + 9] as usize
 }
 
 // How many scopes there are.
 pub fn scopes_size(scopes: &[u32]) -> u32
-    requires { Some (count_scopes scopes.now) }
+    requires { IsTableSize (count_scopes scopes.now) }
     ensures { result ≡ count_scopes scopes.now }
 {
     (scopes.len() / 3) as u32
@@ -147,24 +123,21 @@ pub fn scope_parent(scopes: &[u32], s: ScopeId) -> ScopeId
     requires { s.0 < count_scopes scopes.now }
     ensures { result.0 ≡ scope_parent_of scopes.now s.0 }
 {
-    let i = s.0 as usize;
-    ScopeId(scopes[i * 3])
+    ScopeId(scopes[s.0 as usize * 3])
 }
 
 pub fn scope_flags(scopes: &[u32], s: ScopeId) -> u32
     requires { s.0 < count_scopes scopes.now }
     ensures { result ≡ scope_flags_of scopes.now s.0 }
 {
-    let i = s.0 as usize;
-    scopes[i * 3 + 1]
+    scopes[s.0 as usize * 3 + 1]
 }
 
 pub fn scope_node(scopes: &[u32], s: ScopeId) -> NodeId
     requires { s.0 < count_scopes scopes.now }
     ensures { result.0 ≡ scope_node_of scopes.now s.0 }
 {
-    let i = s.0 as usize;
-    NodeId(scopes[i * 3 + 2])
+    NodeId(scopes[s.0 as usize * 3 + 2])
 }
 
 // Whether a flag is in a sum of flags.

@@ -1,4 +1,4 @@
-// A node's flags, which are added up.
+// A node's flags, which are added up: bits of one number of the lent table.
 // static
 pub const STATIC: u32 = 2;
 // private key

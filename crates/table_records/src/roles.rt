@@ -1,4 +1,4 @@
-// The roles of a node under its parent.
+// The roles of a node under its parent: numbers of the lent table, as the kinds are, and asked for by ranges.
 // other
 pub const OTHER: u32 = 0;
 // value or argument

@@ -1,4 +1,4 @@
-// A scope's flags, which are added up.
+// A scope's flags, which are added up: bits of one number of the lent table.
 // strict
 pub const STRICT: u32 = 1;
 // top

@@ -1,13 +1,12 @@
 -- Names where they are asked for: at nodes that are no labels they are the same bytes; two labels have one name before if and only if they have one after.
-use Rattle.std.specs.Prelude.{ℕ, ◌+◌, ◌<◌, ◌≡◌, refl, List, Bool, true, false, cond, ◌&&◌, eqb, length}
+use Rattle.table_records.specs.declared.NodeId.{NodeId}
+use Rattle.std.specs.Prelude.{ℕ, ◌+◌, ◌<◌, ◌≡◌, refl, List, Bool, true, false, cond, ◌&&◌, eqb, length, Option, Some, None}
 use Rattle.std.proofs.Common.{ap, sym, ◌∙◌, arith, eq-eqb, ne_eqb, eqb-true}
 use Rattle.base_common.proofs.Bools.{never}
 use Rattle.table_records.specs.Table.{count, kind_of, role_of, name_len_of}
 use Rattle.table_records.specs.Facts.{Named}
 use Rattle.table_records.specs.Kinds as k
 use Rattle.table_records.specs.Roles as role
-use Rattle.table_records.specs.declared.Found.{Found}
-use Rattle.table_records.specs.declared.Found.TheVariants.{At, Nothing}
 use Rattle.table_names.specs.Name.{same, name_of, same_name}
 use Rattle.table_names.proofs.NameLaws.{same_self, same_eq, name_length}
 use Rattle.table_children.specs.Children.{key_of, label_of}
@@ -51,7 +50,7 @@ module _ (ns : List ℕ) where
       go false = refl
 
   -- a part that is a label
-  label_found : (p m : ℕ) → label_of ns p ≡ At (record { 0 = m }) → is_label ns m ≡ true
+  label_found : (p m : ℕ) → label_of ns p ≡ Some (record { 0 = m }) → is_label ns m ≡ true
   label_found p m e =
       let c = found_child ns p k.LabelIdentifier k.LabelIdentifier role.Label role.Label (p + 1) m e in
       let kl = c.kind_low in let kh = c.kind_high in let rl = c.role_low in let rh = c.role_high in
@@ -63,25 +62,25 @@ module _ (ns names ms mnames : List ℕ) (r : Alike ns names ms mnames) where
   name_at_kind n kind h e = let q = eqb-true (kind_of ns n) kind e in r.others n (other_kind ns n (λ z. h (sym q ∙ z)))
 
   -- at the key of an element or a property
-  pub at_key : {A : Type 0} (F G : Found → A) (e : ℕ) → ((m : ℕ) → m < count ns → name_of ns names m ≡ name_of ms mnames m → F (At (record { 0 = m })) ≡ G (At (record { 0 = m })))
-      → F Nothing ≡ G Nothing → F (key_of ns e) ≡ G (key_of ms e)
+  pub at_key : {A : Type 0} (F G : Option NodeId → A) (e : ℕ) → ((m : ℕ) → m < count ns → name_of ns names m ≡ name_of ms mnames m → F (Some (record { 0 = m })) ≡ G (Some (record { 0 = m })))
+      → F None ≡ G None → F (key_of ns e) ≡ G (key_of ms e)
   at_key F G e p q = go (key_of ns e) refl ∙ ap G (simp (tables, r.fields))
     where
-      go : (f : Found) → key_of ns e ≡ f → F f ≡ G f
-      go (At m) h =
+      go : (f : Option NodeId) → key_of ns e ≡ f → F f ≡ G f
+      go (Some m) h =
           let c = found_child ns e 0 55 role.Key role.Key (e + 1) m.0 h in
           let z = c.role_high in
           p m.0 c.below (r.others m.0 (other_role ns m.0 (λ (x : role_of ns m.0 ≡ role.Label). omega arith)))
-      go Nothing h = q
+      go None h = q
 
   -- at the label of a Labeled or a jump
-  pub at_label_lem : {A : Type 0} (F G : Found → A) (p : ℕ) → ((m : ℕ) → is_label ns m ≡ true → F (At (record { 0 = m })) ≡ G (At (record { 0 = m }))) → F Nothing ≡ G Nothing
+  pub at_label_lem : {A : Type 0} (F G : Option NodeId → A) (p : ℕ) → ((m : ℕ) → is_label ns m ≡ true → F (Some (record { 0 = m })) ≡ G (Some (record { 0 = m }))) → F None ≡ G None
       → F (label_of ns p) ≡ G (label_of ms p)
   at_label_lem F G p h q = go (label_of ns p) refl ∙ ap G (simp (tables, r.fields))
     where
-      go : (f : Found) → label_of ns p ≡ f → F f ≡ G f
-      go (At m) e = h m.0 (label_found ns p m.0 e)
-      go Nothing e = q
+      go : (f : Option NodeId) → label_of ns p ≡ f → F f ≡ G f
+      go (Some m) e = h m.0 (label_found ns p m.0 e)
+      go None e = q
 
   -- two labels
   pub two_labels_lem : (i j : ℕ) → is_label ns i ≡ true → is_label ns j ≡ true → same_name ns names i j ≡ same_name ms mnames i j

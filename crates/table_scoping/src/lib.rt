@@ -27,6 +27,7 @@ pub fn strict_mode(nodes: &[u32], scopes: &[u32], n: NodeId) -> bool
 }
 
 // Whether, from this scope outward, a static block comes before a function.
+#[tactic(auto, using(crate::proofs::ScopingLaws::static_here, crate::proofs::ScopingLaws::static_function, crate::proofs::ScopingLaws::static_up, crate::proofs::ScopingLaws::static_root))]
 fn in_static_block(scopes: &[u32], s: ScopeId) -> bool
     requires chained { Chained scopes.now }
     requires s_bound { s.0 < count_scopes scopes.now }

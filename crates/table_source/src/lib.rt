@@ -4,8 +4,6 @@
 ghost use Rattle.std.specs.Prelude.{◌≡◌};
 ghost use Rattle.table_source.specs.SourceType.{is_module, is_typescript};
 
-use base_common::or;
-
 // a module
 pub const MODULE: u32 = 1;
 // a TypeScript module without ambient code; the last one
@@ -20,5 +18,5 @@ pub fn is_typescript(source_type: u32) -> bool
 pub fn is_module(source_type: u32) -> bool
     ensures { result ≡ is_module source_type }
 {
-    or(source_type == MODULE, source_type == TYPESCRIPT)
+    source_type == MODULE || source_type == TYPESCRIPT
 }

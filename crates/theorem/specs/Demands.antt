@@ -1,9 +1,9 @@
 -- THE THREE DEMANDS AS ONE STATEMENT. Each field is a sentence of the demands with its theorem; docs/CLAIMS.md says the same in words. What is not here is not claimed.
 -- `statement` of a call is its contract as it stands above the function in crates/exports/src/lib.rt: that the call, on any memory, ends, does nothing undefined and meets its `ensures`.
 -- The calls for C are those of crates/exports_c, each of which calls the one of its name there, under the same clauses (tests/source.sh).
-use Rattle.std.specs.Prelude.{ℕ, ◌≤◌, ◌≡◌, false, eqb}
+use Rattle.std.specs.Prelude.{ℕ, ◌≤◌, ◌≡◌, false, eqb, Ok}
 use mathlib.Core.List.{List, flat_map}
-use Rattle.refusal_verdict.specs.declared.Verdict.TheVariants.{Passed}
+use Rattle.refusal_verdict.specs.Verdict.{Passed}
 use Rattle.refusal_input.specs.Input.{input_refusal}
 use Rattle.check_dispatch.specs.Findings.{findings_of}
 use Rattle.check_class_table.specs.Classes.{classes_of}
@@ -34,7 +34,6 @@ use Rattle.call_marks.proofs.TheoremLaws.{marks_in_a_route}
 use Rattle.call_rows.specs.Rows.{rows, Each, Holds}
 use Rattle.call_rows.proofs.RowsHold.{rows_hold_lem}
 use Rattle.call_labels.specs.Written.{nodes_renamed, names_renamed}
-use Rattle.call_rename.specs.declared.Relabelled.TheVariants.{Names}
 use Rattle.call_rename_laws.specs.Output.{renaming_of, Output}
 use Rattle.call_rename_laws.proofs.OutputLaws.{output}
 use Rattle.exports.proofs.velkunshe_check.Statement as check-call
@@ -95,7 +94,7 @@ pub record Demands : Type 2 where
   -- what the calls answer and leave of every slice.
   pub renamed : (x : Rule) (ms mnames : List ℕ) → LabelsRenamed x ms mnames → Same x (with_tables x ms mnames)
   -- What the renaming call writes is such a renaming, with the names length that it answers, and "Renaming twice gives the bytes of renaming once."
-  pub written : (x : Rule) (s u : List ℕ) (n : ℕ) → (renaming_of x s u).answer ≡ Names n → Output x s u n (nodes_renamed x.nodes x.names) (names_renamed x.nodes x.names)
+  pub written : (x : Rule) (s u : List ℕ) (n : ℕ) → (renaming_of x s u).answer ≡ Ok n → Output x s u n (nodes_renamed x.nodes x.names) (names_renamed x.nodes x.names)
   -- 3. "For every well-formed tree without findings, whose breaks and continues all have the target that ECMA-262 asks for inside their own unit": those without findings have it.
   pub targets : (t async_bodies : ℕ) (ns ss source names : List ℕ) (u : ℕ) → input_refusal t ns ss source names ≡ Passed → state_answer (rule t async_bodies ns ss source names) u ≡ Passed → Targeted ns names
   -- "every unit of it .. and every list of answers, empty, too short or too long included", with `try` (document 02, request 1) and static blocks (request 5): "the flat jump code .. lists the same statements in the same order, takes the same

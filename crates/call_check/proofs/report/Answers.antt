@@ -1,4 +1,6 @@
-use Rattle.call_check.specs.declared.Checked.TheVariants.{Findings, Short}
+use Rattle.refusal_verdict.specs.declared.Refusal.TheVariants as refusal
+use Rattle.refusal_verdict.specs.declared.Refused.TheVariants.{Short}
+use Rattle.std.specs.Prelude.{Ok, Err}
 use Rattle.call_check.proofs.CheckLaws.{answer_short, slice_short, answer_room, slice_room}
 use Rattle.check_dispatch.specs.Rule.{rule}
 use Rattle.check_dispatch.specs.Reported.{reported}
@@ -13,7 +15,7 @@ returns-then-findings-needed c = let a = c.args in
     let f = reported (rule a.source_type a.async_bodies a.nodes.now a.scopes.now a.source.now a.names.now) in
     let q : c.check_tree-needed.result ≡ 7 * length f = omega (arith, c.check_tree-needed.ensures.place) in
     let h : length a.findings.now < 7 * length f = omega (arith, c.if-findings-needed.true, q) in
-    record { value = ap (λ (n : ℕ). Short n) q ∙ sym (answer_short f a.findings.now h); findings_after = sym (slice_short f a.findings.now h) }
+    record { value = (λ i. Err (Short refusal.FindingsSlice (q i))) ∙ sym (answer_short f a.findings.now h); findings_after = sym (slice_short f a.findings.now h) }
 
 pub returns : goal.returns
 returns c = let a = c.args in
@@ -21,4 +23,4 @@ returns c = let a = c.args in
     let q : c.check_tree-needed.result ≡ 7 * length f = omega (arith, c.check_tree-needed.ensures.place) in
     let h : 7 * length f ≤ length a.findings.now = omega (arith, c.if-findings-needed.false, q) in
     let d : c.check_tree-written.result / 7 ≡ length f = omega (arith, c.check_tree-written.ensures.place) in
-    record { value = ap (λ (n : ℕ). Findings n) d ∙ sym (answer_room f a.findings.now h); findings_after = c.check_tree-written.ensures.slice ∙ sym (slice_room f a.findings.now h) }
+    record { value = (λ i. Ok (d i)) ∙ sym (answer_room f a.findings.now h); findings_after = c.check_tree-written.ensures.slice ∙ sym (slice_room f a.findings.now h) }

@@ -10,11 +10,6 @@ use Rattle.call_labels.proofs.first_labels.Given as goal
 
 abbrev pub invariant-loop-i : goal.invariant-loop-i
 invariant-loop-i l =
-    (l.i ≤ l.count)
-    × (l.count ≡ table.count l.nodes)
-    × Firsts l.nodes l.names l.kept l.size (seen_before l.nodes l.names l.i)
+    Firsts l.nodes l.names l.kept l.size (seen_before l.nodes l.names l.i)
     × (first (unfit_at l.nodes l.names) l.i (table.count l.nodes) ≡ first (unfit_at l.nodes l.names) 0 (table.count l.nodes))
     × (length l.kept ≡ length l.initial.kept)
-
-abbrev pub decreases-loop-i : goal.decreases-loop-i
-decreases-loop-i l = l.count - l.i

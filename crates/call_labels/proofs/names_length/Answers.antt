@@ -8,22 +8,19 @@ use Rattle.call_labels.specs.Written.{names_to, names_renamed}
 use Rattle.check_diagnostics.proofs.Gather.{flat_end}
 use Rattle.call_labels.proofs.names_length.Goals as goal
 
-pub size-count-requires : goal.size-count-requires
-size-count-requires c = let t = c.requires.tree in let s = t.some in let m = t.small in record { some = s; small = omega arith }
-
 pub loop-i-init : goal.loop-i-init
 loop-i-init c =
     let a = c.args in
     let ns = a.nodes.now in
     let names = a.names.now in
-    (omega arith, c.size-count.ensures, sym (ap length (flat_end (new_name_of ns names) 0 0 (omega arith))), omega arith)
+    (sym (ap length (flat_end (new_name_of ns names) 0 0 (omega arith))), omega arith)
 
 pub new_length-w-requires : goal.new_length-w-requires
 new_length-w-requires c =
     let a = c.args in
     let ns = a.nodes.now in
     let names = a.names.now in
-    record { ready = c.requires; n_bound = omega (arith, c.loop-i.invariant.1) }
+    record { ready = c.requires; n_bound = omega arith }
 
 pub overflow_add-w : goal.overflow_add-w
 overflow_add-w c =
@@ -32,7 +29,7 @@ overflow_add-w c =
     let names = a.names.now in
     let r = c.requires in
     let v = c.loop-i.invariant in
-    let t = r.tree.small in omega (arith, v.0, v.1, v.3, c.new_length-w.ensures.1)
+    let t = r.tree.small in omega (arith, v.1, c.new_length-w.ensures.1)
 
 pub loop-i-preserved : goal.loop-i-preserved
 loop-i-preserved c =
@@ -41,7 +38,7 @@ loop-i-preserved c =
     let names = a.names.now in
     let r = c.requires in
     let v = c.loop-i.invariant in
-    (omega arith, v.1, omega (arith, v.2, c.new_length-w.ensures.0, next_length (new_name_of ns names) c.loop-i.i), omega (arith, v.3, c.new_length-w.ensures.1))
+    (omega (arith, v.0, c.new_length-w.ensures.0, next_length (new_name_of ns names) c.loop-i.i), omega (arith, v.1, c.new_length-w.ensures.1))
 
 pub returns : goal.returns
 unfolding names_renamed
@@ -51,5 +48,5 @@ returns c =
     let names = a.names.now in
     let r = c.requires in
     let v = c.loop-i.invariant in
-    let q : c.loop-i.i ≡ table.count ns = omega (arith, v.0, v.1) in
-    v.2 ∙ ap (λ k. length (names_to ns names k)) q
+    let q : c.loop-i.i ≡ table.count ns = omega arith in
+    v.0 ∙ ap (λ k. length (names_to ns names k)) q

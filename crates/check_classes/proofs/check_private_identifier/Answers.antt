@@ -1,3 +1,5 @@
+use Rattle.std.specs.Prelude.{Option}
+use Rattle.table_records.specs.declared.ClassId.{ClassId}
 use Prim.Native.Nat.{◌+◌, ◌*◌}
 use mathlib.Core.List.{List, []}
 use mathlib.Core.Path.{◌≡◌, sym, ap, subst, ◌∙◌}
@@ -6,7 +8,6 @@ use lib.ListN.{length}
 use Rattle.check_diagnostics.proofs.FindingLaws.{sink_nil}
 use Rattle.check_diagnostics.specs.Finding.{sink}
 use Rattle.check_diagnostics.specs.declared.Finding.{Finding}
-use Rattle.check_class_table.specs.declared.Current.{Current}
 use Rattle.check_class_table.specs.Classes.{in_table}
 use Rattle.check_classes.specs.ClassChecks.{undeclared_by, undeclared_in, private_undeclared}
 use Rattle.check_classes.proofs.check_private_identifier.Goals as goal
@@ -19,9 +20,9 @@ returns-in_default c = let a = c.args in
 
 pub undeclared_in-requires : goal.undeclared_in-requires
 undeclared_in-requires c = let a = c.args in
-    record { tree = c.requires.tree; named = c.requires.named; c_bound = subst (λ (r : Current). in_table a.nodes.now r) c.in-Class.is c.current_class.ensures.in_table; at_bound = c.requires.at_bound }
+    record { tree = c.requires.tree; named = c.requires.named; c_bound = subst (λ (r : Option ClassId). in_table a.nodes.now r) c.in-Some.is c.current_class.ensures.in_table; at_bound = c.requires.at_bound }
 
 pub returns : goal.returns
 returns c = let a = c.args in
-    let o : private_undeclared a.source_type a.nodes.now a.names.now a.n.0 ≡ undeclared_in a.source_type a.nodes.now a.names.now a.n.0 c.in-Class.c.0 = ap (undeclared_by a.source_type a.nodes.now a.names.now a.n.0) (sym c.current_class.ensures.value ∙ c.in-Class.is) in
+    let o : private_undeclared a.source_type a.nodes.now a.names.now a.n.0 ≡ undeclared_in a.source_type a.nodes.now a.names.now a.n.0 c.in-Some.c.0 = ap (undeclared_by a.source_type a.nodes.now a.names.now a.n.0) (sym c.current_class.ensures.value ∙ c.in-Some.is) in
     record { value = c.undeclared_in.ensures.value ∙ ap (λ (l : List Finding). a.at + 7 * length l) (sym o); findings_after = c.undeclared_in.ensures.findings_after ∙ ap (sink a.findings.now a.at) (sym o); upper_bound = c.undeclared_in.ensures.upper_bound }

@@ -6,11 +6,8 @@ use Rattle.base_common.specs.Upto.{upto}
 use lib.ListN.{length}
 use mathlib.Core.List.{flat_map}
 use mathlib.Core.Path.{◌≡◌}
-use Prim.Native.Nat.{◌+◌, ◌*◌, ◌-◌, ◌≤◌}
+use Prim.Native.Nat.{◌+◌, ◌*◌, ◌≤◌}
 use Rattle.check_dispatch.proofs.check_tree.Given as goal
 
-abbrev pub invariant-loop-findings : goal.invariant-loop-findings
-invariant-loop-findings l = (l.i ≤ count l.nodes) × (length l.findings ≡ length l.initial.findings) × (l.at ≤ l.initial.at + 458794 * l.i) × (l.at + 7 * length (flat_map (reported_at (rule l.source_type l.async_bodies l.nodes l.scopes l.source l.names)) (upto l.i (count l.nodes))) ≡ l.initial.at + 7 * length (flat_map (reported_at (rule l.source_type l.async_bodies l.nodes l.scopes l.source l.names)) (upto 0 (count l.nodes)))) × (sink l.findings l.at (flat_map (reported_at (rule l.source_type l.async_bodies l.nodes l.scopes l.source l.names)) (upto l.i (count l.nodes))) ≡ sink l.initial.findings l.initial.at (flat_map (reported_at (rule l.source_type l.async_bodies l.nodes l.scopes l.source l.names)) (upto 0 (count l.nodes))))
-
-abbrev pub decreases-loop-findings : goal.decreases-loop-findings
-decreases-loop-findings l = count l.nodes - l.i
+abbrev pub invariant-loop-i : goal.invariant-loop-i
+invariant-loop-i l = (length l.findings ≡ length l.initial.findings) × (l.at ≤ l.initial.at + 458794 * l.i) × (l.at + 7 * length (flat_map (reported_at (rule l.source_type l.async_bodies l.nodes l.scopes l.source l.names)) (upto l.i (count l.nodes))) ≡ l.initial.at + 7 * length (flat_map (reported_at (rule l.source_type l.async_bodies l.nodes l.scopes l.source l.names)) (upto 0 (count l.nodes)))) × (sink l.findings l.at (flat_map (reported_at (rule l.source_type l.async_bodies l.nodes l.scopes l.source l.names)) (upto l.i (count l.nodes))) ≡ sink l.initial.findings l.initial.at (flat_map (reported_at (rule l.source_type l.async_bodies l.nodes l.scopes l.source l.names)) (upto 0 (count l.nodes))))

@@ -1,8 +1,7 @@
-use Prim.Native.Nat.{◌+◌}
+use Prim.Native.Nat.{◌+◌, ◌<◌, ◌≤◌}
 use mathlib.Core.List.{◌++◌, []}
 use mathlib.Core.Path.{◌≡◌, sym, ap, ◌∙◌}
 use native.Mathlib.Omega.{arith}
-use borrow.Author.Tests.{ltb-true, ltb-false}
 use lib.ListN.{length}
 use Rattle.table_records.specs.Table.{count}
 use Rattle.check_diagnostics.proofs.FindingLaws.{sink_nil, sink_length}
@@ -11,46 +10,39 @@ use Rattle.check_diagnostics.proofs.Gather.{piece_place, piece_sink}
 use Rattle.check_duplicates.specs.Scans.{class_at}
 use Rattle.check_duplicates.proofs.DuplicatesLaws.{classes_from, all_start, all_turn, all_end}
 use Rattle.check_duplicates.specs.Duplicates.{duplicate_elements}
-use borrow.Author.Rules.{rules}
 use Rattle.check_duplicates.proofs.check_duplicate_class_elements.Goals as goal
 
-pub loop-findings-init : goal.loop-findings-init
-loop-findings-init c = let a = c.args in
+pub loop-i-init : goal.loop-i-init
+loop-i-init c = let a = c.args in
     let s = all_start a.source_type a.nodes.now a.names.now in
     let l = ap length s in
-    (search rules, omega arith, omega arith, ap (sink a.findings.now a.at) s)
+    (omega arith, omega arith, ap (sink a.findings.now a.at) s)
 
 pub duplicates_at-w-requires : goal.duplicates_at-w-requires
-duplicates_at-w-requires c = let h = ltb-true c.loop-findings.i (count c.args.nodes.now) (sym c.is_node.ensures ∙ c.loop-findings-test.true) in
+duplicates_at-w-requires c = let h : c.loop-i.i < count c.args.nodes.now = omega arith in
     let s = c.requires.tree.small in
     let p = c.requires.at_bound in
     record { tree = c.requires.tree; named = c.requires.named; i_bound = h; at_bound = omega arith }
 
-pub overflow_add-i : goal.overflow_add-i
-overflow_add-i c = let s = c.requires.tree.small in omega arith
-
-pub loop-findings-smaller : goal.loop-findings-smaller
-loop-findings-smaller c = let h = ltb-true c.loop-findings.i (count c.args.nodes.now) (sym c.is_node.ensures ∙ c.loop-findings-test.true) in omega arith
-
-pub loop-findings-preserved : goal.loop-findings-preserved
-loop-findings-preserved c = let a = c.args in
-    let h = ltb-true c.loop-findings.i (count a.nodes.now) (sym c.is_node.ensures ∙ c.loop-findings-test.true) in
+pub loop-i-preserved : goal.loop-i-preserved
+loop-i-preserved c = let a = c.args in
+    let h : c.loop-i.i < count c.args.nodes.now = omega arith in
     let q = c.duplicates_at-w.ensures.value in
     let u = c.duplicates_at-w.ensures.upper_bound in
-    let all = classes_from a.source_type a.nodes.now a.names.now c.loop-findings.i in
-    let piece = class_at a.source_type a.nodes.now a.names.now c.loop-findings.i in
-    let rest = classes_from a.source_type a.nodes.now a.names.now (c.loop-findings.i + 1) in
-    let e : all ≡ piece ++ rest = all_turn a.source_type a.nodes.now a.names.now c.loop-findings.i h in
-    (omega arith, omega arith, piece_place c.loop-findings.findings c.duplicates_at-w.new.findings c.loop-findings.w c.duplicates_at-w.result all piece rest e q ∙ c.loop-findings.invariant.2, piece_sink c.loop-findings.findings c.duplicates_at-w.new.findings c.loop-findings.w c.duplicates_at-w.result all piece rest e q c.duplicates_at-w.ensures.findings_after ∙ c.loop-findings.invariant.3)
+    let all = classes_from a.source_type a.nodes.now a.names.now c.loop-i.i in
+    let piece = class_at a.source_type a.nodes.now a.names.now c.loop-i.i in
+    let rest = classes_from a.source_type a.nodes.now a.names.now (c.loop-i.i + 1) in
+    let e : all ≡ piece ++ rest = all_turn a.source_type a.nodes.now a.names.now c.loop-i.i h in
+    (omega arith, piece_place c.loop-i.findings c.duplicates_at-w.new.findings c.loop-i.w c.duplicates_at-w.result all piece rest e q ∙ c.loop-i.invariant.1, piece_sink c.loop-i.findings c.duplicates_at-w.new.findings c.loop-i.w c.duplicates_at-w.result all piece rest e q c.duplicates_at-w.ensures.findings_after ∙ c.loop-i.invariant.2)
 
 pub shape_of-findings : goal.shape_of-findings
 shape_of-findings c = let a = c.args in
-    sym (sink_length c.loop-findings.findings c.loop-findings.w (classes_from a.source_type a.nodes.now a.names.now c.loop-findings.i)) ∙ ap length c.loop-findings.invariant.3 ∙ sink_length a.findings.now a.at (duplicate_elements a.source_type a.nodes.now a.names.now)
+    sym (sink_length c.loop-i.findings c.loop-i.w (classes_from a.source_type a.nodes.now a.names.now c.loop-i.i)) ∙ ap length c.loop-i.invariant.2 ∙ sink_length a.findings.now a.at (duplicate_elements a.source_type a.nodes.now a.names.now)
 
 pub returns : goal.returns
 returns c = let a = c.args in
-    let h = ltb-false c.loop-findings.i (count a.nodes.now) (sym c.is_node.ensures ∙ c.loop-findings-test.false) in
+    let h : count c.args.nodes.now ≤ c.loop-i.i = omega arith in
     let s = c.requires.tree.small in
-    let o : classes_from a.source_type a.nodes.now a.names.now c.loop-findings.i ≡ [] = all_end a.source_type a.nodes.now a.names.now c.loop-findings.i h in
-    let l : length (classes_from a.source_type a.nodes.now a.names.now c.loop-findings.i) ≡ 0 = ap length o in
-    record { value = omega arith; findings_after = sym (sink_nil c.loop-findings.findings c.loop-findings.w) ∙ ap (sink c.loop-findings.findings c.loop-findings.w) (sym o) ∙ c.loop-findings.invariant.3; upper_bound = omega arith }
+    let o : classes_from a.source_type a.nodes.now a.names.now c.loop-i.i ≡ [] = all_end a.source_type a.nodes.now a.names.now c.loop-i.i h in
+    let l : length (classes_from a.source_type a.nodes.now a.names.now c.loop-i.i) ≡ 0 = ap length o in
+    record { value = omega arith; findings_after = sym (sink_nil c.loop-i.findings c.loop-i.w) ∙ ap (sink c.loop-i.findings c.loop-i.w) (sym o) ∙ c.loop-i.invariant.2; upper_bound = omega arith }

@@ -18,7 +18,7 @@ loop-at-preserved c =
     )
 
 pub continue_to-requires : goal.continue_to-requires
-continue_to-requires c = record { tree = c.requires.tree; label_bound = c.requires.label_bound; labeled_bound = omega arith; outer_bound = rw c.in-At.is at c.same_label.ensures.below }
+continue_to-requires c = record { tree = c.requires.tree; label_bound = c.requires.label_bound; labeled_bound = omega arith; outer_bound = rw c.in-Some.is at c.same_label.ensures.below }
 
 pub returns-then-at-eq0 : goal.returns-then-at-eq0
 returns-then-at-eq0 c =
@@ -35,10 +35,10 @@ returns-then-is_unit c =
     c.no_label.ensures ∙ sym (sym o.invariant.1 ∙ walk_up_lem a.nodes.now (labelled_continue_at a.nodes.now a.names.now a.n.0 a.label.0) c.requires.tree o.at.0 c.up-at.result.0 (omega arith) (omega arith) c.up-at.ensures.result_value
     ∙ rw (← c.kind-kind.ensures, ← c.is_unit.ensures, c.if-is_unit.true))
 
-pub returns-in-At : goal.returns-in-At
+pub returns-in-Some : goal.returns-in-Some
 unfolding labelled_continue_at
-returns-in-At c =
+returns-in-Some c =
     let a = c.args in
     let o = c.loop-at in
     c.continue_to.ensures ∙ sym (sym o.invariant.1 ∙ walk_up_lem a.nodes.now (labelled_continue_at a.nodes.now a.names.now a.n.0 a.label.0) c.requires.tree o.at.0 c.up-at.result.0 (omega arith) (omega arith) c.up-at.ensures.result_value
-    ∙ rw (← c.kind-kind.ensures, ← c.is_unit.ensures, c.if-is_unit.false, ← c.same_label.ensures.value, c.in-At.is))
+    ∙ rw (← c.kind-kind.ensures, ← c.is_unit.ensures, c.if-is_unit.false, ← c.same_label.ensures.value, c.in-Some.is))

@@ -18,7 +18,7 @@ loop-at-preserved c =
     )
 
 pub error_between-requires : goal.error_between-requires
-error_between-requires c = record { first_bound = rw c.in-At.is at c.same_label.ensures.below; second_bound = c.requires.label_bound }
+error_between-requires c = record { first_bound = rw c.in-Some.is at c.same_label.ensures.below; second_bound = c.requires.label_bound }
 
 pub returns-then-at-eq0 : goal.returns-then-at-eq0
 returns-then-at-eq0 c =
@@ -35,10 +35,10 @@ returns-then-is_boundary c =
     sym (sym o.invariant.1 ∙ walk_up_lem a.nodes.now (labeled_at a.nodes.now a.names.now a.n.0 a.label.0) c.requires.tree o.at.0 c.up-at.result.0 (omega arith) (omega arith) c.up-at.ensures.result_value
     ∙ rw (← c.kind.ensures, ← c.is_boundary.ensures, c.if-is_boundary.true))
 
-pub returns-in-At : goal.returns-in-At
+pub returns-in-Some : goal.returns-in-Some
 unfolding labeled_at
-returns-in-At c =
+returns-in-Some c =
     let a = c.args in
     let o = c.loop-at in
     c.error_between.ensures ∙ sym (sym o.invariant.1 ∙ walk_up_lem a.nodes.now (labeled_at a.nodes.now a.names.now a.n.0 a.label.0) c.requires.tree o.at.0 c.up-at.result.0 (omega arith) (omega arith) c.up-at.ensures.result_value
-    ∙ rw (← c.kind.ensures, ← c.is_boundary.ensures, c.if-is_boundary.false, ← c.same_label.ensures.value, c.in-At.is))
+    ∙ rw (← c.kind.ensures, ← c.is_boundary.ensures, c.if-is_boundary.false, ← c.same_label.ensures.value, c.in-Some.is))

@@ -2,14 +2,13 @@ use Prim.Native.Nat.{◌<◌}
 use mathlib.Core.Path.{◌≡◌}
 use mathlib.Core.Bool.{true}
 use Rattle.table_records.specs.Table.{count}
-use Rattle.code_flat.specs.Code.{at}
 use Rattle.code_targets.specs.Targets.{target}
 use Rattle.code_layout.specs.Widths.{in_unit}
 use Rattle.code_branch.specs.Branch.{comp_by}
 use Rattle.code_branch.proofs.jump_target.Given as goal
 
 abbrev pub invariant-loop-at : goal.invariant-loop-at
-invariant-loop-at l = (l.at < count l.nodes) × (in_unit l.nodes l.b.0 l.at ≡ true) × (target l.nodes l.names l.b.0 l.at (comp_by l.nodes l.names l.jump) ≡ target l.nodes l.names l.b.0 l.initial.at (comp_by l.nodes l.names l.jump))
+invariant-loop-at l = (l.at < count l.laid.nodes.now) × (in_unit l.laid.nodes.now l.laid.body.0 l.at ≡ true) × (target l.laid.nodes.now l.laid.names.now l.laid.body.0 l.at (comp_by l.laid.nodes.now l.laid.names.now l.jump) ≡ target l.laid.nodes.now l.laid.names.now l.laid.body.0 l.initial.at (comp_by l.laid.nodes.now l.laid.names.now l.jump))
 
 abbrev pub decreases-loop-at : goal.decreases-loop-at
 decreases-loop-at l = l.at

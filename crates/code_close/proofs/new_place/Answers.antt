@@ -16,16 +16,13 @@ returns-then-size-eq0 c =
     let m = c.loop-p.invariant.1 is s S k b in
     let h : c.loop-p.p ≤ c.args.o = m.1 in
     let d = moving_before is S c.loop-p.p c.loop-p.q m.0 c.args.o h b in
-    absurd (omega (arith, size_is is s c.loop-p.p d S c.args.code.now k c.size_at-size.result c.size_at-size.ensures.by_index, len_pos (find is 0 c.loop-p.p) d))
+    absurd (omega (arith, size_is is s c.loop-p.p d S c.args.code.now k c.length_at-size.result c.length_at-size.ensures.by_index, len_pos (find is 0 c.loop-p.p) d))
 
 pub overflow_add-q : goal.overflow_add-q
-overflow_add-q c = omega (arith, c.loop-p.invariant.0, c.kept_at-kept.ensures.upper_bound, c.size_at-size.ensures.upper_bound, c.wide-end.ensures)
+overflow_add-q c = omega (arith, c.loop-p.invariant.0, c.kept_at-kept.ensures.upper_bound, c.length_at-size.ensures.upper_bound)
 
 pub overflow_add-p : goal.overflow_add-p
-overflow_add-p c = omega (arith, c.size_at-size.ensures.upper_bound, c.wide-end.ensures)
-
-pub loop-p-smaller : goal.loop-p-smaller
-loop-p-smaller c = omega arith
+overflow_add-p c = omega (arith, c.length_at-size.ensures.upper_bound)
 
 pub loop-p-preserved : goal.loop-p-preserved
 loop-p-preserved c = (
@@ -34,19 +31,19 @@ loop-p-preserved c = (
       let m = c.loop-p.invariant.1 is s S k b in
       let h : c.loop-p.p ≤ c.args.o = m.1 in
       let d = moving_before is S c.loop-p.p c.loop-p.q m.0 c.args.o h b in (
-        turn is s S c.args.code.now k c.loop-p.p d c.size_at-size.result c.kept_at-kept.result c.size_at-size.ensures.by_index c.kept_at-kept.ensures.value c.loop-p.q m.0,
-        omega (arith, c.wide-end.ensures, turn_size is s S c.args.code.now k c.loop-p.p d c.size_at-size.result c.kept_at-kept.result c.size_at-size.ensures.by_index c.kept_at-kept.ensures.value, moving_up is S c.loop-p.p c.loop-p.q m.0 c.args.o (omega (arith, c.wide-end.ensures)) b),
+        turn is s S c.args.code.now k c.loop-p.p d c.length_at-size.result c.kept_at-kept.result c.length_at-size.ensures.by_index c.kept_at-kept.ensures.value c.loop-p.q m.0,
+        omega (arith, turn_size is s S c.args.code.now k c.loop-p.p d c.length_at-size.result c.kept_at-kept.result c.length_at-size.ensures.by_index c.kept_at-kept.ensures.value, moving_up is S c.loop-p.p c.loop-p.q m.0 c.args.o (omega (arith)) b),
       ),
 )
 
 pub overflow_cast-result : goal.overflow_cast-result
-overflow_cast-result c = omega (arith, c.loop-p.invariant.0, c.wide-end.ensures)
+overflow_cast-result c = omega (arith, c.loop-p.invariant.0)
 
 pub returns-then-p-end : goal.returns-then-p-end
 returns-then-p-end c =
     λ is s S k b.
     let m = c.loop-p.invariant.1 is s S k b in
-    let e : c.loop-p.p ≡ c.args.o = omega (arith, c.wide-end.ensures) in
+    let e : c.loop-p.p ≡ c.args.o = omega (arith) in
     moving_at is S c.loop-p.p c.loop-p.q m.0 c.args.o e b
 
 pub returns : goal.returns
@@ -54,4 +51,4 @@ returns c =
     λ is s S k b.
     let m = c.loop-p.invariant.1 is s S k b in
     let h : c.loop-p.p ≤ c.args.o = m.1 in
-    absurd (omega (arith, c.wide-end.ensures))
+    absurd (omega (arith))

@@ -1,20 +1,13 @@
 use Prim.Native.Nat.{◌+◌}
-use Rattle.code_contexts.proofs.PlacesLaws.{above_lt, goes_is_lem, follow_self, follow_up}
+use Rattle.code_contexts.proofs.PlacesLaws.{goes_is_lem, follow_self, follow_up}
 use Rattle.code_contexts.specs.Contexts.{goes_by, Follow}
 use Rattle.code_widths.specs.Widths.{counted}
 use Rattle.code_layout.specs.Widths.{sum}
 use Rattle.code_tree.specs.Parts.{up_of, shape_at, parts}
-use native.Mathlib.Omega.{arith}
 use lib.Dec.{eqb}
 use mathlib.Core.Bool.{not}
 use mathlib.Core.Path.{◌≡◌, sym, ◌∙◌, ap, subst}
 use Rattle.code_contexts.proofs.follow_of.Goals as goal
-
-pub shape_of-requires : goal.shape_of-requires
-shape_of-requires c =
-    let a = c.args in
-    let l = above_lt a.nodes.now a.names.now a.b.0 c.requires.ready a.n.0 c.requires.b_lt_n c.requires.n_bound c.requires.n_value in
-    omega (arith, l, c.requires.p_value, c.requires.n_bound)
 
 pub returns-then-goes_by : goal.returns-then-goes_by
 returns-then-goes_by c =
@@ -22,7 +15,7 @@ returns-then-goes_by c =
     let ns = a.nodes.now in
     let ep = c.requires.p_value in
     let s : c.shape_of.result ≡ shape_at ns (up_of ns a.n.0) = c.shape_of.ensures ∙ ap (shape_at ns) ep in
-    let x : c.not-some.result ≡ not (eqb (sum (counted ns a.b.0) (parts ns (up_of ns a.n.0) (a.n.0 + 1))) 0) = c.not-some.ensures ∙ ap (λ k. not (eqb k 0)) (c.requires.behind_value ∙ ap (λ k. sum (counted ns a.b.0) (parts ns k (a.n.0 + 1))) ep) in
+    let x : not (eqb a.behind 0) ≡ not (eqb (sum (counted ns a.b.0) (parts ns (up_of ns a.n.0) (a.n.0 + 1))) 0) = ap (λ k. not (eqb k 0)) (c.requires.behind_value ∙ ap (λ k. sum (counted ns a.b.0) (parts ns k (a.n.0 + 1))) ep) in
     follow_self ns a.names.now a.b.0 c.requires.ready a.n.0 c.requires.b_lt_n c.requires.n_bound c.requires.n_value
     (goes_is_lem ns a.names.now a.b.0 c.requires.ready a.n.0 c.requires.b_lt_n c.requires.n_bound c.requires.n_value ∙ sym (λ i. goes_by (s i) (x i) (c.role.ensures i)) ∙ sym c.goes_by.ensures ∙ c.if-goes_by.true)
 
@@ -32,7 +25,7 @@ returns c =
     let ns = a.nodes.now in
     let ep = c.requires.p_value in
     let s : c.shape_of.result ≡ shape_at ns (up_of ns a.n.0) = c.shape_of.ensures ∙ ap (shape_at ns) ep in
-    let x : c.not-some.result ≡ not (eqb (sum (counted ns a.b.0) (parts ns (up_of ns a.n.0) (a.n.0 + 1))) 0) = c.not-some.ensures ∙ ap (λ k. not (eqb k 0)) (c.requires.behind_value ∙ ap (λ k. sum (counted ns a.b.0) (parts ns k (a.n.0 + 1))) ep) in
+    let x : not (eqb a.behind 0) ≡ not (eqb (sum (counted ns a.b.0) (parts ns (up_of ns a.n.0) (a.n.0 + 1))) 0) = ap (λ k. not (eqb k 0)) (c.requires.behind_value ∙ ap (λ k. sum (counted ns a.b.0) (parts ns k (a.n.0 + 1))) ep) in
     follow_up ns a.names.now a.b.0 c.requires.ready a.n.0 c.requires.b_lt_n c.requires.n_bound c.requires.n_value
     (goes_is_lem ns a.names.now a.b.0 c.requires.ready a.n.0 c.requires.b_lt_n c.requires.n_bound c.requires.n_value ∙ sym (λ i. goes_by (s i) (x i) (c.role.ensures i)) ∙ sym c.goes_by.ensures ∙ c.if-goes_by.false)
     a.f (subst (λ k. Follow ns a.names.now a.b.0 k a.f) ep c.requires.follow)

@@ -11,12 +11,6 @@ use mathlib.Core.Path.{◌≡◌, sym, ◌∙◌, ap, subst}
 use Prim.Native.Nat.{suc, ◌+◌}
 use Rattle.code_contexts.proofs.lay_node.Goals as goal
 
-pub up_of-p-requires : goal.up_of-p-requires
-up_of-p-requires c = record { tree = c.requires.ready.held.good.tree; n_nonzero = omega (arith, c.requires.b_lt_n); n_bound = c.requires.n_bound }
-
-pub bounds-levels-wide : goal.bounds-levels-wide
-bounds-levels-wide c = omega (arith, c.up_of-p.ensures.result_lt_n, c.wide-2.ensures, c.requires.n_bound, c.requires.nodes_in_bounds)
-
 pub level_of-level-requires : goal.level_of-level-requires
 level_of-level-requires c =
     let a = c.args in
@@ -26,12 +20,9 @@ level_of-level-requires c =
     let w = above_low ns a.names.now a.b.0 c.requires.ready a.n.0 c.requires.b_lt_n c.requires.n_bound c.requires.n_value in
     let i = above_in_lem ns a.names.now a.b.0 c.requires.ready a.n.0 c.requires.b_lt_n c.requires.n_bound c.requires.n_value in
     let d = depth_small ns a.names.now a.b.0 c.requires.ready (up_of ns a.n.0) (omega (arith, l, c.requires.n_bound)) i in
-    let x : get_or a.levels.now c.wide-2.result 0 ≡ suc (depth_at ns a.names.now a.b.0 (up_of ns a.n.0)) = ap (λ i. get_or a.levels.now i 0) (c.wide-2.ensures ∙ u) ∙ c.requires.places.level (up_of ns a.n.0) w l i in
+    let x : get_or a.levels.now c.up_of-p.result.0 0 ≡ suc (depth_at ns a.names.now a.b.0 (up_of ns a.n.0)) = ap (λ i. get_or a.levels.now i 0) u ∙ c.requires.places.level (up_of ns a.n.0) w l i in
     let s = c.requires.ready.held.good.tree.small in
     record { ready = c.requires.ready; p_bound = omega (arith, u, l, c.requires.n_bound); l_bound = omega (arith, x, d, l, s, c.requires.n_bound) }
-
-pub bounds-offsets-wide-2 : goal.bounds-offsets-wide-2
-bounds-offsets-wide-2 c = omega (arith, c.up_of-p.ensures.result_lt_n, c.wide-3.ensures, c.requires.n_bound, c.requires.nodes_in_bounds_2)
 
 pub offset_of-offset-requires : goal.offset_of-offset-requires
 offset_of-offset-requires c =
@@ -41,12 +32,9 @@ offset_of-offset-requires c =
     let l = above_lt ns a.names.now a.b.0 c.requires.ready a.n.0 c.requires.b_lt_n c.requires.n_bound c.requires.n_value in
     let w = above_low ns a.names.now a.b.0 c.requires.ready a.n.0 c.requires.b_lt_n c.requires.n_bound c.requires.n_value in
     let i = above_in_lem ns a.names.now a.b.0 c.requires.ready a.n.0 c.requires.b_lt_n c.requires.n_bound c.requires.n_value in
-    let x : get_or a.offsets.now c.wide-3.result 0 ≡ offset_at ns a.names.now a.b.0 c.up_of-p.result.0 = ap (λ i. get_or a.offsets.now i 0) (c.wide-3.ensures ∙ u) ∙ c.requires.places.offset (up_of ns a.n.0) w l i ∙ ap (offset_at ns a.names.now a.b.0) (sym u) in
-    let y : get_or a.offsets.now c.wide.result 0 ≡ sum (counted ns a.b.0) (parts ns c.up_of-p.result.0 (a.n.0 + 1)) = ap (λ i. get_or a.offsets.now i 0) c.wide.ensures ∙ c.requires.places.after a.n.0 (omega arith) c.requires.n_bound c.requires.n_value ∙ ap (λ k. sum (counted ns a.b.0) (parts ns k (a.n.0 + 1))) (sym u) in
+    let x : get_or a.offsets.now c.up_of-p.result.0 0 ≡ offset_at ns a.names.now a.b.0 c.up_of-p.result.0 = ap (λ i. get_or a.offsets.now i 0) u ∙ c.requires.places.offset (up_of ns a.n.0) w l i ∙ ap (offset_at ns a.names.now a.b.0) (sym u) in
+    let y : get_or a.offsets.now a.n.0 0 ≡ sum (counted ns a.b.0) (parts ns c.up_of-p.result.0 (a.n.0 + 1)) = c.requires.places.after a.n.0 (omega arith) c.requires.n_bound c.requires.n_value ∙ ap (λ k. sum (counted ns a.b.0) (parts ns k (a.n.0 + 1))) (sym u) in
     record { ready = c.requires.ready; wide = c.requires.wide; b_lt_n = c.requires.b_lt_n; n_bound = c.requires.n_bound; n_value = c.requires.n_value; p_value = u; o_value = x; behind_value = y }
-
-pub bounds-follows-wide : goal.bounds-follows-wide
-bounds-follows-wide c = omega (arith, c.up_of-p.ensures.result_lt_n, c.wide-4.ensures, c.requires.n_bound, c.requires.nodes_in_bounds_3)
 
 pub follow_of-follow-requires : goal.follow_of-follow-requires
 follow_of-follow-requires c =
@@ -56,27 +44,9 @@ follow_of-follow-requires c =
     let l = above_lt ns a.names.now a.b.0 c.requires.ready a.n.0 c.requires.b_lt_n c.requires.n_bound c.requires.n_value in
     let w = above_low ns a.names.now a.b.0 c.requires.ready a.n.0 c.requires.b_lt_n c.requires.n_bound c.requires.n_value in
     let i = above_in_lem ns a.names.now a.b.0 c.requires.ready a.n.0 c.requires.b_lt_n c.requires.n_bound c.requires.n_value in
-    let y : get_or a.offsets.now c.wide.result 0 ≡ sum (counted ns a.b.0) (parts ns c.up_of-p.result.0 (a.n.0 + 1)) = ap (λ i. get_or a.offsets.now i 0) c.wide.ensures ∙ c.requires.places.after a.n.0 (omega arith) c.requires.n_bound c.requires.n_value ∙ ap (λ k. sum (counted ns a.b.0) (parts ns k (a.n.0 + 1))) (sym u) in
+    let y : get_or a.offsets.now a.n.0 0 ≡ sum (counted ns a.b.0) (parts ns c.up_of-p.result.0 (a.n.0 + 1)) = c.requires.places.after a.n.0 (omega arith) c.requires.n_bound c.requires.n_value ∙ ap (λ k. sum (counted ns a.b.0) (parts ns k (a.n.0 + 1))) (sym u) in
     let f = c.requires.places.follow (up_of ns a.n.0) w l i in
-    record { ready = c.requires.ready; b_lt_n = c.requires.b_lt_n; n_bound = c.requires.n_bound; n_value = c.requires.n_value; p_value = u; behind_value = y; follow = subst (λ k. Follow ns a.names.now a.b.0 k (get_or a.follows.now c.wide-4.result 0)) (sym u) (subst (λ k. Follow ns a.names.now a.b.0 (up_of ns a.n.0) (get_or a.follows.now k 0)) (sym (c.wide-4.ensures ∙ u)) f) }
-
-pub offset_bounds-levels-wide-2 : goal.offset_bounds-levels-wide-2
-offset_bounds-levels-wide-2 c = omega (arith, c.wide-5.ensures, c.requires.n_bound, c.requires.ready.held.good.tree.small)
-
-pub bounds-levels-wide-2 : goal.bounds-levels-wide-2
-bounds-levels-wide-2 c = omega (arith, c.wide-5.ensures, c.requires.n_bound, c.requires.nodes_in_bounds)
-
-pub offset_bounds-offsets-wide-3 : goal.offset_bounds-offsets-wide-3
-offset_bounds-offsets-wide-3 c = omega (arith, c.wide-6.ensures, c.requires.n_bound, c.requires.ready.held.good.tree.small)
-
-pub bounds-offsets-wide-3 : goal.bounds-offsets-wide-3
-bounds-offsets-wide-3 c = omega (arith, c.wide-6.ensures, c.requires.n_bound, c.requires.nodes_in_bounds_2)
-
-pub offset_bounds-follows-wide-2 : goal.offset_bounds-follows-wide-2
-offset_bounds-follows-wide-2 c = omega (arith, c.wide-7.ensures, c.requires.n_bound, c.requires.ready.held.good.tree.small)
-
-pub bounds-follows-wide-2 : goal.bounds-follows-wide-2
-bounds-follows-wide-2 c = omega (arith, c.wide-7.ensures, c.requires.n_bound, c.requires.nodes_in_bounds_3)
+    record { ready = c.requires.ready; b_lt_n = c.requires.b_lt_n; n_bound = c.requires.n_bound; n_value = c.requires.n_value; p_value = u; behind_value = y; follow = subst (λ k. Follow ns a.names.now a.b.0 k (get_or a.follows.now c.up_of-p.result.0 0)) (sym u) (subst (λ k. Follow ns a.names.now a.b.0 (up_of ns a.n.0) (get_or a.follows.now k 0)) (sym u) f) }
 
 pub returns : goal.returns
 returns c =
@@ -86,8 +56,7 @@ returns c =
     let l = above_lt ns a.names.now a.b.0 c.requires.ready a.n.0 c.requires.b_lt_n c.requires.n_bound c.requires.n_value in
     let w = above_low ns a.names.now a.b.0 c.requires.ready a.n.0 c.requires.b_lt_n c.requires.n_bound c.requires.n_value in
     let i = above_in_lem ns a.names.now a.b.0 c.requires.ready a.n.0 c.requires.b_lt_n c.requires.n_bound c.requires.n_value in
-    let x : get_or a.levels.now c.wide-2.result 0 ≡ suc (depth_at ns a.names.now a.b.0 (up_of ns a.n.0)) = ap (λ i. get_or a.levels.now i 0) (c.wide-2.ensures ∙ u) ∙ c.requires.places.level (up_of ns a.n.0) w l i in
-    let d = level_is_lem ns a.names.now a.b.0 c.requires.ready a.n.0 c.requires.b_lt_n c.requires.n_bound c.level_of-level.result (get_or a.levels.now c.wide-2.result 0) c.up_of-p.result.0 u x c.level_of-level.ensures in
-    rw (c.wide-5.ensures, c.wide-6.ensures, c.wide-7.ensures)
+    let x : get_or a.levels.now c.up_of-p.result.0 0 ≡ suc (depth_at ns a.names.now a.b.0 (up_of ns a.n.0)) = ap (λ i. get_or a.levels.now i 0) u ∙ c.requires.places.level (up_of ns a.n.0) w l i in
+    let d = level_is_lem ns a.names.now a.b.0 c.requires.ready a.n.0 c.requires.b_lt_n c.requires.n_bound c.level_of-level.result (get_or a.levels.now c.up_of-p.result.0 0) c.up_of-p.result.0 u x c.level_of-level.ensures in
     (places_turn ns a.names.now a.b.0 c.requires.ready a.n.0 c.requires.b_lt_n c.requires.n_bound a.levels.now a.offsets.now a.follows.now c.requires.places c.requires.n_value c.level_of-level.result c.offset_of-offset.result c.follow_of-follow.result
     (omega (arith, c.requires.n_bound, c.requires.nodes_in_bounds)) (omega (arith, c.requires.n_bound, c.requires.nodes_in_bounds_2)) (omega (arith, c.requires.n_bound, c.requires.nodes_in_bounds_3)) d c.offset_of-offset.ensures c.follow_of-follow.ensures)

@@ -5,23 +5,16 @@ use Rattle.route_completion.specs.Sem.{normal}
 use Rattle.code_tree.specs.Parts.{order}
 use Rattle.code_targets.specs.Targets.{target, depth_at}
 use Rattle.code_layout.specs.Context.{ifz, head0, offset_at}
-use Rattle.code_layout.specs.Widths.{is_try, number_by}
 use Rattle.code_layout.specs.Words.{words_at}
 use Rattle.code_flat.specs.Has.{Has}
 use Rattle.code_flat.specs.Code.{at}
 use Rattle.code_branch.specs.Branch.{stat_of}
 use Rattle.code_instructions.proofs.class_words.Goals as goal
 
-pub entry_of-t-requires : goal.entry_of-t-requires
-entry_of-t-requires c = record { arrays = c.requires.arrays; b_lt_n = c.requires.b_lt_n; n_bound = c.requires.n_bound; n_value = c.requires.n_value; n_value_2 = ap is_try c.requires.n_value_2; own_value = c.number_by-own.ensures.value ∙ sym (ap number_by c.requires.n_value_2) }
-
 pub returns : goal.returns
 returns c = let a = c.args in
-    let ns = a.nodes.now in
-    let nm = a.names.now in
-    let b = a.b.0 in
+    let ns = a.laid.now.nodes.now in
+    let nm = a.laid.now.names.now in
+    let b = a.laid.now.body.0 in
     let n = a.n.0 in
-    let ws = a.widths.now in
-    let ls = a.levels.now in
-    let os = a.offsets.now in
     subst (λ r. Has r 0 (words_at ns nm b n)) (sym c.listing.ensures) (class_has ns nm b n c.requires.b_lt_n c.requires.n_value_2 (stat_of c.entry_of-t.result) (c.entry_of-t.ensures ∙ ap (λ k. ifz (head0 (order ns n)) (target ns nm b n normal) (at (offset_at ns nm b n + k) (depth_at ns nm b n))) c.number_by-own.ensures.value))

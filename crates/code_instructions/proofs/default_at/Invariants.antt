@@ -1,15 +1,16 @@
-use Rattle.code_instructions.proofs.PartLaws.{default_of}
-use Prim.Native.Nat.{◌+◌, ◌-◌}
+use Rattle.code_instructions.proofs.PartLaws.{default_of, rest_of, IsFound, left_of}
+use Prim.Native.Nat.{◌+◌}
 use mathlib.Core.Path.{◌≡◌}
-use mathlib.Core.List.{◌∷◌}
-use Rattle.table_records.specs.Table.{count}
-use Rattle.code_tree.specs.Parts.{Part}
 use Rattle.code_tree.specs.Parts.{parts}
 use Rattle.code_layout.specs.Context.{offset_at}
 use Rattle.code_instructions.proofs.default_at.Given as goal
 
-abbrev pub invariant-loop-b : goal.invariant-loop-b
-invariant-loop-b l = Part l.nodes l.n.0 l.c × (default_of l.nodes l.names l.b.0 (l.c ∷ parts l.nodes l.n.0 (l.c + 1)) (offset_at l.nodes l.names l.b.0 l.n.0 + 4) ≡ default_of l.nodes l.names l.b.0 (parts l.nodes l.n.0 (l.n.0 + 1)) (offset_at l.nodes l.names l.b.0 l.n.0 + 4))
+abbrev pub invariant-loop-next : goal.invariant-loop-next
+invariant-loop-next l =
+    let y = l.laid in
+    let ns = y.nodes.now in
+    let z = offset_at ns y.names.now y.body.0 l.n.0 + 4 in
+    record { found : IsFound ns l.n.0 l.next; same : default_of ns y.names.now y.body.0 (rest_of ns l.n.0 l.next) z ≡ default_of ns y.names.now y.body.0 (parts ns l.n.0 (l.n.0 + 1)) z }
 
-abbrev pub decreases-loop-b : goal.decreases-loop-b
-decreases-loop-b l = count l.nodes - l.c
+abbrev pub decreases-loop-next : goal.decreases-loop-next
+decreases-loop-next l = left_of l.laid.nodes.now l.n.0 l.next

@@ -5,16 +5,10 @@ use Rattle.code_flat.specs.Has.{Has}
 use Rattle.code_branch.specs.Branch.{stat_of}
 use Rattle.code_instructions.proofs.leaf_words.Goals as goal
 
-pub leaf_target-t-requires : goal.leaf_target-t-requires
-leaf_target-t-requires c = record { arrays = c.requires.arrays; n_bound = c.requires.n_bound; n_value = c.requires.n_value }
-
 pub returns : goal.returns
 returns c = let a = c.args in
-    let ns = a.nodes.now in
-    let nm = a.names.now in
-    let b = a.b.0 in
+    let ns = a.laid.now.nodes.now in
+    let nm = a.laid.now.names.now in
+    let b = a.laid.now.body.0 in
     let n = a.n.0 in
-    let ws = a.widths.now in
-    let ls = a.levels.now in
-    let os = a.offsets.now in
     subst (λ r. Has r 0 (words_at ns nm b n)) (sym c.listing.ensures) (leaf_has ns nm b n c.requires.b_lt_n c.requires.n_value_2 (stat_of c.leaf_target-t.result) c.leaf_target-t.ensures)

@@ -2,14 +2,14 @@ use native.Mathlib.Omega.{arith}
 use Rattle.code_machine.proofs.PendingLaws.{open_here, open_into, wait_below, wait_next, wait_here}
 use Rattle.code_machine.proofs.met.Goals as goal
 
-pub returns-then-below-wide : goal.returns-then-below-wide
-returns-then-below-wide c = record { depth_value = λ K e. open_here c.args.end K c.args.way (omega arith) (omega arith); shallow = tt }
+pub returns-then-below-way : goal.returns-then-below-way
+returns-then-below-way c = record { depth_value = λ K e. open_here c.args.end K c.args.way (omega arith) (omega arith); shallow = tt }
 
 pub returns-then-end-lt-HALF : goal.returns-then-end-lt-HALF
 returns-then-end-lt-HALF c = record { depth_value = λ K e. open_into c.args.end K c.args.way (omega arith) (omega arith) c.place_of.result c.place_of.ensures; shallow = omega arith }
 
-pub returns-then-wide-below : goal.returns-then-wide-below
-returns-then-wide-below c = record { depth_value = λ K e. wait_below c.args.end K c.args.way (omega arith) (omega arith); shallow = tt }
+pub returns-then-way-below : goal.returns-then-way-below
+returns-then-way-below c = record { depth_value = λ K e. wait_below c.args.end K c.args.way (omega arith) (omega arith); shallow = tt }
 
 pub returns-then-way-eq0 : goal.returns-then-way-eq0
 returns-then-way-eq0 c = record { depth_value = λ K e. wait_next c.args.end K c.args.way (omega arith) (omega arith) c.way_of.result c.way_of.ensures; shallow = tt }

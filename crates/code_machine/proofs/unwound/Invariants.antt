@@ -5,8 +5,5 @@ use Rattle.code_flat.specs.Machine.{room, unwind}
 use Rattle.code_machine.specs.Pending.{stack}
 use Rattle.code_machine.proofs.unwound.Given as goal
 
-abbrev pub invariant-loop-left : goal.invariant-loop-left
-invariant-loop-left l = (length l.ends ≡ length l.initial.ends) × ((l.left ≤ room) × (unwind (stack l.ends l.left) l.on.place l.on.depth ≡ unwind (stack l.initial.ends l.pending) l.initial.on.place l.initial.on.depth))
-
-abbrev pub decreases-loop-left : goal.decreases-loop-left
-decreases-loop-left l = l.left
+abbrev pub invariant-loop-top : goal.invariant-loop-top
+invariant-loop-top l = (length l.ends ≡ length l.initial.ends) × ((l.top ≤ room) × (unwind (stack l.ends l.top) l.on.place l.on.depth ≡ unwind (stack l.initial.ends l.pending) l.initial.on.place l.initial.on.depth))

@@ -1,11 +1,8 @@
 use Rattle.code_shorten.specs.Threading.{last_at}
 use lib.ListN.{length}
 use mathlib.Core.Path.{◌≡◌}
-use Prim.Native.Nat.{◌+◌}
+use Prim.Native.Nat.{◌+◌, ◌-◌}
 use Rattle.code_shorten.proofs.last_target.Given as goal
 
-abbrev pub invariant-loop-u : goal.invariant-loop-u
-invariant-loop-u l = last_at l.code (l.left + 1) l.place l.depth ≡ last_at l.code (length l.code + 1) l.t l.d
-
-abbrev pub decreases-loop-u : goal.decreases-loop-u
-decreases-loop-u l = l.left
+abbrev pub invariant-loop-jump : goal.invariant-loop-jump
+invariant-loop-jump l = last_at l.code (length l.code + 1 - l._jump) l.aim.place l.aim.depth ≡ last_at l.code (length l.code + 1) l.initial.aim.place l.initial.aim.depth

@@ -1,11 +1,19 @@
 use Rattle.code_shorten.proofs.MarkingLaws.{no_marks, news_one, marks_one, leads_low, leads_by, leads_not}
 use Rattle.code_shorten.specs.Marking.{marks_at, news_at, leads_at}
 use Rattle.code_flat.specs.Opcodes as op
+use Rattle.std.proofs.Math.Decide.{dec_lt}
+use Rattle.std.proofs.lemmas.Grind.{common_steps}
 use native.Mathlib.Omega.{arith}
+use lib.ListN.{get_or}
 use mathlib.Core.List.{[], ◌∷◌}
+use mathlib.Core.Logic.{◌⊎◌, inl, inr}
 use mathlib.Core.Path.{◌≡◌, sym, ◌∙◌, ap}
-use Prim.Native.Nat.{◌+◌, ◌-◌}
+use Prim.Native.Nat.{ℕ, ◌+◌, ◌-◌, ◌≤◌, ◌<◌}
 use Rattle.code_shorten.proofs.mark_leads.Goals as goal
+
+-- An ASK or a SELECT.
+either_of : (x : ℕ) → op.Ask ≤ x → x < op.Open → (x ≡ op.Ask) ⊎ (x ≡ op.Select)
+either_of x h k = elim (dec_lt x op.Select) [ yes l ↦ inl (omega arith) | no l ↦ inr (omega arith) ]
 
 pub returns-then-x-lt-RAISE : goal.returns-then-x-lt-RAISE
 returns-then-x-lt-RAISE c =
@@ -22,35 +30,40 @@ returns-in-1 c =
 pub returns-in-2 : goal.returns-in-2
 returns-in-2 c =
     let C = c.args.code.now in
-    let e : leads_at C c.args.p ≡ c.wide-a.result ∷ [] = leads_by C c.args.p (omega (arith, c.word-x.ensures)) op.Leave (ap (λ y. y - 8) (sym c.word-x.ensures) ∙ c.in-2.is) ∙ ap (λ y. y ∷ []) (sym (c.wide-a.ensures ∙ c.word.ensures)) in
-    record { news = c.mark-in-2.ensures.news ∙ sym (news_one C c.wide-a.result) ∙ ap (news_at C) (sym e); marks = c.mark-in-2.ensures.marks ∙ sym (marks_one C c.wide-a.result) ∙ ap (marks_at C) (sym e) }
-
-pub returns-in-3 : goal.returns-in-3
-returns-in-3 c =
-    let C = c.args.code.now in
-    let e : leads_at C c.args.p ≡ c.wide-b.result ∷ c.wide-c.result ∷ [] = leads_by C c.args.p (omega (arith, c.word-x.ensures)) op.Ask (ap (λ y. y - 8) (sym c.word-x.ensures) ∙ c.in-3.is) ∙ (λ j. (sym (c.wide-b.ensures ∙ c.word-2.ensures)) j ∷ (sym (c.wide-c.ensures ∙ c.word-3.ensures)) j ∷ []) in
-    record { news = c.mark_both.ensures.news ∙ ap (news_at C) (sym e); marks = c.mark_both.ensures.marks ∙ ap (marks_at C) (sym e) }
-
-pub returns-in-4 : goal.returns-in-4
-returns-in-4 c =
-    let C = c.args.code.now in
-    let e : leads_at C c.args.p ≡ c.wide-b.result ∷ c.wide-c.result ∷ [] = leads_by C c.args.p (omega (arith, c.word-x.ensures)) op.Select (ap (λ y. y - 8) (sym c.word-x.ensures) ∙ c.in-4.is) ∙ (λ j. (sym (c.wide-b.ensures ∙ c.word-2.ensures)) j ∷ (sym (c.wide-c.ensures ∙ c.word-3.ensures)) j ∷ []) in
-    record { news = c.mark_both-in-4.ensures.news ∙ ap (news_at C) (sym e); marks = c.mark_both-in-4.ensures.marks ∙ ap (marks_at C) (sym e) }
+    let e : leads_at C c.args.p ≡ c.word-a.result ∷ [] = leads_by C c.args.p (omega (arith, c.word-x.ensures)) op.Leave (ap (λ y. y - 8) (sym c.word-x.ensures) ∙ c.in-2.is) ∙ ap (λ y. y ∷ []) (sym (c.word-a.ensures)) in
+    record { news = c.mark-in-2.ensures.news ∙ sym (news_one C c.word-a.result) ∙ ap (news_at C) (sym e); marks = c.mark-in-2.ensures.marks ∙ sym (marks_one C c.word-a.result) ∙ ap (marks_at C) (sym e) }
 
 pub returns-in-5 : goal.returns-in-5
 returns-in-5 c =
     let C = c.args.code.now in
-    let e : leads_at C c.args.p ≡ (c.args.p + 2) ∷ c.wide-a.result ∷ [] = leads_by C c.args.p (omega (arith, c.word-x.ensures)) op.Open (ap (λ y. y - 8) (sym c.word-x.ensures) ∙ c.in-5.is) ∙ ap (λ y. (c.args.p + 2) ∷ y ∷ []) (sym (c.wide-a.ensures ∙ c.word.ensures)) in
-    record { news = c.mark_both-in-5.ensures.news ∙ ap (news_at C) (sym e); marks = c.mark_both-in-5.ensures.marks ∙ ap (marks_at C) (sym e) }
+    let e : leads_at C c.args.p ≡ (c.args.p + 2) ∷ c.word-a.result ∷ [] = leads_by C c.args.p (omega (arith, c.word-x.ensures)) op.Open (ap (λ y. y - 8) (sym c.word-x.ensures) ∙ c.in-5.is) ∙ ap (λ y. (c.args.p + 2) ∷ y ∷ []) (sym (c.word-a.ensures)) in
+    record { news = c.mark_both.ensures.news ∙ ap (news_at C) (sym e); marks = c.mark_both.ensures.marks ∙ ap (marks_at C) (sym e) }
 
 pub returns-in-7 : goal.returns-in-7
 returns-in-7 c =
     let C = c.args.code.now in
-    let e : leads_at C c.args.p ≡ c.wide-a.result ∷ c.wide-b.result ∷ [] = leads_by C c.args.p (omega (arith, c.word-x.ensures)) op.Case (ap (λ y. y - 8) (sym c.word-x.ensures) ∙ c.in-7.is) ∙ (λ j. (sym (c.wide-a.ensures ∙ c.word.ensures)) j ∷ (sym (c.wide-b.ensures ∙ c.word-2.ensures)) j ∷ []) in
+    let e : leads_at C c.args.p ≡ c.word-a.result ∷ c.word-b.result ∷ [] = leads_by C c.args.p (omega (arith, c.word-x.ensures)) op.Case (ap (λ y. y - 8) (sym c.word-x.ensures) ∙ c.in-7.is) ∙ (λ j. (sym (c.word-a.ensures)) j ∷ (sym (c.word-b.ensures)) j ∷ []) in
     record { news = c.mark_both-in-7.ensures.news ∙ ap (news_at C) (sym e); marks = c.mark_both-in-7.ensures.marks ∙ ap (marks_at C) (sym e) }
+
+pub returns-in-3 : goal.returns-in-3
+returns-in-3 c =
+    let C = c.args.code.now in
+    let x : c.word-x.result - 8 ≡ get_or C c.args.p 0 - 8 = ap (λ y. y - 8) c.word-x.ensures in
+    let e : leads_at C c.args.p ≡ c.word-b.result ∷ c.word-c.result ∷ [] =
+    elim (either_of (c.word-x.result - 8) (grind (arith, common_steps)) (omega arith)) [
+      | inl i ↦ leads_by C c.args.p (omega (arith, c.word-x.ensures)) op.Ask (sym x ∙ i) ∙ (λ j. sym c.word-b.ensures j ∷ sym c.word-c.ensures j ∷ [])
+      | inr i ↦ leads_by C c.args.p (omega (arith, c.word-x.ensures)) op.Select (sym x ∙ i) ∙ (λ j. sym c.word-b.ensures j ∷ sym c.word-c.ensures j ∷ [])
+    ] in
+    record { news = c.mark_both-in-3.ensures.news ∙ ap (news_at C) (sym e); marks = c.mark_both-in-3.ensures.marks ∙ ap (marks_at C) (sym e) }
 
 pub returns-in_default : goal.returns-in_default
 returns-in_default c =
     let C = c.args.code.now in
-    let e : leads_at C c.args.p ≡ [] = leads_not C c.args.p (omega (arith, c.word-x.ensures)) (c.word-x.result - 8) (ap (λ y. y - 8) (sym c.word-x.ensures)) (omega arith) (omega arith) (omega arith) (omega arith) (omega arith) (omega arith) in
+    let e : leads_at C c.args.p ≡ [] = leads_not C c.args.p (omega (arith, c.word-x.ensures)) (c.word-x.result - 8) (ap (λ y. y - 8) (sym c.word-x.ensures)) (grind (arith, common_steps)) (grind (arith, common_steps)) (grind (arith, common_steps)) (grind (arith, common_steps)) (grind (arith, common_steps)) (grind (arith, common_steps)) in
+    record { news = (no_marks C).0 ∙ ap (news_at C) (sym e); marks = (no_marks C).1 ∙ ap (marks_at C) (sym e) }
+
+pub returns-in_default-2 : goal.returns-in_default-2
+returns-in_default-2 c =
+    let C = c.args.code.now in
+    let e : leads_at C c.args.p ≡ [] = leads_not C c.args.p (omega (arith, c.word-x.ensures)) (c.word-x.result - 8) (ap (λ y. y - 8) (sym c.word-x.ensures)) (grind (arith, common_steps)) (grind (arith, common_steps)) (grind (arith, common_steps)) (grind (arith, common_steps)) (grind (arith, common_steps)) (grind (arith, common_steps)) in
     record { news = (no_marks C).0 ∙ ap (news_at C) (sym e); marks = (no_marks C).1 ∙ ap (marks_at C) (sym e) }

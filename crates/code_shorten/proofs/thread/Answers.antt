@@ -15,9 +15,6 @@ loop-p-init c = (refl, threading_first c.args.code.now c.requires)
 pub thread_at-requires : goal.thread_at-requires
 thread_at-requires c = threading_some (parse c.args.code.now) (valid_sound c.args.code.now c.requires) c.loop-p.code c.loop-p.p c.loop-p.invariant.1 (omega arith)
 
-pub overflow_add-p : goal.overflow_add-p
-overflow_add-p c = omega arith
-
 pub loop-p-smaller : goal.loop-p-smaller
 loop-p-smaller c =
     let n : c.size_at-size.result ≢ 0 = λ z. threading_some (parse c.args.code.now) (valid_sound c.args.code.now c.requires) c.loop-p.code c.loop-p.p c.loop-p.invariant.1 (omega arith) (sym c.size_at-size.ensures.value ∙ z) in
@@ -29,9 +26,6 @@ loop-p-preserved c = (
   rw c.thread_at.ensures (subst (λ w. Threading (parse c.args.code.now) (threaded_at c.loop-p.code c.loop-p.p) (c.loop-p.p + w)) (sym c.size_at-size.ensures.value)
       (threading_next (parse c.args.code.now) (valid_sound c.args.code.now c.requires) c.loop-p.code c.loop-p.p c.loop-p.invariant.1 (omega arith))),
 )
-
-pub shape_of-code : goal.shape_of-code
-shape_of-code c = c.loop-p.invariant.0
 
 pub returns : goal.returns
 returns c = threading_end (parse c.args.code.now) (valid_sound c.args.code.now c.requires) c.loop-p.code c.loop-p.p c.loop-p.invariant.1 (omega arith)

@@ -9,25 +9,19 @@ pub offset_bounds-code-p : goal.offset_bounds-code-p
 offset_bounds-code-p c = omega (arith, standing_in c.args.code.now c.args.p c.requires)
 
 pub bounds-code-p : goal.bounds-code-p
-bounds-code-p c = omega (arith, standing_in c.args.code.now c.args.p c.requires)
-
-pub overflow_add-p : goal.overflow_add-p
-overflow_add-p c = omega (arith, standing_in c.args.code.now c.args.p c.requires)
+bounds-code-p c = standing_in c.args.code.now c.args.p c.requires
 
 pub send_on-requires : goal.send_on-requires
-send_on-requires c = omega (arith, stands_in c.args.code.now c.args.p c.requires op.Leave c.if-first-eq-LEAVE.true)
+send_on-requires c = omega (arith, stands_in c.args.code.now c.args.p c.requires op.Leave c.in-2.is)
 
-pub returns-then-first-eq-LEAVE : goal.returns-then-first-eq-LEAVE
-returns-then-first-eq-LEAVE c = c.send_on.ensures ∙ sym (thread_leave c.args.code.now c.args.p c.if-first-eq-LEAVE.true)
+pub send_on-requires-in-7 : goal.send_on-requires-in-7
+send_on-requires-in-7 c = omega (arith, stands_in c.args.code.now c.args.p c.requires op.Case c.in-7.is)
 
-pub overflow_add-p-then-first-eq-CASE : goal.overflow_add-p-then-first-eq-CASE
-overflow_add-p-then-first-eq-CASE c = omega (arith, stands_in c.args.code.now c.args.p c.requires op.Case c.if-first-eq-CASE.true)
+pub returns-in-2 : goal.returns-in-2
+returns-in-2 c = c.send_on.ensures ∙ sym (thread_leave c.args.code.now c.args.p c.in-2.is)
 
-pub send_on-requires-then-first-eq-CASE : goal.send_on-requires-then-first-eq-CASE
-send_on-requires-then-first-eq-CASE c = omega (arith, stands_in c.args.code.now c.args.p c.requires op.Case c.if-first-eq-CASE.true)
+pub returns-in-7 : goal.returns-in-7
+returns-in-7 c = c.send_on-in-7.ensures ∙ sym (thread_case c.args.code.now c.args.p c.in-7.is)
 
-pub returns-then-first-eq-CASE : goal.returns-then-first-eq-CASE
-returns-then-first-eq-CASE c = c.send_on-then-first-eq-CASE.ensures ∙ sym (thread_case c.args.code.now c.args.p c.if-first-eq-CASE.true)
-
-pub returns : goal.returns
-returns c = sym (thread_other c.args.code.now c.args.p c.if-first-eq-LEAVE.false c.if-first-eq-CASE.false)
+pub returns-in_default : goal.returns-in_default
+returns-in_default c = sym (thread_other c.args.code.now c.args.p (omega arith) (omega arith))

@@ -1,9 +1,9 @@
 use Rattle.code_widths.proofs.WidthsLaws.{own_is, rest_small, counts_turn, width_small}
 use Rattle.code_layout.specs.Widths.{number_by}
 use Rattle.code_tree.specs.Parts.{up_of, shape_at}
-use lib.ListN.{length-set, get_or}
+use lib.ListN.{get_or}
 use native.Mathlib.Omega.{arith}
-use mathlib.Core.Path.{◌≡◌, ◌∙◌, ap}
+use mathlib.Core.Path.{◌≡◌, refl, ◌∙◌, ap}
 use Prim.Native.Nat.{◌+◌}
 use Rattle.code_widths.proofs.add_node.Goals as goal
 
@@ -11,50 +11,38 @@ pub overflow_add-own : goal.overflow_add-own
 overflow_add-own c =
     let a = c.args in
     let ns = a.nodes.now in
-    let x : get_or a.widths.now c.wide.result 0 ≡ get_or a.widths.now a.n.0 0 = ap (λ i. get_or a.widths.now i 0) c.wide.ensures in
     let y : c.number_by-number.result ≡ number_by (shape_at ns a.n.0) = c.number_by-number.ensures.value ∙ ap number_by c.shape_of.ensures in
     let o = own_is ns a.names.now a.b.0 c.requires.held a.n.0 c.requires.b_lt_n c.requires.n_bound a.widths.now a.behinds.now c.requires.nodes_in_bounds c.requires.nodes_in_bounds_2 c.requires.counts c.requires.n_value in
     let z = width_small ns a.names.now a.b.0 c.requires.held a.n.0 c.requires.n_bound c.requires.n_value in
-    omega (arith, x, y, o, z)
+    omega (arith, y, o, z)
 
 pub overflow_add-widths : goal.overflow_add-widths
 overflow_add-widths c =
     let a = c.args in
     let ns = a.nodes.now in
-    let x : get_or a.widths.now c.wide.result 0 ≡ get_or a.widths.now a.n.0 0 = ap (λ i. get_or a.widths.now i 0) c.wide.ensures in
     let y : c.number_by-number.result ≡ number_by (shape_at ns a.n.0) = c.number_by-number.ensures.value ∙ ap number_by c.shape_of.ensures in
     let o = own_is ns a.names.now a.b.0 c.requires.held a.n.0 c.requires.b_lt_n c.requires.n_bound a.widths.now a.behinds.now c.requires.nodes_in_bounds c.requires.nodes_in_bounds_2 c.requires.counts c.requires.n_value in
     let z = width_small ns a.names.now a.b.0 c.requires.held a.n.0 c.requires.n_bound c.requires.n_value in
-    let u : get_or a.widths.now c.wide-2.result 0 ≡ get_or a.widths.now (up_of ns a.n.0) 0 = ap (λ i. get_or a.widths.now i 0) (c.wide-2.ensures ∙ c.up_of-p.ensures.result_value) in
+    let u : get_or a.widths.now c.up_of-p.result.0 0 ≡ get_or a.widths.now (up_of ns a.n.0) 0 = ap (λ i. get_or a.widths.now i 0) c.up_of-p.ensures.result_value in
     let r = rest_small ns a.names.now a.b.0 c.requires.held a.n.0 c.requires.b_lt_n c.requires.n_bound a.widths.now a.behinds.now c.requires.nodes_in_bounds c.requires.nodes_in_bounds_2 c.requires.counts c.requires.n_value in
-    omega (arith, x, y, o, z, u, r)
+    omega (arith, y, o, z, u, r)
 
 pub overflow_add-widths-2 : goal.overflow_add-widths-2
 overflow_add-widths-2 c =
     let a = c.args in
     let ns = a.nodes.now in
-    let x : get_or a.widths.now c.wide.result 0 ≡ get_or a.widths.now a.n.0 0 = ap (λ i. get_or a.widths.now i 0) c.wide.ensures in
     let y : c.number_by-number.result ≡ number_by (shape_at ns a.n.0) = c.number_by-number.ensures.value ∙ ap number_by c.shape_of.ensures in
     let o = own_is ns a.names.now a.b.0 c.requires.held a.n.0 c.requires.b_lt_n c.requires.n_bound a.widths.now a.behinds.now c.requires.nodes_in_bounds c.requires.nodes_in_bounds_2 c.requires.counts c.requires.n_value in
     let z = width_small ns a.names.now a.b.0 c.requires.held a.n.0 c.requires.n_bound c.requires.n_value in
-    let u : get_or a.widths.now c.wide-2.result 0 ≡ get_or a.widths.now (up_of ns a.n.0) 0 = ap (λ i. get_or a.widths.now i 0) (c.wide-2.ensures ∙ c.up_of-p.ensures.result_value) in
+    let u : get_or a.widths.now c.up_of-p.result.0 0 ≡ get_or a.widths.now (up_of ns a.n.0) 0 = ap (λ i. get_or a.widths.now i 0) c.up_of-p.ensures.result_value in
     let r = rest_small ns a.names.now a.b.0 c.requires.held a.n.0 c.requires.b_lt_n c.requires.n_bound a.widths.now a.behinds.now c.requires.nodes_in_bounds c.requires.nodes_in_bounds_2 c.requires.counts c.requires.n_value in
-    omega (arith, x, y, o, z, u, r, c.open_at-open.ensures.upper_bound)
-
-pub bounds-widths-wide-4 : goal.bounds-widths-wide-4
-bounds-widths-wide-4 c =
-    let a = c.args in
-    let v = c.wide-5.ensures in
-    let l = c.up_of-p.ensures.result_lt_n in
-    let k = length-set a.widths.now c.wide-3.result (get_or a.widths.now c.wide.result 0 + c.number_by-number.result) in
-    omega (arith, v, l, k, c.requires.n_bound, c.requires.nodes_in_bounds)
+    omega (arith, y, o, z, u, r, c.open_at-open.ensures.upper_bound)
 
 pub returns : goal.returns
 returns c =
     let a = c.args in
     let ns = a.nodes.now in
-    let x : get_or a.widths.now c.wide.result 0 + c.number_by-number.result ≡ get_or a.widths.now a.n.0 0 + number_by (shape_at ns a.n.0) = λ i. ap (λ i. get_or a.widths.now i 0) c.wide.ensures i + (c.number_by-number.ensures.value ∙ ap number_by c.shape_of.ensures) i in
-    let u : get_or a.widths.now c.wide-2.result 0 ≡ get_or a.widths.now (up_of ns a.n.0) 0 = ap (λ i. get_or a.widths.now i 0) (c.wide-2.ensures ∙ c.up_of-p.ensures.result_value) in
-    rw (c.wide-3.ensures, c.wide-4.ensures, c.wide-5.ensures, c.up_of-p.ensures.result_value, c.open_at-open.ensures.value)
+    let x : get_or a.widths.now a.n.0 0 + c.number_by-number.result ≡ get_or a.widths.now a.n.0 0 + number_by (shape_at ns a.n.0) = ap (λ k. get_or a.widths.now a.n.0 0 + k) (c.number_by-number.ensures.value ∙ ap number_by c.shape_of.ensures) in
+    rw (c.up_of-p.ensures.result_value, c.open_at-open.ensures.value)
     (counts_turn ns a.names.now a.b.0 c.requires.held a.n.0 c.requires.b_lt_n c.requires.n_bound a.widths.now a.behinds.now c.requires.nodes_in_bounds c.requires.nodes_in_bounds_2 c.requires.counts c.requires.n_value
-    (get_or a.widths.now c.wide.result 0 + c.number_by-number.result) (get_or a.widths.now c.wide-2.result 0) x u)
+    (get_or a.widths.now a.n.0 0 + c.number_by-number.result) (get_or a.widths.now (up_of ns a.n.0) 0) x refl)

@@ -1,13 +1,12 @@
 use Rattle.exports.specs.Numbers.{check_numbers}
-use Rattle.call_check.specs.declared.Checked.{Checked}
-use mathlib.Core.Path.{ap, sym}
+use Rattle.refusal_verdict.specs.declared.Refused.{Refused}
+use Rattle.std.specs.Prelude.{ℕ, Result}
+use mathlib.Core.Path.{ap, sym, ◌∙◌}
 use Rattle.exports.proofs.check_numbers.Goals as goal
 
-pub returns-in-Findings : goal.returns-in-Findings
-returns-in-Findings c = sym (ap (λ (v : Checked). check_numbers v) c.in-Findings.is)
+pub returns-in-Ok : goal.returns-in-Ok
+returns-in-Ok c = sym (ap (λ (v : Result ℕ Refused). check_numbers v) c.in-Ok.is)
 
-pub returns-in-Refused : goal.returns-in-Refused
-returns-in-Refused c = sym (ap (λ (v : Checked). check_numbers v) c.in-Refused.is)
-
-pub returns-in-Short : goal.returns-in-Short
-returns-in-Short c = sym (ap (λ (v : Checked). check_numbers v) c.in-Short.is)
+pub returns-in-Err : goal.returns-in-Err
+returns-in-Err c =
+    (λ i. record { refusal = c.number.ensures i; place = c.place.ensures i; findings = 0; needed = c.needed.ensures i }) ∙ sym (ap (λ (v : Result ℕ Refused). check_numbers v) c.in-Err.is)

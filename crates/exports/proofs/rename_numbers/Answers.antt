@@ -1,13 +1,12 @@
 use Rattle.exports.specs.Numbers.{rename_numbers}
-use Rattle.call_rename.specs.declared.Relabelled.{Relabelled}
-use mathlib.Core.Path.{ap, sym}
+use Rattle.refusal_verdict.specs.declared.Refused.{Refused}
+use Rattle.std.specs.Prelude.{ℕ, Result}
+use mathlib.Core.Path.{ap, sym, ◌∙◌}
 use Rattle.exports.proofs.rename_numbers.Goals as goal
 
-pub returns-in-Names : goal.returns-in-Names
-returns-in-Names c = sym (ap (λ (v : Relabelled). rename_numbers v) c.in-Names.is)
+pub returns-in-Ok : goal.returns-in-Ok
+returns-in-Ok c = sym (ap (λ (v : Result ℕ Refused). rename_numbers v) c.in-Ok.is)
 
-pub returns-in-Refused : goal.returns-in-Refused
-returns-in-Refused c = sym (ap (λ (v : Relabelled). rename_numbers v) c.in-Refused.is)
-
-pub returns-in-Short : goal.returns-in-Short
-returns-in-Short c = sym (ap (λ (v : Relabelled). rename_numbers v) c.in-Short.is)
+pub returns-in-Err : goal.returns-in-Err
+returns-in-Err c =
+    (λ i. record { refusal = c.number.ensures i; place = c.place.ensures i; names = 0; needed = c.needed.ensures i }) ∙ sym (ap (λ (v : Result ℕ Refused). rename_numbers v) c.in-Err.is)

@@ -1,13 +1,12 @@
 use Rattle.exports.specs.Numbers.{shared_numbers}
-use Rattle.call_shared.specs.declared.Beginning.{Beginning}
-use mathlib.Core.Path.{ap, sym}
+use Rattle.refusal_verdict.specs.declared.Refused.{Refused}
+use Rattle.std.specs.Prelude.{ℕ, Result}
+use mathlib.Core.Path.{ap, sym, ◌∙◌}
 use Rattle.exports.proofs.shared_numbers.Goals as goal
 
-pub returns-in-Entries : goal.returns-in-Entries
-returns-in-Entries c = sym (ap (λ (v : Beginning). shared_numbers v) c.in-Entries.is)
+pub returns-in-Ok : goal.returns-in-Ok
+returns-in-Ok c = sym (ap (λ (v : Result ℕ Refused). shared_numbers v) c.in-Ok.is)
 
-pub returns-in-Refused : goal.returns-in-Refused
-returns-in-Refused c = sym (ap (λ (v : Beginning). shared_numbers v) c.in-Refused.is)
-
-pub returns-in-Short : goal.returns-in-Short
-returns-in-Short c = sym (ap (λ (v : Beginning). shared_numbers v) c.in-Short.is)
+pub returns-in-Err : goal.returns-in-Err
+returns-in-Err c =
+    (λ i. record { refusal = c.number.ensures i; place = c.place.ensures i; shared = 0; needed = c.needed.ensures i }) ∙ sym (ap (λ (v : Result ℕ Refused). shared_numbers v) c.in-Err.is)

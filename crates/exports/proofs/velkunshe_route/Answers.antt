@@ -1,5 +1,5 @@
 use Rattle.exports.specs.Numbers.{route_numbers}
-use Rattle.route_viewer.specs.declared.Routed.{Routed}
+use Rattle.route_viewer.specs.Shown.{Routed}
 use mathlib.Core.Path.{ap, ◌∙◌}
 use Rattle.exports.proofs.velkunshe_route.Goals as goal
 

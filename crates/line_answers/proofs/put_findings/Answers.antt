@@ -5,28 +5,27 @@ use Rattle.line_answers.proofs.AnswerLaws.{lines_start, lines_turn, lines_room, 
 use Rattle.line_answers.proofs.put_findings.Goals as goal
 
 pub loop-i-init : goal.loop-i-init
-loop-i-init c = (omega arith, lines_start c.args.out.now c.args.findings.now c.args.count c.requires.findings_in_bounds)
+loop-i-init c = lines_start c.args.out.now c.args.findings.now c.args.count c.requires.findings_in_bounds
 
 pub put_finding-at-requires : goal.put_finding-at-requires
 put_finding-at-requires c =
     let a = c.args in
     let o = c.loop-i in
     let p = c.requires in
-    record { at_in_bounds = omega arith; findings_in_bounds = lines_room a.out.now o.out o.at a.count o.i a.findings.now _ o.invariant.1 c.loop-i-test.true }
+    record { at_in_bounds = omega arith; findings_in_bounds = lines_room a.out.now o.out o.at a.count o.i a.findings.now _ o.invariant (omega arith) }
 
 pub loop-i-preserved : goal.loop-i-preserved
 loop-i-preserved c =
     let a = c.args in
     let o = c.loop-i in
     let e = c.put_finding-at.ensures in
-    let t = c.loop-i-test.true in
-    (omega arith, rw (e.1, e.0) (lines_turn a.out.now o.out o.at a.count o.i a.findings.now _ o.invariant.1 t))
+    rw (e.1, e.0) (lines_turn a.out.now o.out o.at a.count o.i a.findings.now _ o.invariant (omega arith))
 
 pub returns : goal.returns
 returns c =
     let a = c.args in
     let o = c.loop-i in
     let p = c.requires.findings_in_bounds in
-    let d = put_done a.out.now o.out 0 o.at (finding_lines a.count a.findings.now) (omega arith) (lines_end a.out.now o.out o.at a.count o.i a.findings.now _ o.invariant.1 c.loop-i-test.false) in
+    let d = put_done a.out.now o.out 0 o.at (finding_lines a.count a.findings.now) (omega arith) (lines_end a.out.now o.out o.at a.count o.i a.findings.now _ o.invariant (omega arith)) in
     let k = d.0 in
     (omega arith, d.1)

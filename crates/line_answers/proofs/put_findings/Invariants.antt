@@ -6,7 +6,4 @@ use Rattle.line_answers.specs.Answer.{finding_lines}
 use Rattle.line_answers.proofs.put_findings.Given as goal
 
 abbrev pub invariant-loop-i : goal.invariant-loop-i
-invariant-loop-i l = (l.i ≤ l.count) × Wrote l.initial.out l.out l.at (finding_lines (l.count - l.i) (drop (l.i * 7) l.findings)) (finding_lines l.count l.findings)
-
-abbrev pub decreases-loop-i : goal.decreases-loop-i
-decreases-loop-i l = l.count - l.i
+invariant-loop-i l = Wrote l.initial.out l.out l.at (finding_lines (l.count - l.i) (drop (l.i * 7) l.findings)) (finding_lines l.count l.findings)

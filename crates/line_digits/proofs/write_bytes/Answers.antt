@@ -6,23 +6,14 @@ use Rattle.line_digits.proofs.write_bytes.Goals as goal
 pub nibble-requires : goal.nibble-requires
 nibble-requires c = hex_nibble _ (hex_pair c.loop-t.t.now c.loop-t.invariant.0 (omega arith)).first
 
-pub bounds-t-1 : goal.bounds-t-1
-bounds-t-1 c = (hex_pair c.loop-t.t.now c.loop-t.invariant.0 (omega arith)).two
-
-pub nibble-requires-in-loop-t : goal.nibble-requires-in-loop-t
-nibble-requires-in-loop-t c = hex_nibble _ (hex_pair c.loop-t.t.now c.loop-t.invariant.0 (omega arith)).second
+pub nibble-requires-in-len2-up : goal.nibble-requires-in-len2-up
+nibble-requires-in-len2-up c = hex_nibble _ (hex_pair c.loop-t.t.now c.loop-t.invariant.0 (omega arith)).second
 
 pub bounds-out-k : goal.bounds-out-k
 bounds-out-k c = byte_room c.args.out.now c.loop-t.out c.loop-t.k c.loop-t.t.now (bytes_of c.args.s.now) c.loop-t.invariant.0 (omega arith) c.loop-t.invariant.1
 
-pub slice_bounds-u-count : goal.slice_bounds-u-count
-slice_bounds-u-count c = (hex_pair c.loop-t.t.now c.loop-t.invariant.0 (omega arith)).two
-
-pub slice_bounds-u-start : goal.slice_bounds-u-start
-slice_bounds-u-start c = (hex_pair c.loop-t.t.now c.loop-t.invariant.0 (omega arith)).two
-
 pub loop-t-preserved : goal.loop-t-preserved
-loop-t-preserved c = byte_turn c.args.out.now c.loop-t.out c.loop-t.k c.loop-t.t.now (bytes_of c.args.s.now) c.loop-t.invariant.0 (omega arith) c.loop-t.invariant.1 c.nibble.result c.nibble-in-loop-t.result c.nibble.ensures.0 c.nibble-in-loop-t.ensures.0
+loop-t-preserved c = byte_turn c.args.out.now c.loop-t.out c.loop-t.k c.loop-t.t.now (bytes_of c.args.s.now) c.loop-t.invariant.0 (omega arith) c.loop-t.invariant.1 c.nibble.result c.nibble-in-len2-up.result c.nibble.ensures.0 c.nibble-in-len2-up.ensures.0
 
 pub returns : goal.returns
 returns c = bytes_done c.args.out.now c.loop-t.out c.loop-t.k c.loop-t.t.now (bytes_of c.args.s.now) (omega arith) c.loop-t.invariant.1

@@ -1,5 +1,5 @@
 -- `line_fields::next` meets its contract.
-use Rattle.line_fields.specs.Split.{next_of, onward}
+use Rattle.line_fields.specs.Split.{next_of}
 use Rattle.line_fields.proofs.FieldLaws.{next_short}
 use mathlib.Core.Path.{◌≡◌}
 use Rattle.line_fields.proofs.next.Goals as goal

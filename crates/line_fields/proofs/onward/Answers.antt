@@ -5,4 +5,4 @@ use mathlib.Core.Path.{◌∙◌}
 use Rattle.line_fields.proofs.onward.Goals as goal
 
 pub returns : goal.returns
-returns c = part_from c.args.s.now c.to_first-e.result ∙ rw c.to_first-e.ensures.0 (drop_onward c.args.d c.args.s.now)
+returns c = part_from c.args.s.now c.to_first.result ∙ rw c.to_first.ensures.0 (drop_onward c.args.d c.args.s.now)

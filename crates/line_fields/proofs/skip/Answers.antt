@@ -1,9 +1,7 @@
-use Rattle.line_fields.proofs.FieldLaws.{past_turn, past_none}
-use native.Mathlib.Omega.{arith}
+use Rattle.line_fields.proofs.FieldLaws.{fields_next}
+use Rattle.std.proofs.Common.{drop-drop}
+use Rattle.line_fields.specs.Split.{fields_in}
 use Rattle.line_fields.proofs.skip.Goals as goal
 
-pub loop-left-preserved : goal.loop-left-preserved
-loop-left-preserved c = cc (past_turn c.loop-left.left c.loop-left.t.now (omega arith), c.next-u.ensures.0)
-
-pub returns : goal.returns
-returns c = cc (past_none c.loop-left.left c.loop-left.t.now (omega arith))
+pub loop-preserved : goal.loop-preserved
+loop-preserved c = cc (fields_next c.loop.t.now, drop-drop 1 c.loop.counter (fields_in c.args.tail.now))

@@ -1,16 +1,12 @@
 -- `forms::fits` meets its contract.
-use Rattle.line_forms.proofs.FormLaws.{fits_many, fits_is}
-use native.Mathlib.Omega.{arith}
-use native.Mathlib.Nat.{mul-le-mul}
-use mathlib.Core.Path.{sym}
-use Prim.Native.Nat.{◌≤◌, ◌*◌}
+use Rattle.line_forms.specs.Forms.{fits}
+use borrow.Author.Tests.{le-leb, lt-leb}
 use Rattle.line_forms.proofs.fits.Goals as goal
 
-pub returns-then-n-gt1024 : goal.returns-then-n-gt1024
-returns-then-n-gt1024 c = sym (fits_many c.args.n c.args.each c.args.room c.if-n-gt1024.true)
+pub returns-then-n-le-MOST : goal.returns-then-n-le-MOST
+unfolding fits
+returns-then-n-le-MOST c = rw (le-leb c.args.n 1024 c.if-n-le-MOST.true)
 
-pub overflow_mul-result : goal.overflow_mul-result
-overflow_mul-result c = let m : c.args.n * c.args.each ≤ 1024 * 10 = mul-le-mul c.if-n-gt1024.false c.requires in record { fits = omega arith }
-
-pub returns : goal.returns
-returns c = sym (fits_is c.args.n c.args.each c.args.room c.if-n-gt1024.false)
+pub returns-else-n-le-MOST : goal.returns-else-n-le-MOST
+unfolding fits
+returns-else-n-le-MOST c = rw (lt-leb c.args.n 1024 c.if-n-le-MOST.false)

@@ -1,33 +1,50 @@
 -- `lines::read` meets its contract.
 use Rattle.line_input.specs.InputLaws.{head_of, head_none, head_some_lem, head_room, gives_parts, none_read, lines_behind, lines_no}
 use Rattle.line_input.specs.ReadLaws.{first_of}
-use Rattle.line_input.specs.Format.{Room, room_of, read_behind, read_lines}
-use Rattle.line_input.specs.declared.Head.TheVariants.{Counts}
+use Rattle.line_input.specs.Format.{unread, Room, room_of, read_behind, read_lines}
+use Rattle.line_input.specs.declared.Head.{Head}
+use Rattle.line_input.specs.declared.Tables.{Tables}
+use Rattle.line_input.specs.declared.Unread.{Unread}
 use Rattle.line_fields.specs.Split.{lines_of}
+use Rattle.std.specs.Prelude.{Option, Some, None, Result, Err}
+use Rattle.std.proofs.lemmas.Result.{err_from_is_err_and}
 use lib.ListN.{length}
+use native.Mathlib.Omega.{arith}
 use mathlib.Core.Path.{◌≡◌, ◌∙◌, ap, sym}
 use Rattle.line_input.proofs.read.Goals as goal
 
 pub read_behind-requires : goal.read_behind-requires
 read_behind-requires c =
     let a = c.args in
-    let h : head_of (length a.nodes.now) (length a.scopes.now) c.line.result.now ≡ Counts c.in-Counts.kind c.in-Counts.n c.in-Counts.s = sym c.read_head.ensures ∙ c.in-Counts.is in
-    let t = head_some_lem (length a.nodes.now) (length a.scopes.now) c.line.result.now c.in-Counts.kind c.in-Counts.n c.in-Counts.s h in
-    rw (t.2, t.3) (head_room (length a.nodes.now) (length a.scopes.now) c.line.result.now t.0)
+    let o = c.ok_or.ensures.value in
+    let w = c.in_ok-head.was in
+    let s : ◌≡◌ {A = Option Head} c.read_head.result (Some c.in_ok-head.head) = grind arith in
+    let t = head_some_lem (length a.nodes.now) (length a.scopes.now) c.line.result.now c.in_ok-head.head (sym c.read_head.ensures ∙ s) in
+    rw t.1 (head_room (length a.nodes.now) (length a.scopes.now) c.line.result.now t.0)
 
-pub returns-in-Counts : goal.returns-in-Counts
-returns-in-Counts c =
+pub returns : goal.returns
+returns c =
     let a = c.args in
     let room : Room = room_of a.nodes.now a.scopes.now a.source.now a.names.now in
-    let facts = gives_parts (read_behind room c.in-Counts.kind c.in-Counts.n c.in-Counts.s (lines_of c.after.result.now)) (read_lines room (lines_of a.input.now)) c.read_behind.result a.nodes.now a.scopes.now a.source.now a.names.now
+    let h = c.in_ok-head.head in
+    let o = c.ok_or.ensures.value in
+    let w = c.in_ok-head.was in
+    let s : ◌≡◌ {A = Option Head} c.read_head.result (Some h) = grind arith in
+    let facts = gives_parts (read_behind room h.kind h.nodes h.scopes (lines_of c.after.result.now)) (read_lines room (lines_of a.input.now)) c.read_behind.result a.nodes.now a.scopes.now a.source.now a.names.now
     c.read_behind.new.nodes c.read_behind.new.scopes c.read_behind.new.source c.read_behind.new.names
-    (lines_behind room (lines_of a.input.now) c.in-Counts.kind c.in-Counts.n c.in-Counts.s c.line.result.now (lines_of c.after.result.now) c.line.ensures c.after.ensures (sym c.read_head.ensures ∙ c.in-Counts.is))
+    (lines_behind room (lines_of a.input.now) h c.line.result.now (lines_of c.after.result.now) c.line.ensures c.after.ensures (sym c.read_head.ensures ∙ s))
     c.read_behind.ensures in record { answer = facts.0; tables = facts.1 }
 
-pub returns-in-NoHead : goal.returns-in-NoHead
-returns-in-NoHead c =
+pub returns-in_err-head : goal.returns-in_err-head
+returns-in_err-head c =
     let a = c.args in
     let room : Room = room_of a.nodes.now a.scopes.now a.source.now a.names.now in
-    let j = head_none (length a.nodes.now) (length a.scopes.now) (first_of (lines_of a.input.now)) (ap (head_of (length a.nodes.now) (length a.scopes.now)) (sym c.line.ensures) ∙ (sym c.read_head.ensures ∙ c.in-NoHead.is)) in
+    let o = c.ok_or.ensures.value in
+    let w = c.in_err-head.was in
+    let s : ◌≡◌ {A = Option Head} c.read_head.result None = grind arith in
+    let x : ◌≡◌ {A = Result Head Unread} (Err c.in_err-head.field-0.0) (Err (unread 1)) = grind arith in
+    let p = err_from_is_err_and c.from_residual.result c.from_residual.ensures.1 in
+    let q : ◌≡◌ {A = Result Tables Unread} c.from_residual.result (Err (unread 1)) = cc (p.1, p.2) in
+    let j = head_none (length a.nodes.now) (length a.scopes.now) (first_of (lines_of a.input.now)) (ap (head_of (length a.nodes.now) (length a.scopes.now)) (sym c.line.ensures) ∙ (sym c.read_head.ensures ∙ s)) in
     let facts = gives_parts _ (read_lines room (lines_of a.input.now)) _ a.nodes.now a.scopes.now a.source.now a.names.now a.nodes.now a.scopes.now a.source.now a.names.now
-    (sym (lines_no room (lines_of a.input.now) j)) (none_read a.nodes.now a.scopes.now a.source.now a.names.now) in record { answer = facts.0; tables = facts.1 }
+    (sym (lines_no room (lines_of a.input.now) j)) (none_read a.nodes.now a.scopes.now a.source.now a.names.now) in record { answer = q ∙ facts.0; tables = facts.1 }

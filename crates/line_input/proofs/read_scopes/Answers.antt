@@ -43,13 +43,16 @@ loop-i-preserved c =
     let t = numbers_told 83 3 (first_of ls) s in
     let e : c.write_numbers.new.out ≡ put o.scopes (o.i * 3) (map value_of (rest (first_of ls))) =
     c.write_numbers.ensures ∙ rw (c.onward.ensures, c.line-l.ensures) (ap (λ (fs : List (List ℕ)). put o.scopes (o.i * 3) (map value_of fs)) t.2) in
-    subst (λ (x : List ℕ). Scoping a.scopes.now x a.n whole (o.i + 1) (lines_of c.after-u.result.now)) (sym e)
-    (subst (λ (ks : List (List ℕ)). Scoping a.scopes.now (put o.scopes (o.i * 3) (map value_of (rest (first_of ls)))) a.n whole (o.i + 1) ks) (sym c.after-u.ensures)
+    subst (λ (x : List ℕ). Scoping a.scopes.now x a.n whole (o.i + 1) (lines_of c.after-t.result.now)) (sym e)
+    (subst (λ (ks : List (List ℕ)). Scoping a.scopes.now (put o.scopes (o.i * 3) (map value_of (rest (first_of ls)))) a.n whole (o.i + 1) ks) (sym c.after-t.ensures)
     (scoping_turn a.scopes.now o.scopes a.n whole o.i ls o.invariant (omega arith) s))
 
 pub returns : goal.returns
 returns c =
     let a = c.args in
     let o = c.loop-i in
+    let d =
     scoping_done a.scopes.now o.scopes a.n (scope_lines a.n (lines_of a.b.now)) o.i (lines_of o.t.now) o.invariant
-    (scopes_none (a.n - o.i) (lines_of o.t.now) (omega arith))
+    (scopes_none (a.n - o.i) (lines_of o.t.now) (omega arith)) in
+    let p = d.0 in
+    (omega arith, d.1)

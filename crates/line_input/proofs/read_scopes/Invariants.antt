@@ -2,11 +2,7 @@
 use Rattle.line_input.specs.ReadLaws.{Scoping}
 use Rattle.line_input.specs.Format.{scope_lines}
 use Rattle.line_fields.specs.Split.{lines_of}
-use Prim.Native.Nat.{◌-◌}
 use Rattle.line_input.proofs.read_scopes.Given as goal
 
 abbrev pub invariant-loop-i : goal.invariant-loop-i
 invariant-loop-i l = Scoping l.initial.scopes l.scopes l.n (scope_lines l.n (lines_of l.b)) l.i (lines_of l.t)
-
-abbrev pub decreases-loop-i : goal.decreases-loop-i
-decreases-loop-i l = l.n - l.i

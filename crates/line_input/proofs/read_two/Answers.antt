@@ -20,16 +20,10 @@ returns-then-not-is_answers c =
     let a : c.line-a.result.now ≡ first_of (drop 1 ls) = c.line-a.ensures ∙ ap first_of c.after.ensures in
     two_answers_lem (length c.args.answers.now) ls c.args.answers.now (cc (c.if-not-is_numbers.false)) (cc (c.if-not-is_answers.true))
 
-pub unit-k-requires : goal.unit-k-requires
-unit-k-requires c = cc (c.if-not-is_numbers.false)
-
-pub write_answers-n-requires : goal.write_answers-n-requires
-write_answers-n-requires c = cc (c.if-not-is_answers.false)
-
 pub returns : goal.returns
 returns c =
     let ls = lines_of c.args.b.now in
     let a : c.line-a.result.now ≡ first_of (drop 1 ls) = c.line-a.ensures ∙ ap first_of c.after.ensures in
-    let w = c.write_answers-n.ensures in
+    let w = c.write_answers.ensures in
     two_both (length c.args.answers.now) ls c.args.answers.now (cc (c.if-not-is_numbers.false)) (cc (c.if-not-is_answers.false))
-    c.unit-k.result c.write_answers-n.result _ (c.unit-k.ensures ∙ ap unit_in c.line-u.ensures) (w.0 ∙ ap (λ (l : List ℕ). length (rest l)) a) (w.1 ∙ ap (λ (l : List ℕ). front (numbers_of (rest l)) c.args.answers.now) a)
+    c.unit.result c.write_answers.result _ (c.unit.ensures ∙ ap unit_in c.line-u.ensures) (w.0 ∙ ap (λ (l : List ℕ). length (rest l)) a) (w.1 ∙ ap (λ (l : List ℕ). front (numbers_of (rest l)) c.args.answers.now) a)

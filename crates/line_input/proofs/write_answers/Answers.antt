@@ -14,10 +14,10 @@ write_numbers-requires c =
     let t = answers_told (length c.args.answers.now) l c.requires in
     let k : c.count-n.result ≡ length (fields_in (tail_of l)) = cc in
     let n = t.0 in
-    rw (c.onward-t.ensures, k) (omega arith, omega arith, t.1)
+    rw (c.onward-tail.ensures, k) (omega arith, omega arith, t.1)
 
 pub returns : goal.returns
 returns c =
     let l = c.args.l.now in
     let k : c.count-n.result ≡ length (fields_in (tail_of l)) = cc in
-    (k ∙ sym (ap length (rest_tail l)), answers_put l c.args.answers.now _ (c.write_numbers.ensures ∙ rw (c.onward-t.ensures, k)))
+    (k ∙ sym (ap length (rest_tail l)), answers_put l c.args.answers.now _ (c.write_numbers.ensures ∙ rw (c.onward-tail.ensures, k)))

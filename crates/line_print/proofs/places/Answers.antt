@@ -2,9 +2,6 @@ use Rattle.line_print.specs.PrintLaws.{length_more, length_less, length_word}
 use native.Mathlib.Omega.{arith}
 use Rattle.line_print.proofs.places.Goals as goal
 
-pub loop-rest-init : goal.loop-rest-init
-loop-rest-init c = omega arith
-
 pub overflow_add-k : goal.overflow_add-k
 overflow_add-k c = let f = c.ranges.n in let b = c.loop-rest.invariant in omega (arith, length_word c.args.n f.fits)
 

@@ -1,16 +1,9 @@
 use Prim.Native.Nat.{ℕ, ◌+◌, ◌-◌}
 use Rattle.line_print.specs.PrintLaws.{length_more, length_less, digit_turn, digit_last}
-use Rattle.line_print.specs.Print.{decimal}
-use lib.ListN.{take, drop, length-set}
+use lib.ListN.{length-set}
 use native.Mathlib.Omega.{arith}
-use mathlib.Core.List.{◌++◌}
-use mathlib.Core.Path.{◌∙◌, ap, refl}
+use mathlib.Core.Path.{◌∙◌, ap}
 use Rattle.line_print.proofs.put_number.Goals as goal
-
-pub loop-rest-init : goal.loop-rest-init
-loop-rest-init c =
-    let e = c.places.ensures.0 in
-    (ap (λ (k : ℕ). c.args.w + k) e, omega arith, refl, ap (λ (k : ℕ). take c.args.w c.args.out.now ++ decimal c.args.n ++ drop (c.args.w + k) c.args.out.now) e)
 
 pub overflow_sub-i : goal.overflow_sub-i
 overflow_sub-i c = let i = c.loop-rest.invariant.0 in omega (arith, length_more c.loop-rest.rest c.loop-rest-test.true)

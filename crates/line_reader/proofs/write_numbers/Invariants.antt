@@ -7,11 +7,11 @@ use lib.ListN.{length, take, drop}
 use mathlib.Core.List.{map, ◌++◌}
 use mathlib.Core.Bool.{true}
 use mathlib.Core.Path.{◌≡◌}
-use Prim.Native.Nat.{◌≤◌, ◌+◌}
+use Prim.Native.Nat.{◌≤◌, ◌+◌, ◌-◌}
 use Rattle.line_reader.proofs.write_numbers.Given as goal
 
-abbrev pub invariant-loop-left : goal.invariant-loop-left
-invariant-loop-left l = (l.left ≤ length (fields_in (drop l.at l.tail))) × (l.k + l.left ≡ l.w + l.n) × (all is_number (firsts l.left (drop l.at l.tail)) ≡ true) × Wrote l.initial.out l.out l.k (map value_of (firsts l.left (drop l.at l.tail))) (take l.w l.initial.out ++ map value_of (firsts l.n l.tail))
-
-abbrev pub decreases-loop-left : goal.decreases-loop-left
-decreases-loop-left l = l.left
+abbrev pub invariant-loop-k : goal.invariant-loop-k
+invariant-loop-k l =
+    let left = l.w + l.n - l.k in
+    let rest = drop l.at l.tail in
+    (left ≤ length (fields_in rest)) × (all is_number (firsts left rest) ≡ true) × Wrote l.initial.out l.out l.k (map value_of (firsts left rest)) (take l.w l.initial.out ++ map value_of (firsts l.n l.tail))

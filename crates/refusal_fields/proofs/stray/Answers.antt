@@ -1,19 +1,9 @@
-use mathlib.Core.Path.{sym, ◌∙◌}
-use native.Mathlib.Omega.{arith}
-use Rattle.table_records.specs.Table.{count}
-use Rattle.refusal_verdict.proofs.FirstLaws.{first_on, first_stop, first_end}
+use Rattle.std.proofs.Common.{ap, ◌∙◌, rules}
+use Rattle.refusal_verdict.specs.First.{first}
+use Rattle.refusal_verdict.proofs.FirstLaws.{first_found}
 use Rattle.refusal_fields.specs.Fields.{stray_at}
-use borrow.Author.Rules.{rules}
 use Rattle.refusal_fields.proofs.stray.Goals as goal
 
-pub returns-then-stray_at : goal.returns-then-stray_at
-returns-then-stray_at c =
-    cc (first_stop (stray_at c.args.nodes.now c.args.source.now c.args.names.now) c.loop-i.i (count c.args.nodes.now) (omega arith) (sym c.stray_at.ensures ∙ c.if-stray_at.true))
-
-pub loop-i-preserved : goal.loop-i-preserved
-loop-i-preserved c =
-    (search rules, cc (first_on (stray_at c.args.nodes.now c.args.source.now c.args.names.now) c.loop-i.i (count c.args.nodes.now) (omega arith) (sym c.stray_at.ensures ∙ c.if-stray_at.false)))
-
 pub returns : goal.returns
-returns c =
-    cc (first_end (stray_at c.args.nodes.now c.args.source.now c.args.names.now) c.loop-i.i (count c.args.nodes.now) (omega arith))
+returns c = let p = stray_at c.args.nodes.now c.args.source.now c.args.names.now in
+    first_found p _ _ _ c.find.result c.find.ensures.ran (λ x q k. search rules) (λ x q k. search rules) ∙ ap (first p 0) c.size.ensures

@@ -1,23 +1,29 @@
+use Rattle.refusal_verdict.proofs.VerdictLaws.{handed, stopped, went_on}
+use Rattle.refusal_verdict.specs.declared.Refusal.TheVariants as refusal
+use Rattle.refusal_verdict.specs.Verdict.{Passed, or_next}
 use Rattle.refusal_input.specs.Input.{shape_refusal}
-use mathlib.Core.Path.{sym, ◌∙◌}
+use mathlib.Core.Path.{ap, sym, ◌∙◌}
 use Rattle.refusal_input.proofs.shape_refusal.Goals as goal
 
-pub returns-in-Here : goal.returns-in-Here
+pub returns-in_err-at : goal.returns-in_err-at
 unfolding shape_refusal
-returns-in-Here c = rw (sym c.misplaced_child.ensures ∙ c.in-Here.is)
+returns-in_err-at c = handed _ _ c.from_residual.ensures.1 ∙ stopped refusal.Misplaced _ _ _ _ c.misplaced_child.ensures c.in_err-at.ensures
 
-pub returns-in-Here-wrong_count : goal.returns-in-Here-wrong_count
+pub returns-in_err-at-2 : goal.returns-in_err-at-2
 unfolding shape_refusal
-returns-in-Here-wrong_count c = rw (sym c.misplaced_child.ensures ∙ c.in_default.is, sym c.wrong_count.ensures ∙ c.in-Here-wrong_count.is)
+returns-in_err-at-2 c =
+    handed _ _ c.from_residual-in_err-at-2.ensures.1 ∙ stopped refusal.WrongCount _ _ _ _ c.wrong_count.ensures c.in_err-at-2.ensures
+    ∙ sym (went_on refusal.Misplaced _ _ _ c.misplaced_child.ensures c.in_ok-at.ensures)
 
-pub returns-in-Here-failing : goal.returns-in-Here-failing
+pub returns-in_err-at-3 : goal.returns-in_err-at-3
 unfolding shape_refusal
-returns-in-Here-failing c = rw (sym c.misplaced_child.ensures ∙ c.in_default.is, sym c.wrong_count.ensures ∙ c.in_default-wrong_count.is, sym c.failing.ensures ∙ c.in-Here-failing.is)
-
-pub returns-in-Here-return_in_static : goal.returns-in-Here-return_in_static
-unfolding shape_refusal
-returns-in-Here-return_in_static c = rw (sym c.misplaced_child.ensures ∙ c.in_default.is, sym c.wrong_count.ensures ∙ c.in_default-wrong_count.is, sym c.failing.ensures ∙ c.in_default-failing.is, sym c.return_in_static.ensures ∙ c.in-Here-return_in_static.is)
+returns-in_err-at-3 c =
+    handed _ _ c.from_residual-in_err-at-3.ensures.1 ∙ stopped refusal.Walk _ _ _ _ c.failing.ensures c.in_err-at-3.ensures
+    ∙ sym (went_on refusal.Misplaced _ _ _ c.misplaced_child.ensures c.in_ok-at.ensures ∙ went_on refusal.WrongCount _ _ _ c.wrong_count.ensures c.in_ok-at-2.ensures)
 
 pub returns : goal.returns
 unfolding shape_refusal
-returns c = rw (sym c.misplaced_child.ensures ∙ c.in_default.is, sym c.wrong_count.ensures ∙ c.in_default-wrong_count.is, sym c.failing.ensures ∙ c.in_default-failing.is, sym c.return_in_static.ensures ∙ c.in_default-return_in_static.is)
+returns c =
+    c.at-4.ensures ∙ ap (λ p. or_next refusal.ReturnInStatic p Passed) c.return_in_static.ensures
+    ∙ sym (went_on refusal.Misplaced _ _ _ c.misplaced_child.ensures c.in_ok-at.ensures ∙ went_on refusal.WrongCount _ _ _ c.wrong_count.ensures c.in_ok-at-2.ensures
+    ∙ went_on refusal.Walk _ _ _ c.failing.ensures c.in_ok-at-3.ensures)

@@ -1,6 +1,6 @@
+use Rattle.std.specs.Prelude.{Some}
 use mathlib.Core.List.{List}
 use Rattle.refusal_state.proofs.TargetsLaws.{place_none, place_some}
-use Rattle.refusal_verdict.specs.declared.Place.TheVariants.{Here}
 use lib.ListN.{get_or}
 use Prim.Native.Nat.{ℕ}
 use mathlib.Core.Path.{refl, ap, sym, ◌∙◌}
@@ -13,4 +13,4 @@ returns-then-written-eq0 c = let a = c.args in
 
 pub returns : goal.returns
 returns c = let a = c.args in
-    ap (λ (l : List ℕ). Here (get_or l 1 0)) c.check_tree-written.ensures.slice ∙ sym (place_some a.source_type a.nodes.now a.scopes.now a.source.now a.names.now a.async_bodies _ refl (λ z. c.if-written-eq0.false (omega (arith, c.check_tree-written.ensures.place, z))))
+    ap (λ (l : List ℕ). Some (get_or l 1 0)) c.check_tree-written.ensures.slice ∙ sym (place_some a.source_type a.nodes.now a.scopes.now a.source.now a.names.now a.async_bodies _ refl (λ z. c.if-written-eq0.false (omega (arith, c.check_tree-written.ensures.place, z))))

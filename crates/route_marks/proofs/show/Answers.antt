@@ -1,21 +1,49 @@
 use Rattle.route_marks.proofs.TakenLaws.{short_marks, held_marks, over_marks}
-use Rattle.route_marks.specs.Taken.{begin_at, stop_of}
+use Rattle.route_marks.specs.Taken.{begin_at}
 use Rattle.route_viewer.proofs.ShownLaws.{short_answer, short_slice, whole_answer, whole_slice}
-use Rattle.code_machine.specs.Halted.{route_to}
-use lib.ListN.{length}
 use native.Mathlib.Omega.{arith}
 use mathlib.Core.Path.{sym, ◌∙◌}
-use borrow.Author.Rules.{rules}
 use Rattle.route_marks.proofs.show.Goals as goal
 
-pub returns-then-out-counted : goal.returns-then-out-counted
-returns-then-out-counted c = let a = c.args in let s = stop_of a.marks.now a.code.now a.answers.now a.begin a.stop in let p = begin_at a.marks.now a.begin in record { answer = sym (short_answer (route_to s) a.out.now (omega arith) c.run_from-counted.result.entries c.run_from-counted.ensures.told.entries (omega arith)); list = sym (short_slice (route_to s) a.out.now (omega arith) c.run_from-counted.result.entries c.run_from-counted.ensures.told.entries (omega arith)); marks = sym (short_marks a.marks.now a.code.now a.answers.now p a.stop a.to (length a.out.now) c.run_from-counted.result.entries (omega arith) c.run_from-counted.ensures.told.entries (omega arith)) }
+pub returns-then-out-counted-clause-answer : goal.returns-then-out-counted-clause-answer
+returns-then-out-counted-clause-answer c = sym (short_answer _ c.args.out.now (omega arith) _ c.run_from-counted.ensures.told.entries (omega arith))
 
-pub set_mark-requires : goal.set_mark-requires
-set_mark-requires c = record { mark_lt_marks_many = c.requires.to_lt_marks_many; pending_le_room = c.run_from-halt.ensures.most; ends_len = search rules }
+pub returns-then-out-counted-clause-list : goal.returns-then-out-counted-clause-list
+returns-then-out-counted-clause-list c = sym (short_slice _ c.args.out.now (omega arith) _ c.run_from-counted.ensures.told.entries (omega arith))
 
-pub returns-then-halt-eq-STOPPED : goal.returns-then-halt-eq-STOPPED
-returns-then-halt-eq-STOPPED c = let a = c.args in let s = stop_of a.marks.now a.code.now a.answers.now a.begin a.stop in let p = begin_at a.marks.now a.begin in record { answer = sym (whole_answer (route_to s) a.out.now (omega arith) c.run_from-halt.result.entries c.run_from-halt.ensures.told.entries (omega (arith, c.run_from-counted.ensures.told.entries, c.run_from-halt.ensures.told.entries)) c.run_from-halt.result.end c.run_from-halt.result.taken c.run_from-halt.ensures.told.end c.run_from-halt.ensures.told.taken); list = c.run_from-halt.ensures.told.list ∙ sym (whole_slice (route_to s) a.out.now (omega arith) c.run_from-halt.result.entries c.run_from-halt.ensures.told.entries (omega (arith, c.run_from-counted.ensures.told.entries, c.run_from-halt.ensures.told.entries))); marks = c.set_mark.ensures ∙ sym (held_marks a.marks.now a.code.now a.answers.now p a.stop a.to (length a.out.now) c.run_from-halt.result.entries (omega arith) c.run_from-halt.ensures.told.entries (omega (arith, c.run_from-counted.ensures.told.entries, c.run_from-halt.ensures.told.entries)) c.run_from-halt.result.end c.run_from-halt.ensures.told.end c.if-halt-eq-STOPPED.true _ c.run_from-halt.ensures.stands) }
+pub returns-then-out-counted-clause-marks : goal.returns-then-out-counted-clause-marks
+returns-then-out-counted-clause-marks c =
+    let a = c.args in
+    sym (short_marks a.marks.now a.code.now a.answers.now (begin_at a.marks.now a.begin) a.stop a.to _ _ (omega arith) c.run_from-counted.ensures.told.entries (omega arith))
 
-pub returns-else-halt-eq-STOPPED : goal.returns-else-halt-eq-STOPPED
-returns-else-halt-eq-STOPPED c = let a = c.args in let s = stop_of a.marks.now a.code.now a.answers.now a.begin a.stop in let p = begin_at a.marks.now a.begin in record { answer = sym (whole_answer (route_to s) a.out.now (omega arith) c.run_from-halt.result.entries c.run_from-halt.ensures.told.entries (omega (arith, c.run_from-counted.ensures.told.entries, c.run_from-halt.ensures.told.entries)) c.run_from-halt.result.end c.run_from-halt.result.taken c.run_from-halt.ensures.told.end c.run_from-halt.ensures.told.taken); list = c.run_from-halt.ensures.told.list ∙ sym (whole_slice (route_to s) a.out.now (omega arith) c.run_from-halt.result.entries c.run_from-halt.ensures.told.entries (omega (arith, c.run_from-counted.ensures.told.entries, c.run_from-halt.ensures.told.entries))); marks = sym (over_marks a.marks.now a.code.now a.answers.now p a.stop a.to (length a.out.now) c.run_from-halt.result.entries (omega arith) c.run_from-halt.ensures.told.entries (omega (arith, c.run_from-counted.ensures.told.entries, c.run_from-halt.ensures.told.entries)) c.run_from-halt.result.end c.run_from-halt.ensures.told.end c.if-halt-eq-STOPPED.false) }
+pub returns-then-halt-eq-STOPPED-clause-answer : goal.returns-then-halt-eq-STOPPED-clause-answer
+returns-then-halt-eq-STOPPED-clause-answer c =
+    let told = c.run_from-halt.ensures.told in
+    sym (whole_answer _ c.args.out.now (omega arith) _ told.entries (omega (arith, c.run_from-counted.ensures.told.entries, told.entries)) _ _ told.end told.taken)
+
+pub returns-then-halt-eq-STOPPED-clause-list : goal.returns-then-halt-eq-STOPPED-clause-list
+returns-then-halt-eq-STOPPED-clause-list c =
+    let told = c.run_from-halt.ensures.told in
+    told.list ∙ sym (whole_slice _ c.args.out.now (omega arith) _ told.entries (omega (arith, c.run_from-counted.ensures.told.entries, told.entries)))
+
+pub returns-then-halt-eq-STOPPED-clause-marks : goal.returns-then-halt-eq-STOPPED-clause-marks
+returns-then-halt-eq-STOPPED-clause-marks c =
+    let a = c.args in
+    let told = c.run_from-halt.ensures.told in
+    c.set_mark.ensures ∙ sym (held_marks a.marks.now a.code.now a.answers.now (begin_at a.marks.now a.begin) a.stop a.to _ _ (omega arith) told.entries (omega (arith, c.run_from-counted.ensures.told.entries, told.entries)) _ told.end c.if-halt-eq-STOPPED.true _ c.run_from-halt.ensures.stands)
+
+pub returns-else-halt-eq-STOPPED-clause-answer : goal.returns-else-halt-eq-STOPPED-clause-answer
+returns-else-halt-eq-STOPPED-clause-answer c =
+    let told = c.run_from-halt.ensures.told in
+    sym (whole_answer _ c.args.out.now (omega arith) _ told.entries (omega (arith, c.run_from-counted.ensures.told.entries, told.entries)) _ _ told.end told.taken)
+
+pub returns-else-halt-eq-STOPPED-clause-list : goal.returns-else-halt-eq-STOPPED-clause-list
+returns-else-halt-eq-STOPPED-clause-list c =
+    let told = c.run_from-halt.ensures.told in
+    told.list ∙ sym (whole_slice _ c.args.out.now (omega arith) _ told.entries (omega (arith, c.run_from-counted.ensures.told.entries, told.entries)))
+
+pub returns-else-halt-eq-STOPPED-clause-marks : goal.returns-else-halt-eq-STOPPED-clause-marks
+returns-else-halt-eq-STOPPED-clause-marks c =
+    let a = c.args in
+    let told = c.run_from-halt.ensures.told in
+    sym (over_marks a.marks.now a.code.now a.answers.now (begin_at a.marks.now a.begin) a.stop a.to _ _ (omega arith) told.entries (omega (arith, c.run_from-counted.ensures.told.entries, told.entries)) _ told.end c.if-halt-eq-STOPPED.false)

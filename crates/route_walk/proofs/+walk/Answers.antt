@@ -1,15 +1,16 @@
+use Rattle.std.specs.Prelude.{Option, Some, None}
+use Rattle.table_records.specs.declared.NodeId.{NodeId}
 use borrow.Author.Rules.{rules}
 use native.Mathlib.Omega.{arith}
 use Prim.Native.Nat.{zero, suc, ◌+◌}
 use mathlib.Core.Path.{◌≡◌, refl, ap, sym, ◌∙◌, subst}
 use mathlib.Core.List.{List, [], ◌∷◌}
+use mathlib.Core.Logic.{inl, inr}
 use mathlib.Core.Bool.{Bool, true, false, not, ◌||◌, ◌&&◌}
-use borrow.Author.Tests.{ne_eqb}
+use borrow.Author.Tests.{eq-eqb, ne_eqb}
 use lib.Dec.{eqb}
 use lib.ListN as L
 use lib.ListN.{drop}
-use Rattle.table_records.specs.declared.Found.{Found}
-use Rattle.table_records.specs.declared.Found.TheVariants.{At, Nothing}
 use Rattle.route_completion.specs.Tree.{Stmt}
 use Rattle.route_completion.specs.Sem.{Out, out, plain, more, normal, is_normal, is_throw, is_spent, is_yes, pick, turn, rounds, loops, loop_continues, unbreak, unlabel, exec, execs}
 use Rattle.route_completion.proofs.Laws.{rounds_law}
@@ -25,6 +26,7 @@ use Rattle.route_steps.proofs.StepsLaws.{first_low_lem, from_part}
 use Rattle.route_walk.proofs.WalkLaws.{still, then, goes, stays, asks_on, asks_none, lasts, lasts_spent}
 use Rattle.route_steps.proofs.StatementLaws.{labels_on, labels_off, leaf_is, class_is, block_is_lem, case_is, with_is_lem, label_is_lem, loop_is, catch_is, if_is, switch_is, try_is, list_on_lem, list_end, one_on, one_end}
 use Prim.Native.Nat.{ℕ}
+use Rattle.route_walk.proofs.+walk.Goals.{walk_turns-else-heeds-via-then-heeds+else-a-eq0, walk_turns-else-heeds-via-else-heeds}
 use Rattle.route_walk.proofs.+walk.Goals as goal
 
 same : {ns names qs f : List ℕ} {start : Run} {o p : Out} {g : List ℕ} {r : Run} → o ≡ p → Walked ns names qs f start p g r → Walked ns names qs f start o g r
@@ -36,9 +38,9 @@ then' : (ns names qs f g h : List ℕ) (start mid r : Run) (n : ℕ) (k : List �
 then' ns names qs f g h start mid r n k u v =
     then ns names qs f g h start mid r (out (plain n ∷ []) normal (drop start.taken qs)) (k (drop start.taken qs)) u (subst (λ x. Walked ns names qs g mid (k x) h r) (sym u.rest) v)
 
-caught-normal : (S : ℕ → Stmt) (x : Found) (qs : List ℕ) → caught_by S x (out [] normal qs) ≡ out [] normal qs
-caught-normal S (At h) qs = refl
-caught-normal S Nothing qs = refl
+caught-normal : (S : ℕ → Stmt) (x : Option NodeId) (qs : List ℕ) → caught_by S x (out [] normal qs) ≡ out [] normal qs
+caught-normal S (Some h) qs = refl
+caught-normal S None qs = refl
 
 -- Whether a turn runs the body.
 heeded : (a : ℕ) (b t : Bool) → (t && eqb a 0) ≡ b → (is_yes a || not t) ≡ not b
@@ -67,8 +69,8 @@ walk_caught-returns-in_default t c =
     let h3 = sym c.part_with_role.ensures.value ∙ c.in_default.is in
     same (ap (λ x. caught_by S (role_in ns n 4) (ran_of S x Q)) h3 ∙ caught-normal S (role_in ns n 4) Q) (still ns nm qs _ _ _ normal refl refl c.requires.taken_in_bounds refl tt)
 
-pub walk_caught-returns-in_default-handler : goal.walk_caught-returns-in_default-handler
-walk_caught-returns-in_default-handler t c =
+pub walk_caught-returns-in_default-part_with_role : goal.walk_caught-returns-in_default-part_with_role
+walk_caught-returns-in_default-part_with_role t c =
     let a = c.args in
     let ns = a.nodes.now in
     let nm = a.names.now in
@@ -78,12 +80,12 @@ walk_caught-returns-in_default-handler t c =
     let S = statementOf ns nm in
     let P = parts ns n (n + 1) in
     let Q = drop a.start.taken qs in
-    let c1 = c.in-At.block.0 in
-    let p1 = subst (part_of ns n) c.in-At.is c.part_with_role.ensures.part_of in
+    let c1 = c.in-Some.block.0 in
+    let p1 = subst (part_of ns n) c.in-Some.is c.part_with_role.ensures.part_of in
     let off : labels_of ns nm (up_of ns c1) ≡ [] = ap (labels_of ns nm) p1.parent ∙ c.requires.n_value in
     let W : Walked ns nm qs _ _ (exec (S c1) [] Q) _ _ = same (ap (λ k. exec (S c1) k Q) (sym off)) c.walk_node-done.ensures in
-    let h3 : role_in ns n 3 ≡ At c.in-At.block = sym c.part_with_role.ensures.value ∙ c.in-At.is in
-    let h4 = sym c.part_with_role-handler.ensures.value ∙ c.in_default-handler.is in
+    let h3 : role_in ns n 3 ≡ Some c.in-Some.block = sym c.part_with_role.ensures.value ∙ c.in-Some.is in
+    let h4 = sym c.part_with_role-2.ensures.value ∙ c.in_default-part_with_role.is in
     same (λ i. caught_by S (h4 i) (ran_of S (h3 i) Q)) W
 
 pub walk_caught-returns-then-not-is_throw : goal.walk_caught-returns-then-not-is_throw
@@ -97,14 +99,14 @@ walk_caught-returns-then-not-is_throw t c =
     let S = statementOf ns nm in
     let P = parts ns n (n + 1) in
     let Q = drop a.start.taken qs in
-    let c1 = c.in-At.block.0 in
-    let p1 = subst (part_of ns n) c.in-At.is c.part_with_role.ensures.part_of in
+    let c1 = c.in-Some.block.0 in
+    let p1 = subst (part_of ns n) c.in-Some.is c.part_with_role.ensures.part_of in
     let off : labels_of ns nm (up_of ns c1) ≡ [] = ap (labels_of ns nm) p1.parent ∙ c.requires.n_value in
     let W : Walked ns nm qs _ _ (exec (S c1) [] Q) _ _ = same (ap (λ k. exec (S c1) k Q) (sym off)) c.walk_node-done.ensures in
-    let h3 : role_in ns n 3 ≡ At c.in-At.block = sym c.part_with_role.ensures.value ∙ c.in-At.is in
-    let h4 : role_in ns n 4 ≡ At c.in-At-handler.catch = sym c.part_with_role-handler.ensures.value ∙ c.in-At-handler.is in
+    let h3 : role_in ns n 3 ≡ Some c.in-Some.block = sym c.part_with_role.ensures.value ∙ c.in-Some.is in
+    let h4 : role_in ns n 4 ≡ Some c.in-Some-part_with_role.catch = sym c.part_with_role-2.ensures.value ∙ c.in-Some-part_with_role.is in
     let e = ap is_throw W.ended ∙ sym (c.is_throw.ensures ns nm) ∙ c.if-not-is_throw.true in
-    same (λ i. caught_by S (h4 i) (ran_of S (h3 i) Q)) (stays ns nm qs _ _ _ _ (exec (S c1) [] Q) (λ r. exec (S c.in-At-handler.catch.0) [] r) _ e W)
+    same (λ i. caught_by S (h4 i) (ran_of S (h3 i) Q)) (stays ns nm qs _ _ _ _ (exec (S c1) [] Q) (λ r. exec (S c.in-Some-part_with_role.catch.0) [] r) _ e W)
 
 pub walk_caught-returns : goal.walk_caught-returns
 walk_caught-returns t c =
@@ -117,15 +119,15 @@ walk_caught-returns t c =
     let S = statementOf ns nm in
     let P = parts ns n (n + 1) in
     let Q = drop a.start.taken qs in
-    let c1 = c.in-At.block.0 in
-    let p1 = subst (part_of ns n) c.in-At.is c.part_with_role.ensures.part_of in
+    let c1 = c.in-Some.block.0 in
+    let p1 = subst (part_of ns n) c.in-Some.is c.part_with_role.ensures.part_of in
     let off : labels_of ns nm (up_of ns c1) ≡ [] = ap (labels_of ns nm) p1.parent ∙ c.requires.n_value in
     let W : Walked ns nm qs _ _ (exec (S c1) [] Q) _ _ = same (ap (λ k. exec (S c1) k Q) (sym off)) c.walk_node-done.ensures in
-    let h3 : role_in ns n 3 ≡ At c.in-At.block = sym c.part_with_role.ensures.value ∙ c.in-At.is in
-    let w = subst (part_of ns n) c.in-At-handler.is c.part_with_role-handler.ensures.part_of in
-    let c2 = c.in-At-handler.catch.0 in
+    let h3 : role_in ns n 3 ≡ Some c.in-Some.block = sym c.part_with_role.ensures.value ∙ c.in-Some.is in
+    let w = subst (part_of ns n) c.in-Some-part_with_role.is c.part_with_role-2.ensures.part_of in
+    let c2 = c.in-Some-part_with_role.catch.0 in
     let off2 : labels_of ns nm (up_of ns c2) ≡ [] = ap (labels_of ns nm) w.parent ∙ c.requires.n_value in
-    let h4 : role_in ns n 4 ≡ At c.in-At-handler.catch = sym c.part_with_role-handler.ensures.value ∙ c.in-At-handler.is in
+    let h4 : role_in ns n 4 ≡ Some c.in-Some-part_with_role.catch = sym c.part_with_role-2.ensures.value ∙ c.in-Some-part_with_role.is in
     let e = ap is_throw W.ended ∙ sym (c.is_throw.ensures ns nm) ∙ c.if-not-is_throw.false in
     same (λ i. caught_by S (h4 i) (ran_of S (h3 i) Q)) (goes ns nm qs _ _ _ _ _ _ (exec (S c1) [] Q) (λ r. exec (S c2) [] r) _ e W (same (ap (λ k. exec (S c2) k (drop c.walk_node-done.result.taken qs)) (sym off2)) c.walk_node.ensures))
 
@@ -170,10 +172,10 @@ walk_if-returns t c =
     let Q = drop a.start.taken qs in
     let v1 = c.asked-next.ensures.by_index ns nm in
     let l = c.if-answers-at.false in
-    let w = subst (part_of ns n) c.in-At.is c.branch_of.ensures.part_of in
-    let c1 = c.in-At.c.0 in
+    let w = subst (part_of ns n) c.in-Some.is c.branch_of.ensures.part_of in
+    let c1 = c.in-Some.c.0 in
     let off : labels_of ns nm (up_of ns c1) ≡ [] = ap (labels_of ns nm) w.parent ∙ c.requires.n_value in
-    asks_on ns nm qs _ _ _ _ _ _ n (L.get_or qs a.start.taken 0) (λ x r. ran_of S (branch_of ns P x) r) (omega arith) refl c.asked-next.ensures.taken_value v1 (same (ap (λ x. ran_of S x (drop c.asked-next.result.taken qs)) (sym c.branch_of.ensures.value ∙ c.in-At.is) ∙ ap (λ k. exec (S c1) k (drop c.asked-next.result.taken qs)) (sym off)) c.walk_node.ensures)
+    asks_on ns nm qs _ _ _ _ _ _ n (L.get_or qs a.start.taken 0) (λ x r. ran_of S (branch_of ns P x) r) (omega arith) refl c.asked-next.ensures.taken_value v1 (same (ap (λ x. ran_of S x (drop c.asked-next.result.taken qs)) (sym c.branch_of.ensures.value ∙ c.in-Some.is) ∙ ap (λ k. exec (S c1) k (drop c.asked-next.result.taken qs)) (sym off)) c.walk_node.ensures)
 
 pub walk_loop-returns-then-is_before : goal.walk_loop-returns-then-is_before
 walk_loop-returns-then-is_before t c =
@@ -232,12 +234,6 @@ walk_node-overflow_add-n-in-Block t c =
     let l = c.requires.n_bound in
     search rules
 
-pub walk_node-overflow_add-n-in-Case : goal.walk_node-overflow_add-n-in-Case
-walk_node-overflow_add-n-in-Case t c =
-    let z = c.requires.walkable.good.tree.small in
-    let l = c.requires.n_bound in
-    search rules
-
 pub walk_node-walk_parts-requires : goal.walk_node-walk_parts-requires
 walk_node-walk_parts-requires t c =
     let ns = c.args.nodes.now in
@@ -265,8 +261,11 @@ walk_node-walk_parts-requires-in-Block t c =
     let ns = c.args.nodes.now in
     let nm = c.args.names.now in
     let n = c.args.n.0 in
-    let x = sym c.shape_of.ensures ∙ c.in-Block.is in
-    let off : labels_of ns nm n ≡ [] = labels_off ns nm c.requires.walkable.good n (ap is_labeled x) in
+    let g = c.requires.walkable.good in
+    let off : labels_of ns nm n ≡ [] = elim c.in-Block.is [
+      | inl e ↦ labels_off ns nm g n (ap is_labeled (sym c.shape_of.ensures ∙ e))
+      | inr e ↦ labels_off ns nm g n (ap is_labeled (sym c.shape_of.ensures ∙ e))
+    ] in
     (omega arith, (c.requires.walkable, (omega arith, (omega arith, (off, c.requires.taken_in_bounds)))))
 
 pub walk_node-walk_loop-requires : goal.walk_node-walk_loop-requires
@@ -286,15 +285,6 @@ walk_node-walk_switch-requires t c =
     let x = sym c.shape_of.ensures ∙ c.in-Switch.is in
     let off : labels_of ns nm n ≡ [] = labels_off ns nm c.requires.walkable.good n (ap is_labeled x) in
     (omega arith, (c.requires.walkable, (c.requires.n_bound, (off, c.requires.taken_in_bounds))))
-
-pub walk_node-walk_parts-requires-in-Case : goal.walk_node-walk_parts-requires-in-Case
-walk_node-walk_parts-requires-in-Case t c =
-    let ns = c.args.nodes.now in
-    let nm = c.args.names.now in
-    let n = c.args.n.0 in
-    let x = sym c.shape_of.ensures ∙ c.in-Case.is in
-    let off : labels_of ns nm n ≡ [] = labels_off ns nm c.requires.walkable.good n (ap is_labeled x) in
-    (omega arith, (c.requires.walkable, (omega arith, (omega arith, (off, c.requires.taken_in_bounds)))))
 
 pub walk_node-walk_try-requires : goal.walk_node-walk_try-requires
 walk_node-walk_try-requires t c =
@@ -375,12 +365,12 @@ walk_node-returns-in-Block t c =
     let qs = a.answers.now in
     let g = c.requires.walkable.good in
     let n = a.n.0 in
-    let S = statementOf ns nm in
-    let P = parts ns n (n + 1) in
     let Q = drop a.start.taken qs in
-    let x = sym c.shape_of.ensures ∙ c.in-Block.is in
     let h = c.requires.n_bound in
-    same (block_is_lem ns nm g n h (labels_of ns nm (up_of ns n)) Q x) c.walk_parts-in-Block.ensures
+    elim c.in-Block.is [
+      | inl e ↦ same (block_is_lem ns nm g n h (labels_of ns nm (up_of ns n)) Q (sym c.shape_of.ensures ∙ e)) c.walk_parts-in-Block.ensures
+      | inr e ↦ same (case_is ns nm g n h (labels_of ns nm (up_of ns n)) Q (sym c.shape_of.ensures ∙ e)) c.walk_parts-in-Block.ensures
+    ]
 
 pub walk_node-returns-in-Label : goal.walk_node-returns-in-Label
 walk_node-returns-in-Label t c =
@@ -426,21 +416,6 @@ walk_node-returns-in-Switch t c =
     let x = sym c.shape_of.ensures ∙ c.in-Switch.is in
     let h = c.requires.n_bound in
     same (switch_is ns nm g n h (labels_of ns nm (up_of ns n)) Q x) c.walk_switch.ensures
-
-pub walk_node-returns-in-Case : goal.walk_node-returns-in-Case
-walk_node-returns-in-Case t c =
-    let a = c.args in
-    let ns = a.nodes.now in
-    let nm = a.names.now in
-    let qs = a.answers.now in
-    let g = c.requires.walkable.good in
-    let n = a.n.0 in
-    let S = statementOf ns nm in
-    let P = parts ns n (n + 1) in
-    let Q = drop a.start.taken qs in
-    let x = sym c.shape_of.ensures ∙ c.in-Case.is in
-    let h = c.requires.n_bound in
-    same (case_is ns nm g n h (labels_of ns nm (up_of ns n)) Q x) c.walk_parts-in-Case.ensures
 
 pub walk_node-returns-in-Try : goal.walk_node-returns-in-Try
 walk_node-returns-in-Try t c =
@@ -504,8 +479,8 @@ walk_one-returns t c =
     let S = statementOf ns nm in
     let P = parts ns n (n + 1) in
     let Q = drop a.start.taken qs in
-    let w = subst (First ns n (P)) c.in-At.is c.next_part.ensures in
-    let c1 = c.in-At.c.0 in
+    let w = subst (First ns n (P)) c.in-Some.is c.next_part.ensures in
+    let c1 = c.in-Some.c.0 in
     same (one_on ns nm g P Q (labels_of ns nm n) c1 (parts ns n (c1 + 1)) w.0 ∙ ap (λ k. exec (S c1) (labels_of ns nm k) Q) (sym w.1.parent)) c.walk_node.ensures
 
 pub walk_parts-loop-c-init : goal.walk_parts-loop-c-init
@@ -535,8 +510,8 @@ walk_parts-returns-then-not-is_normal t c =
     let n = a.n.0 in
     let S = statementOf ns nm in
     let P = parts ns n (n + 1) in
-    let w = subst (First ns n (parts ns n c.loop-c.i)) c.in-At.is c.next_part.ensures in
-    let c1 = c.in-At.c.0 in
+    let w = subst (First ns n (parts ns n c.loop-c.i)) c.in-Some.is c.next_part.ensures in
+    let c1 = c.in-Some.c.0 in
     let off : labels_of ns nm (up_of ns c1) ≡ [] = ap (labels_of ns nm) w.1.parent ∙ c.requires.n_value in
     let W : Walked ns nm qs _ _ (exec (S c1) [] (drop c.loop-c.run.taken qs)) _ _ = same (ap (λ k. exec (S c1) k (drop c.loop-c.run.taken qs)) (sym off)) c.walk_node-done.ensures in
     let e = ap is_normal W.ended ∙ sym (c.is_normal.ensures ns nm) ∙ c.if-not-is_normal.true in
@@ -552,7 +527,7 @@ walk_parts-overflow_add-i t c =
     let n = a.n.0 in
     let S = statementOf ns nm in
     let P = parts ns n (n + 1) in
-    let w = subst (First ns n (parts ns n c.loop-c.i)) c.in-At.is c.next_part.ensures in
+    let w = subst (First ns n (parts ns n c.loop-c.i)) c.in-Some.is c.next_part.ensures in
     let i = w.1.inside in
     let z = g.tree.small in
     search rules
@@ -567,8 +542,8 @@ walk_parts-loop-c-smaller t c =
     let n = a.n.0 in
     let S = statementOf ns nm in
     let P = parts ns n (n + 1) in
-    let w = subst (First ns n (parts ns n c.loop-c.i)) c.in-At.is c.next_part.ensures in
-    let c1 = c.in-At.c.0 in
+    let w = subst (First ns n (parts ns n c.loop-c.i)) c.in-Some.is c.next_part.ensures in
+    let c1 = c.in-Some.c.0 in
     let i = w.1.inside in
     let low = first_low_lem ns n c.loop-c.i c1 (parts ns n (c1 + 1)) w.0 in
     omega arith
@@ -583,8 +558,8 @@ walk_parts-loop-c-preserved t c =
     let n = a.n.0 in
     let S = statementOf ns nm in
     let P = parts ns n (n + 1) in
-    let w = subst (First ns n (parts ns n c.loop-c.i)) c.in-At.is c.next_part.ensures in
-    let c1 = c.in-At.c.0 in
+    let w = subst (First ns n (parts ns n c.loop-c.i)) c.in-Some.is c.next_part.ensures in
+    let c1 = c.in-Some.c.0 in
     let off : labels_of ns nm (up_of ns c1) ≡ [] = ap (labels_of ns nm) w.1.parent ∙ c.requires.n_value in
     let W : Walked ns nm qs _ _ (exec (S c1) [] (drop c.loop-c.run.taken qs)) _ _ = same (ap (λ k. exec (S c1) k (drop c.loop-c.run.taken qs)) (sym off)) c.walk_node-done.ensures in
     let e = ap is_normal W.ended ∙ sym (c.is_normal.ensures ns nm) ∙ c.if-not-is_normal.false in
@@ -634,8 +609,8 @@ walk_switch-returns t c =
     let Q = drop a.start.taken qs in
     let v1 = c.asked-next.ensures.by_index ns nm in
     let l = c.if-answers-at.false in
-    let w = subst (First ns n (cases_from ns P (L.get_or qs a.start.taken 0))) c.in-At.is c.case_of.ensures in
-    let c1 = c.in-At.c.0 in
+    let w = subst (First ns n (cases_from ns P (L.get_or qs a.start.taken 0))) c.in-Some.is c.case_of.ensures in
+    let c1 = c.in-Some.c.0 in
     asks_on ns nm qs _ _ _ _ _ _ n (L.get_or qs a.start.taken 0) (λ x r. unbreak (execs (list_of S (cases_from ns P x)) r)) (omega arith) refl c.asked-next.ensures.taken_value v1 (same (ap (λ k. unbreak (execs (list_of S k) (drop c.asked-next.result.taken qs))) (w.0 ∙ sym (from_part ns n c1 w.1))) (c.left.ensures ns nm qs _ _ _ _ c.walk_parts-done.ensures))
 
 pub walk_try-returns-in_default : goal.walk_try-returns-in_default
@@ -663,8 +638,8 @@ walk_try-returns-then-is_spent t c =
     let S = statementOf ns nm in
     let P = parts ns n (n + 1) in
     let Q = drop a.start.taken qs in
-    let c1 = c.in-At.last.0 in
-    let h5 : role_in ns n 5 ≡ At c.in-At.last = sym c.part_with_role.ensures.value ∙ c.in-At.is in
+    let c1 = c.in-Some.last.0 in
+    let h5 : role_in ns n 5 ≡ Some c.in-Some.last = sym c.part_with_role.ensures.value ∙ c.in-Some.is in
     let W = c.walk_caught-done.ensures in
     let e = ap is_spent W.ended ∙ sym (c.is_spent.ensures ns nm) ∙ c.if-is_spent.true in
     same (ap (λ x. finally_by S x (caught_by S (role_in ns n 4) (ran_of S (role_in ns n 3) Q))) h5) (lasts_spent ns nm qs _ _ _ _ (caught_by S (role_in ns n 4) (ran_of S (role_in ns n 3) Q)) (λ r. exec (S c1) [] r) e W)
@@ -680,10 +655,10 @@ walk_try-returns-then-is_normal t c =
     let S = statementOf ns nm in
     let P = parts ns n (n + 1) in
     let Q = drop a.start.taken qs in
-    let c1 = c.in-At.last.0 in
-    let h5 : role_in ns n 5 ≡ At c.in-At.last = sym c.part_with_role.ensures.value ∙ c.in-At.is in
+    let c1 = c.in-Some.last.0 in
+    let h5 : role_in ns n 5 ≡ Some c.in-Some.last = sym c.part_with_role.ensures.value ∙ c.in-Some.is in
     let W = c.walk_caught-done.ensures in
-    let w = subst (part_of ns n) c.in-At.is c.part_with_role.ensures.part_of in
+    let w = subst (part_of ns n) c.in-Some.is c.part_with_role.ensures.part_of in
     let off : labels_of ns nm (up_of ns c1) ≡ [] = ap (labels_of ns nm) w.parent ∙ c.requires.n_value in
     let v1 : Walked ns nm qs _ _ (exec (S c1) [] (drop c.walk_caught-done.result.taken qs)) _ _ = same (ap (λ z. exec (S c1) z (drop c.walk_caught-done.result.taken qs)) (sym off)) c.walk_node-end.ensures in
     let sp = ap is_spent W.ended ∙ sym (c.is_spent.ensures ns nm) ∙ c.if-is_spent.false in
@@ -701,10 +676,10 @@ walk_try-returns t c =
     let S = statementOf ns nm in
     let P = parts ns n (n + 1) in
     let Q = drop a.start.taken qs in
-    let c1 = c.in-At.last.0 in
-    let h5 : role_in ns n 5 ≡ At c.in-At.last = sym c.part_with_role.ensures.value ∙ c.in-At.is in
+    let c1 = c.in-Some.last.0 in
+    let h5 : role_in ns n 5 ≡ Some c.in-Some.last = sym c.part_with_role.ensures.value ∙ c.in-Some.is in
     let W = c.walk_caught-done.ensures in
-    let w = subst (part_of ns n) c.in-At.is c.part_with_role.ensures.part_of in
+    let w = subst (part_of ns n) c.in-Some.is c.part_with_role.ensures.part_of in
     let off : labels_of ns nm (up_of ns c1) ≡ [] = ap (labels_of ns nm) w.parent ∙ c.requires.n_value in
     let v1 : Walked ns nm qs _ _ (exec (S c1) [] (drop c.walk_caught-done.result.taken qs)) _ _ = same (ap (λ z. exec (S c1) z (drop c.walk_caught-done.result.taken qs)) (sym off)) c.walk_node-end.ensures in
     let sp = ap is_spent W.ended ∙ sym (c.is_spent.ensures ns nm) ∙ c.if-is_spent.false in
@@ -715,8 +690,8 @@ pub walk_turns-loop-run-init : goal.walk_turns-loop-run-init
 walk_turns-loop-run-init t c =
     (c.requires.taken_in_bounds, refl, c.has_test-heeds.ensures, λ h r w. w)
 
-pub walk_turns-returns-then-and : goal.walk_turns-returns-then-and
-walk_turns-returns-then-and t c =
+pub walk_turns-returns-then-a-eq0 : goal.walk_turns-returns-then-a-eq0
+walk_turns-returns-then-a-eq0 t c =
     let a = c.args in
     let ns = a.nodes.now in
     let nm = a.names.now in
@@ -727,7 +702,7 @@ walk_turns-returns-then-and t c =
     let P = parts ns n (n + 1) in
     let v1 = c.asked-next.ensures.by_index ns nm in
     let l = c.loop-run-test.true in
-    let e = turn-no (L.get_or qs c.loop-run.run.taken 0) c.and.result n ns c.has_test-heeds.result c.loop-run.invariant.2 c.and.ensures c.if-and.true in
+    let e = turn-no (L.get_or qs c.loop-run.run.taken 0) true n ns c.has_test-heeds.result c.loop-run.invariant.2 (λ m. sym c.if-heeds.true m && sym (eq-eqb _ _ c.if-a-eq0.true) m) refl in
     c.loop-run.invariant.3 _ _ (same (rounds_law n (test_at ns n) (labels_of ns nm (up_of ns n)) (λ r. exec (one_of S P) [] r) (λ r. exec_rest (one_of S P) [] r) (drop c.loop-run.run.taken qs)) (asks_on ns nm qs _ _ _ _ _ _ n (L.get_or qs c.loop-run.run.taken 0) (λ x r. turn (labels_of ns nm (up_of ns n)) (is_yes x || not (test_at ns n)) (exec (one_of S P) [] r) (rounds n (test_at ns n) (labels_of ns nm (up_of ns n)) (λ r. exec (one_of S P) [] r)) r) l refl c.asked-next.ensures.taken_value v1 (same (ap (λ b. turn (labels_of ns nm (up_of ns n)) b (exec (one_of S P) [] (drop c.asked-next.result.taken qs)) (rounds n (test_at ns n) (labels_of ns nm (up_of ns n)) (λ r. exec (one_of S P) [] r)) (drop c.asked-next.result.taken qs)) e) (still ns nm qs _ c.asked-next.result c.asked-next.result normal refl refl v1.inside v1.ended v1.label))))
 
 pub walk_turns-returns-then-not-loop_continues : goal.walk_turns-returns-then-not-loop_continues
@@ -744,7 +719,11 @@ walk_turns-returns-then-not-loop_continues t c =
     let l = c.loop-run-test.true in
     let off = c.requires.n_value in
     let W : Walked ns nm qs _ _ (exec (one_of S P) [] (drop c.asked-next.result.taken qs)) _ _ = same (ap (λ k. exec (one_of S P) k (drop c.asked-next.result.taken qs)) (sym off)) c.walk_one-done.ensures in
-    let y = turn-yes (L.get_or qs c.loop-run.run.taken 0) c.and.result n ns c.has_test-heeds.result c.loop-run.invariant.2 c.and.ensures c.if-and.false in
+    let z : false ≡ (c.has_test-heeds.result && eqb (L.get_or qs c.loop-run.run.taken 0) 0) = elim c.else-heeds.branch [
+      | walk_turns-else-heeds-via-then-heeds+else-a-eq0 w ↦ (λ m. sym w.if-heeds.true m && sym (ne_eqb _ _ w.if-a-eq0.false) m)
+      | walk_turns-else-heeds-via-else-heeds w ↦ (λ m. sym w.if-heeds.false m && eqb (L.get_or qs c.loop-run.run.taken 0) 0)
+    ] in
+    let y = turn-yes (L.get_or qs c.loop-run.run.taken 0) false n ns c.has_test-heeds.result c.loop-run.invariant.2 z refl in
     let e = ap (loop_continues (labels_of ns nm (up_of ns n))) W.ended ∙ sym c.loop_continues.ensures ∙ c.if-not-loop_continues.true in
     c.loop-run.invariant.3 _ _ (same (rounds_law n (test_at ns n) (labels_of ns nm (up_of ns n)) (λ r. exec (one_of S P) [] r) (λ r. exec_rest (one_of S P) [] r) (drop c.loop-run.run.taken qs)) (asks_on ns nm qs _ _ _ _ _ _ n (L.get_or qs c.loop-run.run.taken 0) (λ x r. turn (labels_of ns nm (up_of ns n)) (is_yes x || not (test_at ns n)) (exec (one_of S P) [] r) (rounds n (test_at ns n) (labels_of ns nm (up_of ns n)) (λ r. exec (one_of S P) [] r)) r) l refl c.asked-next.ensures.taken_value v1 (same (ap (λ b. turn (labels_of ns nm (up_of ns n)) b (exec (one_of S P) [] (drop c.asked-next.result.taken qs)) (rounds n (test_at ns n) (labels_of ns nm (up_of ns n)) (λ r. exec (one_of S P) [] r)) (drop c.asked-next.result.taken qs)) y) (stays ns nm qs _ _ _ _ (exec (one_of S P) [] (drop c.asked-next.result.taken qs)) (rounds n (test_at ns n) (labels_of ns nm (up_of ns n)) (λ r. exec (one_of S P) [] r)) _ e W))))
 
@@ -779,7 +758,11 @@ walk_turns-loop-run-preserved t c =
     let l = c.loop-run-test.true in
     let off = c.requires.n_value in
     let W : Walked ns nm qs _ _ (exec (one_of S P) [] (drop c.asked-next.result.taken qs)) _ _ = same (ap (λ k. exec (one_of S P) k (drop c.asked-next.result.taken qs)) (sym off)) c.walk_one-done.ensures in
-    let y = turn-yes (L.get_or qs c.loop-run.run.taken 0) c.and.result n ns c.has_test-heeds.result c.loop-run.invariant.2 c.and.ensures c.if-and.false in
+    let z : false ≡ (c.has_test-heeds.result && eqb (L.get_or qs c.loop-run.run.taken 0) 0) = elim c.else-heeds.branch [
+      | walk_turns-else-heeds-via-then-heeds+else-a-eq0 w ↦ (λ m. sym w.if-heeds.true m && sym (ne_eqb _ _ w.if-a-eq0.false) m)
+      | walk_turns-else-heeds-via-else-heeds w ↦ (λ m. sym w.if-heeds.false m && eqb (L.get_or qs c.loop-run.run.taken 0) 0)
+    ] in
+    let y = turn-yes (L.get_or qs c.loop-run.run.taken 0) false n ns c.has_test-heeds.result c.loop-run.invariant.2 z refl in
     let e = ap (loop_continues (labels_of ns nm (up_of ns n))) W.ended ∙ sym c.loop_continues.ensures ∙ c.if-not-loop_continues.false in
     (W.inside, c.walk_one-done.auto.out ∙ c.asked-next.auto.out ∙ c.loop-run.invariant.1, c.loop-run.invariant.2, λ h r z. c.loop-run.invariant.3 h r (same (rounds_law n (test_at ns n) (labels_of ns nm (up_of ns n)) (λ r. exec (one_of S P) [] r) (λ r. exec_rest (one_of S P) [] r) (drop c.loop-run.run.taken qs)) (asks_on ns nm qs _ _ _ _ _ _ n (L.get_or qs c.loop-run.run.taken 0) (λ x r. turn (labels_of ns nm (up_of ns n)) (is_yes x || not (test_at ns n)) (exec (one_of S P) [] r) (rounds n (test_at ns n) (labels_of ns nm (up_of ns n)) (λ r. exec (one_of S P) [] r)) r) l refl c.asked-next.ensures.taken_value v1 (same (ap (λ b. turn (labels_of ns nm (up_of ns n)) b (exec (one_of S P) [] (drop c.asked-next.result.taken qs)) (rounds n (test_at ns n) (labels_of ns nm (up_of ns n)) (λ r. exec (one_of S P) [] r)) (drop c.asked-next.result.taken qs)) y) (goes ns nm qs _ _ _ _ _ _ (exec (one_of S P) [] (drop c.asked-next.result.taken qs)) (rounds n (test_at ns n) (labels_of ns nm (up_of ns n)) (λ r. exec (one_of S P) [] r)) _ e W z)))))
 

@@ -19,6 +19,6 @@ returns c =
     let a = c.args in
     let ns = a.nodes.now in
     let ps = parts ns a.p.0 (a.p.0 + 1) in
-    let n = c.in-At.c.0 in
-    let w = subst (First ns a.p.0 (drop a.a ps)) c.in-At.is c.nth_part.ensures in
+    let n = c.in-Some.c.0 in
+    let w = subst (First ns a.p.0 (drop a.a ps)) c.in-Some.is c.nth_part.ensures in
     (case_nth ns a.p.0 ps a.a n (parts ns a.p.0 (n + 1)) w.0, w.1)

@@ -5,8 +5,5 @@ use Rattle.code_tree.specs.Parts.{parts}
 use lib.ListN.{drop}
 use Rattle.route_walk.proofs.nth_part.Given as goal
 
-abbrev pub invariant-loop-c : goal.invariant-loop-c
-invariant-loop-c l = (l.p.0 < l.from) × (l.from ≤ count l.nodes) × (drop l.left (parts l.nodes l.p.0 l.from) ≡ drop l.a (parts l.nodes l.p.0 (l.p.0 + 1)))
-
-abbrev pub decreases-loop-c : goal.decreases-loop-c
-decreases-loop-c l = count l.nodes - l.from
+abbrev pub invariant-loop-passed : goal.invariant-loop-passed
+invariant-loop-passed l = (l.p.0 < l.from) × (l.from ≤ count l.nodes) × (drop (l.a - l._passed) (parts l.nodes l.p.0 l.from) ≡ drop l.a (parts l.nodes l.p.0 (l.p.0 + 1)))

@@ -29,20 +29,20 @@ returns-in_default c = let a = c.args in
     (whole_none a.nodes.now a.names.now a.answers.now a.out.now start start refl refl (omega arith) refl refl refl tt)
 
 pub overflow_add-b : goal.overflow_add-b
-overflow_add-b c = let h = c.requires.held _ (sym c.holder.ensures.value ∙ c.in-At.is) in
+overflow_add-b c = let h = c.requires.held _ (sym c.holder.ensures.value ∙ c.in-Some.is) in
     let l = h.root in
     let s = h.good.tree.small in
     omega arith
 
 pub walk_parts-requires : goal.walk_parts-requires
 walk_parts-requires c = let a = c.args in
-    let h = c.requires.held _ (sym c.holder.ensures.value ∙ c.in-At.is) in
+    let h = c.requires.held _ (sym c.holder.ensures.value ∙ c.in-Some.is) in
     let l = h.root in
     record { walkable = record { good = h.good; named = h.named }; n_lt_from = omega arith; from_bound = omega arith; n_value = labels_off a.nodes.now a.names.now h.good _ (ap is_labeled h.block); taken_in_bounds = omega arith }
 
 pub returns : goal.returns
 returns c = let a = c.args in
-    let e = sym c.holder.ensures.value ∙ c.in-At.is in
+    let e = sym c.holder.ensures.value ∙ c.in-Some.is in
     let h = c.requires.held _ e in
     let q = unit_is_lem a.nodes.now a.names.now h.good a.u.0 _ e h.block in
     shows-as a.nodes.now a.names.now a.answers.now a.out.now _ _ _ _ q

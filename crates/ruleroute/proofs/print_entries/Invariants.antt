@@ -6,9 +6,5 @@ use Rattle.ruleroute.proofs.print_entries.Given as goal
 -- the lines of the first entries are written
 abbrev pub invariant-loop-i : goal.invariant-loop-i
 invariant-loop-i g l =
-    (l.i ≤ length l.entries)
-    × (length l.text ≡ 256)
+    (length l.text ≡ 256)
     × Appends (g.O.Write.contents l.initial.writer) (g.O.Write.contents l.writer) (lines_for (take l.i l.entries))
-
-abbrev pub decreases-loop-i : goal.decreases-loop-i
-decreases-loop-i g l = length l.entries - l.i

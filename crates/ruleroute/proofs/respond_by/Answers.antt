@@ -9,8 +9,8 @@ use Rattle.ruleroute.proofs.respond_by.Goals as goal
 pub routed-requires : goal.routed-requires
 routed-requires c = c.requires.answers_len.1
 
-pub returns-in-Unasked : goal.returns-in-Unasked
-returns-in-Unasked c = routed_unasked (room_of c.args.nodes.now c.args.scopes.now c.args.source.now c.args.names.now) (length c.args.answers.now) c.args.input.now (room_lent c.args.nodes.now c.args.scopes.now c.args.source.now c.args.names.now c.requires.nodes_len.0 c.requires.nodes_len.1 c.requires.nodes_len.2 c.requires.nodes_len.3) c.requires.answers_len.0 c.read_route-read.result c.read_route-read.ensures.answer c.in-Unasked.line c.args.out.now c.in-Unasked.is
+pub returns-in-Err : goal.returns-in-Err
+returns-in-Err c = routed_unasked (room_of c.args.nodes.now c.args.scopes.now c.args.source.now c.args.names.now) (length c.args.answers.now) c.args.input.now (room_lent c.args.nodes.now c.args.scopes.now c.args.source.now c.args.names.now c.requires.nodes_len.0 c.requires.nodes_len.1 c.requires.nodes_len.2 c.requires.nodes_len.3) c.requires.answers_len.0 c.read_route-read.result c.read_route-read.ensures.answer c.in-Err.unread c.args.out.now c.in-Err.is
 
-pub returns-in-Asked : goal.returns-in-Asked
-returns-in-Asked c = let t = routed_asked (room_of c.args.nodes.now c.args.scopes.now c.args.source.now c.args.names.now) (length c.args.answers.now) c.args.input.now (room_lent c.args.nodes.now c.args.scopes.now c.args.source.now c.args.names.now c.requires.nodes_len.0 c.requires.nodes_len.1 c.requires.nodes_len.2 c.requires.nodes_len.3) c.requires.answers_len.0 c.read_route-read.result c.read_route-read.ensures.answer c.in-Asked.kind c.in-Asked.n c.in-Asked.s c.in-Asked.b c.in-Asked.m c.in-Asked.unit c.in-Asked.a c.in-Asked.is c.args.nodes.now c.args.scopes.now c.args.source.now c.args.names.now c.args.answers.now c.read_route-read.new.nodes c.read_route-read.new.scopes c.read_route-read.new.source c.read_route-read.new.names c.read_route-read.new.answers c.read_route-read.ensures.tables c.read_route-read.ensures.answers c.args.out.now in (c.routed.ensures.0 ∙ t.0, c.routed.ensures.1 ∙ t.1)
+pub returns-in-Ok : goal.returns-in-Ok
+returns-in-Ok c = let t = routed_asked (room_of c.args.nodes.now c.args.scopes.now c.args.source.now c.args.names.now) (length c.args.answers.now) c.args.input.now (room_lent c.args.nodes.now c.args.scopes.now c.args.source.now c.args.names.now c.requires.nodes_len.0 c.requires.nodes_len.1 c.requires.nodes_len.2 c.requires.nodes_len.3) c.requires.answers_len.0 c.read_route-read.result c.read_route-read.ensures.answer c.in-Ok.asked c.in-Ok.is c.args.nodes.now c.args.scopes.now c.args.source.now c.args.names.now c.args.answers.now c.read_route-read.new.nodes c.read_route-read.new.scopes c.read_route-read.new.source c.read_route-read.new.names c.read_route-read.new.answers c.read_route-read.ensures.tables c.read_route-read.ensures.answers c.args.out.now in (c.routed.ensures.0 ∙ t.0, c.routed.ensures.1 ∙ t.1)

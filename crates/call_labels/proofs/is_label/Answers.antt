@@ -1,4 +1,0 @@
-use Rattle.call_labels.proofs.is_label.Goals as goal
-
-pub returns : goal.returns
-returns c = cc

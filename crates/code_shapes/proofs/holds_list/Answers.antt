@@ -1,4 +1,0 @@
-use Rattle.code_shapes.proofs.holds_list.Goals as goal
-
-pub returns : goal.returns
-returns c = cc

@@ -1,4 +1,0 @@
-use Rattle.code_shapes.proofs.is_class.Goals as goal
-
-pub returns : goal.returns
-returns c = cc

@@ -1,6 +1,0 @@
-use Rattle.refusal_standing.specs.Standing.{stray_case}
-use Rattle.refusal_standing.proofs.stray_case.Goals as goal
-
-pub returns : goal.returns
-unfolding stray_case
-returns c = cc
