@@ -8,7 +8,6 @@ ghost use Rattle.table_records.specs.Facts.{Tree};
 ghost use Rattle.table_children.specs.Children.{below};
 ghost use Rattle.table_ancestry.specs.Ancestry.{nearest_of};
 
-use base_common::within;
 use table_records::NodeId;
 
 // More than any kind: a walk that looks for it goes to the root.
@@ -29,33 +28,19 @@ fn nearest_by_size(nodes: &[u32], n: NodeId, low: u32, high: u32) -> Option<Node
         if size <= at.0 {
             return None;
         }
-        if within(table_records::kind(nodes, at), low, high) {
+        if (low..=high).contains(&table_records::kind(nodes, at)) {
             return Some(at);
         }
     }
     None
 }
 
-// So many walks to the root, without a division. What is looked for changes from walk to walk, so that none can be left out.
-fn walks_plain(nodes: &[u32], n: NodeId, walks: u32) -> u32
-    requires tree { Tree nodes.now }
-    requires n_bound { n.0 < count nodes.now }
+// So many walks to the root. What is looked for changes from walk to walk, so that none can be left out.
+fn walks_by<F: Fn(u32) -> Option<NodeId>>(walk: F, walks: u32) -> u32
+    requires { F.IsAlwaysCallable walk }
 {
     for done in 0..walks {
-        let None = table_ancestry::nearest(nodes, n, NO_KIND, done) else {
-            return done;
-        };
-    }
-    walks
-}
-
-// The same with the division.
-fn walks_divided(nodes: &[u32], n: NodeId, walks: u32) -> u32
-    requires tree { Tree nodes.now }
-    requires n_bound { n.0 < count nodes.now }
-{
-    for done in 0..walks {
-        let None = nearest_by_size(nodes, n, NO_KIND, done) else {
+        let None = walk(done) else {
             return done;
         };
     }
@@ -67,9 +52,12 @@ fn walks_from_last(nodes: &[u32], walks: u32, divided: u32) -> u32
 {
     let last = NodeId(table_records::size(nodes) - 1);
     if divided == 0 {
-        return walks_plain(nodes, last, walks);
+        return walks_by(
+            |high| table_ancestry::nearest(nodes, last, NO_KIND, high),
+            walks,
+        );
     }
-    walks_divided(nodes, last, walks)
+    walks_by(|high| nearest_by_size(nodes, last, NO_KIND, high), walks)
 }
 
 // So many walks from the last node to the root, with a division in each step or (0) without, and how many were done: none

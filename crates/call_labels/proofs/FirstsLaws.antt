@@ -1,6 +1,6 @@
 -- Laws of the first labels: a search for a name among theirs, and one label more.
 use Rattle.table_records.specs.declared.NodeId.{NodeId}
-use Rattle.std.specs.Prelude.{ℕ, zero, suc, ◌+◌, ◌-◌, ◌≤◌, ◌<◌, ◌≡◌, List, [], ◌∷◌, ◌++◌, map, true, false, length, get_or, set, Result, Ok, Err}
+use Rattle.std.specs.Prelude.{ℕ, zero, suc, ◌+◌, ◌-◌, ◌≤◌, ◌<◌, ◌≡◌, List, [], ◌∷◌, ◌++◌, map, true, false, length, get_or, set, Result, Ok, Err, ⊤}
 use Rattle.std.proofs.Common.{ap, sym, subst, ◌∙◌, ⊎_elim, eq-or-lt_of_le, arith, length-set, get_or-set_same, get_or-set_other}
 use Rattle.std.proofs.lemmas.List.{map-append}
 use Rattle.base_common.specs.Upto.{upto}
@@ -12,6 +12,7 @@ use Rattle.call_labels.specs.Short.{most}
 use Rattle.call_labels.specs.Order.{seeing, seen_before, place_in}
 use Rattle.call_labels.specs.Firsts.{kept_from, Firsts, Entered}
 use Rattle.call_labels.specs.Unfit.{unfit_at}
+use Rattle.call_labels.specs.declared.Kept.{Kept}
 
 module _ (ns names kept : List ℕ) (size k : ℕ) (x : List ℕ) where
   pub place_stop : k < size → same (name_of ns names (get_or kept k 0)) x ≡ true → place_in (kept_from ns names kept size k) x ≡ 0
@@ -69,9 +70,9 @@ firsts_add ns names kept size i seen w h l =
     }
 
 -- what a node came to, by what was answered
-pub entered_unfit : (ns names : List ℕ) (i : ℕ) (kept : List ℕ) (r : Result ℕ NodeId) (p : NodeId) → Entered ns names i kept r → r ≡ Err p → unfit_at ns names i ≡ true
+pub entered_unfit : (ns names : List ℕ) (i : ℕ) (kept : Kept) (r : Result ⊤ NodeId) (p : NodeId) → Entered ns names i kept r → r ≡ Err p → unfit_at ns names i ≡ true
 entered_unfit ns names i kept r p e q = let w : Entered ns names i kept (Err p) = subst (Entered ns names i kept) q e in w.1
 
-pub entered_few : (ns names : List ℕ) (i : ℕ) (kept : List ℕ) (r : Result ℕ NodeId) (size : ℕ) → Entered ns names i kept r → r ≡ Ok size
-    → (unfit_at ns names i ≡ false) × Firsts ns names kept size (seen_before ns names (i + 1))
-entered_few ns names i kept r size e q = subst (Entered ns names i kept) q e
+pub entered_few : (ns names : List ℕ) (i : ℕ) (kept : Kept) (r : Result ⊤ NodeId) (u : ⊤) → Entered ns names i kept r → r ≡ Ok u
+    → (unfit_at ns names i ≡ false) × Firsts ns names kept.nodes kept.size (seen_before ns names (i + 1))
+entered_few ns names i kept r u e q = subst (Entered ns names i kept) q e

@@ -25,6 +25,13 @@ const LETTERS: usize = 26;
 // How many short names there are.
 pub const MOST: usize = 699;
 
+// The first label of each different name, by its node: so many of them, in the order in which they are found.
+#[derive(Clone, Copy)]
+pub struct Kept {
+    nodes: [u32; MOST],
+    size: usize,
+}
+
 fn is_label(nodes: &[u32], n: NodeId) -> bool
     requires { n.0 < count nodes.now }
     ensures { result ≡ is_label nodes.now n.0 }
@@ -46,64 +53,61 @@ fn is_reserved(nodes: &[u32], names: &[u8], n: NodeId) -> bool
 }
 
 // Where the name of n stands among those of the labels kept; their number where it is none of them.
-fn place_in(nodes: &[u32], names: &[u8], kept: &[u32], size: usize, n: NodeId) -> usize
+fn place_in(nodes: &[u32], names: &[u8], kept: &Kept, n: NodeId) -> usize
     requires named { Named nodes.now names.now }
-    requires nodes { Nodes nodes.now kept.now size }
+    requires nodes { Nodes nodes.now kept.now.nodes kept.now.size }
     requires n_bound { n.0 < count nodes.now }
-    ensures { result ≡ place_in (kept_from nodes.now names.now kept.now size 0) (name_of nodes.now names.now n.0) }
+    ensures { result ≡ place_in (kept_from nodes.now names.now kept.now.nodes kept.now.size 0) (name_of nodes.now names.now n.0) }
 {
-    for k in 0..size {
-        if same_name(nodes, names, NodeId(kept[k]), n) {
+    for k in 0..kept.size {
+        if same_name(nodes, names, NodeId(kept.nodes[k]), n) {
             return k;
         }
     }
-    size
+    kept.size
 }
 
-// Keeps the label i if it is the first of its name, and says how many are kept; or that it cannot be renamed (19).
-fn enter(
-    nodes: &[u32],
-    names: &[u8],
-    kept: &mut [u32],
-    size: usize,
-    i: u32,
-) -> Result<usize, NodeId>
+// Keeps the label i if it is the first of its name; or says that it cannot be renamed (19).
+fn enter(nodes: &[u32], names: &[u8], kept: &mut Kept, i: u32) -> Result<(), NodeId>
     requires named { Named nodes.now names.now }
-    requires firsts { Firsts nodes.now names.now kept.old size (seen_before nodes.now names.now i) }
+    requires firsts { Firsts nodes.now names.now kept.old.nodes kept.old.size (seen_before nodes.now names.now i) }
     requires i_bound { i < count nodes.now }
     ensures { Entered nodes.now names.now i kept.new result }
 {
     if !is_label(nodes, NodeId(i)) {
-        return Ok(size);
+        return Ok(());
     }
     if is_reserved(nodes, names, NodeId(i)) {
         return Err(NodeId(i));
     }
     if table_records::name_len(nodes, NodeId(i)) == 0 {
-        return Ok(size);
+        return Ok(());
     }
-    if place_in(nodes, names, kept, size, NodeId(i)) < size {
-        return Ok(size);
+    if place_in(nodes, names, kept, NodeId(i)) < kept.size {
+        return Ok(());
     }
-    if size == MOST {
+    if kept.size == MOST {
         return Err(NodeId(i));
     }
-    kept[size] = i;
-    Ok(size + 1)
+    kept.nodes[kept.size] = i;
+    kept.size += 1;
+    Ok(())
 }
 
-// The first label of each different name, in node order, and how many these are; or the first that cannot be renamed.
-pub fn first_labels(nodes: &[u32], names: &[u8], kept: &mut [u32]) -> Result<usize, NodeId>
+// The first label of each different name, in node order; or the first that cannot be renamed.
+pub fn first_labels(nodes: &[u32], names: &[u8]) -> Result<Kept, NodeId>
     requires tree { Tree nodes.now }
     requires named { Named nodes.now names.now }
-    requires most_in_bounds { most ≤ length kept.old }
-    ensures { Listed nodes.now names.now kept.new result }
+    ensures { Listed nodes.now names.now result }
 {
-    let mut size: usize = 0;
+    let mut kept = Kept {
+        nodes: [0; MOST],
+        size: 0,
+    };
     for i in 0..table_records::size(nodes) {
-        size = enter(nodes, names, kept, size, i)?;
+        enter(nodes, names, &mut kept, i)?;
     }
-    Ok(size)
+    Ok(kept)
 }
 
 fn letter(k: usize) -> u8
@@ -155,8 +159,8 @@ fn put_short(k: usize, out: &mut [u8], w: usize)
 }
 
 // How long the new name of n is.
-fn new_length(nodes: &[u32], names: &[u8], kept: &[u32], size: usize, n: NodeId) -> usize
-    requires ready { Ready nodes.now names.now kept.now size }
+fn new_length(nodes: &[u32], names: &[u8], kept: &Kept, n: NodeId) -> usize
+    requires ready { Ready nodes.now names.now kept.now }
     requires n_bound { n.0 < count nodes.now }
     ensures { (result ≡ length (new_name_of nodes.now names.now n.0)) × (result ≤ 1048576) }
 {
@@ -167,32 +171,24 @@ fn new_length(nodes: &[u32], names: &[u8], kept: &[u32], size: usize, n: NodeId)
     if !is_label(nodes, n) {
         return len;
     }
-    short_length(place_in(nodes, names, kept, size, n))
+    short_length(place_in(nodes, names, kept, n))
 }
 
 // How long all new names are together. Names may overlap in the old slice, so it can be far above 1,048,576.
-pub fn names_length(nodes: &[u32], names: &[u8], kept: &[u32], size: usize) -> usize
-    requires { Ready nodes.now names.now kept.now size }
+pub fn names_length(nodes: &[u32], names: &[u8], kept: &Kept) -> usize
+    requires { Ready nodes.now names.now kept.now }
     ensures { result ≡ length (names_renamed nodes.now names.now) }
 {
     let mut w: usize = 0;
     for i in 0..table_records::size(nodes) {
-        w += new_length(nodes, names, kept, size, NodeId(i));
+        w += new_length(nodes, names, kept, NodeId(i));
     }
     w
 }
 
 // Writes the new name of n at w.
-fn put_name(
-    nodes: &[u32],
-    names: &[u8],
-    kept: &[u32],
-    size: usize,
-    n: NodeId,
-    out: &mut [u8],
-    w: usize,
-)
-    requires ready { Ready nodes.now names.now kept.now size }
+fn put_name(nodes: &[u32], names: &[u8], kept: &Kept, n: NodeId, out: &mut [u8], w: usize)
+    requires ready { Ready nodes.now names.now kept.now }
     requires n_bound { n.0 < count nodes.now }
     requires n_in_bounds { w + length (new_name_of nodes.now names.now n.0) ≤ length out.old }
     ensures { out.new ≡ put out.old w (new_name_of nodes.now names.now n.0) }
@@ -204,7 +200,7 @@ fn put_name(
         table_put::copy(name(nodes, names, n), out, w);
         return;
     }
-    put_short(place_in(nodes, names, kept, size, n), out, w);
+    put_short(place_in(nodes, names, kept, n), out, w);
 }
 
 // Writes the record of n with another name.
@@ -234,12 +230,11 @@ fn put_record(nodes: &[u32], n: NodeId, start: usize, len: usize, out: &mut [u32
 pub fn write(
     nodes: &[u32],
     names: &[u8],
-    kept: &[u32],
-    size: usize,
+    kept: &Kept,
     renamed_nodes: &mut [u32],
     renamed_names: &mut [u8],
 )
-    requires ready { Ready nodes.now names.now kept.now size }
+    requires ready { Ready nodes.now names.now kept.now }
     requires names_in_bounds { length (nodes_renamed nodes.now names.now) ≤ length renamed_nodes.old }
     requires names_in_bounds_2 { length (names_renamed nodes.now names.now) ≤ length renamed_names.old }
     requires names_len_bound { length (names_renamed nodes.now names.now) ≤ 1048576 }
@@ -248,9 +243,9 @@ pub fn write(
 {
     let mut w: usize = 0;
     for i in 0..table_records::size(nodes) {
-        let len = new_length(nodes, names, kept, size, NodeId(i));
+        let len = new_length(nodes, names, kept, NodeId(i));
         put_record(nodes, NodeId(i), w, len, renamed_nodes);
-        put_name(nodes, names, kept, size, NodeId(i), renamed_names, w);
+        put_name(nodes, names, kept, NodeId(i), renamed_names, w);
         w += len;
     }
 }

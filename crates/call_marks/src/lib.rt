@@ -3,7 +3,7 @@
 #![tactic(auto)]
 
 ghost use Rattle.std.specs.Prelude.{◌≡◌, ◌+◌, ◌<◌, length};
-ghost use Rattle.check_dispatch.specs.Rule.{rule};
+ghost use Rattle.check_dispatch.specs.Lent.{rule_of};
 ghost use Rattle.refusal_state.specs.Targets.{refused_or};
 ghost use Rattle.code_flat.specs.Code.{unit as unitCode};
 ghost use Rattle.code_tree.specs.Statements.{unit_of};
@@ -16,12 +16,11 @@ ghost use Rattle.call_routes.specs.Calls.{code_refusal};
 ghost use Rattle.call_marks.specs.Marked.{code_of, to_refusal, from_refusal, place_refusal, sixteen_of, seventeen_of, mark_answer, mark_code, mark_slice, marks_left};
 ghost use Rattle.call_marks.specs.Made.{shown_or, list_or, marks_or, made_answer, made_slice, made_marks};
 
+use check_dispatch::Rule;
 use refusal_verdict::{Refusal, Refused};
-use route_marks::{Begin, Marks};
+use route_marks::{Begin, MARKS, Marks};
 use route_viewer::Route;
 use table_records::NodeId;
-
-const MARKS: u32 = 8;
 
 // 16 of a mark that is to be set.
 fn to_refusal(to: u32) -> Result<(), Refused>
@@ -118,40 +117,16 @@ fn made(
 }
 
 // The refusals before 11.
-fn refusal(
-    source_type: u32,
-    async_bodies: u32,
-    nodes: &[u32],
-    scopes: &[u32],
-    source: &[u8],
-    names: &[u8],
-    unit: u32,
-    marks: &Marks,
-    begin: Begin,
-    to: u32,
-) -> Result<(), Refused>
-    ensures { result ≡ refused_or (code_refusal (rule source_type async_bodies nodes.now scopes.now source.now names.now) unit) (sixteen_of marks.now begin to) }
+fn refusal(rule: &Rule, unit: u32, marks: &Marks, begin: Begin, to: u32) -> Result<(), Refused>
+    ensures { result ≡ refused_or (code_refusal (rule_of rule.now) unit) (sixteen_of marks.now begin to) }
 {
-    call_routes::refusal(
-        source_type,
-        async_bodies,
-        nodes,
-        scopes,
-        source,
-        names,
-        unit,
-    )?;
+    call_routes::refusal(rule, unit)?;
     mark_refusal(marks, begin, to)
 }
 
 // A route that begins anywhere and is stopped behind so many answers, under the mark `to`.
 fn marked(
-    source_type: u32,
-    async_bodies: u32,
-    nodes: &[u32],
-    scopes: &[u32],
-    source: &[u8],
-    names: &[u8],
+    rule: &Rule,
     unit: u32,
     begin: Begin,
     answers: &[u32],
@@ -161,26 +136,15 @@ fn marked(
     code: &mut [u32],
     out: &mut [u32],
 ) -> Result<Route, Refused>
-    ensures answer { result ≡ mark_answer (rule source_type async_bodies nodes.now scopes.now source.now names.now) unit (sixteen_of marks.old begin to) (seventeen_of marks.old (code_of (rule source_type async_bodies nodes.now scopes.now source.now names.now) unit) begin) (stop_of marks.old (code_of (rule source_type async_bodies nodes.now scopes.now source.now names.now) unit) answers.now begin stop) (length code.old) (length out.old) }
-    ensures code { code.new ≡ mark_code (rule source_type async_bodies nodes.now scopes.now source.now names.now) unit (sixteen_of marks.old begin to) code.old }
-    ensures list { out.new ≡ mark_slice (rule source_type async_bodies nodes.now scopes.now source.now names.now) unit (sixteen_of marks.old begin to) (seventeen_of marks.old (code_of (rule source_type async_bodies nodes.now scopes.now source.now names.now) unit) begin) (stop_of marks.old (code_of (rule source_type async_bodies nodes.now scopes.now source.now names.now) unit) answers.now begin stop) (length code.old) out.old }
-    ensures marks { marks.new ≡ marks_left (rule source_type async_bodies nodes.now scopes.now source.now names.now) unit (sixteen_of marks.old begin to) (seventeen_of marks.old (code_of (rule source_type async_bodies nodes.now scopes.now source.now names.now) unit) begin) (stop_of marks.old (code_of (rule source_type async_bodies nodes.now scopes.now source.now names.now) unit) answers.now begin stop) (length code.old) (length out.old) marks.old to }
+    ensures answer { result ≡ mark_answer (rule_of rule.now) unit (sixteen_of marks.old begin to) (seventeen_of marks.old (code_of (rule_of rule.now) unit) begin) (stop_of marks.old (code_of (rule_of rule.now) unit) answers.now begin stop) (length code.old) (length out.old) }
+    ensures code { code.new ≡ mark_code (rule_of rule.now) unit (sixteen_of marks.old begin to) code.old }
+    ensures list { out.new ≡ mark_slice (rule_of rule.now) unit (sixteen_of marks.old begin to) (seventeen_of marks.old (code_of (rule_of rule.now) unit) begin) (stop_of marks.old (code_of (rule_of rule.now) unit) answers.now begin stop) (length code.old) out.old }
+    ensures marks { marks.new ≡ marks_left (rule_of rule.now) unit (sixteen_of marks.old begin to) (seventeen_of marks.old (code_of (rule_of rule.now) unit) begin) (stop_of marks.old (code_of (rule_of rule.now) unit) answers.now begin stop) (length code.old) (length out.old) marks.old to }
 {
-    refusal(
-        source_type,
-        async_bodies,
-        nodes,
-        scopes,
-        source,
-        names,
-        unit,
-        marks,
-        begin,
-        to,
-    )?;
+    refusal(rule, unit, marks, begin, to)?;
     made(
-        nodes,
-        names,
+        rule.nodes,
+        rule.names,
         NodeId(unit),
         marks,
         begin,
@@ -194,12 +158,7 @@ fn marked(
 
 // From the start, stopped under `mark` behind `stop` answers.
 pub fn route_stop(
-    source_type: u32,
-    async_bodies: u32,
-    nodes: &[u32],
-    scopes: &[u32],
-    source: &[u8],
-    names: &[u8],
+    rule: &Rule,
     unit: u32,
     answers: &[u32],
     mark: u32,
@@ -208,18 +167,13 @@ pub fn route_stop(
     code: &mut [u32],
     out: &mut [u32],
 ) -> Result<Route, Refused>
-    ensures answer { result ≡ mark_answer (rule source_type async_bodies nodes.now scopes.now source.now names.now) unit (to_refusal mark) (seventeen_of marks.old (code_of (rule source_type async_bodies nodes.now scopes.now source.now names.now) unit) begins.Start) (stop_of marks.old (code_of (rule source_type async_bodies nodes.now scopes.now source.now names.now) unit) answers.now begins.Start stop) (length code.old) (length out.old) }
-    ensures code { code.new ≡ mark_code (rule source_type async_bodies nodes.now scopes.now source.now names.now) unit (to_refusal mark) code.old }
-    ensures list { out.new ≡ mark_slice (rule source_type async_bodies nodes.now scopes.now source.now names.now) unit (to_refusal mark) (seventeen_of marks.old (code_of (rule source_type async_bodies nodes.now scopes.now source.now names.now) unit) begins.Start) (stop_of marks.old (code_of (rule source_type async_bodies nodes.now scopes.now source.now names.now) unit) answers.now begins.Start stop) (length code.old) out.old }
-    ensures marks { marks.new ≡ marks_left (rule source_type async_bodies nodes.now scopes.now source.now names.now) unit (to_refusal mark) (seventeen_of marks.old (code_of (rule source_type async_bodies nodes.now scopes.now source.now names.now) unit) begins.Start) (stop_of marks.old (code_of (rule source_type async_bodies nodes.now scopes.now source.now names.now) unit) answers.now begins.Start stop) (length code.old) (length out.old) marks.old mark }
+    ensures answer { result ≡ mark_answer (rule_of rule.now) unit (to_refusal mark) (seventeen_of marks.old (code_of (rule_of rule.now) unit) begins.Start) (stop_of marks.old (code_of (rule_of rule.now) unit) answers.now begins.Start stop) (length code.old) (length out.old) }
+    ensures code { code.new ≡ mark_code (rule_of rule.now) unit (to_refusal mark) code.old }
+    ensures list { out.new ≡ mark_slice (rule_of rule.now) unit (to_refusal mark) (seventeen_of marks.old (code_of (rule_of rule.now) unit) begins.Start) (stop_of marks.old (code_of (rule_of rule.now) unit) answers.now begins.Start stop) (length code.old) out.old }
+    ensures marks { marks.new ≡ marks_left (rule_of rule.now) unit (to_refusal mark) (seventeen_of marks.old (code_of (rule_of rule.now) unit) begins.Start) (stop_of marks.old (code_of (rule_of rule.now) unit) answers.now begins.Start stop) (length code.old) (length out.old) marks.old mark }
 {
     marked(
-        source_type,
-        async_bodies,
-        nodes,
-        scopes,
-        source,
-        names,
+        rule,
         unit,
         Begin::Start,
         answers,
@@ -233,12 +187,7 @@ pub fn route_stop(
 
 // Taken up at `mark`, and not stopped again: more answers than there are never stop it.
 pub fn route_resume(
-    source_type: u32,
-    async_bodies: u32,
-    nodes: &[u32],
-    scopes: &[u32],
-    source: &[u8],
-    names: &[u8],
+    rule: &Rule,
     unit: u32,
     mark: u32,
     answers: &[u32],
@@ -246,18 +195,13 @@ pub fn route_resume(
     code: &mut [u32],
     out: &mut [u32],
 ) -> Result<Route, Refused>
-    ensures answer { result ≡ mark_answer (rule source_type async_bodies nodes.now scopes.now source.now names.now) unit (from_refusal marks.old mark) (place_refusal marks.old (code_of (rule source_type async_bodies nodes.now scopes.now source.now names.now) unit) mark) (gone_on marks.old (code_of (rule source_type async_bodies nodes.now scopes.now source.now names.now) unit) answers.now mark) (length code.old) (length out.old) }
-    ensures code { code.new ≡ mark_code (rule source_type async_bodies nodes.now scopes.now source.now names.now) unit (from_refusal marks.old mark) code.old }
-    ensures list { out.new ≡ mark_slice (rule source_type async_bodies nodes.now scopes.now source.now names.now) unit (from_refusal marks.old mark) (place_refusal marks.old (code_of (rule source_type async_bodies nodes.now scopes.now source.now names.now) unit) mark) (gone_on marks.old (code_of (rule source_type async_bodies nodes.now scopes.now source.now names.now) unit) answers.now mark) (length code.old) out.old }
+    ensures answer { result ≡ mark_answer (rule_of rule.now) unit (from_refusal marks.old mark) (place_refusal marks.old (code_of (rule_of rule.now) unit) mark) (gone_on marks.old (code_of (rule_of rule.now) unit) answers.now mark) (length code.old) (length out.old) }
+    ensures code { code.new ≡ mark_code (rule_of rule.now) unit (from_refusal marks.old mark) code.old }
+    ensures list { out.new ≡ mark_slice (rule_of rule.now) unit (from_refusal marks.old mark) (place_refusal marks.old (code_of (rule_of rule.now) unit) mark) (gone_on marks.old (code_of (rule_of rule.now) unit) answers.now mark) (length code.old) out.old }
     ensures marks { marks.new ≡ marks.old }
 {
     marked(
-        source_type,
-        async_bodies,
-        nodes,
-        scopes,
-        source,
-        names,
+        rule,
         unit,
         Begin::Mark(mark),
         answers,
@@ -271,12 +215,7 @@ pub fn route_resume(
 
 // Taken up at `from`, and stopped again under `to` behind `stop` answers.
 pub fn route_resume_stop(
-    source_type: u32,
-    async_bodies: u32,
-    nodes: &[u32],
-    scopes: &[u32],
-    source: &[u8],
-    names: &[u8],
+    rule: &Rule,
     unit: u32,
     from: u32,
     answers: &[u32],
@@ -286,18 +225,13 @@ pub fn route_resume_stop(
     code: &mut [u32],
     out: &mut [u32],
 ) -> Result<Route, Refused>
-    ensures answer { result ≡ mark_answer (rule source_type async_bodies nodes.now scopes.now source.now names.now) unit (refused_or (from_refusal marks.old from) (to_refusal to)) (place_refusal marks.old (code_of (rule source_type async_bodies nodes.now scopes.now source.now names.now) unit) from) (stop_of marks.old (code_of (rule source_type async_bodies nodes.now scopes.now source.now names.now) unit) answers.now (begins.Mark from) stop) (length code.old) (length out.old) }
-    ensures code { code.new ≡ mark_code (rule source_type async_bodies nodes.now scopes.now source.now names.now) unit (refused_or (from_refusal marks.old from) (to_refusal to)) code.old }
-    ensures list { out.new ≡ mark_slice (rule source_type async_bodies nodes.now scopes.now source.now names.now) unit (refused_or (from_refusal marks.old from) (to_refusal to)) (place_refusal marks.old (code_of (rule source_type async_bodies nodes.now scopes.now source.now names.now) unit) from) (stop_of marks.old (code_of (rule source_type async_bodies nodes.now scopes.now source.now names.now) unit) answers.now (begins.Mark from) stop) (length code.old) out.old }
-    ensures marks { marks.new ≡ marks_left (rule source_type async_bodies nodes.now scopes.now source.now names.now) unit (refused_or (from_refusal marks.old from) (to_refusal to)) (place_refusal marks.old (code_of (rule source_type async_bodies nodes.now scopes.now source.now names.now) unit) from) (stop_of marks.old (code_of (rule source_type async_bodies nodes.now scopes.now source.now names.now) unit) answers.now (begins.Mark from) stop) (length code.old) (length out.old) marks.old to }
+    ensures answer { result ≡ mark_answer (rule_of rule.now) unit (refused_or (from_refusal marks.old from) (to_refusal to)) (place_refusal marks.old (code_of (rule_of rule.now) unit) from) (stop_of marks.old (code_of (rule_of rule.now) unit) answers.now (begins.Mark from) stop) (length code.old) (length out.old) }
+    ensures code { code.new ≡ mark_code (rule_of rule.now) unit (refused_or (from_refusal marks.old from) (to_refusal to)) code.old }
+    ensures list { out.new ≡ mark_slice (rule_of rule.now) unit (refused_or (from_refusal marks.old from) (to_refusal to)) (place_refusal marks.old (code_of (rule_of rule.now) unit) from) (stop_of marks.old (code_of (rule_of rule.now) unit) answers.now (begins.Mark from) stop) (length code.old) out.old }
+    ensures marks { marks.new ≡ marks_left (rule_of rule.now) unit (refused_or (from_refusal marks.old from) (to_refusal to)) (place_refusal marks.old (code_of (rule_of rule.now) unit) from) (stop_of marks.old (code_of (rule_of rule.now) unit) answers.now (begins.Mark from) stop) (length code.old) (length out.old) marks.old to }
 {
     marked(
-        source_type,
-        async_bodies,
-        nodes,
-        scopes,
-        source,
-        names,
+        rule,
         unit,
         Begin::Mark(from),
         answers,

@@ -16,6 +16,7 @@ use Rattle.route_list.specs.Over.{over}
 use Rattle.call_labels.specs.Unfit.{unfit_at}
 use Rattle.call_labels.specs.Order.{label_names}
 use Rattle.call_labels.specs.Firsts.{Firsts, Listed, Ready}
+use Rattle.call_labels.specs.declared.Kept.{Kept}
 use Rattle.call_labels.specs.Written.{nodes_renamed, names_renamed}
 use Rattle.call_rename.specs.Rename.{Renaming, most_bytes, written, labelled, renaming, after_unfit, after_input}
 use Rattle.call_rename.specs.Sized.{Sized}
@@ -26,16 +27,16 @@ module _ (t : ℕ) (ns ss source names : List ℕ) where
       let w = input_well_formed t ns ss source names e in
       record { tree = w.input.tree; within = w.input.named; whole = w.sizes.whole; small = w.sizes.name_bytes }
 
-pub ready : (ns names kept : List ℕ) (size : ℕ) → Sized ns names → Firsts ns names kept size (label_names ns names) → Ready ns names kept size
-ready ns names kept size w f = record { tree = w.tree; within = w.within; whole = w.whole; small = w.small; firsts = f }
+pub ready : (ns names : List ℕ) (kept : Kept) → Sized ns names → Firsts ns names kept.nodes kept.size (label_names ns names) → Ready ns names kept
+ready ns names kept w f = record { tree = w.tree; within = w.within; whole = w.whole; small = w.small; firsts = f }
 
 -- by what the first labels came to
-module _ (ns names kept : List ℕ) (r : Result ℕ NodeId) where
-  pub listed_unfit : (n : NodeId) → Listed ns names kept r → r ≡ Err n → first (unfit_at ns names) 0 (count ns) ≡ Some n.0
-  listed_unfit n l q = let w : Listed ns names kept (Err n) = subst (Listed ns names kept) q l in w
+module _ (ns names : List ℕ) (r : Result Kept NodeId) where
+  pub listed_unfit : (n : NodeId) → Listed ns names r → r ≡ Err n → first (unfit_at ns names) 0 (count ns) ≡ Some n.0
+  listed_unfit n l q = let w : Listed ns names (Err n) = subst (Listed ns names) q l in w
 
-  pub listed_few : (size : ℕ) → Listed ns names kept r → r ≡ Ok size → (first (unfit_at ns names) 0 (count ns) ≡ None) × Firsts ns names kept size (label_names ns names)
-  listed_few size l q = subst (Listed ns names kept) q l
+  pub listed_few : (kept : Kept) → Listed ns names r → r ≡ Ok kept → (first (unfit_at ns names) 0 (count ns) ≡ None) × Firsts ns names kept.nodes kept.size (label_names ns names)
+  listed_few kept l q = subst (Listed ns names) q l
 
 and_none : (a : Bool) → (a && false) ≡ false
 and_none true = refl

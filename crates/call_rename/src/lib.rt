@@ -6,7 +6,7 @@ ghost use Rattle.call_labels.specs.Firsts.{Ready};
 ghost use Rattle.call_rename.specs.Rename.{written, labelled, renaming};
 ghost use Rattle.call_rename.specs.Sized.{Sized};
 
-use call_labels::MOST;
+use call_labels::Kept;
 use refusal_verdict::{Refusal, Refused};
 
 // The names of a table, as document 01 bounds them.
@@ -16,17 +16,16 @@ const MOST_BYTES: usize = 1048576;
 fn write_all(
     nodes: &[u32],
     names: &[u8],
-    kept: &[u32],
-    size: usize,
+    kept: &Kept,
     renamed_nodes: &mut [u32],
     renamed_names: &mut [u8],
 ) -> Result<usize, Refused>
-    requires { Ready nodes.now names.now kept.now size }
+    requires { Ready nodes.now names.now kept.now }
     ensures value { result ≡ (written nodes.now names.now renamed_nodes.old renamed_names.old).answer }
     ensures renamed_nodes_after { renamed_nodes.new ≡ (written nodes.now names.now renamed_nodes.old renamed_names.old).nodes }
     ensures renamed_names_after { renamed_names.new ≡ (written nodes.now names.now renamed_nodes.old renamed_names.old).names }
 {
-    let needed = call_labels::names_length(nodes, names, kept, size);
+    let needed = call_labels::names_length(nodes, names, kept);
     if renamed_nodes.len() < nodes.len() {
         return Err(Refused::Short(Refusal::RenamedSlices, needed as u64));
     }
@@ -36,7 +35,7 @@ fn write_all(
     if MOST_BYTES < needed {
         return Err(Refused::Short(Refusal::RenamedSlices, needed as u64));
     }
-    call_labels::write(nodes, names, kept, size, renamed_nodes, renamed_names);
+    call_labels::write(nodes, names, kept, renamed_nodes, renamed_names);
     Ok(needed)
 }
 
@@ -52,11 +51,10 @@ fn labels(
     ensures renamed_nodes_after { renamed_nodes.new ≡ (labelled nodes.now names.now renamed_nodes.old renamed_names.old).nodes }
     ensures renamed_names_after { renamed_names.new ≡ (labelled nodes.now names.now renamed_nodes.old renamed_names.old).names }
 {
-    let mut kept: [u32; MOST] = [0; MOST];
-    let found = call_labels::first_labels(nodes, names, &mut kept);
+    let found = call_labels::first_labels(nodes, names);
     match found {
         Err(n) => Err(Refused::At(Refusal::Label, n.0)),
-        Ok(size) => write_all(nodes, names, &kept, size, renamed_nodes, renamed_names),
+        Ok(kept) => write_all(nodes, names, &kept, renamed_nodes, renamed_names),
     }
 }
 

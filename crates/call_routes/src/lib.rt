@@ -6,62 +6,36 @@ ghost use Rattle.code_flat.specs.Code.{unit as code_of};
 ghost use Rattle.code_tree.specs.Statements.{unit_of};
 ghost use Rattle.code_assemble.specs.Assembled.{assembled_slice};
 ghost use Rattle.code_assemble.specs.Ready.{Ready};
-ghost use Rattle.check_dispatch.specs.Rule.{rule};
+ghost use Rattle.check_dispatch.specs.Lent.{rule_of};
 ghost use Rattle.call_routes.specs.Calls.{code_refusal, code_answer, code_slice, route_answer, route_slice};
 ghost use Rattle.call_routes.specs.Made.{made_answer, made_slice};
 
+use check_dispatch::Rule;
 use refusal_verdict::Refused;
 use route_viewer::Route;
 use table_records::NodeId;
 
 // The refusals of both calls before 11, of the walk and of the calls of marks.
-pub fn refusal(
-    source_type: u32,
-    async_bodies: u32,
-    nodes: &[u32],
-    scopes: &[u32],
-    source: &[u8],
-    names: &[u8],
-    unit: u32,
-) -> Result<(), Refused>
-    ensures { result ≡ code_refusal (rule source_type async_bodies nodes.now scopes.now source.now names.now) unit }
+pub fn refusal(rule: &Rule, unit: u32) -> Result<(), Refused>
+    ensures { result ≡ code_refusal (rule_of rule.now) unit }
 {
-    refusal_input::refusal(source_type, nodes, scopes, source, names)?;
-    refusal_state::state_refusal(
-        source_type,
-        async_bodies,
-        nodes,
-        scopes,
-        source,
-        names,
-        unit,
-    )
+    refusal_input::refusal(
+        rule.source_type,
+        rule.nodes,
+        rule.scopes,
+        rule.source,
+        rule.names,
+    )?;
+    refusal_state::state_refusal(rule, unit)
 }
 
 // Makes the flat code of a unit, and says how many numbers it wrote.
-pub fn code(
-    source_type: u32,
-    async_bodies: u32,
-    nodes: &[u32],
-    scopes: &[u32],
-    source: &[u8],
-    names: &[u8],
-    unit: u32,
-    code: &mut [u32],
-) -> Result<usize, Refused>
-    ensures value { result ≡ code_answer (rule source_type async_bodies nodes.now scopes.now source.now names.now) unit (length code.old) }
-    ensures code_after { code.new ≡ code_slice (rule source_type async_bodies nodes.now scopes.now source.now names.now) unit code.old }
+pub fn code(rule: &Rule, unit: u32, code: &mut [u32]) -> Result<usize, Refused>
+    ensures value { result ≡ code_answer (rule_of rule.now) unit (length code.old) }
+    ensures code_after { code.new ≡ code_slice (rule_of rule.now) unit code.old }
 {
-    refusal(
-        source_type,
-        async_bodies,
-        nodes,
-        scopes,
-        source,
-        names,
-        unit,
-    )?;
-    code_assemble::code_unit(nodes, names, NodeId(unit), code)
+    refusal(rule, unit)?;
+    code_assemble::code_unit(rule.nodes, rule.names, NodeId(unit), code)
 }
 
 // The first n numbers.
@@ -92,29 +66,16 @@ fn made(
 
 // Makes the flat code of a unit, runs it over the answers, and shows the route.
 pub fn route(
-    source_type: u32,
-    async_bodies: u32,
-    nodes: &[u32],
-    scopes: &[u32],
-    source: &[u8],
-    names: &[u8],
+    rule: &Rule,
     unit: u32,
     answers: &[u32],
     code: &mut [u32],
     out: &mut [u32],
 ) -> Result<Route, Refused>
-    ensures value { result ≡ route_answer (rule source_type async_bodies nodes.now scopes.now source.now names.now) unit answers.now (length code.old) (length out.old) }
-    ensures code_after { code.new ≡ code_slice (rule source_type async_bodies nodes.now scopes.now source.now names.now) unit code.old }
-    ensures out_after { out.new ≡ route_slice (rule source_type async_bodies nodes.now scopes.now source.now names.now) unit answers.now (length code.old) out.old }
+    ensures value { result ≡ route_answer (rule_of rule.now) unit answers.now (length code.old) (length out.old) }
+    ensures code_after { code.new ≡ code_slice (rule_of rule.now) unit code.old }
+    ensures out_after { out.new ≡ route_slice (rule_of rule.now) unit answers.now (length code.old) out.old }
 {
-    refusal(
-        source_type,
-        async_bodies,
-        nodes,
-        scopes,
-        source,
-        names,
-        unit,
-    )?;
-    made(nodes, names, NodeId(unit), answers, code, out)
+    refusal(rule, unit)?;
+    made(rule.nodes, rule.names, NodeId(unit), answers, code, out)
 }

@@ -6,9 +6,10 @@ ghost use Rattle.route_completion.specs.Route.{route};
 ghost use Rattle.route_viewer.specs.Shown.{shown_answer, shown_slice};
 ghost use Rattle.route_walk.specs.Walk.{Enterable};
 ghost use Rattle.code_tree.specs.Statements.{unit_of};
-ghost use Rattle.check_dispatch.specs.Rule.{rule};
+ghost use Rattle.check_dispatch.specs.Lent.{rule_of};
 ghost use Rattle.call_walk.specs.Walked.{walk_answer, walk_slice};
 
+use check_dispatch::Rule;
 use refusal_verdict::{Refusal, Refused};
 use route_viewer::Route;
 use table_records::NodeId;
@@ -41,28 +42,10 @@ fn shown(
 }
 
 // Walks the statements of a unit over the answers, and shows the route.
-pub fn walk(
-    source_type: u32,
-    async_bodies: u32,
-    nodes: &[u32],
-    scopes: &[u32],
-    source: &[u8],
-    names: &[u8],
-    unit: u32,
-    answers: &[u32],
-    out: &mut [u32],
-) -> Result<Route, Refused>
-    ensures value { result ≡ walk_answer (rule source_type async_bodies nodes.now scopes.now source.now names.now) unit answers.now (length out.old) }
-    ensures out_after { out.new ≡ walk_slice (rule source_type async_bodies nodes.now scopes.now source.now names.now) unit answers.now out.old }
+pub fn walk(rule: &Rule, unit: u32, answers: &[u32], out: &mut [u32]) -> Result<Route, Refused>
+    ensures value { result ≡ walk_answer (rule_of rule.now) unit answers.now (length out.old) }
+    ensures out_after { out.new ≡ walk_slice (rule_of rule.now) unit answers.now out.old }
 {
-    call_routes::refusal(
-        source_type,
-        async_bodies,
-        nodes,
-        scopes,
-        source,
-        names,
-        unit,
-    )?;
-    shown(nodes, names, NodeId(unit), answers, out)
+    call_routes::refusal(rule, unit)?;
+    shown(rule.nodes, rule.names, NodeId(unit), answers, out)
 }

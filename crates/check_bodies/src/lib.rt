@@ -4,12 +4,12 @@
 ghost use Rattle.std.specs.Prelude.{◌≡◌, ◌+◌, ◌<◌, ◌≤◌};
 ghost use Rattle.table_records.specs.Table.{count};
 ghost use Rattle.table_records.specs.Facts.{Tree, Scoped};
-ghost use Rattle.check_diagnostics.specs.Raises.{Raises};
+ghost use Rattle.check_diagnostics.specs.Raises.{Adds};
 ghost use Rattle.table_children.specs.Children.{below};
 ghost use Rattle.check_statements.specs.Statements.{check_found};
 ghost use Rattle.check_bodies.specs.Bodies.{check_async_body, async_bodies_at};
 
-use check_diagnostics::{Finding, contexts, error_at, raise, raise_all};
+use check_diagnostics::{Finding, Findings, contexts, error_at};
 use table_records::{NodeId, kinds};
 
 // The flag of an async function or a generator.
@@ -34,33 +34,27 @@ fn check_async_body(nodes: &[u32], n: NodeId, found: Option<NodeId>) -> Option<F
 }
 
 // The bodies of an If or a Labeled in sloppy code.
-pub fn check_async_bodies(
-    nodes: &[u32],
-    scopes: &[u32],
-    n: NodeId,
-    findings: &mut [u32],
-    at: usize,
-) -> usize
+pub fn check_async_bodies(nodes: &[u32], scopes: &[u32], n: NodeId, findings: &mut Findings)
     requires tree { Tree nodes.now }
     requires scoped { Scoped nodes.now scopes.now }
     requires n_bound { n.0 < count nodes.now }
-    requires at_bound { at ≤ 900000000000 }
-    ensures raises { Raises findings.old findings.new at result (async_bodies_at nodes.now scopes.now n.0) }
-    ensures upper_bound { result ≤ at + 14 }
+    requires raised_bound { findings.old.raised ≤ 900000000000 }
+    ensures adds { Adds findings.old findings.new (async_bodies_at nodes.now scopes.now n.0) }
+    ensures upper_bound { findings.new.raised ≤ findings.old.raised + 14 }
 {
     if table_scoping::strict_mode(nodes, scopes, n) {
-        return at;
+        return;
     }
     match table_records::kind(nodes, n) {
         kinds::IF => {
             let a = check_async_body(nodes, n, table_children::held_of(nodes, n));
             let b = check_async_body(nodes, n, table_children::alternate_of(nodes, n));
-            raise_all(findings, at, &[a, b])
+            findings.raise_all(&[a, b]);
         }
         kinds::LABELED => {
             let a = check_async_body(nodes, n, table_children::held_of(nodes, n));
-            raise(findings, at, a)
+            findings.raise(a);
         }
-        _ => at,
+        _ => (),
     }
 }

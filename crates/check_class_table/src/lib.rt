@@ -26,7 +26,7 @@ pub struct Span {
 fn class_at(body: Option<NodeId>) -> Option<ClassId>
     ensures { result ≡ class_at body }
 {
-    Some(ClassId(body?.0))
+    Some(ClassId::from(body?))
 }
 
 // The class that is current where a node is checked.
@@ -42,7 +42,7 @@ pub fn current_class(nodes: &[u32], n: NodeId) -> Option<ClassId>
         return class_at(table_children::class_body_of(nodes, n));
     }
     if k == kinds::CLASS_BODY {
-        return Some(ClassId(n.0));
+        return Some(ClassId::from(n));
     }
     class_at(nearest(nodes, n, kinds::CLASS_BODY, kinds::CLASS_BODY))
 }
@@ -54,7 +54,7 @@ pub fn parent_class(nodes: &[u32], c: ClassId) -> Option<ClassId>
     ensures value { result ≡ parent_class nodes.now c.0 }
     ensures before { before c.0 result }
 {
-    class_at(nearest(nodes, NodeId(c.0), kinds::CLASS_BODY, kinds::CLASS_BODY))
+    class_at(nearest(nodes, NodeId::from(c), kinds::CLASS_BODY, kinds::CLASS_BODY))
 }
 
 // The Class whose body a class has its number from.
@@ -62,14 +62,17 @@ pub fn class_node(nodes: &[u32], c: ClassId) -> NodeId
     requires { c.0 < count nodes.now }
     ensures { result.0 ≡ parent_of nodes.now c.0 }
 {
-    table_records::parent(nodes, NodeId(c.0))
+    table_records::parent(nodes, NodeId::from(c))
 }
 
 pub fn is_static(nodes: &[u32], e: ElementId) -> bool
     requires { e.0 < count nodes.now }
     ensures { result ≡ is_static nodes.now e.0 }
 {
-    table_records::has_flag(table_records::flags(nodes, NodeId(e.0)), node_flag::STATIC)
+    table_records::has_flag(
+        table_records::flags(nodes, NodeId::from(e)),
+        node_flag::STATIC,
+    )
 }
 
 pub fn is_private(nodes: &[u32], e: ElementId) -> bool
@@ -77,7 +80,7 @@ pub fn is_private(nodes: &[u32], e: ElementId) -> bool
     ensures { result ≡ is_private nodes.now e.0 }
 {
     table_records::has_flag(
-        table_records::flags(nodes, NodeId(e.0)),
+        table_records::flags(nodes, NodeId::from(e)),
         node_flag::PRIVATE_KEY,
     )
 }
@@ -87,8 +90,8 @@ fn is_method_of(nodes: &[u32], e: ElementId, extra: u32) -> bool
     requires { e.0 < count nodes.now }
     ensures { result ≡ is_method_of nodes.now e.0 extra }
 {
-    let k = table_records::kind(nodes, NodeId(e.0));
-    let x = table_records::extra(nodes, NodeId(e.0));
+    let k = table_records::kind(nodes, NodeId::from(e));
+    let x = table_records::extra(nodes, NodeId::from(e));
     k == kinds::METHOD_DEFINITION && x == extra
 }
 
@@ -118,7 +121,7 @@ pub fn is_definition(nodes: &[u32], e: ElementId) -> bool
     ensures { result ≡ is_definition nodes.now e.0 }
 {
     matches!(
-        table_records::kind(nodes, NodeId(e.0)),
+        table_records::kind(nodes, NodeId::from(e)),
         kinds::METHOD_DEFINITION..=kinds::ACCESSOR_PROPERTY
     )
 }
@@ -144,7 +147,7 @@ pub fn element_span(nodes: &[u32], e: ElementId) -> Span
     requires e_bound { e.0 < count nodes.now }
     ensures { result ≡ element_span nodes.now e.0 }
 {
-    span_at(nodes, table_children::key_of(nodes, NodeId(e.0)))
+    span_at(nodes, table_children::key_of(nodes, NodeId::from(e)))
 }
 
 // The name of an element: that of its key.
@@ -155,7 +158,7 @@ pub fn element_name<'a>(nodes: &[u32], names: &'a [u8], e: ElementId) -> &'a [u8
     requires e_bound { e.0 < count nodes.now }
     ensures { result.now ≡ element_name nodes.now names.now e.0 }
 {
-    let Some(m) = table_children::key_of(nodes, NodeId(e.0)) else {
+    let Some(m) = table_children::key_of(nodes, NodeId::from(e)) else {
         return &names[0..0];
     };
     table_names::name(nodes, names, m)
@@ -167,7 +170,7 @@ fn has_name(nodes: &[u32], e: ElementId) -> bool
     requires e_bound { e.0 < count nodes.now }
     ensures { result ≡ has_name nodes.now e.0 }
 {
-    let Some(m) = table_children::key_of(nodes, NodeId(e.0)) else {
+    let Some(m) = table_children::key_of(nodes, NodeId::from(e)) else {
         return false;
     };
     table_records::kind(nodes, m) != kinds::IDENTIFIER_REFERENCE
@@ -181,7 +184,7 @@ pub fn has_body(nodes: &[u32], e: ElementId) -> bool
     requires e_bound { e.0 < count nodes.now }
     ensures { result ≡ has_body nodes.now e.0 }
 {
-    let Some(f) = table_children::value_of(nodes, NodeId(e.0)) else {
+    let Some(f) = table_children::value_of(nodes, NodeId::from(e)) else {
         return false;
     };
     table_children::function_body_of(nodes, f).is_some()
@@ -195,7 +198,10 @@ pub fn has_fixed_name(source_type: u32, nodes: &[u32], e: ElementId) -> bool
     ensures { result ≡ fixed_name source_type nodes.now e.0 }
 {
     if is_typescript(source_type) {
-        return !table_records::has_flag(table_records::flags(nodes, NodeId(e.0)), NO_FIXED_NAME);
+        return !table_records::has_flag(
+            table_records::flags(nodes, NodeId::from(e)),
+            NO_FIXED_NAME,
+        );
     }
     has_name(nodes, e)
 }
@@ -207,7 +213,7 @@ pub fn enters(source_type: u32, nodes: &[u32], e: ElementId) -> bool
     requires e_bound { e.0 < count nodes.now }
     ensures { result ≡ enters source_type nodes.now e.0 }
 {
-    let is_method = table_records::kind(nodes, NodeId(e.0)) == kinds::METHOD_DEFINITION;
+    let is_method = table_records::kind(nodes, NodeId::from(e)) == kinds::METHOD_DEFINITION;
     if is_constructor(nodes, e) || is_method && !has_body(nodes, e) {
         return false;
     }
@@ -220,7 +226,7 @@ fn is_compared_definition(source_type: u32, nodes: &[u32], c: ClassId, e: Elemen
     requires { e.0 < count nodes.now }
     ensures { result ≡ is_compared_definition source_type nodes.now c.0 e.0 }
 {
-    table_records::parent(nodes, NodeId(e.0)).0 == c.0
+    table_records::parent(nodes, NodeId::from(e)) == NodeId::from(c)
         && (is_typescript(source_type) || is_private(nodes, e))
         && is_definition(nodes, e)
 }
@@ -249,7 +255,7 @@ fn is_definition_in(nodes: &[u32], c: ClassId, private: bool, e: ElementId) -> b
     requires { e.0 < count nodes.now }
     ensures { result ≡ is_definition_in nodes.now c.0 private e.0 }
 {
-    table_records::parent(nodes, NodeId(e.0)).0 == c.0
+    table_records::parent(nodes, NodeId::from(e)) == NodeId::from(c)
         && is_keyed(nodes, private, e)
         && is_definition(nodes, e)
 }
@@ -276,6 +282,7 @@ pub fn is_named(
 }
 
 // Whether a class has a private element of this name.
+#[tactic(auto, using(crate::proofs::ElementsLaws::has_start, crate::proofs::ElementsLaws::has_stop, crate::proofs::ElementsLaws::has_on, crate::proofs::ElementsLaws::has_end, crate::proofs::ElementsLaws::has_out))]
 pub fn has_private_definition(
     source_type: u32,
     nodes: &[u32],
@@ -304,6 +311,7 @@ pub fn has_private_definition(
 }
 
 // Whether a class or a class around it has a private element of this name.
+#[tactic(auto, using(crate::proofs::ElementsLaws::declared_here, crate::proofs::ElementsLaws::declared_outer, crate::proofs::ElementsLaws::declared_none, crate::proofs::ClassesLaws::class_found, crate::proofs::ClassesLaws::class_none))]
 pub fn is_declared(source_type: u32, nodes: &[u32], names: &[u8], c: ClassId, name: &[u8]) -> bool
     requires tree { Tree nodes.now }
     requires named { Named nodes.now names.now }

@@ -1,16 +1,16 @@
 // What is checked at a private name and at a Class.
 #![tactic(auto)]
 
-ghost use Rattle.std.specs.Prelude.{◌≡◌, ◌+◌, ◌*◌, ◌<◌, ◌≤◌, length};
+ghost use Rattle.std.specs.Prelude.{◌≡◌, ◌+◌, ◌<◌, ◌≤◌};
 ghost use Rattle.table_records.specs.Table.{count, span_start_of};
 ghost use Rattle.table_records.specs.Facts.{Tree, Named};
 ghost use Rattle.table_children.specs.Children.{below};
-ghost use Rattle.check_diagnostics.specs.Finding.{sink};
+ghost use Rattle.check_diagnostics.specs.Raises.{Adds};
 ghost use Rattle.check_classes.specs.ClassChecks.{private_outside, is_reference, undeclared_at, undeclared_in, private_undeclared, has_id, require_class_name, constructor_span, duplicate_constructor, second_constructor, check_class};
 ghost use Rattle.check_classes.specs.ClassChecksLaws.{is_reference_of, raised_at, is_constructor_of, next_constructor};
 
 use check_class_table::Span;
-use check_diagnostics::{Finding, codes, contexts};
+use check_diagnostics::{Finding, Findings, codes, contexts};
 use table_records::{ClassId, ElementId, NodeId, kinds, node_flag, roles};
 
 pub fn check_private_identifier_outside_class(nodes: &[u32], n: NodeId) -> Option<Finding>
@@ -110,29 +110,21 @@ fn undeclared_in(
     names: &[u8],
     n: NodeId,
     c: ClassId,
-    findings: &mut [u32],
-    at: usize,
-) -> usize
+    findings: &mut Findings,
+)
     requires tree { Tree nodes.now }
     requires named { Named nodes.now names.now }
     requires c_bound { c.0 < count nodes.now }
-    requires at_bound { at ≤ 999999000000 }
-    ensures value { result ≡ at + 7 * length (undeclared_in source_type nodes.now names.now n.0 c.0) }
-    ensures findings_after { findings.new ≡ sink findings.old at (undeclared_in source_type nodes.now names.now n.0 c.0) }
-    ensures upper_bound { result ≤ at + 458745 }
+    requires raised_bound { findings.old.raised ≤ 999999000000 }
+    ensures adds { Adds findings.old findings.new (undeclared_in source_type nodes.now names.now n.0 c.0) }
+    ensures upper_bound { findings.new.raised ≤ findings.old.raised + 458745 }
 {
-    let mut w = at;
     for i in c.0 + 1..table_records::size(nodes) {
         if table_records::parent(nodes, NodeId(i)).0 < c.0 {
-            return w;
+            return;
         }
-        w = check_diagnostics::raise(
-            findings,
-            w,
-            raised_at(source_type, nodes, names, n, c, NodeId(i)),
-        );
+        findings.raise(raised_at(source_type, nodes, names, n, c, NodeId(i)));
     }
-    w
 }
 
 // Private names of the class that is current at node n which it and the classes around it do not declare.
@@ -141,21 +133,19 @@ fn check_private_identifier(
     nodes: &[u32],
     names: &[u8],
     n: NodeId,
-    findings: &mut [u32],
-    at: usize,
-) -> usize
+    findings: &mut Findings,
+)
     requires tree { Tree nodes.now }
     requires named { Named nodes.now names.now }
     requires n_bound { n.0 < count nodes.now }
-    requires at_bound { at ≤ 999999000000 }
-    ensures value { result ≡ at + 7 * length (private_undeclared source_type nodes.now names.now n.0) }
-    ensures findings_after { findings.new ≡ sink findings.old at (private_undeclared source_type nodes.now names.now n.0) }
-    ensures upper_bound { result ≤ at + 458745 }
+    requires raised_bound { findings.old.raised ≤ 999999000000 }
+    ensures adds { Adds findings.old findings.new (private_undeclared source_type nodes.now names.now n.0) }
+    ensures upper_bound { findings.new.raised ≤ findings.old.raised + 458745 }
 {
     let Some(c) = check_class_table::current_class(nodes, n) else {
-        return at;
+        return;
     };
-    undeclared_in(source_type, nodes, names, n, c, findings, at)
+    undeclared_in(source_type, nodes, names, n, c, findings);
 }
 
 fn has_id(nodes: &[u32], n: NodeId) -> bool
@@ -209,12 +199,13 @@ fn is_constructor_of(nodes: &[u32], c: ClassId, e: ElementId) -> bool
     requires e_bound { e.0 < count nodes.now }
     ensures { result ≡ is_constructor_of nodes.now c.0 e.0 }
 {
-    table_records::parent(nodes, NodeId(e.0)).0 == c.0
+    table_records::parent(nodes, NodeId::from(e)) == NodeId::from(c)
         && check_class_table::is_constructor(nodes, e)
         && check_class_table::has_body(nodes, e)
 }
 
 // The first constructor of class c with a body from node `from` on.
+#[tactic(auto, using(crate::specs::ClassChecksLaws::constructor_out, table_children::proofs::ChildrenLaws::node_stop, table_children::proofs::ChildrenLaws::node_on, table_children::proofs::ChildrenLaws::node_end))]
 fn next_constructor(nodes: &[u32], c: ClassId, from: u32) -> Option<NodeId>
     requires tree { Tree nodes.now }
     requires c_lt_from { c.0 < from }
@@ -243,7 +234,7 @@ fn constructor_span(source_type: u32, nodes: &[u32], e: ElementId) -> Span
     if check_class_table::has_fixed_name(source_type, nodes, e) {
         return check_class_table::element_span(nodes, e);
     }
-    check_class_table::span_at(nodes, Some(NodeId(e.0)))
+    check_class_table::span_at(nodes, Some(NodeId::from(e)))
 }
 
 // The finding that constructor b repeats a.
@@ -281,10 +272,16 @@ fn second_constructor(source_type: u32, nodes: &[u32], n: NodeId) -> Option<Find
     ensures { result ≡ second_constructor source_type nodes.now n.0 }
 {
     let body = table_children::class_body_of(nodes, n)?;
-    let c = ClassId(body.0);
+    let c = ClassId::from(body);
     let a = next_constructor(nodes, c, body.0 + 1)?;
     let b = next_constructor(nodes, c, a.0 + 1)?;
-    duplicate_constructor(source_type, nodes, n, ElementId(a.0), ElementId(b.0))
+    duplicate_constructor(
+        source_type,
+        nodes,
+        n,
+        ElementId::from(a),
+        ElementId::from(b),
+    )
 }
 
 pub fn check_class(
@@ -292,19 +289,17 @@ pub fn check_class(
     nodes: &[u32],
     names: &[u8],
     n: NodeId,
-    findings: &mut [u32],
-    at: usize,
-) -> usize
+    findings: &mut Findings,
+)
     requires tree { Tree nodes.now }
     requires named { Named nodes.now names.now }
     requires n_bound { n.0 < count nodes.now }
     requires n_bound_2 { span_start_of nodes.now n.0 ≤ 1048576 }
-    requires at_bound { at ≤ 999999000000 }
-    ensures value { result ≡ at + 7 * length (check_class source_type nodes.now names.now n.0) }
-    ensures findings_after { findings.new ≡ sink findings.old at (check_class source_type nodes.now names.now n.0) }
-    ensures upper_bound { result ≤ at + 458759 }
+    requires raised_bound { findings.old.raised ≤ 999999000000 }
+    ensures adds { Adds findings.old findings.new (check_class source_type nodes.now names.now n.0) }
+    ensures upper_bound { findings.new.raised ≤ findings.old.raised + 458759 }
 {
-    let first = check_private_identifier(source_type, nodes, names, n, findings, at);
-    let second = check_diagnostics::raise(findings, first, require_class_name(nodes, n));
-    check_diagnostics::raise(findings, second, second_constructor(source_type, nodes, n))
+    check_private_identifier(source_type, nodes, names, n, findings);
+    findings.raise(require_class_name(nodes, n));
+    findings.raise(second_constructor(source_type, nodes, n));
 }

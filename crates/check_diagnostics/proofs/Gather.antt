@@ -13,8 +13,10 @@ use Rattle.base_walk.proofs.PreorderLaws.{lt_or_ge}
 use Rattle.table_children.specs.Children.{keep, first_node}
 use Rattle.table_children.proofs.ChildrenLaws.{node_on, node_stop, node_end, number}
 use Rattle.check_diagnostics.specs.declared.Finding.{Finding}
+use Rattle.check_diagnostics.specs.declared.Findings.{Findings}
 use Rattle.check_diagnostics.specs.Finding.{listed, sink}
-use Rattle.check_diagnostics.proofs.FindingLaws.{sink_append}
+use Rattle.check_diagnostics.specs.Raises.{Adds}
+use Rattle.check_diagnostics.proofs.FindingLaws.{sink_append, sink_nil}
 
 -- the findings of the nodes from i up to n
 module _ {A : Type 0} (f : ℕ → List A) where
@@ -67,6 +69,33 @@ module _ (s s' : List ℕ) (w w' : ℕ) (all piece rest : List Finding) (e : all
 
   pub piece_sink : w' ≡ w + 7 * length piece → s' ≡ sink s w piece → sink s' w' rest ≡ sink s w all
   piece_sink q x = rw (e, sink_append s w piece rest, x, q)
+
+-- A check on its way: what is left to raise behind what was raised gives what all of it gives.
+pub record Left (before now : Findings) (all rest : List Finding) : Type 0 where
+  pub same_slice : now.slice.ghost_name ≡ before.slice.ghost_name
+  pub place : now.raised + 7 * length rest ≡ before.raised + 7 * length all
+  pub slice : sink now.slice.now now.raised rest ≡ sink before.slice.now before.raised all
+
+pub left_start : (a : Findings) (all rest : List Finding) → rest ≡ all → Left a a all rest
+left_start a all rest e = record { same_slice = refl; place = ap (λ (l : List Finding). a.raised + 7 * length l) e; slice = ap (sink a.slice.now a.raised) e }
+
+pub left_turn : (a b d : Findings) (all rest piece behind : List Finding) → Left a b all rest → rest ≡ piece ++ behind → Adds b d piece → Left a d all behind
+left_turn a b d all rest piece behind x e y =
+    let p = y.raises.place in
+    record {
+      same_slice = y.same_slice ∙ x.same_slice;
+      place = piece_place b.slice.now d.slice.now b.raised d.raised rest piece behind e p ∙ x.place;
+      slice = piece_sink b.slice.now d.slice.now b.raised d.raised rest piece behind e p y.raises.slice ∙ x.slice;
+    }
+
+pub left_end : (a b : Findings) (all rest : List Finding) → Left a b all rest → rest ≡ [] → Adds a b all
+left_end a b all rest x e =
+    let p = x.place in
+    let l : length rest ≡ 0 = ap (λ (k : List Finding). length k) e in
+    record {
+      same_slice = x.same_slice;
+      raises = record { place = omega arith; slice = sym (sink_nil b.slice.now b.raised) ∙ ap (sink b.slice.now b.raised) (sym e) ∙ x.slice };
+    }
 
 -- what is kept of the nodes from i up to n begins with the first that passes
 module _ (q : ℕ → Bool) (n : ℕ) where

@@ -5,8 +5,8 @@ ghost use Rattle.std.specs.Prelude.{◌≡◌, ◌+◌, ◌*◌, ◌<◌, ◌≤
 ghost use mathlib.Core.List.{flat_map};
 ghost use Rattle.base_common.specs.Wrote.{put};
 ghost use Rattle.table_records.specs.Table.{count, span_start_of, span_end_of};
-ghost use Rattle.check_diagnostics.specs.Finding.{numbers, listed, error_at, error_between, sink};
-ghost use Rattle.check_diagnostics.specs.Raises.{Raises};
+ghost use Rattle.check_diagnostics.specs.Finding.{numbers, listed, error_at, error_between};
+ghost use Rattle.check_diagnostics.specs.Raises.{Adds};
 
 use table_records::NodeId;
 
@@ -77,46 +77,62 @@ pub fn error_between(
     })
 }
 
-// Writes the seven numbers of a finding from `at` on.
-fn put(findings: &mut [u32], at: usize, f: Finding)
-    requires { at + 7 ≤ length findings.old }
-    ensures { findings.new ≡ put findings.old at (numbers f) }
-{
-    let numbers = [
-        f.code, f.node.0, f.start, f.end, f.start2, f.end2, f.context,
-    ];
-    findings[at..at + 7].copy_from_slice(&numbers);
+// The findings of a tree as its checks raise them: the lent slice, and how many numbers were raised so far. A finding is written where there is room for it, and
+// else only counted. Counts stay below 900,000,000,000: a tree has at most 65,535 nodes, and a check raises at most one finding for each node,
+// 7 × 65,535 = 458,745 numbers. The bounds of the checks leave those that they call their own findings' room, so that no sum wraps.
+#[derive(Drop)]
+pub struct Findings<'a> {
+    pub slice: &'a mut [u32],
+    pub raised: usize,
 }
 
-// Writes what was raised from `at` on, where there is room for it, and says where the next finding goes. Places stay below 900,000,000,000:
-// a tree has at most 65,535 nodes, and a check raises at most one finding for each node, 7 × 65,535 = 458,745 numbers. The bounds of
-// those over this function leave it their own findings' room, so that no sum wraps.
-pub fn raise(findings: &mut [u32], at: usize, r: Option<Finding>) -> usize
-    requires { at ≤ 1000000000000 }
-    ensures value { result ≡ at + 7 * length (listed r) }
-    ensures findings_after { findings.new ≡ sink findings.old at (listed r) }
-    ensures upper_bound { result ≤ at + 7 }
-{
-    let Some(f) = r else {
-        return at;
-    };
-    let next = at + 7;
-    if next <= findings.len() {
-        put(findings, at, f);
-        return next;
+impl<'a> Findings<'a> {
+    // None so far.
+    pub fn new(slice: &'a mut [u32]) -> Findings<'a>
+        ensures same_slice { result.slice.ghost_name ≡ slice.entry.ghost_name }
+        ensures slice { result.slice.now ≡ slice.old }
+        ensures raised { result.raised ≡ 0 }
+    {
+        Findings { slice, raised: 0 }
     }
-    next
-}
 
-// Raises the results of some checks, in their order.
-pub fn raise_all(findings: &mut [u32], at: usize, results: &[Option<Finding>]) -> usize
-    requires { at + 7 * length results.now ≤ 1000000000000 }
-    ensures raises { Raises findings.old findings.new at result (flat_map listed results.now) }
-    ensures upper_bound { result ≤ at + 7 * length results.now }
-{
-    let mut next = at;
-    for r in results {
-        next = raise(findings, next, *r);
+    // Writes the seven numbers of a finding from `at` on.
+    fn put(&mut self, at: usize, f: Finding)
+        requires { at + 7 ≤ length self.old.slice.now }
+        ensures same_slice { self.new.slice.ghost_name ≡ self.old.slice.ghost_name }
+        ensures slice { self.new.slice.now ≡ put self.old.slice.now at (numbers f) }
+        ensures raised { self.new.raised ≡ self.old.raised }
+    {
+        let numbers = [
+            f.code, f.node.0, f.start, f.end, f.start2, f.end2, f.context,
+        ];
+        self.slice[at..at + 7].copy_from_slice(&numbers);
     }
-    next
+
+    // Raises what a check found.
+    pub fn raise(&mut self, r: Option<Finding>)
+        requires { self.old.raised ≤ 1000000000000 }
+        ensures adds { Adds self.old self.new (listed r) }
+        ensures upper_bound { self.new.raised ≤ self.old.raised + 7 }
+    {
+        let Some(f) = r else {
+            return;
+        };
+        let at = self.raised;
+        self.raised = at + 7;
+        if at + 7 <= self.slice.len() {
+            self.put(at, f);
+        }
+    }
+
+    // Raises what some checks found, in their order.
+    pub fn raise_all(&mut self, results: &[Option<Finding>])
+        requires { self.old.raised + 7 * length results.now ≤ 1000000000000 }
+        ensures adds { Adds self.old self.new (flat_map listed results.now) }
+        ensures upper_bound { self.new.raised ≤ self.old.raised + 7 * length results.now }
+    {
+        for r in results {
+            self.raise(*r);
+        }
+    }
 }

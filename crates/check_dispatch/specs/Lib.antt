@@ -1,4 +1,5 @@
 pub mod Findings
 pub mod Rule
+pub mod Lent
 pub mod Reported
 pub mod Former

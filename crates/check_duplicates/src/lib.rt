@@ -2,14 +2,14 @@
 // gone over, so a class costs the number of its compared elements times that of its nodes.
 #![tactic(auto)]
 
-ghost use Rattle.std.specs.Prelude.{◌≡◌, true, ◌∷◌, [], ◌+◌, ◌*◌, ◌<◌, ◌≤◌, length};
+ghost use Rattle.std.specs.Prelude.{◌≡◌, true, ◌∷◌, [], ◌+◌, ◌<◌, ◌≤◌};
 ghost use Rattle.table_records.specs.Table.{count};
 ghost use Rattle.table_records.specs.Facts.{Tree, Named};
-ghost use Rattle.check_diagnostics.specs.Finding.{sink};
+ghost use Rattle.check_diagnostics.specs.Raises.{Adds};
 ghost use Rattle.check_duplicates.specs.Duplicates.{side_of, previous_on, is_pair, is_apart, clashes, clash_code, redeclaration, duplicate_at, duplicates_in, duplicate_elements};
 ghost use Rattle.check_duplicates.specs.Scans.{see, prev_of, raised_at, class_at};
 
-use check_diagnostics::{Finding, codes, contexts};
+use check_diagnostics::{Finding, Findings, codes, contexts};
 use table_records::{ClassId, ElementId, NodeId, kinds};
 use table_source::is_typescript;
 
@@ -61,6 +61,7 @@ fn see(
 }
 
 // The two places of the key of element e of class c, where e is met.
+#[tactic(auto, using(crate::proofs::DuplicatesLaws::scan_turn, crate::proofs::DuplicatesLaws::scan_end, crate::proofs::DuplicatesLaws::scan_places))]
 fn previous_of(
     source_type: u32,
     nodes: &[u32],
@@ -119,6 +120,7 @@ fn is_pair(nodes: &[u32], d: ElementId, e: ElementId) -> bool
 }
 
 // Whether one of two elements is static and the other is not.
+#[tactic(auto, using(crate::proofs::DuplicatesLaws::differ))]
 fn is_apart(nodes: &[u32], d: ElementId, e: ElementId) -> bool
     requires d_bound { d.0 < count nodes.now }
     requires e_bound { e.0 < count nodes.now }
@@ -227,58 +229,35 @@ fn raised_at(
 }
 
 // The findings of one class.
-fn duplicates_in(
-    source_type: u32,
-    nodes: &[u32],
-    names: &[u8],
-    c: ClassId,
-    findings: &mut [u32],
-    at: usize,
-) -> usize
+fn duplicates_in(source_type: u32, nodes: &[u32], names: &[u8], c: ClassId, findings: &mut Findings)
     requires tree { Tree nodes.now }
     requires named { Named nodes.now names.now }
     requires c_bound { c.0 < count nodes.now }
-    requires at_bound { at ≤ 999999000000 }
-    ensures value { result ≡ at + 7 * length (duplicates_in source_type nodes.now names.now c.0) }
-    ensures findings_after { findings.new ≡ sink findings.old at (duplicates_in source_type nodes.now names.now c.0) }
-    ensures upper_bound { result ≤ at + 458745 }
+    requires raised_bound { findings.old.raised ≤ 999999000000 }
+    ensures adds { Adds findings.old findings.new (duplicates_in source_type nodes.now names.now c.0) }
+    ensures upper_bound { findings.new.raised ≤ findings.old.raised + 458745 }
 {
-    let mut w = at;
     for i in c.0 + 1..table_records::size(nodes) {
         if table_records::parent(nodes, NodeId(i)).0 < c.0 {
-            return w;
+            return;
         }
-        w = check_diagnostics::raise(
-            findings,
-            w,
-            raised_at(source_type, nodes, names, c, ElementId(i)),
-        );
+        findings.raise(raised_at(source_type, nodes, names, c, ElementId(i)));
     }
-    w
 }
 
 // The findings of node i as a class.
-#[tactic(auto, unfolding(crate::specs::Scans::class_at))]
-fn duplicates_at(
-    source_type: u32,
-    nodes: &[u32],
-    names: &[u8],
-    i: NodeId,
-    findings: &mut [u32],
-    at: usize,
-) -> usize
+#[tactic(auto, using(check_diagnostics::proofs::RaisesLaws::adds_none), unfolding(crate::specs::Scans::class_at))]
+fn duplicates_at(source_type: u32, nodes: &[u32], names: &[u8], i: NodeId, findings: &mut Findings)
     requires tree { Tree nodes.now }
     requires named { Named nodes.now names.now }
     requires i_bound { i.0 < count nodes.now }
-    requires at_bound { at ≤ 999999000000 }
-    ensures value { result ≡ at + 7 * length (class_at source_type nodes.now names.now i.0) }
-    ensures findings_after { findings.new ≡ sink findings.old at (class_at source_type nodes.now names.now i.0) }
-    ensures upper_bound { result ≤ at + 458745 }
+    requires raised_bound { findings.old.raised ≤ 999999000000 }
+    ensures adds { Adds findings.old findings.new (class_at source_type nodes.now names.now i.0) }
+    ensures upper_bound { findings.new.raised ≤ findings.old.raised + 458745 }
 {
-    if table_records::kind(nodes, i) != kinds::CLASS_BODY {
-        return at;
+    if table_records::kind(nodes, i) == kinds::CLASS_BODY {
+        duplicates_in(source_type, nodes, names, ClassId::from(i), findings);
     }
-    duplicates_in(source_type, nodes, names, ClassId(i.0), findings, at)
 }
 
 // The findings of all classes, in the order of their bodies.
@@ -286,19 +265,15 @@ pub fn check_duplicate_class_elements(
     source_type: u32,
     nodes: &[u32],
     names: &[u8],
-    findings: &mut [u32],
-    at: usize,
-) -> usize
+    findings: &mut Findings,
+)
     requires tree { Tree nodes.now }
     requires named { Named nodes.now names.now }
-    requires at_bound { at ≤ 900000000000 }
-    ensures value { result ≡ at + 7 * length (duplicate_elements source_type nodes.now names.now) }
-    ensures findings_after { findings.new ≡ sink findings.old at (duplicate_elements source_type nodes.now names.now) }
-    ensures upper_bound { result ≤ at + 30100000000 }
+    requires raised_bound { findings.old.raised ≤ 900000000000 }
+    ensures adds { Adds findings.old findings.new (duplicate_elements source_type nodes.now names.now) }
+    ensures upper_bound { findings.new.raised ≤ findings.old.raised + 30100000000 }
 {
-    let mut w = at;
     for i in 0..table_records::size(nodes) {
-        w = duplicates_at(source_type, nodes, names, NodeId(i), findings, w);
+        duplicates_at(source_type, nodes, names, NodeId(i), findings);
     }
-    w
 }

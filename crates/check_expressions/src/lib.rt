@@ -1,15 +1,15 @@
 // Object literals, `delete`, and `await` and `yield` in parameters.
 #![tactic(auto)]
 
-ghost use Rattle.std.specs.Prelude.{◌≡◌, ◌+◌, ◌*◌, ◌<◌, ◌≤◌, length};
+ghost use Rattle.std.specs.Prelude.{◌≡◌, ◌+◌, ◌<◌, ◌≤◌};
 ghost use Rattle.table_records.specs.Table.{count};
 ghost use Rattle.table_records.specs.Facts.{Tree, Chained, Scoped, Spanned, Named};
 ghost use Rattle.table_children.specs.Children.{inner_of, below};
-ghost use Rattle.check_diagnostics.specs.Finding.{sink};
+ghost use Rattle.check_diagnostics.specs.Raises.{Adds};
 ghost use Rattle.check_expressions.specs.Expressions.{proto_key, check_object_expression, is_parenthesis, inner_expression, chain_finding, delete_of, check_unary_expression, is_parameter, in_formal_parameters, in_parameter, in_block, check_await_expression, check_yield_expression};
 ghost use Rattle.check_expressions.specs.ExpressionLaws.{repeated, later};
 
-use check_diagnostics::{Finding, codes, contexts, error_at, raise};
+use check_diagnostics::{Finding, Findings, codes, contexts, error_at};
 use table_records::{NodeId, extras, kinds, node_flag, roles};
 
 // The key of a property, where it is written `__proto__: value`.
@@ -58,22 +58,14 @@ fn later(a: Option<NodeId>, b: Option<NodeId>) -> Option<NodeId>
 }
 
 // Of the keys `__proto__` of an object each but the first repeats the one before it.
-pub fn check_object_expression(
-    nodes: &[u32],
-    names: &[u8],
-    n: NodeId,
-    findings: &mut [u32],
-    at: usize,
-) -> usize
+pub fn check_object_expression(nodes: &[u32], names: &[u8], n: NodeId, findings: &mut Findings)
     requires tree { Tree nodes.now }
     requires named { Named nodes.now names.now }
     requires n_bound { n.0 < count nodes.now }
-    requires at_bound { at ≤ 900000000000 }
-    ensures value { result ≡ at + 7 * length (check_object_expression nodes.now names.now n.0) }
-    ensures findings_after { findings.new ≡ sink findings.old at (check_object_expression nodes.now names.now n.0) }
-    ensures upper_bound { result ≤ at + 458745 }
+    requires raised_bound { findings.old.raised ≤ 900000000000 }
+    ensures adds { Adds findings.old findings.new (check_object_expression nodes.now names.now n.0) }
+    ensures upper_bound { findings.new.raised ≤ findings.old.raised + 458745 }
 {
-    let mut w = at;
     let mut from = n.0 + 1;
     let mut previous = None;
     loop {
@@ -86,10 +78,10 @@ pub fn check_object_expression(
             roles::LEFT,
             from,
         ) else {
-            break w;
+            return;
         };
         let key = proto_key(nodes, names, p);
-        w = raise(findings, w, repeated(nodes, n, previous, key));
+        findings.raise(repeated(nodes, n, previous, key));
         previous = later(previous, key);
         from = p.0 + 1;
     }
@@ -104,6 +96,7 @@ fn is_parenthesis(nodes: &[u32], n: NodeId) -> bool
 }
 
 // An expression without the parentheses around it.
+#[tactic(auto, using(crate::specs::ExpressionLaws::inner_bare, crate::specs::ExpressionLaws::inner_empty, crate::specs::ExpressionLaws::inner_on, table_children::proofs::ChildrenLaws::found_child))]
 fn get_inner_expression(nodes: &[u32], n: NodeId) -> NodeId
     requires tree { Tree nodes.now }
     requires n_bound { n.0 < count nodes.now }
@@ -195,6 +188,7 @@ fn is_parameter(nodes: &[u32], a: NodeId) -> bool
 }
 
 // Whether a parameter comes before a function on the way up.
+#[tactic(auto, using(crate::specs::ExpressionLaws::parameter_found, crate::specs::ExpressionLaws::parameter_stop, crate::specs::ExpressionLaws::parameter_on, crate::specs::ExpressionLaws::parameter_root))]
 fn is_in_formal_parameters(nodes: &[u32], n: NodeId) -> bool
     requires tree { Tree nodes.now }
     requires n_bound { n.0 < count nodes.now }
@@ -256,25 +250,18 @@ fn in_block(nodes: &[u32], scopes: &[u32], n: NodeId) -> Option<Finding>
 }
 
 // `await` in parameters, and in a static block.
-pub fn check_await_expression(
-    nodes: &[u32],
-    scopes: &[u32],
-    n: NodeId,
-    findings: &mut [u32],
-    at: usize,
-) -> usize
+pub fn check_await_expression(nodes: &[u32], scopes: &[u32], n: NodeId, findings: &mut Findings)
     requires tree { Tree nodes.now }
     requires chained { Chained scopes.now }
     requires scoped { Scoped nodes.now scopes.now }
     requires spanned { Spanned nodes.now }
     requires n_bound { n.0 < count nodes.now }
-    requires at_bound { at ≤ 900000000000 }
-    ensures value { result ≡ at + 7 * length (check_await_expression nodes.now scopes.now n.0) }
-    ensures findings_after { findings.new ≡ sink findings.old at (check_await_expression nodes.now scopes.now n.0) }
-    ensures upper_bound { result ≤ at + 14 }
+    requires raised_bound { findings.old.raised ≤ 900000000000 }
+    ensures adds { Adds findings.old findings.new (check_await_expression nodes.now scopes.now n.0) }
+    ensures upper_bound { findings.new.raised ≤ findings.old.raised + 14 }
 {
-    let next = raise(findings, at, in_parameter(nodes, n));
-    raise(findings, next, in_block(nodes, scopes, n))
+    findings.raise(in_parameter(nodes, n));
+    findings.raise(in_block(nodes, scopes, n));
 }
 
 // `yield` in parameters.

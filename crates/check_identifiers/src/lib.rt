@@ -119,6 +119,7 @@ fn let_bound(nodes: &[u32], n: NodeId, d: NodeId) -> Option<Finding>
 // `let` as a name in sloppy code: the nearest declaration, if no function comes first, is no lexical one.
 // > LexicalDeclaration : LetOrConst BindingList ;
 // > * It is a Syntax Error if the BoundNames of BindingList contains "let".
+#[tactic(auto, using(crate::proofs::IdentifierLaws::let_found, crate::proofs::IdentifierLaws::let_function, crate::proofs::IdentifierLaws::let_on, crate::proofs::IdentifierLaws::let_root))]
 fn let_declared(nodes: &[u32], n: NodeId) -> Option<Finding>
     requires tree { Tree nodes.now }
     requires n_bound { n.0 < count nodes.now }
@@ -185,6 +186,7 @@ fn is_field_value(nodes: &[u32], p: NodeId, v: NodeId) -> bool
 // >   It is a Syntax Error if Initializer is present and ContainsArguments of Initializer is true.
 // > ClassStaticBlockBody : ClassStaticBlockStatementList
 // >   It is a Syntax Error if ContainsArguments of ClassStaticBlockStatementList is true.
+#[tactic(auto, using(crate::proofs::IdentifierLaws::arguments_function, crate::proofs::IdentifierLaws::arguments_found, crate::proofs::IdentifierLaws::arguments_on, crate::proofs::IdentifierLaws::arguments_root))]
 fn arguments_in_class(nodes: &[u32], n: NodeId) -> Option<Finding>
     requires tree { Tree nodes.now }
     requires n_bound { n.0 < count nodes.now }
@@ -244,6 +246,7 @@ pub fn check_identifier_reference(
 }
 
 // The node whose scope is current at n: n itself or one above it.
+#[tactic(auto, using(crate::proofs::IdentifierLaws::scope_node_below))]
 fn current_scope_node(nodes: &[u32], scopes: &[u32], n: NodeId) -> NodeId
     requires tree { Tree nodes.now }
     requires scoped { Scoped nodes.now scopes.now }

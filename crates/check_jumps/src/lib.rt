@@ -56,6 +56,7 @@ fn same_label(nodes: &[u32], names: &[u8], label: NodeId, a: NodeId) -> Option<N
 }
 
 // What a Labeled labels, through nested ones.
+#[tactic(auto, using(crate::proofs::JumpsLaws::held_after_lem, crate::proofs::JumpsLaws::item_here, crate::proofs::JumpsLaws::item_none, crate::proofs::JumpsLaws::item_down))]
 fn labeled_item(nodes: &[u32], labeled: NodeId) -> NodeId
     requires tree { Tree nodes.now }
     requires labeled_bound { labeled.0 < count nodes.now }
@@ -75,6 +76,7 @@ fn labeled_item(nodes: &[u32], labeled: NodeId) -> NodeId
     }
 }
 
+#[tactic(auto, using(crate::proofs::JumpsLaws::walk_up_lem, crate::proofs::JumpsLaws::walk_root), unfolding(crate::specs::Jumps::plain_break_at))]
 fn plain_break(nodes: &[u32], n: NodeId) -> Option<Finding>
     requires tree { Tree nodes.now }
     requires n_bound { n.0 < count nodes.now }
@@ -114,6 +116,7 @@ fn no_label(nodes: &[u32], n: NodeId, label: NodeId, kind: u32) -> Option<Findin
     )
 }
 
+#[tactic(auto, using(crate::proofs::JumpsLaws::walk_up_lem, crate::proofs::JumpsLaws::walk_root), unfolding(crate::specs::Jumps::labelled_break_at))]
 fn labelled_break(nodes: &[u32], names: &[u8], n: NodeId, label: NodeId) -> Option<Finding>
     requires tree { Tree nodes.now }
     requires named { Named nodes.now names.now }
@@ -154,6 +157,7 @@ pub fn check_break_statement(nodes: &[u32], names: &[u8], n: NodeId) -> Option<F
 }
 
 // Not one function with plain_break: it would take the test and the code as parameters, and be no plainer.
+#[tactic(auto, using(crate::proofs::JumpsLaws::walk_up_lem, crate::proofs::JumpsLaws::walk_root), unfolding(crate::specs::Jumps::plain_continue_at))]
 fn plain_continue(nodes: &[u32], n: NodeId) -> Option<Finding>
     requires tree { Tree nodes.now }
     requires n_bound { n.0 < count nodes.now }
@@ -197,6 +201,7 @@ fn continue_to(
     error_between(nodes, codes::INVALID_LABEL_NON_ITERATION, n, outer, label)
 }
 
+#[tactic(auto, using(crate::proofs::JumpsLaws::walk_up_lem, crate::proofs::JumpsLaws::walk_root), unfolding(crate::specs::Jumps::labelled_continue_at))]
 fn labelled_continue(nodes: &[u32], names: &[u8], n: NodeId, label: NodeId) -> Option<Finding>
     requires tree { Tree nodes.now }
     requires named { Named nodes.now names.now }
@@ -236,6 +241,7 @@ pub fn check_continue_statement(nodes: &[u32], names: &[u8], n: NodeId) -> Optio
     labelled_continue(nodes, names, n, label)
 }
 
+#[tactic(auto, using(crate::proofs::JumpsLaws::walk_up_lem, crate::proofs::JumpsLaws::walk_root), unfolding(crate::specs::Jumps::labeled_at))]
 fn redeclared_label(nodes: &[u32], names: &[u8], n: NodeId, label: NodeId) -> Option<Finding>
     requires tree { Tree nodes.now }
     requires named { Named nodes.now names.now }

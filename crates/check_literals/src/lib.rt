@@ -39,6 +39,7 @@ fn escape_at(raw: &[u8], i: usize) -> Option<Escape>
 }
 
 // The first bad escape: one scan, in which an escape is passed over as a whole.
+#[tactic(auto, using(crate::proofs::EscapeLaws::scan_plain, crate::proofs::EscapeLaws::scan_stop, crate::proofs::EscapeLaws::scan_on, crate::proofs::EscapeLaws::scan_end))]
 pub fn first_bad_escape(raw: &[u8]) -> Option<Escape>
     ensures { result ≡ bad_escape 0 raw.now }
 {

@@ -9,7 +9,6 @@ use Rattle.base_common.specs.Tests.{within}
 use Rattle.table_records.specs.Table.{kind_of, parent_of, ancestors}
 use Rattle.table_records.specs.Kinds as k
 use Rattle.check_supers.specs.declared.ElementPart.{ElementPart}
-use Rattle.check_supers.specs.declared.ElementPart.TheVariants.{NoElement}
 use Rattle.check_supers.specs.declared.Reach.{Reach}
 use Rattle.check_supers.specs.declared.Reach.TheVariants.{Legal, Illegal, Underived, Fails}
 use Rattle.check_supers.specs.declared.Step.{Step}
@@ -19,8 +18,8 @@ use Rattle.table_renamed.specs.RenamedLaws.{Fields}
 use Rattle.table_renamed.specs.TableLaws.{tables}
 
 -- a step of `place_of`
-step_of : List ℕ → ℕ → ElementPart → ElementPart
-step_of l x r = cond (within (kind_of l (parent_of l x)) k.MethodDefinition k.AccessorProperty) (part_of l (parent_of l x) x) r
+step_of : List ℕ → ℕ → Option ElementPart → Option ElementPart
+step_of l x r = cond (within (kind_of l (parent_of l x)) k.MethodDefinition k.AccessorProperty) (Some (part_of l (parent_of l x) x)) r
 
 module _ (ns ms : List ℕ) (a : Fields ns ms) where
   part_of_lem : (b n : ℕ) → part_of ns b n ≡ part_of ms b n
@@ -33,7 +32,7 @@ module _ (ns ms : List ℕ) (a : Fields ns ms) where
 
   place_of_lem : (n : ℕ) → place_of ns n ≡ place_of ms n
   unfolding place_of step_of
-  place_of_lem n = ap (λ (f : ℕ → ElementPart → ElementPart). foldr f NoElement (n ∷ ancestors ns n)) same_step ∙ simp (tables, a)
+  place_of_lem n = ap (λ (f : ℕ → Option ElementPart → Option ElementPart). foldr f None (n ∷ ancestors ns n)) same_step ∙ simp (tables, a)
 
   dummy : (n : ℕ) (f : Option NodeId) → dummy_use ns n f ≡ dummy_use ms n f
   dummy n (Some b) = simp (tables, a)

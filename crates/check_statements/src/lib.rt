@@ -101,7 +101,7 @@ pub fn check_alternate(nodes: &[u32], scopes: &[u32], n: NodeId) -> Option<Findi
 }
 
 // A labelled function in sloppy code: past nested labels, no loop, If or With holds it.
-#[tactic(auto, unfolding(crate::specs::Statements::labelled_function))]
+#[tactic(auto, using(crate::proofs::StatementsLaws::function_on, crate::proofs::StatementsLaws::function_held, crate::proofs::StatementsLaws::function_free, crate::proofs::StatementsLaws::function_root), unfolding(crate::specs::Statements::labelled_function))]
 fn labelled_function(nodes: &[u32], n: NodeId, function: NodeId) -> Option<Finding>
     requires tree { Tree nodes.now }
     requires n_bound { n.0 < count nodes.now }

@@ -26,7 +26,7 @@ use Rattle.table_ancestry.proofs.AncestryLaws.{parent_in, nearest_stop, nearest_
 use Rattle.check_supers.specs.Super.{if_call, part_at, place_of, heritage_use, first_class, dummy_use, derived_use, is_value_of, is_method_like, object_use, method_use, function_use, is_class_scope, at_class, scope_step, step_at, class_above, leave_class, class_after, or_rest, reach_from, reach_of, is_call}
 use Rattle.check_supers.proofs.SuperLaws.{outer_next, reach_end, place_some}
 use Rattle.check_supers.specs.declared.ElementPart.{ElementPart}
-use Rattle.check_supers.specs.declared.ElementPart.TheVariants.{Value, Key, NoElement}
+use Rattle.check_supers.specs.declared.ElementPart.TheVariants.{Value, Key}
 use Rattle.check_supers.specs.declared.Reach.{Reach}
 use Rattle.check_supers.specs.declared.Reach.TheVariants.{Legal, Illegal, Underived, Fails}
 use Rattle.check_supers.specs.declared.Step.{Step}
@@ -142,10 +142,10 @@ module _ (ns : List ℕ) (t : Tree ns) where
           (in_cond call (cond (eqb (extra_of ns p) extra.Constructor) (derived_use ns n class) Illegal) Legal
           (in_cond (eqb (extra_of ns p) extra.Constructor) (derived_use ns n class) Illegal (derived_in n class l) tt) tt) tt
 
-  at_in : (call : Bool) (p : ElementPart) → step_in ns (at_class call p)
-  at_in call Value = call_in call
-  at_in call Key = tt
-  at_in call NoElement = tt
+  at_in : (call : Bool) (p : Option ElementPart) → step_in ns (at_class call p)
+  at_in call (Some Value) = call_in call
+  at_in call (Some Key) = tt
+  at_in call None = tt
 
   step_cond : (b : Bool) (x y : Step) → step_in ns x → step_in ns y → step_in ns (cond b x y)
   step_cond true x y p q = p
@@ -236,7 +236,7 @@ module _ (ss : List ℕ) (c : Chained ss) (s : ℕ) (l : s < count_scopes ss) (l
 
 -- a step at the class's scope, and at another
 module _ (ns ss : List ℕ) (n : ℕ) (call : Bool) (class : Option NodeId) (start s : ℕ) where
-  step_class : is_class_scope ns class s ≡ true → (p : ElementPart) → place_of ns start ≡ p → step_at ns ss n call class start s ≡ at_class call p
+  step_class : is_class_scope ns class s ≡ true → (p : Option ElementPart) → place_of ns start ≡ p → step_at ns ss n call class start s ≡ at_class call p
   unfolding step_at
   step_class e p q = rw (e, q)
 
@@ -271,15 +271,15 @@ module _ (ns ss : List ℕ) (t : Tree ns) (c : Chained ss) (n : ℕ) (l : n < co
     stops : (x : Step) → x ≡ step_at ns ss n call class start s → is_stop x ≡ true → (r : Reach) → r ≡ stop_reach x → Answers r
     stops x e q r f = answers r (f ∙ sym (search_stop ns ss n call class start s x e q) ∙ i)
 
-    pub class_fails : is_class_scope ns class s ≡ true → place_of ns start ≡ NoElement → Answers Fails
-    class_fails e p = stops (Stop Fails) (sym (step_class ns ss n call class start s e NoElement p)) refl Fails refl
+    pub class_fails : is_class_scope ns class s ≡ true → place_of ns start ≡ None → Answers Fails
+    class_fails e p = stops (Stop Fails) (sym (step_class ns ss n call class start s e None p)) refl Fails refl
 
-    pub class_value : is_class_scope ns class s ≡ true → place_of ns start ≡ Value → (r : Reach) → r ≡ if_call call → Answers r
-    class_value e p r f = stops (Stop (if_call call)) (sym (step_class ns ss n call class start s e Value p)) refl r f
+    pub class_value : is_class_scope ns class s ≡ true → place_of ns start ≡ Some Value → (r : Reach) → r ≡ if_call call → Answers r
+    class_value e p r f = stops (Stop (if_call call)) (sym (step_class ns ss n call class start s e (Some Value) p)) refl r f
 
-    pub class_key : is_class_scope ns class s ≡ true → place_of ns start ≡ Key → s < count_scopes ss → (left : Option ScopeId) → left ≡ around_of ss s → (k : Option NodeId) → k ≡ leave_class ns class → (b : ℕ) → b ≡ scope_node_of ss s
+    pub class_key : is_class_scope ns class s ≡ true → place_of ns start ≡ Some Key → s < count_scopes ss → (left : Option ScopeId) → left ≡ around_of ss s → (k : Option NodeId) → k ≡ leave_class ns class → (b : ℕ) → b ≡ scope_node_of ss s
         → reach_from ns ss n call (scopes_in ss left) k b ≡ reach_of ns ss n
-    class_key e p h left f k g b d = rw (g, d) (sym (next_scopes ss c s h left f ns n call class start Leave (sym (step_class ns ss n call class start s e Key p)) refl) ∙ i)
+    class_key e p h left f k g b d = rw (g, d) (sym (next_scopes ss c s h left f ns n call class start Leave (sym (step_class ns ss n call class start s e (Some Key) p)) refl) ∙ i)
 
     pub scope_stops : is_class_scope ns class s ≡ false → (x : Step) → x ≡ scope_step ns ss n call class s → is_stop x ≡ true → (r : Reach) → r ≡ stop_reach x → Answers r
     scope_stops e x f q r g = stops x (f ∙ sym (step_other ns ss n call class start s e)) q r g
@@ -292,8 +292,8 @@ module _ (ns ss : List ℕ) (t : Tree ns) (c : Chained ss) (n : ℕ) (l : n < co
 
 -- the part that the parent of a node tells
 module _ (ns : List ℕ) (t : Tree ns) (x a : ℕ) (e : a ≡ parent_of ns x) (h : 0 < x) (l : x < count ns) where
-  pub place_value : part_at ns a x ≡ Value → place_of ns x ≡ Value
-  place_value q = place_some ns t x a e h l Value q (λ f. let z : ◌≡◌ {A = ℕ} 0 1 = cc in omega arith)
+  pub place_value : part_at ns a x ≡ Some Value → place_of ns x ≡ Some Value
+  place_value q = place_some ns t x a e h l Value q
 
-  pub place_key : part_at ns a x ≡ Key → place_of ns x ≡ Key
-  place_key q = place_some ns t x a e h l Key q (λ f. let z : ◌≡◌ {A = ℕ} 0 1 = cc in omega arith)
+  pub place_key : part_at ns a x ≡ Some Key → place_of ns x ≡ Some Key
+  place_key q = place_some ns t x a e h l Key q

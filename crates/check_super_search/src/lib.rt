@@ -62,13 +62,13 @@ pub fn reach(nodes: &[u32], scopes: &[u32], n: NodeId) -> Reach
             let a = table_ancestry::up(nodes, x);
             match check_supers::part_at(nodes, a, x) {
                 // `super.foo` is legal in a value, `super()` is not.
-                ElementPart::Value => break 'scopes check_supers::if_call(call),
+                Some(ElementPart::Value) => break 'scopes check_supers::if_call(call),
                 // In a computed key or decorator the class around decides.
-                ElementPart::Key => {
+                Some(ElementPart::Key) => {
                     class = check_supers::leave_class(nodes, class);
                     continue 'scopes;
                 }
-                ElementPart::NoElement => x = a,
+                None => x = a,
             }
         }
     }

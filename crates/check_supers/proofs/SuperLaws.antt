@@ -1,9 +1,9 @@
 -- The searches of check_super, as loops meet them.
 use Rattle.table_records.specs.declared.NodeId.{NodeId}
-use Rattle.std.specs.Prelude.{ℕ, ◌<◌, refl, List, ◌∷◌, Bool, eqb, Option}
+use Rattle.std.specs.Prelude.{ℕ, ◌<◌, refl, List, ◌∷◌, Bool, Option, Some, None}
 use Rattle.std.proofs.Math.Path.{◌≡◌, ap}
 use Rattle.std.proofs.Common.{sym, ◌∙◌}
-use Rattle.std.proofs.Math.Bool.{true, false, cond}
+use Rattle.std.proofs.Math.Bool.{true, false}
 use native.Mathlib.Omega.{arith}
 use Rattle.base_common.specs.Tests.{within}
 use Rattle.base_walk.proofs.AboveLaws.{above_up, above_root}
@@ -11,9 +11,8 @@ use Rattle.table_records.specs.Table.{kind_of, parent_of, count, outer, count_sc
 use Rattle.table_records.specs.Facts.{Tree, Chained}
 use Rattle.table_records.specs.Kinds as k
 use Rattle.table_ancestry.proofs.AncestryLaws.{ancestors_up, ancestors_root}
-use Rattle.check_supers.specs.Super.{is_value_of, part_of, part_at, place_of, step_at, class_after, leave_class, or_rest, reach_from}
+use Rattle.check_supers.specs.Super.{part_of, part_at, place_of, step_at, class_after, leave_class, or_rest, reach_from}
 use Rattle.check_supers.specs.declared.ElementPart.{ElementPart}
-use Rattle.check_supers.specs.declared.ElementPart.TheVariants.{Value, Key, NoElement}
 use Rattle.check_supers.specs.declared.Reach.{Reach}
 use Rattle.check_supers.specs.declared.Reach.TheVariants.{Illegal}
 use Rattle.check_supers.specs.declared.Step.{Step}
@@ -21,26 +20,21 @@ use Rattle.check_supers.specs.declared.Step.TheVariants.{Stop, Leave, On}
 
 -- the part of a node that is a class element, and of one that isn't
 module _ (ns : List ℕ) (a x : ℕ) where
-  part_at_lem : within (kind_of ns a) k.MethodDefinition k.AccessorProperty ≡ true → part_at ns a x ≡ part_of ns a x
+  part_at_lem : within (kind_of ns a) k.MethodDefinition k.AccessorProperty ≡ true → part_at ns a x ≡ Some (part_of ns a x)
   unfolding part_at
   part_at_lem w = rw w
 
-  part_none : within (kind_of ns a) k.MethodDefinition k.AccessorProperty ≡ false → part_at ns a x ≡ NoElement
+  part_none : within (kind_of ns a) k.MethodDefinition k.AccessorProperty ≡ false → part_at ns a x ≡ None
   unfolding part_at
   part_none w = rw w
 
-  part_some : part_of ns a x ≡ NoElement → ⊥
-  unfolding part_of
-  part_some = go (eqb (kind_of ns a) k.MethodDefinition) (is_value_of ns a x)
-    where
-      go : (p q : Bool) → cond p Key (cond q Value Key) ≡ NoElement → ⊥
-      go true q e = let z : ◌≡◌ {A = ℕ} 0 1 = cc in omega arith
-      go false true e = let z : ◌≡◌ {A = ℕ} 0 1 = cc in omega arith
-      go false false e = let z : ◌≡◌ {A = ℕ} 0 1 = cc in omega arith
+-- there is a part, or there is none
+apart : (p : ElementPart) → ◌≡◌ {A = Option ElementPart} (Some p) None → ⊥
+apart p e = let z : ◌≡◌ {A = ℕ} 0 1 = cc in omega arith
 
 -- the part of the nearest class element: a is the parent of x
 module _ (ns : List ℕ) (t : Tree ns) (x a : ℕ) (e : a ≡ parent_of ns x) (h : 0 < x) (l : x < count ns) where
-  pub place_stop : within (kind_of ns a) k.MethodDefinition k.AccessorProperty ≡ true → place_of ns x ≡ part_of ns a x
+  pub place_stop : within (kind_of ns a) k.MethodDefinition k.AccessorProperty ≡ true → place_of ns x ≡ Some (part_of ns a x)
   unfolding place_of
   place_stop w = rw (← e, w)
 
@@ -49,21 +43,21 @@ module _ (ns : List ℕ) (t : Tree ns) (x a : ℕ) (e : a ≡ parent_of ns x) (h
   place_on w = rw (← e, w) (ancestors_up _ _ ns t x h l ∙ rw (← e))
 
   -- by what the parent says
-  pub place_none : part_at ns a x ≡ NoElement → place_of ns x ≡ place_of ns a
+  pub place_none : part_at ns a x ≡ None → place_of ns x ≡ place_of ns a
   place_none q = go (within (kind_of ns a) k.MethodDefinition k.AccessorProperty) refl
     where
       go : (b : Bool) → within (kind_of ns a) k.MethodDefinition k.AccessorProperty ≡ b → place_of ns x ≡ place_of ns a
-      go true w = absurd (part_some ns a x (sym (part_at_lem ns a x w) ∙ q))
+      go true w = absurd (apart (part_of ns a x) (sym (part_at_lem ns a x w) ∙ q))
       go false w = place_on w
 
-  pub place_some : (p : ElementPart) → part_at ns a x ≡ p → (p ≡ NoElement → ⊥) → place_of ns x ≡ p
-  place_some p q m = go (within (kind_of ns a) k.MethodDefinition k.AccessorProperty) refl
+  pub place_some : (p : ElementPart) → part_at ns a x ≡ Some p → place_of ns x ≡ Some p
+  place_some p q = go (within (kind_of ns a) k.MethodDefinition k.AccessorProperty) refl
     where
-      go : (b : Bool) → within (kind_of ns a) k.MethodDefinition k.AccessorProperty ≡ b → place_of ns x ≡ p
+      go : (b : Bool) → within (kind_of ns a) k.MethodDefinition k.AccessorProperty ≡ b → place_of ns x ≡ Some p
       go true w = place_stop w ∙ sym (part_at_lem ns a x w) ∙ q
-      go false w = absurd (m (sym q ∙ part_none ns a x w))
+      go false w = absurd (apart p (sym q ∙ part_none ns a x w))
 
-pub place_root : (ns : List ℕ) → Tree ns → place_of ns 0 ≡ NoElement
+pub place_root : (ns : List ℕ) → Tree ns → place_of ns 0 ≡ None
 unfolding place_of
 place_root ns t = rw (t.top, t.root) (ancestors_root _ _ ns)
 

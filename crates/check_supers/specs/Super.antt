@@ -18,7 +18,7 @@ use Rattle.check_diagnostics.specs.Codes as code
 use Rattle.check_supers.specs.declared.Reach.{Reach}
 use Rattle.check_supers.specs.declared.Reach.TheVariants.{Legal, Illegal, Underived, Fails}
 use Rattle.check_supers.specs.declared.ElementPart.{ElementPart}
-use Rattle.check_supers.specs.declared.ElementPart.TheVariants.{Value, Key, NoElement}
+use Rattle.check_supers.specs.declared.ElementPart.TheVariants.{Value, Key}
 use Rattle.check_supers.specs.declared.Step.{Step}
 use Rattle.check_supers.specs.declared.Step.TheVariants.{Stop, Leave, On}
 
@@ -38,14 +38,14 @@ is_value_of ns a x = is_node (value_of ns a) x
 unfoldable pub part_of : List ℕ → ℕ → ℕ → ElementPart
 part_of ns a x = cond (eqb (kind_of ns a) k.MethodDefinition) Key (cond (is_value_of ns a x) Value Key)
 
--- the same of any node a, which may be no class element
-unfoldable pub part_at : List ℕ → ℕ → ℕ → ElementPart
-part_at ns a x = cond (within (kind_of ns a) k.MethodDefinition k.AccessorProperty) (part_of ns a x) NoElement
+-- the same of any node a, if it is a class element
+unfoldable pub part_at : List ℕ → ℕ → ℕ → Option ElementPart
+part_at ns a x = cond (within (kind_of ns a) k.MethodDefinition k.AccessorProperty) (Some (part_of ns a x)) None
 
 -- in which part of the nearest class element above it a node stands: x goes over the node and its ancestors
-unfoldable pub place_of : List ℕ → ℕ → ElementPart
+unfoldable pub place_of : List ℕ → ℕ → Option ElementPart
 place_of ns start =
-    foldr (λ x r. cond (within (kind_of ns (parent_of ns x)) k.MethodDefinition k.AccessorProperty) (part_of ns (parent_of ns x) x) r) NoElement (start ∷ ancestors ns start)
+    foldr (λ x r. cond (within (kind_of ns (parent_of ns x)) k.MethodDefinition k.AccessorProperty) (Some (part_of ns (parent_of ns x) x)) r) None (start ∷ ancestors ns start)
 
 -- a property of an object that is a method, getter or setter
 abbrev pub is_method_like : List ℕ → ℕ → Bool
@@ -95,10 +95,10 @@ is_class_scope ns (Some b) s = eqb s (extra_of ns (parent_of ns b.0))
 is_class_scope ns None s = false
 
 -- at the class's scope: by the part of the class element that holds the node from which the search came
-abbrev pub at_class : Bool → ElementPart → Step
-at_class call Value = Stop (if_call call)
-at_class call Key = Leave
-at_class call NoElement = Stop Fails
+abbrev pub at_class : Bool → Option ElementPart → Step
+at_class call (Some Value) = Stop (if_call call)
+at_class call (Some Key) = Leave
+at_class call None = Stop Fails
 
 -- at another scope: by its flags
 abbrev pub scope_step : List ℕ → List ℕ → ℕ → Bool → Option NodeId → ℕ → Step

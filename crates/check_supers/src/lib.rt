@@ -18,13 +18,11 @@ pub enum Reach {
     Fails,
 }
 
-// Where a node stands in the class element around it.
-// Not an Option of two: the search goes on in a way of its own at each of the three.
+// Where a node stands in a class element.
 #[derive(Clone, Copy)]
 pub enum ElementPart {
     Value,
     Key,
-    NoElement,
 }
 
 // What one scope of the search says: it ends, or it goes on outside the class, or just on.
@@ -86,16 +84,16 @@ fn part_of(nodes: &[u32], a: NodeId, x: NodeId) -> ElementPart
     ElementPart::Key
 }
 
-// The same for any node a, which may be no class element.
+// The same for any node a, if it is a class element.
 #[tactic(auto, unfolding(crate::specs::Super::part_at))]
-pub fn part_at(nodes: &[u32], a: NodeId, x: NodeId) -> ElementPart
+pub fn part_at(nodes: &[u32], a: NodeId, x: NodeId) -> Option<ElementPart>
     requires tree { Tree nodes.now }
     requires a_bound { a.0 < count nodes.now }
     ensures { result ≡ part_at nodes.now a.0 x.0 }
 {
     match table_records::kind(nodes, a) {
-        kinds::METHOD_DEFINITION..=kinds::ACCESSOR_PROPERTY => part_of(nodes, a, x),
-        _ => ElementPart::NoElement,
+        kinds::METHOD_DEFINITION..=kinds::ACCESSOR_PROPERTY => Some(part_of(nodes, a, x)),
+        _ => None,
     }
 }
 
@@ -110,7 +108,7 @@ fn heritage_use(nodes: &[u32], c: ClassId) -> Reach
     requires c_bound { c.0 < count nodes.now }
     ensures { result ≡ heritage_use nodes.now c.0 }
 {
-    let class = table_records::parent(nodes, NodeId(c.0));
+    let class = table_records::parent(nodes, NodeId::from(c));
     if table_records::has_flag(table_records::flags(nodes, class), node_flag::HERITAGE) {
         return Reach::Legal;
     }
@@ -118,6 +116,7 @@ fn heritage_use(nodes: &[u32], c: ClassId) -> Reach
 }
 
 // The first ClassBody of the table: class number 0.
+#[tactic(auto, using(table_children::proofs::ChildrenLaws::node_on, table_children::proofs::ChildrenLaws::node_stop, table_children::proofs::ChildrenLaws::node_end))]
 fn first_class(nodes: &[u32]) -> Option<NodeId>
     requires { Tree nodes.now }
     ensures value { result ≡ first_class nodes.now }
@@ -145,7 +144,7 @@ fn dummy_use(nodes: &[u32], n: NodeId) -> Reach
     };
     let class = table_records::parent(nodes, b);
     if table_ancestry::is_on_path(nodes, class.0, n) {
-        return heritage_use(nodes, ClassId(b.0));
+        return heritage_use(nodes, ClassId::from(b));
     }
     Reach::Fails
 }
@@ -242,7 +241,7 @@ pub fn is_class_scope(nodes: &[u32], class: Option<ClassId>, s: ScopeId) -> bool
     let Some(c) = class else {
         return false;
     };
-    let class_node = table_records::parent(nodes, NodeId(c.0));
+    let class_node = table_records::parent(nodes, NodeId::from(c));
     s.0 == table_records::extra(nodes, class_node)
 }
 
@@ -286,7 +285,7 @@ pub fn class_around(nodes: &[u32], n: NodeId) -> Option<ClassId>
     ensures below { below nodes.now (body_of result) }
 {
     let b = table_ancestry::nearest(nodes, n, kinds::CLASS_BODY, kinds::CLASS_BODY)?;
-    Some(ClassId(b.0))
+    Some(ClassId::from(b))
 }
 
 // The class around a class.
@@ -297,5 +296,5 @@ pub fn leave_class(nodes: &[u32], class: Option<ClassId>) -> Option<ClassId>
     ensures below_2 { below nodes.now (body_of result) }
 {
     let c = class?;
-    class_around(nodes, NodeId(c.0))
+    class_around(nodes, NodeId::from(c))
 }

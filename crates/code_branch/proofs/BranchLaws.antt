@@ -6,13 +6,13 @@ use Rattle.table_records.specs.Table.{count}
 use Rattle.route_completion.specs.Tree.{near, named}
 use Rattle.route_completion.specs.Sem.{Comp, normal, breaks, continues, returns, throws, spent, elem}
 use Rattle.code_tree.specs.Labels.{id_at}
-use Rattle.code_tree.specs.Parts.{up_of, shape_at}
+use Rattle.code_tree.specs.Parts.{up_of, shape_at, is_labeled}
 use Rattle.code_tree.specs.declared.Shape.{Shape}
 use Rattle.code_tree.specs.declared.Shape.TheVariants.{Leaf, Class, If, With, Block, Label, Loop, Switch, Case, Try, Catch}
 use Rattle.code_layout.specs.Widths.{in_unit}
 use Rattle.code_layout.proofs.LayoutLaws.{in_part, in_above}
 use Rattle.code_layout.proofs.Stands.{in_from}
-use Rattle.code_targets.specs.Targets.{is_labeled, is_catch, target, labels_at}
+use Rattle.code_targets.specs.Targets.{is_catch, target, labels_at}
 use Rattle.code_targets.proofs.TargetsLaws.{break_near, break_named, continue_near, continue_named, return_up, throw_up, labels_up}
 use Rattle.code_contexts.specs.Contexts.{Ready}
 use Rattle.code_branch.specs.Branch.{stops_at, land_at, is_jump}

@@ -14,13 +14,13 @@ use Rattle.table_records.specs.Table.{count}
 use Rattle.route_completion.specs.Sem.{elem}
 use Rattle.code_flat.specs.Code.{at, top}
 use Rattle.code_tree.specs.Labels.{id_at}
-use Rattle.code_tree.specs.Parts.{up_of, shape_at}
+use Rattle.code_tree.specs.Parts.{up_of, shape_at, is_labeled}
 use Rattle.code_layout.specs.Widths.{in_unit, width_at}
 use Rattle.code_layout.specs.Context.{offset_at}
 use Rattle.code_layout.proofs.LayoutLaws.{context_root}
 use Rattle.code_layout.proofs.Stands.{in_from}
 use Rattle.code_widths.proofs.WidthsLaws.{fits, root_small}
-use Rattle.code_targets.specs.Targets.{is_labeled, target, depth_at, labels_at}
+use Rattle.code_targets.specs.Targets.{target, depth_at, labels_at}
 use Rattle.code_targets.proofs.TargetsLaws.{target_root}
 use Rattle.code_contexts.specs.Contexts.{Ready, Follow}
 use Rattle.code_branch.specs.Branch.{comp_by, end_by, is_jump, Arrays}

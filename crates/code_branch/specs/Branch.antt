@@ -6,10 +6,10 @@ use Rattle.route_completion.specs.Tree.{near, named}
 use Rattle.route_completion.specs.Sem.{Comp, normal, breaks, continues, returns, throws, spent, elem}
 use Rattle.code_flat.specs.Code.{Stat, at}
 use Rattle.code_tree.specs.Labels.{id_at, lab_by}
-use Rattle.code_tree.specs.Parts.{up_of, shape_at}
+use Rattle.code_tree.specs.Parts.{up_of, shape_at, is_labeled}
 use Rattle.code_layout.specs.Widths.{width_at}
 use Rattle.code_layout.specs.Context.{offset_at}
-use Rattle.code_targets.specs.Targets.{is_loop, is_breakable, is_labeled, catches_at, target, depth_at, labels_at}
+use Rattle.code_targets.specs.Targets.{is_loop, is_breakable, catches_at, target, depth_at, labels_at}
 use Rattle.code_contexts.specs.Contexts.{Ready, Wide, Places}
 use Rattle.code_branch.specs.declared.Target.{Target}
 use Rattle.code_branch.specs.declared.Jump.{Jump}

@@ -8,14 +8,14 @@ ghost use Rattle.route_completion.specs.Sem.{normal, breaks, continues, elem, co
 ghost use Rattle.code_flat.specs.Code.{at};
 ghost use Rattle.code_tree.specs.Labels.{name_id, lab_at, id_at};
 ghost use Rattle.code_tree.specs.Statements.{leaf_at};
-ghost use Rattle.code_tree.specs.Parts.{shape_at};
+ghost use Rattle.code_tree.specs.Parts.{shape_at, is_labeled};
 ghost use Rattle.code_layout.specs.Widths.{in_unit, width_at};
 ghost use Rattle.code_layout.specs.Context.{offset_at};
-ghost use Rattle.code_targets.specs.Targets.{is_loop, is_breakable, is_labeled, catches_at, target, depth_at, labels_at};
+ghost use Rattle.code_targets.specs.Targets.{is_loop, is_breakable, catches_at, target, depth_at, labels_at};
 ghost use Rattle.code_contexts.specs.Contexts.{Ready, next_of};
 ghost use Rattle.code_branch.specs.Branch.{stat_of, comp_by, end_by, LabelIn, stops_at, land_at, Laid};
 
-use code_shapes::{is_try, shape_of, up_of};
+use code_shapes::{has_same_label, is_labeled, is_try, shape_of, up_of};
 use code_tree::Shape;
 use table_records::{NodeId, kinds, roles};
 
@@ -57,12 +57,6 @@ fn is_breakable(s: Shape) -> bool
     ensures { result ≡ is_breakable s }
 {
     matches!(s, Shape::Loop | Shape::Switch)
-}
-
-fn is_labeled(s: Shape) -> bool
-    ensures { result ≡ is_labeled s }
-{
-    matches!(s, Shape::Label)
 }
 
 // Where control goes from the end of f: behind it, to the next turn of the loop that holds it, from a finally to what is pending, from the body to the end of the unit.
@@ -135,20 +129,6 @@ fn catch_behind(laid: &Layout, n: NodeId) -> Target
         place: laid.offsets[n.0 as usize] + laid.widths[n.0 as usize],
         depth: laid.levels[n.0 as usize] - 1,
     }
-}
-
-// Whether the label of p has the name of the label l.
-fn has_same_label(nodes: &[u32], names: &[u8], p: NodeId, l: NodeId) -> bool
-    requires tree { Tree nodes.now }
-    requires named { Named nodes.now names.now }
-    requires p_bound { p.0 < count nodes.now }
-    requires l_bound { l.0 < count nodes.now }
-    ensures { result ≡ eqb (name_id nodes.now names.now l.0) (id_at nodes.now names.now p.0) }
-{
-    let Some(own) = table_children::label_of(nodes, p) else {
-        return false;
-    };
-    table_names::same_name(nodes, names, own, l)
 }
 
 // Whether p is a Labeled of the name of l.

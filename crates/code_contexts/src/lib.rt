@@ -33,7 +33,8 @@ pub fn has_finally(nodes: &[u32], names: &[u8], b: NodeId, p: NodeId) -> bool
     .is_some()
 }
 
-// Whether the Try p has a catch.
+// Whether the Try p has a catch. One function for this and the one above would take a kind and a role, and ask that they fit each other: what they share is
+// `first_child` already.
 pub fn has_catch(nodes: &[u32], names: &[u8], b: NodeId, p: NodeId) -> bool
     requires ready { Ready nodes.now names.now b.0 }
     requires p_bound { p.0 < count nodes.now }

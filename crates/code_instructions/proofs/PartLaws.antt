@@ -31,7 +31,7 @@ use Rattle.code_widths.proofs.WidthsLaws.{width_turn}
 use Rattle.code_contexts.proofs.EndLaws.{order_plain, end_part, behind_some, parts_some, parts_none, child_part, has_found, try_own}
 use Rattle.code_contexts.proofs.PlacesLaws.{part, above_in_lem, above_low, above_lt}
 use Rattle.code_branch.specs.Branch.{Arrays}
-use Rattle.code_instructions.specs.First.{first_of}
+use Rattle.code_tree.specs.First.{first_of}
 use Rattle.std.specs.Option.{is_some}
 use Rattle.table_records.specs.declared.NodeId.{NodeId}
 use Rattle.code_branch.proofs.JumpLaws as array

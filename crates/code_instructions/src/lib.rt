@@ -17,7 +17,7 @@ ghost use Rattle.code_targets.specs.Targets.{target, depth_at};
 ghost use Rattle.code_widths.specs.Widths.{counted};
 ghost use Rattle.code_contexts.specs.Contexts.{Ready};
 ghost use Rattle.code_branch.specs.Branch.{stat_of, Laid};
-ghost use Rattle.code_instructions.specs.First.{first_of};
+ghost use Rattle.code_tree.specs.First.{first_of};
 
 use code_branch::{Layout, Target, leaf_target, normal_target};
 use code_machine::opcodes;

@@ -11,11 +11,11 @@ ghost use Rattle.code_machine.specs.Pending.{half, frame_by, frame_of, stack, co
 ghost use Rattle.code_machine.specs.Halted.{stop_from, StandsAt, Told};
 ghost use Rattle.code_machine.specs.Turn.{start_of, answered, Passes, Lands, Leaves, Opens, Lists, Turned, Coming};
 
+use route_list::run_end;
+
 pub mod opcodes;
-pub mod run_end;
 
 // What a run comes to: its end, how many nodes it lists, and how many answers it takes.
-// The end stays a number: an END of the lent code says it, and it goes out through C.
 #[derive(Clone, Copy)]
 pub struct Ran {
     pub end: u32,

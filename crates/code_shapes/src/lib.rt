@@ -1,11 +1,12 @@
 // What a node is to the code, whose part it is, and what holds a unit's statements, read from the node table.
 #![tactic(auto)]
 
-ghost use Rattle.std.specs.Prelude.{◌≡◌, ◌+◌, ◌<◌, ◌≤◌};
+ghost use Rattle.std.specs.Prelude.{◌≡◌, ◌+◌, ◌<◌, ◌≤◌, eqb};
 ghost use Rattle.table_records.specs.Table.{count};
-ghost use Rattle.table_records.specs.Facts.{Tree};
+ghost use Rattle.table_records.specs.Facts.{Tree, Named};
 ghost use Rattle.table_children.specs.Children.{below};
-ghost use Rattle.code_tree.specs.Parts.{entered_by, up_of, shape_at, part_by, is_part};
+ghost use Rattle.code_tree.specs.Labels.{name_id, id_at};
+ghost use Rattle.code_tree.specs.Parts.{entered_by, up_of, shape_at, is_labeled, part_by, is_part};
 ghost use Rattle.code_tree.specs.Statements.{before_at, test_at, default_at, holder_of};
 ghost use Rattle.code_layout.specs.Widths.{is_try, number_by};
 ghost use Rattle.code_layout.specs.Exact.{open_at};
@@ -54,6 +55,26 @@ pub fn is_try(s: Shape) -> bool
     ensures { result ≡ is_try s }
 {
     matches!(s, Shape::Try)
+}
+
+pub fn is_labeled(s: Shape) -> bool
+    ensures { result ≡ is_labeled s }
+{
+    matches!(s, Shape::Label)
+}
+
+// Whether the label of p has the name of the label l.
+pub fn has_same_label(nodes: &[u32], names: &[u8], p: NodeId, l: NodeId) -> bool
+    requires tree { Tree nodes.now }
+    requires named { Named nodes.now names.now }
+    requires p_bound { p.0 < count nodes.now }
+    requires l_bound { l.0 < count nodes.now }
+    ensures { result ≡ eqb (name_id nodes.now names.now l.0) (id_at nodes.now names.now p.0) }
+{
+    let Some(own) = table_children::label_of(nodes, p) else {
+        return false;
+    };
+    table_names::same_name(nodes, names, own, l)
 }
 
 // Whether a node of this kind in the role r is a part of what has the shape s.

@@ -13,13 +13,13 @@ use Rattle.route_completion.specs.Tree.{Lab, near, named}
 use Rattle.route_completion.specs.Sem.{Comp, normal, breaks, continues, returns, throws, pick, elem}
 use Rattle.code_flat.specs.Code.{Stat, at, top, next, in_try}
 use Rattle.code_tree.specs.Labels.{id_at}
-use Rattle.code_tree.specs.Parts.{up_of, shape_at, order}
+use Rattle.code_tree.specs.Parts.{up_of, shape_at, is_labeled, order}
 use Rattle.code_tree.specs.declared.Shape.{Shape}
 use Rattle.code_tree.specs.declared.Shape.TheVariants.{Leaf, Class, If, With, Block, Label, Loop, Switch, Case, Try, Catch}
 use Rattle.code_layout.specs.Widths.{has_role, is_try, own_width, width_at}
 use Rattle.code_layout.specs.Context.{ifz, before, behind, Context, part_context, context_at, offset_at}
 use Rattle.code_layout.proofs.LayoutLaws.{context_root, context_up}
-use Rattle.code_targets.specs.Targets.{is_loop, is_breakable, is_labeled, is_catch, some, goes_on_by, next_by, catches_at, target, depth_at, labels_at}
+use Rattle.code_targets.specs.Targets.{is_loop, is_breakable, is_catch, some, goes_on_by, next_by, catches_at, target, depth_at, labels_at}
 
 -- In a Try, by whether the part is the finally (x) and whether its throws are caught (y).
 module _ (ρ : Comp → Stat) (s : Stat) (e δ : ℕ) where

@@ -36,19 +36,6 @@ is_breakable Case = false
 is_breakable Try = false
 is_breakable Catch = false
 
-abbrev pub is_labeled : Shape → Bool
-is_labeled Leaf = false
-is_labeled Class = false
-is_labeled If = false
-is_labeled With = false
-is_labeled Block = false
-is_labeled Label = true
-is_labeled Loop = false
-is_labeled Switch = false
-is_labeled Case = false
-is_labeled Try = false
-is_labeled Catch = false
-
 abbrev pub is_catch : Shape → Bool
 is_catch Leaf = false
 is_catch Class = false

@@ -1,4 +1,5 @@
 pub mod Labels
 pub mod Parts
 pub mod Statements
+pub mod First
 pub mod Examples

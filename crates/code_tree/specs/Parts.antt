@@ -25,6 +25,19 @@ shape_by kind =
 abbrev pub shape_at : List ℕ → ℕ → Shape
 shape_at ns j = shape_by (kind_of ns j)
 
+abbrev pub is_labeled : Shape → Bool
+is_labeled Leaf = false
+is_labeled Class = false
+is_labeled If = false
+is_labeled With = false
+is_labeled Block = false
+is_labeled Label = true
+is_labeled Loop = false
+is_labeled Switch = false
+is_labeled Case = false
+is_labeled Try = false
+is_labeled Catch = false
+
 -- "A class that an export declares (its child, flag 32) is entered after the export is listed"; any other class after it is listed itself.
 abbrev pub entered_by : List ℕ → ℕ → ℕ
 entered_by ns c = cond (within (kind_of ns (parent_of ns c)) k.ExportDefault k.ExportNamed && has_flag (flags_of ns c) flag.Declaration) (parent_of ns c) c

@@ -273,21 +273,21 @@ module _ (ns ss : List ℕ) (tree : Tree ns) (chained : Chained ss) (scoped : Sc
       the_class : class_above ns j ≡ Some (record { 0 = b })
       the_class = let x = p_later.1 in above_other j z h (λ q. omega arith) ∙ above_body p p_later.0 (omega arith) b_kind
 
-      step_is : step_at ns ss n call (class_above ns j) start (scope_of ns j) ≡ at_class call (part_of ns p j)
+      step_is : step_at ns ss n call (class_above ns j) start (scope_of ns j) ≡ at_class call (Some (part_of ns p j))
       unfolding step_at
       step_is =
           rw (the_class, eq-eqb (scope_of ns j) (extra_of ns c) (the_scope ∙ body_scope.1))
           (ap (at_class call) (place ∙ place_stop ns tree j p refl z h (in_range_lem (kind_of ns p) 28 30 e1 e2)))
 
       in_value : part_of ns p j ≡ Value → from j start ≡ if_call call
-      in_value e = reach_stop ns ss n call (class_above ns j) start (scope_of ns j) (if_call call) (step_is ∙ ap (at_class call) e)
+      in_value e = reach_stop ns ss n call (class_above ns j) start (scope_of ns j) (if_call call) (step_is ∙ ap (λ y. at_class call (Some y)) e)
 
       in_key : part_of ns p j ≡ Key → from j start ≡ from c c
       in_key e =
           let x = p_later.1 in
           let y = b_later.1 in
           let w = c_kind in
-          reach_leave ns ss n call (class_above ns j) start (scope_of ns j) (step_is ∙ ap (at_class call) e)
+          reach_leave ns ss n call (class_above ns j) start (scope_of ns j) (step_is ∙ ap (λ y. at_class call (Some y)) e)
           ∙ rw (the_scope, the_class, outer_next ss chained (scope_of ns b) (scope_of ns c) (sym body_scope.0.around) body_scope.0.later (scoped.scope b (omega arith)), body_scope.0.whose, above_other b b_later.0 (omega arith) (λ q. omega arith))
 
       -- its class is in the unit that the class's own node is in

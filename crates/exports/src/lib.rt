@@ -11,6 +11,7 @@ ghost use Rattle.call_marks.specs.Calls.{stop_answer, stop_code, stop_slice, sto
 ghost use Rattle.call_walk.specs.Walked.{walk_answer, walk_slice};
 ghost use Rattle.exports.specs.Numbers.{check_numbers, code_numbers, route_numbers, shared_numbers, rename_numbers};
 
+use check_dispatch::Rule;
 use refusal_verdict::Refused;
 use route_marks::Marks;
 use route_viewer::Route;
@@ -99,15 +100,15 @@ pub fn velkunshe_check(
     ensures value { result ≡ check_numbers (check_answer (rule source_type async_bodies nodes.now scopes.now source.now names.now) (length findings.old)) }
     ensures findings_after { findings.new ≡ check_slice (rule source_type async_bodies nodes.now scopes.now source.now names.now) findings.old }
 {
-    check_numbers(call_check::check(
+    let rule = Rule {
         source_type,
         async_bodies,
         nodes,
         scopes,
         source,
         names,
-        findings,
-    ))
+    };
+    check_numbers(call_check::check(&rule, findings))
 }
 
 fn code_numbers(answer: Result<usize, Refused>) -> CodeAnswer
@@ -143,16 +144,15 @@ pub fn velkunshe_code(
     ensures value { result ≡ code_numbers (code_answer (rule source_type async_bodies nodes.now scopes.now source.now names.now) unit (length code.old)) }
     ensures code_after { code.new ≡ code_slice (rule source_type async_bodies nodes.now scopes.now source.now names.now) unit code.old }
 {
-    code_numbers(call_routes::code(
+    let rule = Rule {
         source_type,
         async_bodies,
         nodes,
         scopes,
         source,
         names,
-        unit,
-        code,
-    ))
+    };
+    code_numbers(call_routes::code(&rule, unit, code))
 }
 
 fn route_numbers(answer: Result<Route, Refused>) -> RouteAnswer
@@ -195,18 +195,15 @@ pub fn velkunshe_route(
     ensures code_after { code.new ≡ code_slice (rule source_type async_bodies nodes.now scopes.now source.now names.now) unit code.old }
     ensures route_after { route.new ≡ route_slice (rule source_type async_bodies nodes.now scopes.now source.now names.now) unit answers.now (length code.old) route.old }
 {
-    route_numbers(call_routes::route(
+    let rule = Rule {
         source_type,
         async_bodies,
         nodes,
         scopes,
         source,
         names,
-        unit,
-        answers,
-        code,
-        route,
-    ))
+    };
+    route_numbers(call_routes::route(&rule, unit, answers, code, route))
 }
 
 fn shared_numbers(answer: Result<u64, Refused>) -> SharedAnswer
@@ -244,18 +241,15 @@ pub fn velkunshe_shared(
     ensures value { result ≡ shared_numbers (shared_answer (rule source_type async_bodies nodes.now scopes.now source.now names.now) unit first.now second.now (length code.old)) }
     ensures code_after { code.new ≡ code_slice (rule source_type async_bodies nodes.now scopes.now source.now names.now) unit code.old }
 {
-    shared_numbers(call_shared::shared(
+    let rule = Rule {
         source_type,
         async_bodies,
         nodes,
         scopes,
         source,
         names,
-        unit,
-        first,
-        second,
-        code,
-    ))
+    };
+    shared_numbers(call_shared::shared(&rule, unit, first, second, code))
 }
 
 // The second engine: walks the statements of a unit over the answers, and shows the route. No code is made.
@@ -273,17 +267,15 @@ pub fn velkunshe_walk(
     ensures value { result ≡ route_numbers (walk_answer (rule source_type async_bodies nodes.now scopes.now source.now names.now) unit answers.now (length route.old)) }
     ensures route_after { route.new ≡ walk_slice (rule source_type async_bodies nodes.now scopes.now source.now names.now) unit answers.now route.old }
 {
-    route_numbers(call_walk::walk(
+    let rule = Rule {
         source_type,
         async_bodies,
         nodes,
         scopes,
         source,
         names,
-        unit,
-        answers,
-        route,
-    ))
+    };
+    route_numbers(call_walk::walk(&rule, unit, answers, route))
 }
 
 fn rename_numbers(answer: Result<usize, Refused>) -> RenameAnswer
@@ -351,21 +343,15 @@ pub fn velkunshe_route_stop(
     ensures route_after { route.new ≡ stop_slice (rule source_type async_bodies nodes.now scopes.now source.now names.now) unit answers.now mark stop marks.old (length code.old) route.old }
     ensures marks_after { marks.new ≡ stop_marks (rule source_type async_bodies nodes.now scopes.now source.now names.now) unit answers.now mark stop marks.old (length code.old) (length route.old) }
 {
-    route_numbers(call_marks::route_stop(
+    let rule = Rule {
         source_type,
         async_bodies,
         nodes,
         scopes,
         source,
         names,
-        unit,
-        answers,
-        mark,
-        stop,
-        marks,
-        code,
-        route,
-    ))
+    };
+    route_numbers(call_marks::route_stop(&rule, unit, answers, mark, stop, marks, code, route))
 }
 
 // Taken up at `mark`, and not stopped again.
@@ -388,20 +374,15 @@ pub fn velkunshe_route_resume(
     ensures route_after { route.new ≡ resume_slice (rule source_type async_bodies nodes.now scopes.now source.now names.now) unit mark answers.now marks.old (length code.old) route.old }
     ensures marks_unchanged { marks.new ≡ marks.old }
 {
-    route_numbers(call_marks::route_resume(
+    let rule = Rule {
         source_type,
         async_bodies,
         nodes,
         scopes,
         source,
         names,
-        unit,
-        mark,
-        answers,
-        marks,
-        code,
-        route,
-    ))
+    };
+    route_numbers(call_marks::route_resume(&rule, unit, mark, answers, marks, code, route))
 }
 
 // Taken up at `from`, and stopped again under `to` behind `stop` answers.
@@ -426,20 +407,15 @@ pub fn velkunshe_route_resume_stop(
     ensures route_after { route.new ≡ resume_stop_slice (rule source_type async_bodies nodes.now scopes.now source.now names.now) unit from answers.now to stop marks.old (length code.old) route.old }
     ensures marks_after { marks.new ≡ resume_stop_marks (rule source_type async_bodies nodes.now scopes.now source.now names.now) unit from answers.now to stop marks.old (length code.old) (length route.old) }
 {
-    route_numbers(call_marks::route_resume_stop(
+    let rule = Rule {
         source_type,
         async_bodies,
         nodes,
         scopes,
         source,
         names,
-        unit,
-        from,
-        answers,
-        to,
-        stop,
-        marks,
-        code,
-        route,
+    };
+    route_numbers(call_marks::route_resume_stop(
+        &rule, unit, from, answers, to, stop, marks, code, route,
     ))
 }

@@ -108,7 +108,8 @@ pub fn line(letter: u8, numbers: &[u32], out: &mut [u8], w: usize) -> usize
     put_line(letter, numbers, out, w)
 }
 
-// The same for words.
+// The same for words. Two names, since one generic name is no plainer for callers: its clause has `map T.number`, which each of them would have to take
+// away again by a law.
 pub fn long_line(letter: u8, numbers: &[u64], out: &mut [u8], w: usize) -> usize
     requires { w + length (line_of letter numbers.now) ≤ length out.old }
     ensures { (result ≡ w + length (line_of letter numbers.now)) × (out.new ≡ put out.old w (line_of letter numbers.now)) }

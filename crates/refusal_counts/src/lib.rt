@@ -58,7 +58,8 @@ fn is_default(nodes: &[u32], p: NodeId, c: NodeId) -> bool
     ) && table_records::has_flag(table_records::flags(nodes, c), node_flag::DEFAULT)
 }
 
-// How many `default`s the Switch p has.
+// How many `default`s the Switch p has. The loop is that of `how_many` over another test: a function that takes the test would ask, for all tests, what
+// each call of it gives and that no node outside p passes, and would be longer in its clauses than the two loops are.
 #[tactic(auto, using(table_children::proofs::ChildrenLaws::one_more, crate::proofs::CountsLaws::by_turn, crate::proofs::CountsLaws::by_end, crate::proofs::CountsLaws::defaults_all, crate::proofs::CountsLaws::defaults_out))]
 fn defaults(nodes: &[u32], p: NodeId) -> u32
     requires tree { Tree nodes.now }

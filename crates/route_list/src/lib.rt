@@ -1,8 +1,10 @@
-// The list of a route as its caller gets it: counted, and written to a slice that the caller lends, as far as that goes.
+// The list of a route as its caller gets it: counted, and written to a slice that the caller lends, as far as that goes; and the numbers of its end.
 #![tactic(auto)]
 
 ghost use Rattle.std.specs.Prelude.{◌≡◌, set};
 ghost use Rattle.route_list.specs.Listing.{next};
+
+pub mod run_end;
 
 // One entry more. "A length above 18,446,744,073,709,551,615 is given as that number."
 pub fn next(entries: u64) -> u64

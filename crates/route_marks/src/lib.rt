@@ -12,11 +12,13 @@ ghost use Rattle.route_viewer.specs.Shown.{shown_answer, shown_slice};
 ghost use Rattle.route_marks.specs.Marks.{marks as marksMany, part_at, is_set, place_of, ends_at, mark_at, ends_numbers, set_mark};
 ghost use Rattle.route_marks.specs.Taken.{begin_at, Ready, stop_of, marks_shown};
 
-use code_machine::{Halt, Landing, run_end};
+use code_machine::{Halt, Landing};
 use refusal_verdict::{Refusal, Refused};
+use route_list::run_end;
 use route_viewer::Route;
 
-const MARKS: u32 = 8;
+// How many marks the array has.
+pub const MARKS: u32 = 8;
 
 // A mark's part of the array: a first number, the place, and two numbers for each of 512 pending ends.
 const PART: usize = 1026;

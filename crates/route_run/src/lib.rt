@@ -19,11 +19,6 @@ pub fn run(code: &[u32], answers: &[u32], out: &mut [u32]) -> Result<Route, NoRo
     ensures value { result ≡ run_answer code.now answers.now (length out.old) }
     ensures out_after { out.new ≡ run_slice code.now answers.now out.old }
 {
-    if let Err(place) = code_valid::check(code) {
-        return Err(NoRoute::Invalid(place));
-    }
-    match route_viewer::show(code, answers, out) {
-        Ok(route) => Ok(route),
-        Err(refused) => Err(NoRoute::Refused(refused)),
-    }
+    code_valid::check(code).map_err(NoRoute::Invalid)?;
+    route_viewer::show(code, answers, out).map_err(NoRoute::Refused)
 }

@@ -18,7 +18,7 @@ use Rattle.table_children.specs.Children.{keep}
 use Rattle.route_completion.specs.Tree.{Stmt, if2, if3, nil, try_c, try_f}
 use Rattle.route_completion.specs.Sem.{out, elem, breaks, continues, returns, throws, plain, more, normal, ask, pick, is_yes, unbreak, unlabel, loops, comp_of, and_then, exec, execs, exec_from, entry, default_at as defaultPlace, count as countCases}
 use Rattle.code_tree.specs.Labels.{lab_by, id_at}
-use Rattle.code_tree.specs.Parts.{up_of, shape_at, shape_by, parts, with_role, order_by, order}
+use Rattle.code_tree.specs.Parts.{up_of, shape_at, shape_by, is_labeled, parts, with_role, order_by, order}
 use Rattle.code_tree.proofs.PartsLaws.{All, parts_all}
 use Rattle.code_tree.specs.Parts.{Part}
 use Rattle.code_tree.proofs.BoundLaws.{fuel_enough}
@@ -27,8 +27,9 @@ use Rattle.code_tree.specs.Statements.{leaf_at, before_at, test_at, default_at, 
 use Rattle.code_tree.specs.declared.Shape.{Shape}
 use Rattle.code_tree.specs.declared.Shape.TheVariants.{Leaf as Single, Class, If, With, Block, Label, Loop, Switch, Case, Try, Catch}
 use Rattle.code_layout.specs.Shaped.{is_case, is_switch, One, Two, Three, Good}
-use Rattle.route_steps.specs.Statement.{is_labeled, labels_of, statement}
-use Rattle.route_steps.specs.Steps.{head_of, branch_of, from_default, cases_from, role_in, ran_of, caught_by, finally_by}
+use Rattle.route_steps.specs.Statement.{labels_of, statement}
+use Rattle.code_tree.specs.First.{first_of}
+use Rattle.route_steps.specs.Steps.{branch_of, from_default, cases_from, role_in, ran_of, caught_by, finally_by}
 
 module _ (ns names : List ℕ) (g : Good ns) where
   abbrev S : ℕ → Stmt
@@ -236,27 +237,27 @@ module _ (ns names : List ℕ) (g : Good ns) where
     unfolding order
     ordered = ap (λ s. order_by ns s (P j)) x
 
-    held_role : (ps : List ℕ) → order ns j ≡ ps → role_in ns j 3 ≡ head_of (with_role ns 3 ps)
+    held_role : (ps : List ℕ) → order ns j ≡ ps → role_in ns j 3 ≡ first_of (with_role ns 3 ps)
     unfolding role_in
-    held_role ps e = ap head_of (sym (held_kept j ∙ append-nil (W j 3)) ∙ ap (with_role ns 3) (sym ordered ∙ e))
+    held_role ps e = ap first_of (sym (held_kept j ∙ append-nil (W j 3)) ∙ ap (with_role ns 3) (sym ordered ∙ e))
 
-    catch_role : (ps : List ℕ) → order ns j ≡ ps → role_in ns j 4 ≡ head_of (with_role ns 4 ps)
+    catch_role : (ps : List ℕ) → order ns j ≡ ps → role_in ns j 4 ≡ first_of (with_role ns 4 ps)
     unfolding role_in
-    catch_role ps e = ap head_of (sym (catch_kept j ∙ append-nil (W j 4)) ∙ ap (with_role ns 4) (sym ordered ∙ e))
+    catch_role ps e = ap first_of (sym (catch_kept j ∙ append-nil (W j 4)) ∙ ap (with_role ns 4) (sym ordered ∙ e))
 
-    finally_role : (ps : List ℕ) → order ns j ≡ ps → role_in ns j 5 ≡ head_of (with_role ns 5 ps)
+    finally_role : (ps : List ℕ) → order ns j ≡ ps → role_in ns j 5 ≡ first_of (with_role ns 5 ps)
     unfolding role_in
-    finally_role ps e = ap head_of (sym (finally_kept j) ∙ ap (with_role ns 5) (sym ordered ∙ e))
+    finally_role ps e = ap first_of (sym (finally_kept j) ∙ ap (with_role ns 5) (sym ordered ∙ e))
 
-    two_roles : (r c d m n : ℕ) → role_of ns c ≡ m → role_of ns d ≡ n → head_of (with_role ns r (c ∷ d ∷ [])) ≡ head_of (cond (eqb m r) (c ∷ cond (eqb n r) (d ∷ []) []) (cond (eqb n r) (d ∷ []) []))
+    two_roles : (r c d m n : ℕ) → role_of ns c ≡ m → role_of ns d ≡ n → first_of (with_role ns r (c ∷ d ∷ [])) ≡ first_of (cond (eqb m r) (c ∷ cond (eqb n r) (d ∷ []) []) (cond (eqb n r) (d ∷ []) []))
     unfolding keep
-    two_roles r c d m n y z = λ i. head_of (cond (eqb (y i) r) (c ∷ cond (eqb (z i) r) (d ∷ []) []) (cond (eqb (z i) r) (d ∷ []) []))
+    two_roles r c d m n y z = λ i. first_of (cond (eqb (y i) r) (c ∷ cond (eqb (z i) r) (d ∷ []) []) (cond (eqb (z i) r) (d ∷ []) []))
 
     three_roles : (r c d e : ℕ) → role_of ns c ≡ 3 → role_of ns d ≡ 4 → role_of ns e ≡ 5
-        → head_of (with_role ns r (c ∷ d ∷ e ∷ [])) ≡ head_of (cond (eqb 3 r) (c ∷ cond (eqb 4 r) (d ∷ cond (eqb 5 r) (e ∷ []) []) (cond (eqb 5 r) (e ∷ []) [])) (cond (eqb 4 r) (d ∷ cond (eqb 5 r) (e ∷ []) []) (cond (eqb 5 r) (e ∷ []) [])))
+        → first_of (with_role ns r (c ∷ d ∷ e ∷ [])) ≡ first_of (cond (eqb 3 r) (c ∷ cond (eqb 4 r) (d ∷ cond (eqb 5 r) (e ∷ []) []) (cond (eqb 5 r) (e ∷ []) [])) (cond (eqb 4 r) (d ∷ cond (eqb 5 r) (e ∷ []) []) (cond (eqb 5 r) (e ∷ []) [])))
     unfolding keep
     three_roles r c d e y z w =
-        λ i. head_of (cond (eqb (y i) r) (c ∷ cond (eqb (z i) r) (d ∷ cond (eqb (w i) r) (e ∷ []) []) (cond (eqb (w i) r) (e ∷ []) [])) (cond (eqb (z i) r) (d ∷ cond (eqb (w i) r) (e ∷ []) []) (cond (eqb (w i) r) (e ∷ []) [])))
+        λ i. first_of (cond (eqb (y i) r) (c ∷ cond (eqb (z i) r) (d ∷ cond (eqb (w i) r) (e ∷ []) []) (cond (eqb (w i) r) (e ∷ []) [])) (cond (eqb (z i) r) (d ∷ cond (eqb (w i) r) (e ∷ []) []) (cond (eqb (w i) r) (e ∷ []) [])))
 
     module _ (ls qs : List ℕ) where
       abbrev Tried : Type 0

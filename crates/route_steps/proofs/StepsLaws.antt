@@ -15,7 +15,8 @@ use Rattle.code_tree.specs.Parts.{up_of, is_part, parts, with_role}
 use Rattle.code_tree.proofs.PartsLaws.{All, parts_turn, parts_end}
 use Rattle.code_tree.specs.Parts.{Part}
 use Rattle.code_tree.specs.Statements.{default_at}
-use Rattle.route_steps.specs.Steps.{head_of, branch_of, from_default, cases_from, role_in}
+use Rattle.code_tree.specs.First.{first_of}
+use Rattle.route_steps.specs.Steps.{branch_of, from_default, cases_from, role_in}
 
 module _ (ns : List ℕ) (p : ℕ) where
   module _ (i : ℕ) (h : i < count ns) (u : ℕ) (q : Bool) (a : u ≡ up_of ns i) (b : q ≡ is_part ns i) (ps : List ℕ) (e : parts ns p i ≡ ps) where
@@ -83,7 +84,7 @@ module _ (ns : List ℕ) (p : ℕ) where
 
   -- The search by role.
   abbrev role_from : ℕ → List ℕ → Option NodeId
-  role_from r ps = head_of (with_role ns r ps)
+  role_from r ps = first_of (with_role ns r ps)
 
   pub role_start : (r : ℕ) → role_from r (parts ns p (p + 1)) ≡ role_in ns p r
   unfolding role_in
@@ -92,12 +93,12 @@ module _ (ns : List ℕ) (p : ℕ) where
   pub role_on : (r : ℕ) (ps : List ℕ) (c : ℕ) → role_from r ps ≡ role_in ns p r → ps ≡ c ∷ parts ns p (c + 1) → (m : ℕ) → m ≡ role_of ns c → (m ≡ r → ⊥) → role_from r (parts ns p (c + 1)) ≡ role_in ns p r
   unfolding keep
   role_on r ps c e f m q n =
-      sym (ap (role_from r) f ∙ ap (λ x. head_of (cond x (c ∷ with_role ns r (parts ns p (c + 1))) (with_role ns r (parts ns p (c + 1))))) (ne_eqb (role_of ns c) r (λ d. n (q ∙ d)))) ∙ e
+      sym (ap (role_from r) f ∙ ap (λ x. first_of (cond x (c ∷ with_role ns r (parts ns p (c + 1))) (with_role ns r (parts ns p (c + 1))))) (ne_eqb (role_of ns c) r (λ d. n (q ∙ d)))) ∙ e
 
   pub role_hit : (r : ℕ) (ps : List ℕ) (c : ℕ) → role_from r ps ≡ role_in ns p r → ps ≡ c ∷ parts ns p (c + 1) → (m : ℕ) → m ≡ role_of ns c → m ≡ r → Some (record { 0 = c }) ≡ role_in ns p r
   unfolding keep
   role_hit r ps c e f m q n =
-      sym (ap (role_from r) f ∙ ap (λ x. head_of (cond x (c ∷ with_role ns r (parts ns p (c + 1))) (with_role ns r (parts ns p (c + 1))))) (eq-eqb (role_of ns c) r (sym q ∙ n))) ∙ e
+      sym (ap (role_from r) f ∙ ap (λ x. first_of (cond x (c ∷ with_role ns r (parts ns p (c + 1))) (with_role ns r (parts ns p (c + 1))))) (eq-eqb (role_of ns c) r (sym q ∙ n))) ∙ e
 
   pub role_none : (r : ℕ) (ps : List ℕ) → role_from r ps ≡ role_in ns p r → ps ≡ [] → None ≡ role_in ns p r
   unfolding keep

@@ -1,27 +1,12 @@
 -- The statement of a node, and the label set of what a Labeled holds.
-use Rattle.std.specs.Prelude.{ℕ, Bool, true, false, cond}
+use Rattle.std.specs.Prelude.{ℕ, cond}
 use mathlib.Core.List.{List, [], ◌∷◌, foldr}
 use Rattle.base_walk.specs.Above.{above}
 use Rattle.table_records.specs.Table.{count}
 use Rattle.route_completion.specs.Tree.{Stmt}
 use Rattle.code_tree.specs.Labels.{id_at}
-use Rattle.code_tree.specs.Parts.{up_of, shape_at}
+use Rattle.code_tree.specs.Parts.{up_of, shape_at, is_labeled}
 use Rattle.code_tree.specs.Statements.{stmt_at}
-use Rattle.code_tree.specs.declared.Shape.{Shape}
-use Rattle.code_tree.specs.declared.Shape.TheVariants.{Leaf, Class, If, With, Block, Label, Loop, Switch, Case, Try, Catch}
-
-abbrev pub is_labeled : Shape → Bool
-is_labeled Leaf = false
-is_labeled Class = false
-is_labeled If = false
-is_labeled With = false
-is_labeled Block = false
-is_labeled Label = true
-is_labeled Loop = false
-is_labeled Switch = false
-is_labeled Case = false
-is_labeled Try = false
-is_labeled Catch = false
 
 -- 14.13.4 LabelledEvaluation: the label set of what p holds, by names: p and the Labeled right above it.
 unfoldable pub labels_of : List ℕ → List ℕ → ℕ → List ℕ

@@ -7,6 +7,7 @@ use Rattle.route_completion.specs.Tree.{Stmt}
 use Rattle.route_completion.specs.Sem.{Out, normal, out, is_yes, pick, catching, finally, exec}
 use Rattle.code_tree.specs.Parts.{parts, with_role}
 use Rattle.code_tree.specs.Parts.{Part}
+use Rattle.code_tree.specs.First.{first_of}
 use Rattle.code_tree.specs.Statements.{default_at}
 
 -- What was found is the first of ps, which are parts of p in node order.
@@ -18,10 +19,6 @@ First ns p ps None = ps ≡ []
 abbrev pub part_of : List ℕ → ℕ → Option NodeId → Type 0
 part_of ns p (Some c) = Part ns p c.0
 part_of ns p None = Unit {0}
-
-abbrev pub head_of : List ℕ → Option NodeId
-head_of [] = None
-head_of (c ∷ cs) = Some (record { 0 = c })
 
 -- "If runs role 3 on yes, else role 4", in whichever order they stand.
 abbrev pub branch_of : List ℕ → List ℕ → ℕ → Option NodeId
@@ -40,7 +37,7 @@ cases_from ns cs a = cond (ltb a (length cs)) (drop a cs) (from_default ns cs)
 
 -- The first part of p with the role r.
 unfoldable pub role_in : List ℕ → ℕ → ℕ → Option NodeId
-role_in ns p r = head_of (with_role ns r (parts ns p (p + 1)))
+role_in ns p r = first_of (with_role ns r (parts ns p (p + 1)))
 
 module _ (S : ℕ → Stmt) where
   -- What was found runs, or nothing does.

@@ -1,7 +1,7 @@
 // The second engine: it walks a unit's statements by the completion rules, and makes no code.
 #![tactic(auto)]
 
-ghost use Rattle.std.specs.Prelude.{◌≡◌, List, [], ◌∷◌, ℕ, ◌+◌, ◌<◌, ◌≤◌, eqb, length, drop};
+ghost use Rattle.std.specs.Prelude.{◌≡◌, List, [], ◌∷◌, ℕ, ◌+◌, ◌<◌, ◌≤◌, length, drop};
 ghost use Rattle.table_records.specs.Table.{count};
 ghost use Rattle.table_records.specs.Roles as role;
 ghost use Rattle.table_records.specs.Facts.{Tree, Named};
@@ -12,14 +12,13 @@ ghost use Rattle.code_tree.specs.Parts.{up_of, parts};
 ghost use Rattle.code_tree.specs.Parts.{Part};
 ghost use Rattle.code_tree.specs.Statements.{leaf_at, before_at, test_at, list_of, one_of, unit_of};
 ghost use Rattle.route_walk.specs.Walk.{Walkable, Enterable, comp_at, label_in, Walked, Shows};
-ghost use Rattle.route_steps.specs.Statement.{is_labeled, labels_of, statement};
+ghost use Rattle.route_steps.specs.Statement.{labels_of, statement};
 ghost use Rattle.route_steps.specs.Steps.{First, part_of, branch_of, cases_from, from_default, role_in, ran_of, caught_by, finally_by};
 
-use code_shapes::{shape_of, up_of};
+use code_shapes::{has_same_label, is_labeled, shape_of, up_of};
 use code_tree::Shape;
+use route_list::run_end;
 use table_records::{NodeId, kinds, roles};
-
-mod unit_end;
 
 // How a statement completes, as ECMA-262's Completion Record: a break or continue with its label's node where it has one. Or no answer was left.
 #[derive(Clone, Copy, PartialEq, Eq)]
@@ -40,6 +39,14 @@ pub struct Run {
     pub entries: u64,
     pub taken: usize,
     pub how: Completion,
+}
+
+// What a walk reads: the tables and the answers.
+#[derive(Clone, Copy)]
+struct Given<'a> {
+    nodes: &'a [u32],
+    names: &'a [u8],
+    answers: &'a [u32],
 }
 
 fn is_normal(how: Completion) -> bool
@@ -71,19 +78,6 @@ fn unbroken(how: Completion) -> Completion
     }
 }
 
-// Whether the label of p has the name of the label l.
-fn has_same_label(nodes: &[u32], names: &[u8], p: NodeId, l: NodeId) -> bool
-    requires walkable { Walkable nodes.now names.now }
-    requires p_bound { p.0 < count nodes.now }
-    requires l_bound { l.0 < count nodes.now }
-    ensures { result ≡ eqb (name_id nodes.now names.now l.0) (id_at nodes.now names.now p.0) }
-{
-    let Some(own) = table_children::label_of(nodes, p) else {
-        return false;
-    };
-    table_names::same_name(nodes, names, own, l)
-}
-
 // A break to the label of p, at p.
 fn unlabelled(nodes: &[u32], names: &[u8], p: NodeId, how: Completion) -> Completion
     requires walkable { Walkable nodes.now names.now }
@@ -96,12 +90,6 @@ fn unlabelled(nodes: &[u32], names: &[u8], p: NodeId, how: Completion) -> Comple
         Completion::BreakTo(l) if has_same_label(nodes, names, p, l) => Completion::Normal,
         other => other,
     }
-}
-
-fn is_labeled(s: Shape) -> bool
-    ensures { result ≡ is_labeled s }
-{
-    matches!(s, Shape::Label)
 }
 
 // Whether a Labeled of the name of l is p, or stands right above it.
@@ -316,59 +304,43 @@ fn left_label(nodes: &[u32], names: &[u8], p: NodeId, run: Run) -> Run
     }
 }
 
-// The tables, the answers and the list are lent slices, which each of these functions takes one by one.
 // What the node n holds, where that is one statement.
 #[cycle(walk)]
-fn walk_one(
-    nodes: &[u32],
-    names: &[u8],
-    answers: &[u32],
-    out: &mut [u32],
-    n: NodeId,
-    start: Run,
-) -> Run
-    requires walkable { Walkable nodes.now names.now }
-    requires n_bound { n.0 < count nodes.now }
-    requires taken_in_bounds { start.taken ≤ length answers.now }
-    ensures { Walked nodes.now names.now answers.now out.old start (exec (one_of (statement nodes.now names.now) (parts nodes.now n.0 (n.0 + 1))) (labels_of nodes.now names.now n.0) (drop start.taken answers.now)) out.new result }
+fn walk_one(given: &Given, out: &mut [u32], n: NodeId, start: Run) -> Run
+    requires walkable { Walkable given.now.nodes.now given.now.names.now }
+    requires n_bound { n.0 < count given.now.nodes.now }
+    requires taken_in_bounds { start.taken ≤ length given.now.answers.now }
+    ensures { Walked given.now.nodes.now given.now.names.now given.now.answers.now out.old start (exec (one_of (statement given.now.nodes.now given.now.names.now) (parts given.now.nodes.now n.0 (n.0 + 1))) (labels_of given.now.nodes.now given.now.names.now n.0) (drop start.taken given.now.answers.now)) out.new result }
 {
-    let Some(c) = next_part(nodes, n, n.0 + 1) else {
+    let Some(c) = next_part(given.nodes, n, n.0 + 1) else {
         return Run {
             how: Completion::Normal,
             ..start
         };
     };
-    walk_node(nodes, names, answers, out, c, start)
+    walk_node(given, out, c, start)
 }
 
 // 14.2.2, StatementList: the parts of n from a node on, one behind the other.
 #[cycle(walk)]
-fn walk_parts(
-    nodes: &[u32],
-    names: &[u8],
-    answers: &[u32],
-    out: &mut [u32],
-    n: NodeId,
-    from: u32,
-    start: Run,
-) -> Run
-    requires walkable { Walkable nodes.now names.now }
+fn walk_parts(given: &Given, out: &mut [u32], n: NodeId, from: u32, start: Run) -> Run
+    requires walkable { Walkable given.now.nodes.now given.now.names.now }
     requires n_lt_from { n.0 < from }
-    requires from_bound { from ≤ count nodes.now }
-    requires n_value { labels_of nodes.now names.now n.0 ≡ [] }
-    requires taken_in_bounds { start.taken ≤ length answers.now }
-    ensures { Walked nodes.now names.now answers.now out.old start (execs (list_of (statement nodes.now names.now) (parts nodes.now n.0 from)) (drop start.taken answers.now)) out.new result }
+    requires from_bound { from ≤ count given.now.nodes.now }
+    requires n_value { labels_of given.now.nodes.now given.now.names.now n.0 ≡ [] }
+    requires taken_in_bounds { start.taken ≤ length given.now.answers.now }
+    ensures { Walked given.now.nodes.now given.now.names.now given.now.answers.now out.old start (execs (list_of (statement given.now.nodes.now given.now.names.now) (parts given.now.nodes.now n.0 from)) (drop start.taken given.now.answers.now)) out.new result }
 {
     let mut run = start;
     let mut i = from;
     loop {
-        let Some(c) = next_part(nodes, n, i) else {
+        let Some(c) = next_part(given.nodes, n, i) else {
             return Run {
                 how: Completion::Normal,
                 ..run
             };
         };
-        let done = walk_node(nodes, names, answers, out, c, run);
+        let done = walk_node(given, out, c, run);
         if !is_normal(done.how) {
             return done;
         }
@@ -379,63 +351,49 @@ fn walk_parts(
 
 // 14.6.2, the If n.
 #[cycle(walk)]
-fn walk_if(
-    nodes: &[u32],
-    names: &[u8],
-    answers: &[u32],
-    out: &mut [u32],
-    n: NodeId,
-    start: Run,
-) -> Run
-    requires walkable { Walkable nodes.now names.now }
-    requires n_bound { n.0 < count nodes.now }
-    requires n_value { labels_of nodes.now names.now n.0 ≡ [] }
-    requires taken_in_bounds { start.taken ≤ length answers.now }
-    ensures { Walked nodes.now names.now answers.now out.old start (ask n.0 (drop start.taken answers.now) (λ a r. ran_of (statement nodes.now names.now) (branch_of nodes.now (parts nodes.now n.0 (n.0 + 1)) a) r)) out.new result }
+fn walk_if(given: &Given, out: &mut [u32], n: NodeId, start: Run) -> Run
+    requires walkable { Walkable given.now.nodes.now given.now.names.now }
+    requires n_bound { n.0 < count given.now.nodes.now }
+    requires n_value { labels_of given.now.nodes.now given.now.names.now n.0 ≡ [] }
+    requires taken_in_bounds { start.taken ≤ length given.now.answers.now }
+    ensures { Walked given.now.nodes.now given.now.names.now given.now.answers.now out.old start (ask n.0 (drop start.taken given.now.answers.now) (λ a r. ran_of (statement given.now.nodes.now given.now.names.now) (branch_of given.now.nodes.now (parts given.now.nodes.now n.0 (n.0 + 1)) a) r)) out.new result }
 {
     let at = start.taken;
-    if answers.len() <= at {
+    if given.answers.len() <= at {
         return Run {
             how: Completion::Spent,
             ..start
         };
     }
-    let a = answers[at];
-    let next = asked(answers, out, n, start);
-    let Some(c) = branch_of(nodes, n, a) else {
+    let a = given.answers[at];
+    let next = asked(given.answers, out, n, start);
+    let Some(c) = branch_of(given.nodes, n, a) else {
         return next;
     };
-    walk_node(nodes, names, answers, out, c, next)
+    walk_node(given, out, c, next)
 }
 
 // 14.7.3.2, the turns of the loop n, from its next answer on.
 #[cycle(walk)]
-fn walk_turns(
-    nodes: &[u32],
-    names: &[u8],
-    answers: &[u32],
-    out: &mut [u32],
-    n: NodeId,
-    start: Run,
-) -> Run
-    requires walkable { Walkable nodes.now names.now }
+fn walk_turns(given: &Given, out: &mut [u32], n: NodeId, start: Run) -> Run
+    requires walkable { Walkable given.now.nodes.now given.now.names.now }
     requires n_nonzero { 0 < n.0 }
-    requires n_bound { n.0 < count nodes.now }
-    requires n_value { labels_of nodes.now names.now n.0 ≡ [] }
-    requires taken_in_bounds { start.taken ≤ length answers.now }
-    ensures { Walked nodes.now names.now answers.now out.old start (rounds n.0 (test_at nodes.now n.0) (labels_of nodes.now names.now (up_of nodes.now n.0)) (λ r. exec (one_of (statement nodes.now names.now) (parts nodes.now n.0 (n.0 + 1))) [] r) (drop start.taken answers.now)) out.new result }
+    requires n_bound { n.0 < count given.now.nodes.now }
+    requires n_value { labels_of given.now.nodes.now given.now.names.now n.0 ≡ [] }
+    requires taken_in_bounds { start.taken ≤ length given.now.answers.now }
+    ensures { Walked given.now.nodes.now given.now.names.now given.now.answers.now out.old start (rounds n.0 (test_at given.now.nodes.now n.0) (labels_of given.now.nodes.now given.now.names.now (up_of given.now.nodes.now n.0)) (λ r. exec (one_of (statement given.now.nodes.now given.now.names.now) (parts given.now.nodes.now n.0 (n.0 + 1))) [] r) (drop start.taken given.now.answers.now)) out.new result }
 {
-    let heeds = code_shapes::has_test(nodes, n);
+    let heeds = code_shapes::has_test(given.nodes, n);
     let mut run = start;
-    while run.taken < answers.len() {
+    while run.taken < given.answers.len() {
         let at = run.taken;
-        let a = answers[at];
-        let next = asked(answers, out, n, run);
+        let a = given.answers[at];
+        let next = asked(given.answers, out, n, run);
         if heeds && a == 0 {
             return next;
         }
-        let done = walk_one(nodes, names, answers, out, n, next);
-        if !loop_continues(nodes, names, n, done.how) {
+        let done = walk_one(given, out, n, next);
+        if !loop_continues(given.nodes, given.names, n, done.how) {
             return done;
         }
         run = done;
@@ -448,122 +406,94 @@ fn walk_turns(
 
 // 14.7.1.2, the loop n: a DoWhile runs its body before the first answer.
 #[cycle(walk)]
-fn walk_loop(
-    nodes: &[u32],
-    names: &[u8],
-    answers: &[u32],
-    out: &mut [u32],
-    n: NodeId,
-    start: Run,
-) -> Run
-    requires walkable { Walkable nodes.now names.now }
+fn walk_loop(given: &Given, out: &mut [u32], n: NodeId, start: Run) -> Run
+    requires walkable { Walkable given.now.nodes.now given.now.names.now }
     requires n_nonzero { 0 < n.0 }
-    requires n_bound { n.0 < count nodes.now }
-    requires n_value { labels_of nodes.now names.now n.0 ≡ [] }
-    requires taken_in_bounds { start.taken ≤ length answers.now }
-    ensures { Walked nodes.now names.now answers.now out.old start (unbreak (loops (before_at nodes.now n.0) n.0 (test_at nodes.now n.0) (labels_of nodes.now names.now (up_of nodes.now n.0)) (λ r. exec (one_of (statement nodes.now names.now) (parts nodes.now n.0 (n.0 + 1))) [] r) (drop start.taken answers.now))) out.new result }
+    requires n_bound { n.0 < count given.now.nodes.now }
+    requires n_value { labels_of given.now.nodes.now given.now.names.now n.0 ≡ [] }
+    requires taken_in_bounds { start.taken ≤ length given.now.answers.now }
+    ensures { Walked given.now.nodes.now given.now.names.now given.now.answers.now out.old start (unbreak (loops (before_at given.now.nodes.now n.0) n.0 (test_at given.now.nodes.now n.0) (labels_of given.now.nodes.now given.now.names.now (up_of given.now.nodes.now n.0)) (λ r. exec (one_of (statement given.now.nodes.now given.now.names.now) (parts given.now.nodes.now n.0 (n.0 + 1))) [] r) (drop start.taken given.now.answers.now))) out.new result }
 {
-    if code_shapes::is_before(nodes, n) {
-        let done = walk_turns(nodes, names, answers, out, n, start);
+    if code_shapes::is_before(given.nodes, n) {
+        let done = walk_turns(given, out, n, start);
         return left(done);
     }
-    let first = walk_one(nodes, names, answers, out, n, start);
-    if !loop_continues(nodes, names, n, first.how) {
+    let first = walk_one(given, out, n, start);
+    if !loop_continues(given.nodes, given.names, n, first.how) {
         return left(first);
     }
-    let done = walk_turns(nodes, names, answers, out, n, first);
+    let done = walk_turns(given, out, n, first);
     left(done)
 }
 
 // 14.12.2, the switch n: from the case that the answer picks, "later cases follow".
 #[cycle(walk)]
-fn walk_switch(
-    nodes: &[u32],
-    names: &[u8],
-    answers: &[u32],
-    out: &mut [u32],
-    n: NodeId,
-    start: Run,
-) -> Run
-    requires walkable { Walkable nodes.now names.now }
-    requires n_bound { n.0 < count nodes.now }
-    requires n_value { labels_of nodes.now names.now n.0 ≡ [] }
-    requires taken_in_bounds { start.taken ≤ length answers.now }
-    ensures { Walked nodes.now names.now answers.now out.old start (ask n.0 (drop start.taken answers.now) (λ a r. unbreak (execs (list_of (statement nodes.now names.now) (cases_from nodes.now (parts nodes.now n.0 (n.0 + 1)) a)) r))) out.new result }
+fn walk_switch(given: &Given, out: &mut [u32], n: NodeId, start: Run) -> Run
+    requires walkable { Walkable given.now.nodes.now given.now.names.now }
+    requires n_bound { n.0 < count given.now.nodes.now }
+    requires n_value { labels_of given.now.nodes.now given.now.names.now n.0 ≡ [] }
+    requires taken_in_bounds { start.taken ≤ length given.now.answers.now }
+    ensures { Walked given.now.nodes.now given.now.names.now given.now.answers.now out.old start (ask n.0 (drop start.taken given.now.answers.now) (λ a r. unbreak (execs (list_of (statement given.now.nodes.now given.now.names.now) (cases_from given.now.nodes.now (parts given.now.nodes.now n.0 (n.0 + 1)) a)) r))) out.new result }
 {
     let at = start.taken;
-    if answers.len() <= at {
+    if given.answers.len() <= at {
         return Run {
             how: Completion::Spent,
             ..start
         };
     }
-    let a = answers[at];
-    let next = asked(answers, out, n, start);
-    let Some(c) = case_of(nodes, n, a) else {
+    let a = given.answers[at];
+    let next = asked(given.answers, out, n, start);
+    let Some(c) = case_of(given.nodes, n, a) else {
         return next;
     };
-    let done = walk_parts(nodes, names, answers, out, n, c.0, next);
+    let done = walk_parts(given, out, n, c.0, next);
     left(done)
 }
 
 // 14.15.3, the Block of the Try n, and its catch where that throws.
 #[cycle(walk)]
-fn walk_caught(
-    nodes: &[u32],
-    names: &[u8],
-    answers: &[u32],
-    out: &mut [u32],
-    n: NodeId,
-    start: Run,
-) -> Run
-    requires walkable { Walkable nodes.now names.now }
-    requires n_bound { n.0 < count nodes.now }
-    requires n_value { labels_of nodes.now names.now n.0 ≡ [] }
-    requires taken_in_bounds { start.taken ≤ length answers.now }
-    ensures { Walked nodes.now names.now answers.now out.old start (caught_by (statement nodes.now names.now) (role_in nodes.now n.0 role.Alternate) (ran_of (statement nodes.now names.now) (role_in nodes.now n.0 role.Held) (drop start.taken answers.now))) out.new result }
+fn walk_caught(given: &Given, out: &mut [u32], n: NodeId, start: Run) -> Run
+    requires walkable { Walkable given.now.nodes.now given.now.names.now }
+    requires n_bound { n.0 < count given.now.nodes.now }
+    requires n_value { labels_of given.now.nodes.now given.now.names.now n.0 ≡ [] }
+    requires taken_in_bounds { start.taken ≤ length given.now.answers.now }
+    ensures { Walked given.now.nodes.now given.now.names.now given.now.answers.now out.old start (caught_by (statement given.now.nodes.now given.now.names.now) (role_in given.now.nodes.now n.0 role.Alternate) (ran_of (statement given.now.nodes.now given.now.names.now) (role_in given.now.nodes.now n.0 role.Held) (drop start.taken given.now.answers.now))) out.new result }
 {
-    let Some(block) = part_with_role(nodes, n, roles::HELD) else {
+    let Some(block) = part_with_role(given.nodes, n, roles::HELD) else {
         return Run {
             how: Completion::Normal,
             ..start
         };
     };
-    let done = walk_node(nodes, names, answers, out, block, start);
-    let Some(catch) = part_with_role(nodes, n, roles::ALTERNATE) else {
+    let done = walk_node(given, out, block, start);
+    let Some(catch) = part_with_role(given.nodes, n, roles::ALTERNATE) else {
         return done;
     };
     if !is_throw(done.how) {
         return done;
     }
-    walk_node(nodes, names, answers, out, catch, done)
+    walk_node(given, out, catch, done)
 }
 
 // 14.15.3, the Try n: its finally runs on each way out, but where the answers are spent.
 #[cycle(walk)]
-fn walk_try(
-    nodes: &[u32],
-    names: &[u8],
-    answers: &[u32],
-    out: &mut [u32],
-    n: NodeId,
-    start: Run,
-) -> Run
-    requires walkable { Walkable nodes.now names.now }
-    requires n_bound { n.0 < count nodes.now }
-    requires n_value { labels_of nodes.now names.now n.0 ≡ [] }
-    requires taken_in_bounds { start.taken ≤ length answers.now }
-    ensures { Walked nodes.now names.now answers.now out.old start (finally_by (statement nodes.now names.now) (role_in nodes.now n.0 role.Finally) (caught_by (statement nodes.now names.now) (role_in nodes.now n.0 role.Alternate) (ran_of (statement nodes.now names.now) (role_in nodes.now n.0 role.Held) (drop start.taken answers.now)))) out.new result }
+fn walk_try(given: &Given, out: &mut [u32], n: NodeId, start: Run) -> Run
+    requires walkable { Walkable given.now.nodes.now given.now.names.now }
+    requires n_bound { n.0 < count given.now.nodes.now }
+    requires n_value { labels_of given.now.nodes.now given.now.names.now n.0 ≡ [] }
+    requires taken_in_bounds { start.taken ≤ length given.now.answers.now }
+    ensures { Walked given.now.nodes.now given.now.names.now given.now.answers.now out.old start (finally_by (statement given.now.nodes.now given.now.names.now) (role_in given.now.nodes.now n.0 role.Finally) (caught_by (statement given.now.nodes.now given.now.names.now) (role_in given.now.nodes.now n.0 role.Alternate) (ran_of (statement given.now.nodes.now given.now.names.now) (role_in given.now.nodes.now n.0 role.Held) (drop start.taken given.now.answers.now)))) out.new result }
 {
-    let done = walk_caught(nodes, names, answers, out, n, start);
+    let done = walk_caught(given, out, n, start);
     let how = done.how;
-    let Some(last) = part_with_role(nodes, n, roles::FINALLY) else {
+    let Some(last) = part_with_role(given.nodes, n, roles::FINALLY) else {
         return done;
     };
     if is_spent(how) {
         return done;
     }
-    let end = walk_node(nodes, names, answers, out, last, done);
+    let end = walk_node(given, out, last, done);
     if is_normal(end.how) {
         return Run { how, ..end };
     }
@@ -572,40 +502,33 @@ fn walk_try(
 
 // One statement, by its shape.
 #[cycle(walk)]
-fn walk_node(
-    nodes: &[u32],
-    names: &[u8],
-    answers: &[u32],
-    out: &mut [u32],
-    n: NodeId,
-    start: Run,
-) -> Run
-    requires walkable { Walkable nodes.now names.now }
+fn walk_node(given: &Given, out: &mut [u32], n: NodeId, start: Run) -> Run
+    requires walkable { Walkable given.now.nodes.now given.now.names.now }
     requires n_nonzero { 0 < n.0 }
-    requires n_bound { n.0 < count nodes.now }
-    requires taken_in_bounds { start.taken ≤ length answers.now }
-    ensures { Walked nodes.now names.now answers.now out.old start (exec (statement nodes.now names.now n.0) (labels_of nodes.now names.now (up_of nodes.now n.0)) (drop start.taken answers.now)) out.new result }
+    requires n_bound { n.0 < count given.now.nodes.now }
+    requires taken_in_bounds { start.taken ≤ length given.now.answers.now }
+    ensures { Walked given.now.nodes.now given.now.names.now given.now.answers.now out.old start (exec (statement given.now.nodes.now given.now.names.now n.0) (labels_of given.now.nodes.now given.now.names.now (up_of given.now.nodes.now n.0)) (drop start.taken given.now.answers.now)) out.new result }
 {
-    match shape_of(nodes, n) {
-        Shape::Leaf => walk_leaf(nodes, names, out, n, start),
+    match shape_of(given.nodes, n) {
+        Shape::Leaf => walk_leaf(given.nodes, given.names, out, n, start),
         Shape::Class => {
             let next = listed(out, n, start);
-            walk_parts(nodes, names, answers, out, n, n.0 + 1, next)
+            walk_parts(given, out, n, n.0 + 1, next)
         }
-        Shape::If => walk_if(nodes, names, answers, out, n, start),
+        Shape::If => walk_if(given, out, n, start),
         Shape::With => {
             let next = listed(out, n, start);
-            walk_one(nodes, names, answers, out, n, next)
+            walk_one(given, out, n, next)
         }
-        Shape::Block | Shape::Case => walk_parts(nodes, names, answers, out, n, n.0 + 1, start),
+        Shape::Block | Shape::Case => walk_parts(given, out, n, n.0 + 1, start),
         Shape::Label => {
-            let done = walk_one(nodes, names, answers, out, n, start);
-            left_label(nodes, names, n, done)
+            let done = walk_one(given, out, n, start);
+            left_label(given.nodes, given.names, n, done)
         }
-        Shape::Loop => walk_loop(nodes, names, answers, out, n, start),
-        Shape::Switch => walk_switch(nodes, names, answers, out, n, start),
-        Shape::Try => walk_try(nodes, names, answers, out, n, start),
-        Shape::Catch => walk_one(nodes, names, answers, out, n, start),
+        Shape::Loop => walk_loop(given, out, n, start),
+        Shape::Switch => walk_switch(given, out, n, start),
+        Shape::Try => walk_try(given, out, n, start),
+        Shape::Catch => walk_one(given, out, n, start),
     }
 }
 
@@ -614,14 +537,14 @@ pub fn end_of(how: Completion) -> u32
     ensures { (ns names : List ℕ) → result ≡ end_of (comp_at ns names how) }
 {
     match how {
-        Completion::Normal => unit_end::FELL_THROUGH,
-        Completion::Return => unit_end::RETURNED,
-        Completion::Throw => unit_end::THROWN,
-        Completion::Spent => unit_end::SPENT,
+        Completion::Normal => run_end::FELL_THROUGH,
+        Completion::Return => run_end::RETURNED,
+        Completion::Throw => run_end::THROWN,
+        Completion::Spent => run_end::SPENT,
         Completion::Break
         | Completion::BreakTo(_)
         | Completion::Continue
-        | Completion::ContinueTo(_) => unit_end::ASTRAY,
+        | Completion::ContinueTo(_) => run_end::ASTRAY,
     }
 }
 
@@ -638,5 +561,10 @@ pub fn walk_unit(nodes: &[u32], names: &[u8], answers: &[u32], out: &mut [u32], 
     let Some(b) = code_shapes::holder(nodes, u) else {
         return start;
     };
-    walk_parts(nodes, names, answers, out, b, b.0 + 1, start)
+    let given = Given {
+        nodes,
+        names,
+        answers,
+    };
+    walk_parts(&given, out, b, b.0 + 1, start)
 }

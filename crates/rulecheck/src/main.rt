@@ -7,8 +7,9 @@ ghost use Rattle.line_input.specs.Format.{front};
 ghost use Rattle.line_answers.specs.Answer.{findings_room, text_room};
 ghost use Rattle.rulecheck.specs.Response.{check_text, response};
 
+use check_dispatch::Rule;
 use line_answers::{FINDINGS_ROOM, TEXT_ROOM};
-use line_input::ENOUGH;
+use line_input::{ENOUGH, Tables};
 use refusal_verdict::{Refusal, Refused};
 use std::io;
 use std::io::{Read, Write};
@@ -18,11 +19,7 @@ const ASYNC_BODIES_OFF: u32 = 0;
 
 // Writes the text of the tables, which stand at the front of each slice. Says where it ends.
 fn check_text(
-    kind: u32,
-    n: usize,
-    s: usize,
-    b: usize,
-    m: usize,
+    tables: Tables,
     nodes: &[u32],
     scopes: &[u32],
     source: &[u8],
@@ -31,17 +28,17 @@ fn check_text(
     out: &mut [u8],
 ) -> usize
     requires { (length findings.old ≡ findings_room) × (length out.old ≡ text_room) }
-    ensures { (result ≡ length (check_text kind (take n nodes.now) (take s scopes.now) (take b source.now) (take m names.now))) × (out.new ≡ front (check_text kind (take n nodes.now) (take s scopes.now) (take b source.now) (take m names.now)) out.old) }
+    ensures { (result ≡ length (check_text tables.kind (take tables.nodes nodes.now) (take tables.scopes scopes.now) (take tables.source source.now) (take tables.names names.now))) × (out.new ≡ front (check_text tables.kind (take tables.nodes nodes.now) (take tables.scopes scopes.now) (take tables.source source.now) (take tables.names names.now)) out.old) }
 {
-    let answer = call_check::check(
-        kind,
-        ASYNC_BODIES_OFF,
-        line_print::front(nodes, n),
-        line_print::front(scopes, s),
-        line_print::front(source, b),
-        line_print::front(names, m),
-        findings,
-    );
+    let rule = Rule {
+        source_type: tables.kind,
+        async_bodies: ASYNC_BODIES_OFF,
+        nodes: line_print::front(nodes, tables.nodes),
+        scopes: line_print::front(scopes, tables.scopes),
+        source: line_print::front(source, tables.source),
+        names: line_print::front(names, tables.names),
+    };
+    let answer = call_check::check(&rule, findings);
     line_answers::answer_text(answer, findings, out)
 }
 
@@ -62,10 +59,7 @@ fn respond_by(
     let read = line_input::read(input, nodes, scopes, source, names);
     match read {
         Err(unread) => line_answers::refusal_text(Refused::At(Refusal::Unread, unread.line), out),
-        Ok(t) => check_text(
-            t.kind, t.nodes, t.scopes, t.source, t.names, nodes, scopes, source, names, findings,
-            out,
-        ),
+        Ok(tables) => check_text(tables, nodes, scopes, source, names, findings, out),
     }
 }
 

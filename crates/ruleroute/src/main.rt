@@ -9,7 +9,8 @@ ghost use Rattle.check_dispatch.specs.Rule.{rule};
 ghost use Rattle.call_routes.specs.Calls.{route_answer, route_slice};
 ghost use Rattle.ruleroute.specs.Answer.{entry_line, last_line, answers_room, code_room, routed_of, entries_of, lines_for, listed, text_of, printed};
 
-use line_input::ENOUGH;
+use check_dispatch::Rule;
+use line_input::{Asked, ENOUGH};
 use refusal_verdict::{Refusal, Refused};
 use route_viewer::Route;
 use std::io;
@@ -61,13 +62,7 @@ fn last_line(answer: Result<Route, Refused>, out: &mut [u8]) -> usize
 
 // The answer for what was read, which stands at the front of each slice.
 fn routed(
-    kind: u32,
-    n: usize,
-    s: usize,
-    b: usize,
-    m: usize,
-    unit: u32,
-    a: usize,
+    asked: Asked,
     nodes: &[u32],
     scopes: &[u32],
     source: &[u8],
@@ -77,20 +72,19 @@ fn routed(
     out: &mut [u32],
 ) -> Result<Route, Refused>
     requires { length code.old ≡ code_room }
-    ensures { (result ≡ route_answer (rule kind 0 (take n nodes.now) (take s scopes.now) (take b source.now) (take m names.now)) unit (take a answers.now) code_room (length out.old)) × (out.new ≡ route_slice (rule kind 0 (take n nodes.now) (take s scopes.now) (take b source.now) (take m names.now)) unit (take a answers.now) code_room out.old) }
+    ensures { (result ≡ route_answer (rule asked.tables.kind 0 (take asked.tables.nodes nodes.now) (take asked.tables.scopes scopes.now) (take asked.tables.source source.now) (take asked.tables.names names.now)) asked.unit (take asked.answers answers.now) code_room (length out.old)) × (out.new ≡ route_slice (rule asked.tables.kind 0 (take asked.tables.nodes nodes.now) (take asked.tables.scopes scopes.now) (take asked.tables.source source.now) (take asked.tables.names names.now)) asked.unit (take asked.answers answers.now) code_room out.old) }
 {
-    call_routes::route(
-        kind,
-        ASYNC_BODIES_OFF,
-        line_print::front(nodes, n),
-        line_print::front(scopes, s),
-        line_print::front(source, b),
-        line_print::front(names, m),
-        unit,
-        line_print::front(answers, a),
-        code,
-        out,
-    )
+    let tables = asked.tables;
+    let rule = Rule {
+        source_type: tables.kind,
+        async_bodies: ASYNC_BODIES_OFF,
+        nodes: line_print::front(nodes, tables.nodes),
+        scopes: line_print::front(scopes, tables.scopes),
+        source: line_print::front(source, tables.source),
+        names: line_print::front(names, tables.names),
+    };
+    let given = line_print::front(answers, asked.answers);
+    call_routes::route(&rule, asked.unit, given, code, out)
 }
 
 // The answer for the bytes `input`, with slices for the tables and for the code; `out` holds the route then.
@@ -111,22 +105,7 @@ fn respond_by(
     let read = line_input::read_route(input, nodes, scopes, source, names, answers);
     match read {
         Err(unread) => Err(Refused::At(Refusal::Unread, unread.line)),
-        Ok(asked) => routed(
-            asked.tables.kind,
-            asked.tables.nodes,
-            asked.tables.scopes,
-            asked.tables.source,
-            asked.tables.names,
-            asked.unit,
-            asked.answers,
-            nodes,
-            scopes,
-            source,
-            names,
-            answers,
-            code,
-            out,
-        ),
+        Ok(asked) => routed(asked, nodes, scopes, source, names, answers, code, out),
     }
 }
 
@@ -165,8 +144,8 @@ fn print_entries<O: Write>(writer: &mut O, entries: &[u32], text: &mut [u8]) -> 
     requires { length text.old ≡ 256 }
     ensures { OnOk result (Appends (O.contents writer.old) (O.contents writer.new) (lines_for entries.now)) }
 {
-    for i in 0..entries.len() {
-        print_entry(writer, entries[i], text)?;
+    for entry in entries {
+        print_entry(writer, *entry, text)?;
     }
     Ok(())
 }

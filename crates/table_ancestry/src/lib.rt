@@ -31,6 +31,7 @@ pub fn parent_kind(nodes: &[u32], n: NodeId) -> u32
 }
 
 // Whether the number a is that of n or of an ancestor of it: at most 512 steps.
+#[tactic(auto, using(base_walk::proofs::OnLaws::on_miss, crate::proofs::AncestryLaws::on_at))]
 pub fn is_on_path(nodes: &[u32], a: u32, n: NodeId) -> bool
     requires tree { Tree nodes.now }
     requires n_bound { n.0 < count nodes.now }

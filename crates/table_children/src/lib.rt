@@ -28,6 +28,7 @@ pub fn is_child(
 }
 
 // The first such child of p from `from` on: reads the nodes below p, and one more.
+#[tactic(auto, using(crate::proofs::ChildrenLaws::child_out, crate::proofs::ChildrenLaws::node_stop, crate::proofs::ChildrenLaws::node_on, crate::proofs::ChildrenLaws::node_end))]
 pub fn next_child(
     nodes: &[u32],
     p: NodeId,

@@ -17,6 +17,7 @@ pub fn same(a: &[u8], b: &[u8]) -> bool
 }
 
 // The name of a node.
+#[tactic(auto, unfolding(crate::specs::Name::name_of))]
 pub fn name<'a>(nodes: &[u32], names: &'a [u8], n: NodeId) -> &'a [u8]
     requires named { Named nodes.now names.now }
     requires n_bound { n.0 < count nodes.now }

@@ -5,7 +5,8 @@ use Rattle.base_walk.specs.On.{on}
 use Rattle.base_walk.specs.Preorder.{Preorder}
 use Rattle.table_records.specs.Table.{count, kind_of, parent_of, depth_of, scope_of, extra_of, span_start_of, span_end_of, name_start_of, name_len_of, count_scopes, scope_parent_of, scope_flags_of, scope_node_of}
 
--- what is known where no node is out of place
+-- What is known where no node is out of place. Functions ask for it by `requires tree { Tree nodes.now }`, and no type of table carries it: a struct of the table with this
+-- as a ghost field was tried. Its functions then speak of the struct's field in each clause (`nodes.entry.numbers.now`), so that the clauses grow, while the one `requires` goes.
 pub record Tree (ns : List ℕ) : Type 0 where
   pub some : 0 < count ns
   pub small : count ns ≤ 65535

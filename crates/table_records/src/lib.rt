@@ -26,6 +26,39 @@ pub struct ClassId(pub u32);
 #[derive(Clone, Copy, PartialEq, Eq)]
 pub struct ElementId(pub u32);
 
+// Classes and elements are told by nodes: the ids go over into one another by their number. A scope's goes into none of them.
+impl From<ClassId> for NodeId {
+    ghost from_gives = { λ c n. n ≡ record { 0 = c.0 } };
+
+    fn from(c: ClassId) -> NodeId {
+        NodeId(c.0)
+    }
+}
+
+impl From<NodeId> for ClassId {
+    ghost from_gives = { λ n c. c ≡ record { 0 = n.0 } };
+
+    fn from(n: NodeId) -> ClassId {
+        ClassId(n.0)
+    }
+}
+
+impl From<ElementId> for NodeId {
+    ghost from_gives = { λ e n. n ≡ record { 0 = e.0 } };
+
+    fn from(e: ElementId) -> NodeId {
+        NodeId(e.0)
+    }
+}
+
+impl From<NodeId> for ElementId {
+    ghost from_gives = { λ n e. e ≡ record { 0 = n.0 } };
+
+    fn from(n: NodeId) -> ElementId {
+        ElementId(n.0)
+    }
+}
+
 // How many nodes there are.
 pub fn size(nodes: &[u32]) -> u32
     requires { IsTableSize (count nodes.now) }

@@ -2,7 +2,7 @@ use Rattle.refusal_verdict.specs.declared.Refusal.TheVariants as refusal
 use Rattle.refusal_verdict.specs.declared.Refused.TheVariants.{Short}
 use Rattle.std.specs.Prelude.{Ok, Err}
 use Rattle.call_check.proofs.CheckLaws.{answer_short, slice_short, answer_room, slice_room}
-use Rattle.check_dispatch.specs.Rule.{rule}
+use Rattle.check_dispatch.specs.Lent.{rule_of}
 use Rattle.check_dispatch.specs.Reported.{reported}
 use lib.ListN.{length}
 use native.Mathlib.Omega.{arith}
@@ -12,14 +12,14 @@ use Rattle.call_check.proofs.report.Goals as goal
 
 pub returns-then-findings-needed : goal.returns-then-findings-needed
 returns-then-findings-needed c = let a = c.args in
-    let f = reported (rule a.source_type a.async_bodies a.nodes.now a.scopes.now a.source.now a.names.now) in
+    let f = reported (rule_of a.rule.now) in
     let q : c.check_tree-needed.result ≡ 7 * length f = omega (arith, c.check_tree-needed.ensures.place) in
     let h : length a.findings.now < 7 * length f = omega (arith, c.if-findings-needed.true, q) in
     record { value = (λ i. Err (Short refusal.FindingsSlice (q i))) ∙ sym (answer_short f a.findings.now h); findings_after = sym (slice_short f a.findings.now h) }
 
 pub returns : goal.returns
 returns c = let a = c.args in
-    let f = reported (rule a.source_type a.async_bodies a.nodes.now a.scopes.now a.source.now a.names.now) in
+    let f = reported (rule_of a.rule.now) in
     let q : c.check_tree-needed.result ≡ 7 * length f = omega (arith, c.check_tree-needed.ensures.place) in
     let h : 7 * length f ≤ length a.findings.now = omega (arith, c.if-findings-needed.false, q) in
     let d : c.check_tree-written.result / 7 ≡ length f = omega (arith, c.check_tree-written.ensures.place) in

@@ -19,7 +19,7 @@ returns-then-not-is_label c =
     let f = c.requires.firsts in
     let h = c.requires.i_bound in
     let w = other_fit ns names a.i (sym c.is_label.ensures ∙ c.if-not-is_label.true) in
-    (w.0, subst (Firsts ns names a.kept.now a.size) (sym w.1) f)
+    (w.0, subst (Firsts ns names a.kept.now.nodes a.kept.now.size) (sym w.1) f)
 
 pub returns-then-is_reserved : goal.returns-then-is_reserved
 returns-then-is_reserved c =
@@ -43,7 +43,7 @@ returns-then-name_len-eq0 c =
     let q = sym c.is_reserved.ensures ∙ c.if-is_reserved.false in
     let z = name_length ns names c.requires.named a.i h ∙ sym c.name_len.ensures ∙ c.if-name_len-eq0.true in
     let w = nameless_fit ns names a.i e q z in
-    (w.0, subst (Firsts ns names a.kept.now a.size) (sym w.1) f)
+    (w.0, subst (Firsts ns names a.kept.now.nodes a.kept.now.size) (sym w.1) f)
 
 pub place_in-requires : goal.place_in-requires
 place_in-requires c =
@@ -54,8 +54,8 @@ place_in-requires c =
     let h = c.requires.i_bound in
     record { named = c.requires.named; nodes = f.nodes; n_bound = h }
 
-pub returns-then-place_in-size : goal.returns-then-place_in-size
-returns-then-place_in-size c =
+pub returns-then-place_in-kept : goal.returns-then-place_in-kept
+returns-then-place_in-kept c =
     let a = c.args in
     let ns = a.nodes.now in
     let names = a.names.now in
@@ -64,12 +64,12 @@ returns-then-place_in-size c =
     let e = sym c.is_label.ensures ∙ c.if-not-is_label.false in
     let q = sym c.is_reserved.ensures ∙ c.if-is_reserved.false in
     let p = c.place_in.ensures ∙ ap (λ s. place_in s (name_of ns names a.i)) f.named in
-    let l = firsts_length ns names a.kept.now a.size (seen_before ns names a.i) f in
-    let w = known_fit ns names a.i e q (omega (arith, p, l, c.if-place_in-size.true)) in
-    (w.0, subst (Firsts ns names a.kept.now a.size) (sym w.1) f)
+    let l = firsts_length ns names a.kept.now.nodes a.kept.now.size (seen_before ns names a.i) f in
+    let w = known_fit ns names a.i e q (omega (arith, p, l, c.if-place_in-kept.true)) in
+    (w.0, subst (Firsts ns names a.kept.now.nodes a.kept.now.size) (sym w.1) f)
 
-pub returns-then-size-eq-MOST : goal.returns-then-size-eq-MOST
-returns-then-size-eq-MOST c =
+pub returns-then-kept-eq-MOST : goal.returns-then-kept-eq-MOST
+returns-then-kept-eq-MOST c =
     let a = c.args in
     let ns = a.nodes.now in
     let names = a.names.now in
@@ -79,17 +79,17 @@ returns-then-size-eq-MOST c =
     let q = sym c.is_reserved.ensures ∙ c.if-is_reserved.false in
     let n : length (name_of ns names a.i) ≡ 0 → ⊥ = λ z. c.if-name_len-eq0.false (c.name_len.ensures ∙ sym (name_length ns names c.requires.named a.i h) ∙ z) in
     let p = c.place_in.ensures ∙ ap (λ s. place_in s (name_of ns names a.i)) f.named in
-    let l = firsts_length ns names a.kept.now a.size (seen_before ns names a.i) f in
-    (refl, many_unfit ns names a.i e q n (omega (arith, p, l, c.if-place_in-size.false)) (omega (arith, l, c.if-size-eq-MOST.true)))
+    let l = firsts_length ns names a.kept.now.nodes a.kept.now.size (seen_before ns names a.i) f in
+    (refl, many_unfit ns names a.i e q n (omega (arith, p, l, c.if-place_in-kept.false)) (omega (arith, l, c.if-kept-eq-MOST.true)))
 
-pub bounds-kept-size : goal.bounds-kept-size
-bounds-kept-size c =
+pub bounds-kept-kept : goal.bounds-kept-kept
+bounds-kept-kept c =
     let a = c.args in
     let ns = a.nodes.now in
     let names = a.names.now in
     let f = c.requires.firsts in
     let h = c.requires.i_bound in
-    let w = f.nodes in omega (arith, w.few, w.room, c.if-size-eq-MOST.false)
+    let w = f.nodes in omega (arith, w.few, w.room, c.if-kept-eq-MOST.false)
 
 pub returns : goal.returns
 returns c =
@@ -102,7 +102,7 @@ returns c =
     let q = sym c.is_reserved.ensures ∙ c.if-is_reserved.false in
     let n : length (name_of ns names a.i) ≡ 0 → ⊥ = λ z. c.if-name_len-eq0.false (c.name_len.ensures ∙ sym (name_length ns names c.requires.named a.i h) ∙ z) in
     let p = c.place_in.ensures ∙ ap (λ s. place_in s (name_of ns names a.i)) f.named in
-    let l = firsts_length ns names a.kept.now a.size (seen_before ns names a.i) f in
+    let l = firsts_length ns names a.kept.now.nodes a.kept.now.size (seen_before ns names a.i) f in
     let few = f.nodes.few in
-    let w = new_fit ns names a.i e q n (omega (arith, p, l, c.if-place_in-size.false)) (omega (arith, l, few, c.if-size-eq-MOST.false)) in
-    (w.0, subst (Firsts ns names (set a.kept.now a.size a.i) (a.size + 1)) (sym w.1) (firsts_add ns names a.kept.now a.size a.i (seen_before ns names a.i) f (omega (arith, few, c.if-size-eq-MOST.false)) h))
+    let w = new_fit ns names a.i e q n (omega (arith, p, l, c.if-place_in-kept.false)) (omega (arith, l, few, c.if-kept-eq-MOST.false)) in
+    (w.0, subst (Firsts ns names (set a.kept.now.nodes a.kept.now.size a.i) (a.kept.now.size + 1)) (sym w.1) (firsts_add ns names a.kept.now.nodes a.kept.now.size a.i (seen_before ns names a.i) f (omega (arith, few, c.if-kept-eq-MOST.false)) h))

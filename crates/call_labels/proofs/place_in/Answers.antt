@@ -13,14 +13,14 @@ same_name-requires c = record { named = c.requires.named; a_bound = c.requires.n
 pub returns-then-same_name : goal.returns-then-same_name
 returns-then-same_name c =
     let a = c.args in
-    omega (arith, c.loop-k.invariant, place_stop a.nodes.now a.names.now a.kept.now a.size c.loop-k.k (name_of a.nodes.now a.names.now a.n.0) (omega arith) (sym c.same_name.ensures ∙ c.if-same_name.true))
+    omega (arith, c.loop-k.invariant, place_stop a.nodes.now a.names.now a.kept.now.nodes a.kept.now.size c.loop-k.k (name_of a.nodes.now a.names.now a.n.0) (omega arith) (sym c.same_name.ensures ∙ c.if-same_name.true))
 
 pub loop-k-preserved : goal.loop-k-preserved
 loop-k-preserved c =
     let a = c.args in
-    omega (arith, c.loop-k.invariant, place_on a.nodes.now a.names.now a.kept.now a.size c.loop-k.k (name_of a.nodes.now a.names.now a.n.0) (omega arith) (sym c.same_name.ensures ∙ c.if-same_name.false))
+    omega (arith, c.loop-k.invariant, place_on a.nodes.now a.names.now a.kept.now.nodes a.kept.now.size c.loop-k.k (name_of a.nodes.now a.names.now a.n.0) (omega arith) (sym c.same_name.ensures ∙ c.if-same_name.false))
 
 pub returns : goal.returns
 returns c =
     let a = c.args in
-    omega (arith, c.loop-k.invariant, place_end_lem a.nodes.now a.names.now a.kept.now a.size c.loop-k.k (name_of a.nodes.now a.names.now a.n.0) (omega arith))
+    omega (arith, c.loop-k.invariant, place_end_lem a.nodes.now a.names.now a.kept.now.nodes a.kept.now.size c.loop-k.k (name_of a.nodes.now a.names.now a.n.0) (omega arith))

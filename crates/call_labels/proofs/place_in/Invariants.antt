@@ -7,4 +7,4 @@ use Rattle.call_labels.proofs.place_in.Given as goal
 
 abbrev pub invariant-loop-k : goal.invariant-loop-k
 invariant-loop-k l =
-    (l.k + place_in (kept_from l.nodes l.names l.kept l.size l.k) (name_of l.nodes l.names l.n.0) ≡ place_in (kept_from l.nodes l.names l.kept l.size 0) (name_of l.nodes l.names l.n.0))
+    (l.k + place_in (kept_from l.nodes l.names l.kept.nodes l.kept.size l.k) (name_of l.nodes l.names l.n.0) ≡ place_in (kept_from l.nodes l.names l.kept.nodes l.kept.size 0) (name_of l.nodes l.names l.n.0))

@@ -77,7 +77,7 @@ put_short-requires c =
     let n : length x ≡ 0 → ⊥ = λ z. c.if-name_len-eq0.false (c.name_len.ensures ∙ sym (name_length ns names r.within a.n.0 h) ∙ z) in
     let p = c.place_in.ensures ∙ ap (λ s. place_in s x) r.firsts.named in
     let b = label_below ns names a.n.0 h e n in
-    let l = firsts_length ns names a.kept.now a.size (label_names ns names) r.firsts in
+    let l = firsts_length ns names a.kept.now.nodes a.kept.now.size (label_names ns names) r.firsts in
     let few = r.firsts.nodes.few in
     record { k_lt_most = omega (arith, p, b, l, few); k_in_bounds = omega (arith, c.requires.n_in_bounds, ap length (short_new ns names a.n.0 e n), ap (λ k. length (short_name k)) p) }
 

@@ -12,12 +12,12 @@ use Rattle.call_walk.proofs.walk.Goals as goal
 
 pub shown-requires : goal.shown-requires
 shown-requires c = let a = c.args in
-    enterable a.source_type a.async_bodies a.nodes.now a.scopes.now a.source.now a.names.now a.unit (sym c.in_ok-refusal.ensures)
+    enterable a.rule.now.source_type a.rule.now.async_bodies a.rule.now.nodes.now a.rule.now.scopes.now a.rule.now.source.now a.rule.now.names.now a.unit (sym c.in_ok-refusal.ensures)
 
 pub returns-in_err-refusal : goal.returns-in_err-refusal
 unfolding walk_answer walk_slice
 returns-in_err-refusal c = let a = c.args in
-    let w = route (unit_of a.nodes.now a.names.now a.unit) a.answers.now in
+    let w = route (unit_of a.rule.now.nodes.now a.rule.now.names.now a.unit) a.answers.now in
     let o = a.out.now in
     let e = c.in_err-refusal.ensures in
     record { value = handed _ _ c.from_residual.ensures.1 ∙ ap (λ (v : Verdict). unless v Err (shown_answer w (length o))) e; out_after = ap (λ (v : Verdict). unless v (λ e. o) (shown_slice w o)) e }
@@ -25,7 +25,7 @@ returns-in_err-refusal c = let a = c.args in
 pub returns : goal.returns
 unfolding walk_answer walk_slice
 returns c = let a = c.args in
-    let w = route (unit_of a.nodes.now a.names.now a.unit) a.answers.now in
+    let w = route (unit_of a.rule.now.nodes.now a.rule.now.names.now a.unit) a.answers.now in
     let o = a.out.now in
     let e = c.in_ok-refusal.ensures in
     record { value = c.shown.ensures.value ∙ ap (λ (v : Verdict). unless v Err (shown_answer w (length o))) e; out_after = c.shown.ensures.out_after ∙ ap (λ (v : Verdict). unless v (λ e. o) (shown_slice w o)) e }

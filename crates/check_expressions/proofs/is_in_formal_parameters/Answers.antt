@@ -1,10 +1,10 @@
 use native.Mathlib.Omega.{arith}
 use mathlib.Core.Path.{◌≡◌, sym, ◌∙◌}
-use mathlib.Core.Bool.{true, false}
+use mathlib.Core.Bool.{false}
 use Rattle.base_common.specs.Tests.{within}
 use Rattle.table_records.specs.Kinds as k
 use Rattle.table_records.specs.Table.{kind_of}
-use Rattle.check_expressions.specs.ExpressionLaws.{parameter_found, parameter_stop, parameter_on, parameter_root}
+use Rattle.check_expressions.specs.ExpressionLaws.{parameter_on}
 use Rattle.std.proofs.lemmas.Bool.Decides.{nat_tests}
 use Rattle.check_expressions.proofs.is_in_formal_parameters.Goals as goal
 
@@ -12,14 +12,3 @@ pub loop-at-preserved : goal.loop-at-preserved
 loop-at-preserved c = let a = c.args in
     let w : within (kind_of a.nodes.now c.up-at.result.0) k.Program k.Arrow ≡ false = grind (arith, nat_tests) in
     (omega arith, cc (parameter_on a.nodes.now c.requires.tree c.loop-at.at.0 c.up-at.result.0 (omega arith) (omega arith) c.up-at.ensures.result_value (sym c.is_parameter.ensures ∙ c.if-is_parameter.false) w))
-
-pub returns-then-at-eq0 : goal.returns-then-at-eq0
-returns-then-at-eq0 c = let z : c.loop-at.at.0 ≡ 0 = omega arith in cc (parameter_root c.args.nodes.now, z)
-
-pub returns-then-is_parameter : goal.returns-then-is_parameter
-returns-then-is_parameter c = let a = c.args in cc (parameter_found a.nodes.now c.requires.tree c.loop-at.at.0 c.up-at.result.0 (omega arith) (omega arith) c.up-at.ensures.result_value (sym c.is_parameter.ensures ∙ c.if-is_parameter.true))
-
-pub returns-in-0-to-2 : goal.returns-in-0-to-2
-returns-in-0-to-2 c = let a = c.args in
-    let w : within (kind_of a.nodes.now c.up-at.result.0) k.Program k.Arrow ≡ true = grind (arith, nat_tests) in
-    cc (parameter_stop a.nodes.now c.requires.tree c.loop-at.at.0 c.up-at.result.0 (omega arith) (omega arith) c.up-at.ensures.result_value (sym c.is_parameter.ensures ∙ c.if-is_parameter.false) w)

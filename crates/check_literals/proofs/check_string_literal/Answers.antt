@@ -3,7 +3,6 @@ use Rattle.check_literals.specs.Escapes.{bad_escape}
 use Rattle.check_literals.specs.declared.Escape.TheVariants.{LegacyOctal, NonOctalDecimal}
 use mathlib.Core.Path.{ap, ◌∙◌}
 use Rattle.check_literals.proofs.EscapeLaws.{escape_spanned}
-use borrow.Author.Rules.{rules}
 use Rattle.check_literals.proofs.check_string_literal.Goals as goal
 
 pub error_escape-requires-clause-i_bound : goal.error_escape-requires-clause-i_bound

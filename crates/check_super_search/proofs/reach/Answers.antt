@@ -1,10 +1,11 @@
 use Rattle.table_records.specs.declared.ScopeId.{ScopeId}
-use Rattle.std.specs.Prelude.{Option}
+use Rattle.std.specs.Prelude.{Option, Some}
 use Rattle.table_records.specs.declared.ClassId.{ClassId}
 use Rattle.check_super_search.specs.Search.{scopes_in, at_most, AroundSuper}
 use Rattle.check_super_search.proofs.SearchLaws.{node_in, around_less, around_super, all_spent, class_fails, class_value, class_key, scope_stops, scope_goes, not_stop, place_value, place_key}
 use Rattle.check_supers.specs.Super.{place_of, leave_class, reach_from, reach_of, body_of}
 use Rattle.check_supers.proofs.SuperLaws.{place_root, place_none}
+use Rattle.check_supers.specs.declared.ElementPart.{ElementPart}
 use Rattle.check_supers.specs.declared.Step.TheVariants.{Stop}
 use Rattle.table_children.specs.Children.{below}
 use Rattle.table_records.specs.Table.{scope_of, scope_parent_of}
@@ -54,13 +55,13 @@ pub scopes-smaller : goal.scopes-smaller
 scopes-smaller c = subst (λ (x : Option ScopeId). at_most c.around-left.result < at_most x) (sym c.in-Some.is) (around_less c.args.scopes.now c.requires.chained c.in-Some.s.0 (subst (AroundSuper c.args.nodes.now c.args.scopes.now c.args.n.0) c.in-Some.is c.scopes.invariant.0).0 c.around-left.result c.around-left.ensures)
 
 pub scopes-preserved : goal.scopes-preserved
-scopes-preserved c = (around_super c.args.scopes.now c.requires.chained c.in-Some.s.0 (subst (AroundSuper c.args.nodes.now c.args.scopes.now c.args.n.0) c.in-Some.is c.scopes.invariant.0).0 c.around-left.result c.around-left.ensures c.args.nodes.now c.args.n.0 (c.requires.scoped.scope c.args.n.0 c.requires.n_bound) (subst (AroundSuper c.args.nodes.now c.args.scopes.now c.args.n.0) c.in-Some.is c.scopes.invariant.0).1, c.leave_class-class.ensures.below_2, omega (arith, node_in c.args.nodes.now c.args.scopes.now c.requires.tree c.requires.scoped c.args.n.0 c.in-Some.s.0 c.requires.n_bound (subst (AroundSuper c.args.nodes.now c.args.scopes.now c.args.n.0) c.in-Some.is c.scopes.invariant.0).1, c.scope_node-start.ensures), class_key c.args.nodes.now c.args.scopes.now c.requires.tree c.requires.chained c.args.n.0 c.requires.n_bound c.is_call-call.result (body_of c.scopes.class) c.scopes.start.0 c.in-Some.s.0 (subst (λ (x : Option ScopeId). reach_from c.args.nodes.now c.args.scopes.now c.args.n.0 c.is_call-call.result (scopes_in c.args.scopes.now x) (body_of c.scopes.class) c.scopes.start.0 ≡ reach_of c.args.nodes.now c.args.scopes.now c.args.n.0) c.in-Some.is c.scopes.invariant.3) (sym c.is_class_scope.ensures ∙ c.if-not-is_class_scope.false) (sym c.loop-x.invariant.1 ∙ place_key c.args.nodes.now c.requires.tree c.loop-x.x.0 c.up-a.result.0 c.up-a.ensures.result_value (omega arith) c.loop-x.invariant.0 (sym c.part_at.ensures ∙ c.in-Key.is)) (subst (AroundSuper c.args.nodes.now c.args.scopes.now c.args.n.0) c.in-Some.is c.scopes.invariant.0).0 c.around-left.result c.around-left.ensures (body_of c.leave_class-class.result) (c.leave_class-class.ensures.result_value ∙ ap (λ (y : Option ClassId). leave_class c.args.nodes.now (body_of y)) c.loop-x.invariant.2) c.scope_node-start.result.0 c.scope_node-start.ensures)
+scopes-preserved c = (around_super c.args.scopes.now c.requires.chained c.in-Some.s.0 (subst (AroundSuper c.args.nodes.now c.args.scopes.now c.args.n.0) c.in-Some.is c.scopes.invariant.0).0 c.around-left.result c.around-left.ensures c.args.nodes.now c.args.n.0 (c.requires.scoped.scope c.args.n.0 c.requires.n_bound) (subst (AroundSuper c.args.nodes.now c.args.scopes.now c.args.n.0) c.in-Some.is c.scopes.invariant.0).1, c.leave_class-class.ensures.below_2, omega (arith, node_in c.args.nodes.now c.args.scopes.now c.requires.tree c.requires.scoped c.args.n.0 c.in-Some.s.0 c.requires.n_bound (subst (AroundSuper c.args.nodes.now c.args.scopes.now c.args.n.0) c.in-Some.is c.scopes.invariant.0).1, c.scope_node-start.ensures), class_key c.args.nodes.now c.args.scopes.now c.requires.tree c.requires.chained c.args.n.0 c.requires.n_bound c.is_call-call.result (body_of c.scopes.class) c.scopes.start.0 c.in-Some.s.0 (subst (λ (x : Option ScopeId). reach_from c.args.nodes.now c.args.scopes.now c.args.n.0 c.is_call-call.result (scopes_in c.args.scopes.now x) (body_of c.scopes.class) c.scopes.start.0 ≡ reach_of c.args.nodes.now c.args.scopes.now c.args.n.0) c.in-Some.is c.scopes.invariant.3) (sym c.is_class_scope.ensures ∙ c.if-not-is_class_scope.false) (sym c.loop-x.invariant.1 ∙ place_key c.args.nodes.now c.requires.tree c.loop-x.x.0 c.up-a.result.0 c.up-a.ensures.result_value (omega arith) c.loop-x.invariant.0 (sym c.part_at.ensures ∙ c.in-Some-Key.is ∙ ap (λ (p : ElementPart). Some p) c.in-Some-Key.field-0-is)) (subst (AroundSuper c.args.nodes.now c.args.scopes.now c.args.n.0) c.in-Some.is c.scopes.invariant.0).0 c.around-left.result c.around-left.ensures (body_of c.leave_class-class.result) (c.leave_class-class.ensures.result_value ∙ ap (λ (y : Option ClassId). leave_class c.args.nodes.now (body_of y)) c.loop-x.invariant.2) c.scope_node-start.result.0 c.scope_node-start.ensures)
 
 pub loop-x-smaller : goal.loop-x-smaller
 loop-x-smaller c = omega (arith, c.up-a.ensures.result_lt_n)
 
 pub loop-x-preserved : goal.loop-x-preserved
-loop-x-preserved c = (omega (arith, c.up-a.ensures.result_lt_n, c.loop-x.invariant.0), sym (place_none c.args.nodes.now c.requires.tree c.loop-x.x.0 c.up-a.result.0 c.up-a.ensures.result_value (omega arith) c.loop-x.invariant.0 (sym c.part_at.ensures ∙ c.in-NoElement.is)) ∙ c.loop-x.invariant.1, c.loop-x.invariant.2)
+loop-x-preserved c = (omega (arith, c.up-a.ensures.result_lt_n, c.loop-x.invariant.0), sym (place_none c.args.nodes.now c.requires.tree c.loop-x.x.0 c.up-a.result.0 c.up-a.ensures.result_value (omega arith) c.loop-x.invariant.0 (sym c.part_at.ensures ∙ c.in-None.is)) ∙ c.loop-x.invariant.1, c.loop-x.invariant.2)
 
 pub returns-in_default : goal.returns-in_default
 returns-in_default c = let facts = all_spent c.args.nodes.now c.args.scopes.now c.requires.tree c.requires.chained c.args.n.0 c.requires.n_bound c.is_call-call.result (body_of c.scopes.class) c.scopes.start.0 (subst (λ (x : Option ScopeId). reach_from c.args.nodes.now c.args.scopes.now c.args.n.0 c.is_call-call.result (scopes_in c.args.scopes.now x) (body_of c.scopes.class) c.scopes.start.0 ≡ reach_of c.args.nodes.now c.args.scopes.now c.args.n.0) c.in_default.is c.scopes.invariant.3) in record { value = facts.0; underived_in = facts.1 }
@@ -71,5 +72,5 @@ returns-in-Stop c = let facts = scope_stops c.args.nodes.now c.args.scopes.now c
 pub returns-then-x-eq0 : goal.returns-then-x-eq0
 returns-then-x-eq0 c = let facts = class_fails c.args.nodes.now c.args.scopes.now c.requires.tree c.requires.chained c.args.n.0 c.requires.n_bound c.is_call-call.result (body_of c.scopes.class) c.scopes.start.0 c.in-Some.s.0 (subst (λ (x : Option ScopeId). reach_from c.args.nodes.now c.args.scopes.now c.args.n.0 c.is_call-call.result (scopes_in c.args.scopes.now x) (body_of c.scopes.class) c.scopes.start.0 ≡ reach_of c.args.nodes.now c.args.scopes.now c.args.n.0) c.in-Some.is c.scopes.invariant.3) (sym c.is_class_scope.ensures ∙ c.if-not-is_class_scope.false) (sym c.loop-x.invariant.1 ∙ ap (place_of c.args.nodes.now) c.if-x-eq0.true ∙ place_root c.args.nodes.now c.requires.tree) in record { value = facts.0; underived_in = facts.1 }
 
-pub returns-in-Value : goal.returns-in-Value
-returns-in-Value c = let facts = class_value c.args.nodes.now c.args.scopes.now c.requires.tree c.requires.chained c.args.n.0 c.requires.n_bound c.is_call-call.result (body_of c.scopes.class) c.scopes.start.0 c.in-Some.s.0 (subst (λ (x : Option ScopeId). reach_from c.args.nodes.now c.args.scopes.now c.args.n.0 c.is_call-call.result (scopes_in c.args.scopes.now x) (body_of c.scopes.class) c.scopes.start.0 ≡ reach_of c.args.nodes.now c.args.scopes.now c.args.n.0) c.in-Some.is c.scopes.invariant.3) (sym c.is_class_scope.ensures ∙ c.if-not-is_class_scope.false) (sym c.loop-x.invariant.1 ∙ place_value c.args.nodes.now c.requires.tree c.loop-x.x.0 c.up-a.result.0 c.up-a.ensures.result_value (omega arith) c.loop-x.invariant.0 (sym c.part_at.ensures ∙ c.in-Value.is)) c.if_call.result c.if_call.ensures in record { value = facts.0; underived_in = facts.1 }
+pub returns-in-Some-Value : goal.returns-in-Some-Value
+returns-in-Some-Value c = let facts = class_value c.args.nodes.now c.args.scopes.now c.requires.tree c.requires.chained c.args.n.0 c.requires.n_bound c.is_call-call.result (body_of c.scopes.class) c.scopes.start.0 c.in-Some.s.0 (subst (λ (x : Option ScopeId). reach_from c.args.nodes.now c.args.scopes.now c.args.n.0 c.is_call-call.result (scopes_in c.args.scopes.now x) (body_of c.scopes.class) c.scopes.start.0 ≡ reach_of c.args.nodes.now c.args.scopes.now c.args.n.0) c.in-Some.is c.scopes.invariant.3) (sym c.is_class_scope.ensures ∙ c.if-not-is_class_scope.false) (sym c.loop-x.invariant.1 ∙ place_value c.args.nodes.now c.requires.tree c.loop-x.x.0 c.up-a.result.0 c.up-a.ensures.result_value (omega arith) c.loop-x.invariant.0 (sym c.part_at.ensures ∙ c.in-Some-Value.is ∙ ap (λ (p : ElementPart). Some p) c.in-Some-Value.field-0-is)) c.if_call.result c.if_call.ensures in record { value = facts.0; underived_in = facts.1 }

@@ -3,9 +3,9 @@ use mathlib.Core.Path.{◌≡◌, sym, ap, ◌∙◌}
 use mathlib.Core.Bool.{true, false}
 use lib.Dec.{eqb}
 use Rattle.route_completion.specs.Sem.{elem}
-use Rattle.code_tree.specs.Parts.{up_of, shape_at}
+use Rattle.code_tree.specs.Parts.{up_of, shape_at, is_labeled}
 use Rattle.code_tree.specs.Labels.{name_id, id_at}
-use Rattle.code_targets.specs.Targets.{is_labeled, labels_at}
+use Rattle.code_targets.specs.Targets.{labels_at}
 use Rattle.code_layout.specs.Widths.{in_unit}
 use Rattle.code_layout.proofs.Stands.{in_from}
 use Rattle.code_contexts.proofs.PlacesLaws.{above_in_lem}

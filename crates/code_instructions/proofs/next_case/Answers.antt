@@ -2,7 +2,7 @@ use Rattle.code_instructions.proofs.PartLaws.{case_in, case_last}
 use native.Mathlib.Omega.{arith}
 use mathlib.Core.Path.{sym, ap, ◌∙◌}
 use Rattle.code_layout.specs.Widths.{is_try}
-use Rattle.code_instructions.specs.First.{first_of}
+use Rattle.code_tree.specs.First.{first_of}
 use Rattle.code_instructions.proofs.next_case.Goals as goal
 
 pub is_last-requires : goal.is_last-requires

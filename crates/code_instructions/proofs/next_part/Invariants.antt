@@ -2,7 +2,7 @@ use Prim.Native.Nat.{◌-◌, ◌<◌}
 use mathlib.Core.Path.{◌≡◌}
 use Rattle.table_records.specs.Table.{count}
 use Rattle.code_tree.specs.Parts.{parts}
-use Rattle.code_instructions.specs.First.{first_of}
+use Rattle.code_tree.specs.First.{first_of}
 use Rattle.code_instructions.proofs.next_part.Given as goal
 
 abbrev pub invariant-loop-p : goal.invariant-loop-p

@@ -16,11 +16,11 @@ use Rattle.route_completion.specs.Sem.{Out, out, plain, more, normal, is_normal,
 use Rattle.route_completion.proofs.Laws.{rounds_law}
 use Rattle.route_completion.proofs.RestLaws.{exec_rest}
 use Rattle.code_tree.specs.Labels.{id_at}
-use Rattle.code_tree.specs.Parts.{up_of, parts}
+use Rattle.code_tree.specs.Parts.{up_of, is_labeled, parts}
 use Rattle.code_tree.specs.Statements.{test_at, list_of, one_of}
 use Rattle.route_walk.specs.declared.Run.{Run}
 use Rattle.route_walk.specs.Walk.{comp_at, Walked}
-use Rattle.route_steps.specs.Statement.{is_labeled, labels_of, statement as statementOf}
+use Rattle.route_steps.specs.Statement.{labels_of, statement as statementOf}
 use Rattle.route_steps.specs.Steps.{First, part_of, branch_of, cases_from, role_in, ran_of, caught_by, finally_by}
 use Rattle.route_steps.proofs.StepsLaws.{first_low_lem, from_part}
 use Rattle.route_walk.proofs.WalkLaws.{still, then, goes, stays, asks_on, asks_none, lasts, lasts_spent}
@@ -58,9 +58,9 @@ turn-yes a b n ns t q e z = ap (λ x. is_yes a || not x) (sym q) ∙ heeded a b 
 pub walk_caught-returns-in_default : goal.walk_caught-returns-in_default
 walk_caught-returns-in_default t c =
     let a = c.args in
-    let ns = a.nodes.now in
-    let nm = a.names.now in
-    let qs = a.answers.now in
+    let ns = a.given.now.nodes.now in
+    let nm = a.given.now.names.now in
+    let qs = a.given.now.answers.now in
     let g = c.requires.walkable.good in
     let n = a.n.0 in
     let S = statementOf ns nm in
@@ -72,9 +72,9 @@ walk_caught-returns-in_default t c =
 pub walk_caught-returns-in_default-part_with_role : goal.walk_caught-returns-in_default-part_with_role
 walk_caught-returns-in_default-part_with_role t c =
     let a = c.args in
-    let ns = a.nodes.now in
-    let nm = a.names.now in
-    let qs = a.answers.now in
+    let ns = a.given.now.nodes.now in
+    let nm = a.given.now.names.now in
+    let qs = a.given.now.answers.now in
     let g = c.requires.walkable.good in
     let n = a.n.0 in
     let S = statementOf ns nm in
@@ -91,9 +91,9 @@ walk_caught-returns-in_default-part_with_role t c =
 pub walk_caught-returns-then-not-is_throw : goal.walk_caught-returns-then-not-is_throw
 walk_caught-returns-then-not-is_throw t c =
     let a = c.args in
-    let ns = a.nodes.now in
-    let nm = a.names.now in
-    let qs = a.answers.now in
+    let ns = a.given.now.nodes.now in
+    let nm = a.given.now.names.now in
+    let qs = a.given.now.answers.now in
     let g = c.requires.walkable.good in
     let n = a.n.0 in
     let S = statementOf ns nm in
@@ -111,9 +111,9 @@ walk_caught-returns-then-not-is_throw t c =
 pub walk_caught-returns : goal.walk_caught-returns
 walk_caught-returns t c =
     let a = c.args in
-    let ns = a.nodes.now in
-    let nm = a.names.now in
-    let qs = a.answers.now in
+    let ns = a.given.now.nodes.now in
+    let nm = a.given.now.names.now in
+    let qs = a.given.now.answers.now in
     let g = c.requires.walkable.good in
     let n = a.n.0 in
     let S = statementOf ns nm in
@@ -131,47 +131,47 @@ walk_caught-returns t c =
     let e = ap is_throw W.ended ∙ sym (c.is_throw.ensures ns nm) ∙ c.if-not-is_throw.false in
     same (λ i. caught_by S (h4 i) (ran_of S (h3 i) Q)) (goes ns nm qs _ _ _ _ _ _ (exec (S c1) [] Q) (λ r. exec (S c2) [] r) _ e W (same (ap (λ k. exec (S c2) k (drop c.walk_node-done.result.taken qs)) (sym off2)) c.walk_node.ensures))
 
-pub walk_if-returns-then-answers-at : goal.walk_if-returns-then-answers-at
-walk_if-returns-then-answers-at t c =
+pub walk_if-returns-then-given-at : goal.walk_if-returns-then-given-at
+walk_if-returns-then-given-at t c =
     let a = c.args in
-    let ns = a.nodes.now in
-    let nm = a.names.now in
-    let qs = a.answers.now in
+    let ns = a.given.now.nodes.now in
+    let nm = a.given.now.names.now in
+    let qs = a.given.now.answers.now in
     let g = c.requires.walkable.good in
     let n = a.n.0 in
     let S = statementOf ns nm in
     let P = parts ns n (n + 1) in
     let Q = drop a.start.taken qs in
-    asks_none ns nm qs _ _ _ n (λ x r. ran_of S (branch_of ns P x) r) c.if-answers-at.true c.requires.taken_in_bounds refl refl refl tt
+    asks_none ns nm qs _ _ _ n (λ x r. ran_of S (branch_of ns P x) r) c.if-given-at.true c.requires.taken_in_bounds refl refl refl tt
 
 pub walk_if-returns-in_default : goal.walk_if-returns-in_default
 walk_if-returns-in_default t c =
     let a = c.args in
-    let ns = a.nodes.now in
-    let nm = a.names.now in
-    let qs = a.answers.now in
+    let ns = a.given.now.nodes.now in
+    let nm = a.given.now.names.now in
+    let qs = a.given.now.answers.now in
     let g = c.requires.walkable.good in
     let n = a.n.0 in
     let S = statementOf ns nm in
     let P = parts ns n (n + 1) in
     let Q = drop a.start.taken qs in
     let v1 = c.asked-next.ensures.by_index ns nm in
-    let l = c.if-answers-at.false in
+    let l = c.if-given-at.false in
     asks_on ns nm qs _ _ _ _ _ _ n (L.get_or qs a.start.taken 0) (λ x r. ran_of S (branch_of ns P x) r) (omega arith) refl c.asked-next.ensures.taken_value v1 (same (ap (λ x. ran_of S x (drop c.asked-next.result.taken qs)) (sym c.branch_of.ensures.value ∙ c.in_default.is)) (still ns nm qs _ c.asked-next.result c.asked-next.result normal refl refl v1.inside v1.ended v1.label))
 
 pub walk_if-returns : goal.walk_if-returns
 walk_if-returns t c =
     let a = c.args in
-    let ns = a.nodes.now in
-    let nm = a.names.now in
-    let qs = a.answers.now in
+    let ns = a.given.now.nodes.now in
+    let nm = a.given.now.names.now in
+    let qs = a.given.now.answers.now in
     let g = c.requires.walkable.good in
     let n = a.n.0 in
     let S = statementOf ns nm in
     let P = parts ns n (n + 1) in
     let Q = drop a.start.taken qs in
     let v1 = c.asked-next.ensures.by_index ns nm in
-    let l = c.if-answers-at.false in
+    let l = c.if-given-at.false in
     let w = subst (part_of ns n) c.in-Some.is c.branch_of.ensures.part_of in
     let c1 = c.in-Some.c.0 in
     let off : labels_of ns nm (up_of ns c1) ≡ [] = ap (labels_of ns nm) w.parent ∙ c.requires.n_value in
@@ -180,9 +180,9 @@ walk_if-returns t c =
 pub walk_loop-returns-then-is_before : goal.walk_loop-returns-then-is_before
 walk_loop-returns-then-is_before t c =
     let a = c.args in
-    let ns = a.nodes.now in
-    let nm = a.names.now in
-    let qs = a.answers.now in
+    let ns = a.given.now.nodes.now in
+    let nm = a.given.now.names.now in
+    let qs = a.given.now.answers.now in
     let g = c.requires.walkable.good in
     let n = a.n.0 in
     let S = statementOf ns nm in
@@ -193,9 +193,9 @@ walk_loop-returns-then-is_before t c =
 pub walk_loop-returns-then-not-loop_continues : goal.walk_loop-returns-then-not-loop_continues
 walk_loop-returns-then-not-loop_continues t c =
     let a = c.args in
-    let ns = a.nodes.now in
-    let nm = a.names.now in
-    let qs = a.answers.now in
+    let ns = a.given.now.nodes.now in
+    let nm = a.given.now.names.now in
+    let qs = a.given.now.answers.now in
     let g = c.requires.walkable.good in
     let n = a.n.0 in
     let S = statementOf ns nm in
@@ -209,9 +209,9 @@ walk_loop-returns-then-not-loop_continues t c =
 pub walk_loop-returns : goal.walk_loop-returns
 walk_loop-returns t c =
     let a = c.args in
-    let ns = a.nodes.now in
-    let nm = a.names.now in
-    let qs = a.answers.now in
+    let ns = a.given.now.nodes.now in
+    let nm = a.given.now.names.now in
+    let qs = a.given.now.answers.now in
     let g = c.requires.walkable.good in
     let n = a.n.0 in
     let S = statementOf ns nm in
@@ -236,17 +236,17 @@ walk_node-overflow_add-n-in-Block t c =
 
 pub walk_node-walk_parts-requires : goal.walk_node-walk_parts-requires
 walk_node-walk_parts-requires t c =
-    let ns = c.args.nodes.now in
-    let nm = c.args.names.now in
+    let ns = c.args.given.now.nodes.now in
+    let nm = c.args.given.now.names.now in
     let n = c.args.n.0 in
     let x = sym c.shape_of.ensures ∙ c.in-Class.is in
     let off : labels_of ns nm n ≡ [] = labels_off ns nm c.requires.walkable.good n (ap is_labeled x) in
-    (omega arith, (c.requires.walkable, (omega arith, (omega arith, (off, (c.listed-next.ensures ns nm c.args.answers.now c.requires.taken_in_bounds).inside)))))
+    (omega arith, (c.requires.walkable, (omega arith, (omega arith, (off, (c.listed-next.ensures ns nm c.args.given.now.answers.now c.requires.taken_in_bounds).inside)))))
 
 pub walk_node-walk_if-requires : goal.walk_node-walk_if-requires
 walk_node-walk_if-requires t c =
-    let ns = c.args.nodes.now in
-    let nm = c.args.names.now in
+    let ns = c.args.given.now.nodes.now in
+    let nm = c.args.given.now.names.now in
     let n = c.args.n.0 in
     let x = sym c.shape_of.ensures ∙ c.in-If.is in
     let off : labels_of ns nm n ≡ [] = labels_off ns nm c.requires.walkable.good n (ap is_labeled x) in
@@ -254,12 +254,12 @@ walk_node-walk_if-requires t c =
 
 pub walk_node-walk_one-requires : goal.walk_node-walk_one-requires
 walk_node-walk_one-requires t c =
-    (omega arith, (c.requires.walkable, (c.requires.n_bound, (c.listed-next-in-With.ensures c.args.nodes.now c.args.names.now c.args.answers.now c.requires.taken_in_bounds).inside)))
+    (omega arith, (c.requires.walkable, (c.requires.n_bound, (c.listed-next-in-With.ensures c.args.given.now.nodes.now c.args.given.now.names.now c.args.given.now.answers.now c.requires.taken_in_bounds).inside)))
 
 pub walk_node-walk_parts-requires-in-Block : goal.walk_node-walk_parts-requires-in-Block
 walk_node-walk_parts-requires-in-Block t c =
-    let ns = c.args.nodes.now in
-    let nm = c.args.names.now in
+    let ns = c.args.given.now.nodes.now in
+    let nm = c.args.given.now.names.now in
     let n = c.args.n.0 in
     let g = c.requires.walkable.good in
     let off : labels_of ns nm n ≡ [] = elim c.in-Block.is [
@@ -270,8 +270,8 @@ walk_node-walk_parts-requires-in-Block t c =
 
 pub walk_node-walk_loop-requires : goal.walk_node-walk_loop-requires
 walk_node-walk_loop-requires t c =
-    let ns = c.args.nodes.now in
-    let nm = c.args.names.now in
+    let ns = c.args.given.now.nodes.now in
+    let nm = c.args.given.now.names.now in
     let n = c.args.n.0 in
     let x = sym c.shape_of.ensures ∙ c.in-Loop.is in
     let off : labels_of ns nm n ≡ [] = labels_off ns nm c.requires.walkable.good n (ap is_labeled x) in
@@ -279,8 +279,8 @@ walk_node-walk_loop-requires t c =
 
 pub walk_node-walk_switch-requires : goal.walk_node-walk_switch-requires
 walk_node-walk_switch-requires t c =
-    let ns = c.args.nodes.now in
-    let nm = c.args.names.now in
+    let ns = c.args.given.now.nodes.now in
+    let nm = c.args.given.now.names.now in
     let n = c.args.n.0 in
     let x = sym c.shape_of.ensures ∙ c.in-Switch.is in
     let off : labels_of ns nm n ≡ [] = labels_off ns nm c.requires.walkable.good n (ap is_labeled x) in
@@ -288,8 +288,8 @@ walk_node-walk_switch-requires t c =
 
 pub walk_node-walk_try-requires : goal.walk_node-walk_try-requires
 walk_node-walk_try-requires t c =
-    let ns = c.args.nodes.now in
-    let nm = c.args.names.now in
+    let ns = c.args.given.now.nodes.now in
+    let nm = c.args.given.now.names.now in
     let n = c.args.n.0 in
     let x = sym c.shape_of.ensures ∙ c.in-Try.is in
     let off : labels_of ns nm n ≡ [] = labels_off ns nm c.requires.walkable.good n (ap is_labeled x) in
@@ -298,9 +298,9 @@ walk_node-walk_try-requires t c =
 pub walk_node-returns-in-Leaf : goal.walk_node-returns-in-Leaf
 walk_node-returns-in-Leaf t c =
     let a = c.args in
-    let ns = a.nodes.now in
-    let nm = a.names.now in
-    let qs = a.answers.now in
+    let ns = a.given.now.nodes.now in
+    let nm = a.given.now.names.now in
+    let qs = a.given.now.answers.now in
     let g = c.requires.walkable.good in
     let n = a.n.0 in
     let S = statementOf ns nm in
@@ -313,9 +313,9 @@ walk_node-returns-in-Leaf t c =
 pub walk_node-returns-in-Class : goal.walk_node-returns-in-Class
 walk_node-returns-in-Class t c =
     let a = c.args in
-    let ns = a.nodes.now in
-    let nm = a.names.now in
-    let qs = a.answers.now in
+    let ns = a.given.now.nodes.now in
+    let nm = a.given.now.names.now in
+    let qs = a.given.now.answers.now in
     let g = c.requires.walkable.good in
     let n = a.n.0 in
     let S = statementOf ns nm in
@@ -329,9 +329,9 @@ walk_node-returns-in-Class t c =
 pub walk_node-returns-in-If : goal.walk_node-returns-in-If
 walk_node-returns-in-If t c =
     let a = c.args in
-    let ns = a.nodes.now in
-    let nm = a.names.now in
-    let qs = a.answers.now in
+    let ns = a.given.now.nodes.now in
+    let nm = a.given.now.names.now in
+    let qs = a.given.now.answers.now in
     let g = c.requires.walkable.good in
     let n = a.n.0 in
     let S = statementOf ns nm in
@@ -344,9 +344,9 @@ walk_node-returns-in-If t c =
 pub walk_node-returns-in-With : goal.walk_node-returns-in-With
 walk_node-returns-in-With t c =
     let a = c.args in
-    let ns = a.nodes.now in
-    let nm = a.names.now in
-    let qs = a.answers.now in
+    let ns = a.given.now.nodes.now in
+    let nm = a.given.now.names.now in
+    let qs = a.given.now.answers.now in
     let g = c.requires.walkable.good in
     let n = a.n.0 in
     let S = statementOf ns nm in
@@ -360,9 +360,9 @@ walk_node-returns-in-With t c =
 pub walk_node-returns-in-Block : goal.walk_node-returns-in-Block
 walk_node-returns-in-Block t c =
     let a = c.args in
-    let ns = a.nodes.now in
-    let nm = a.names.now in
-    let qs = a.answers.now in
+    let ns = a.given.now.nodes.now in
+    let nm = a.given.now.names.now in
+    let qs = a.given.now.answers.now in
     let g = c.requires.walkable.good in
     let n = a.n.0 in
     let Q = drop a.start.taken qs in
@@ -375,9 +375,9 @@ walk_node-returns-in-Block t c =
 pub walk_node-returns-in-Label : goal.walk_node-returns-in-Label
 walk_node-returns-in-Label t c =
     let a = c.args in
-    let ns = a.nodes.now in
-    let nm = a.names.now in
-    let qs = a.answers.now in
+    let ns = a.given.now.nodes.now in
+    let nm = a.given.now.names.now in
+    let qs = a.given.now.answers.now in
     let g = c.requires.walkable.good in
     let n = a.n.0 in
     let S = statementOf ns nm in
@@ -390,9 +390,9 @@ walk_node-returns-in-Label t c =
 pub walk_node-returns-in-Loop : goal.walk_node-returns-in-Loop
 walk_node-returns-in-Loop t c =
     let a = c.args in
-    let ns = a.nodes.now in
-    let nm = a.names.now in
-    let qs = a.answers.now in
+    let ns = a.given.now.nodes.now in
+    let nm = a.given.now.names.now in
+    let qs = a.given.now.answers.now in
     let g = c.requires.walkable.good in
     let n = a.n.0 in
     let S = statementOf ns nm in
@@ -405,9 +405,9 @@ walk_node-returns-in-Loop t c =
 pub walk_node-returns-in-Switch : goal.walk_node-returns-in-Switch
 walk_node-returns-in-Switch t c =
     let a = c.args in
-    let ns = a.nodes.now in
-    let nm = a.names.now in
-    let qs = a.answers.now in
+    let ns = a.given.now.nodes.now in
+    let nm = a.given.now.names.now in
+    let qs = a.given.now.answers.now in
     let g = c.requires.walkable.good in
     let n = a.n.0 in
     let S = statementOf ns nm in
@@ -420,9 +420,9 @@ walk_node-returns-in-Switch t c =
 pub walk_node-returns-in-Try : goal.walk_node-returns-in-Try
 walk_node-returns-in-Try t c =
     let a = c.args in
-    let ns = a.nodes.now in
-    let nm = a.names.now in
-    let qs = a.answers.now in
+    let ns = a.given.now.nodes.now in
+    let nm = a.given.now.names.now in
+    let qs = a.given.now.answers.now in
     let g = c.requires.walkable.good in
     let n = a.n.0 in
     let S = statementOf ns nm in
@@ -435,9 +435,9 @@ walk_node-returns-in-Try t c =
 pub walk_node-returns-in-Catch : goal.walk_node-returns-in-Catch
 walk_node-returns-in-Catch t c =
     let a = c.args in
-    let ns = a.nodes.now in
-    let nm = a.names.now in
-    let qs = a.answers.now in
+    let ns = a.given.now.nodes.now in
+    let nm = a.given.now.names.now in
+    let qs = a.given.now.answers.now in
     let g = c.requires.walkable.good in
     let n = a.n.0 in
     let S = statementOf ns nm in
@@ -457,9 +457,9 @@ walk_one-overflow_add-n t c =
 pub walk_one-returns-in_default : goal.walk_one-returns-in_default
 walk_one-returns-in_default t c =
     let a = c.args in
-    let ns = a.nodes.now in
-    let nm = a.names.now in
-    let qs = a.answers.now in
+    let ns = a.given.now.nodes.now in
+    let nm = a.given.now.names.now in
+    let qs = a.given.now.answers.now in
     let g = c.requires.walkable.good in
     let n = a.n.0 in
     let S = statementOf ns nm in
@@ -471,9 +471,9 @@ walk_one-returns-in_default t c =
 pub walk_one-returns : goal.walk_one-returns
 walk_one-returns t c =
     let a = c.args in
-    let ns = a.nodes.now in
-    let nm = a.names.now in
-    let qs = a.answers.now in
+    let ns = a.given.now.nodes.now in
+    let nm = a.given.now.names.now in
+    let qs = a.given.now.answers.now in
     let g = c.requires.walkable.good in
     let n = a.n.0 in
     let S = statementOf ns nm in
@@ -490,9 +490,9 @@ walk_parts-loop-c-init t c =
 pub walk_parts-returns-in_default : goal.walk_parts-returns-in_default
 walk_parts-returns-in_default t c =
     let a = c.args in
-    let ns = a.nodes.now in
-    let nm = a.names.now in
-    let qs = a.answers.now in
+    let ns = a.given.now.nodes.now in
+    let nm = a.given.now.names.now in
+    let qs = a.given.now.answers.now in
     let g = c.requires.walkable.good in
     let n = a.n.0 in
     let S = statementOf ns nm in
@@ -503,9 +503,9 @@ walk_parts-returns-in_default t c =
 pub walk_parts-returns-then-not-is_normal : goal.walk_parts-returns-then-not-is_normal
 walk_parts-returns-then-not-is_normal t c =
     let a = c.args in
-    let ns = a.nodes.now in
-    let nm = a.names.now in
-    let qs = a.answers.now in
+    let ns = a.given.now.nodes.now in
+    let nm = a.given.now.names.now in
+    let qs = a.given.now.answers.now in
     let g = c.requires.walkable.good in
     let n = a.n.0 in
     let S = statementOf ns nm in
@@ -520,9 +520,9 @@ walk_parts-returns-then-not-is_normal t c =
 pub walk_parts-overflow_add-i : goal.walk_parts-overflow_add-i
 walk_parts-overflow_add-i t c =
     let a = c.args in
-    let ns = a.nodes.now in
-    let nm = a.names.now in
-    let qs = a.answers.now in
+    let ns = a.given.now.nodes.now in
+    let nm = a.given.now.names.now in
+    let qs = a.given.now.answers.now in
     let g = c.requires.walkable.good in
     let n = a.n.0 in
     let S = statementOf ns nm in
@@ -535,9 +535,9 @@ walk_parts-overflow_add-i t c =
 pub walk_parts-loop-c-smaller : goal.walk_parts-loop-c-smaller
 walk_parts-loop-c-smaller t c =
     let a = c.args in
-    let ns = a.nodes.now in
-    let nm = a.names.now in
-    let qs = a.answers.now in
+    let ns = a.given.now.nodes.now in
+    let nm = a.given.now.names.now in
+    let qs = a.given.now.answers.now in
     let g = c.requires.walkable.good in
     let n = a.n.0 in
     let S = statementOf ns nm in
@@ -551,9 +551,9 @@ walk_parts-loop-c-smaller t c =
 pub walk_parts-loop-c-preserved : goal.walk_parts-loop-c-preserved
 walk_parts-loop-c-preserved t c =
     let a = c.args in
-    let ns = a.nodes.now in
-    let nm = a.names.now in
-    let qs = a.answers.now in
+    let ns = a.given.now.nodes.now in
+    let nm = a.given.now.names.now in
+    let qs = a.given.now.answers.now in
     let g = c.requires.walkable.good in
     let n = a.n.0 in
     let S = statementOf ns nm in
@@ -567,48 +567,48 @@ walk_parts-loop-c-preserved t c =
     let i = w.1.inside in
     (omega arith, omega arith, W.inside, cc c.loop-c.invariant.3, λ h r v. c.loop-c.invariant.4 h r (same (list_on_lem ns nm g (parts ns n c.loop-c.i) (drop c.loop-c.run.taken qs) c1 (parts ns n (c1 + 1)) w.0) (goes ns nm qs _ _ _ _ _ _ (exec (S c1) [] (drop c.loop-c.run.taken qs)) (λ r. execs (list_of S (parts ns n (c1 + 1))) r) _ e W v)))
 
-pub walk_switch-returns-then-answers-at : goal.walk_switch-returns-then-answers-at
-walk_switch-returns-then-answers-at t c =
+pub walk_switch-returns-then-given-at : goal.walk_switch-returns-then-given-at
+walk_switch-returns-then-given-at t c =
     let a = c.args in
-    let ns = a.nodes.now in
-    let nm = a.names.now in
-    let qs = a.answers.now in
+    let ns = a.given.now.nodes.now in
+    let nm = a.given.now.names.now in
+    let qs = a.given.now.answers.now in
     let g = c.requires.walkable.good in
     let n = a.n.0 in
     let S = statementOf ns nm in
     let P = parts ns n (n + 1) in
     let Q = drop a.start.taken qs in
-    asks_none ns nm qs _ _ _ n (λ x r. unbreak (execs (list_of S (cases_from ns P x)) r)) c.if-answers-at.true c.requires.taken_in_bounds refl refl refl tt
+    asks_none ns nm qs _ _ _ n (λ x r. unbreak (execs (list_of S (cases_from ns P x)) r)) c.if-given-at.true c.requires.taken_in_bounds refl refl refl tt
 
 pub walk_switch-returns-in_default : goal.walk_switch-returns-in_default
 walk_switch-returns-in_default t c =
     let a = c.args in
-    let ns = a.nodes.now in
-    let nm = a.names.now in
-    let qs = a.answers.now in
+    let ns = a.given.now.nodes.now in
+    let nm = a.given.now.names.now in
+    let qs = a.given.now.answers.now in
     let g = c.requires.walkable.good in
     let n = a.n.0 in
     let S = statementOf ns nm in
     let P = parts ns n (n + 1) in
     let Q = drop a.start.taken qs in
     let v1 = c.asked-next.ensures.by_index ns nm in
-    let l = c.if-answers-at.false in
+    let l = c.if-given-at.false in
     let w = subst (First ns n (cases_from ns P (L.get_or qs a.start.taken 0))) c.in_default.is c.case_of.ensures in
     asks_on ns nm qs _ _ _ _ _ _ n (L.get_or qs a.start.taken 0) (λ x r. unbreak (execs (list_of S (cases_from ns P x)) r)) (omega arith) refl c.asked-next.ensures.taken_value v1 (same (ap unbreak (list_end ns nm g (cases_from ns P (L.get_or qs a.start.taken 0)) (drop c.asked-next.result.taken qs) w)) (still ns nm qs _ c.asked-next.result c.asked-next.result normal refl refl v1.inside v1.ended v1.label))
 
 pub walk_switch-returns : goal.walk_switch-returns
 walk_switch-returns t c =
     let a = c.args in
-    let ns = a.nodes.now in
-    let nm = a.names.now in
-    let qs = a.answers.now in
+    let ns = a.given.now.nodes.now in
+    let nm = a.given.now.names.now in
+    let qs = a.given.now.answers.now in
     let g = c.requires.walkable.good in
     let n = a.n.0 in
     let S = statementOf ns nm in
     let P = parts ns n (n + 1) in
     let Q = drop a.start.taken qs in
     let v1 = c.asked-next.ensures.by_index ns nm in
-    let l = c.if-answers-at.false in
+    let l = c.if-given-at.false in
     let w = subst (First ns n (cases_from ns P (L.get_or qs a.start.taken 0))) c.in-Some.is c.case_of.ensures in
     let c1 = c.in-Some.c.0 in
     asks_on ns nm qs _ _ _ _ _ _ n (L.get_or qs a.start.taken 0) (λ x r. unbreak (execs (list_of S (cases_from ns P x)) r)) (omega arith) refl c.asked-next.ensures.taken_value v1 (same (ap (λ k. unbreak (execs (list_of S k) (drop c.asked-next.result.taken qs))) (w.0 ∙ sym (from_part ns n c1 w.1))) (c.left.ensures ns nm qs _ _ _ _ c.walk_parts-done.ensures))
@@ -616,9 +616,9 @@ walk_switch-returns t c =
 pub walk_try-returns-in_default : goal.walk_try-returns-in_default
 walk_try-returns-in_default t c =
     let a = c.args in
-    let ns = a.nodes.now in
-    let nm = a.names.now in
-    let qs = a.answers.now in
+    let ns = a.given.now.nodes.now in
+    let nm = a.given.now.names.now in
+    let qs = a.given.now.answers.now in
     let g = c.requires.walkable.good in
     let n = a.n.0 in
     let S = statementOf ns nm in
@@ -630,9 +630,9 @@ walk_try-returns-in_default t c =
 pub walk_try-returns-then-is_spent : goal.walk_try-returns-then-is_spent
 walk_try-returns-then-is_spent t c =
     let a = c.args in
-    let ns = a.nodes.now in
-    let nm = a.names.now in
-    let qs = a.answers.now in
+    let ns = a.given.now.nodes.now in
+    let nm = a.given.now.names.now in
+    let qs = a.given.now.answers.now in
     let g = c.requires.walkable.good in
     let n = a.n.0 in
     let S = statementOf ns nm in
@@ -647,9 +647,9 @@ walk_try-returns-then-is_spent t c =
 pub walk_try-returns-then-is_normal : goal.walk_try-returns-then-is_normal
 walk_try-returns-then-is_normal t c =
     let a = c.args in
-    let ns = a.nodes.now in
-    let nm = a.names.now in
-    let qs = a.answers.now in
+    let ns = a.given.now.nodes.now in
+    let nm = a.given.now.names.now in
+    let qs = a.given.now.answers.now in
     let g = c.requires.walkable.good in
     let n = a.n.0 in
     let S = statementOf ns nm in
@@ -668,9 +668,9 @@ walk_try-returns-then-is_normal t c =
 pub walk_try-returns : goal.walk_try-returns
 walk_try-returns t c =
     let a = c.args in
-    let ns = a.nodes.now in
-    let nm = a.names.now in
-    let qs = a.answers.now in
+    let ns = a.given.now.nodes.now in
+    let nm = a.given.now.names.now in
+    let qs = a.given.now.answers.now in
     let g = c.requires.walkable.good in
     let n = a.n.0 in
     let S = statementOf ns nm in
@@ -693,9 +693,9 @@ walk_turns-loop-run-init t c =
 pub walk_turns-returns-then-a-eq0 : goal.walk_turns-returns-then-a-eq0
 walk_turns-returns-then-a-eq0 t c =
     let a = c.args in
-    let ns = a.nodes.now in
-    let nm = a.names.now in
-    let qs = a.answers.now in
+    let ns = a.given.now.nodes.now in
+    let nm = a.given.now.names.now in
+    let qs = a.given.now.answers.now in
     let g = c.requires.walkable.good in
     let n = a.n.0 in
     let S = statementOf ns nm in
@@ -708,9 +708,9 @@ walk_turns-returns-then-a-eq0 t c =
 pub walk_turns-returns-then-not-loop_continues : goal.walk_turns-returns-then-not-loop_continues
 walk_turns-returns-then-not-loop_continues t c =
     let a = c.args in
-    let ns = a.nodes.now in
-    let nm = a.names.now in
-    let qs = a.answers.now in
+    let ns = a.given.now.nodes.now in
+    let nm = a.given.now.names.now in
+    let qs = a.given.now.answers.now in
     let g = c.requires.walkable.good in
     let n = a.n.0 in
     let S = statementOf ns nm in
@@ -730,9 +730,9 @@ walk_turns-returns-then-not-loop_continues t c =
 pub walk_turns-loop-run-smaller : goal.walk_turns-loop-run-smaller
 walk_turns-loop-run-smaller t c =
     let a = c.args in
-    let ns = a.nodes.now in
-    let nm = a.names.now in
-    let qs = a.answers.now in
+    let ns = a.given.now.nodes.now in
+    let nm = a.given.now.names.now in
+    let qs = a.given.now.answers.now in
     let g = c.requires.walkable.good in
     let n = a.n.0 in
     let S = statementOf ns nm in
@@ -747,9 +747,9 @@ walk_turns-loop-run-smaller t c =
 pub walk_turns-loop-run-preserved : goal.walk_turns-loop-run-preserved
 walk_turns-loop-run-preserved t c =
     let a = c.args in
-    let ns = a.nodes.now in
-    let nm = a.names.now in
-    let qs = a.answers.now in
+    let ns = a.given.now.nodes.now in
+    let nm = a.given.now.names.now in
+    let qs = a.given.now.answers.now in
     let g = c.requires.walkable.good in
     let n = a.n.0 in
     let S = statementOf ns nm in
@@ -769,9 +769,9 @@ walk_turns-loop-run-preserved t c =
 pub walk_turns-returns : goal.walk_turns-returns
 walk_turns-returns t c =
     let a = c.args in
-    let ns = a.nodes.now in
-    let nm = a.names.now in
-    let qs = a.answers.now in
+    let ns = a.given.now.nodes.now in
+    let nm = a.given.now.names.now in
+    let qs = a.given.now.answers.now in
     let g = c.requires.walkable.good in
     let n = a.n.0 in
     let S = statementOf ns nm in

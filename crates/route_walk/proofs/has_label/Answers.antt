@@ -2,9 +2,9 @@ use mathlib.Core.Path.{◌≡◌, refl, sym, ◌∙◌, ap}
 use native.Mathlib.Omega.{arith}
 use mathlib.Core.Bool.{true, false}
 use Rattle.code_tree.specs.Labels.{name_id}
-use Rattle.code_tree.specs.Parts.{shape_at}
+use Rattle.code_tree.specs.Parts.{shape_at, is_labeled}
 use Rattle.route_completion.specs.Sem.{elem}
-use Rattle.route_steps.specs.Statement.{is_labeled, labels_of}
+use Rattle.route_steps.specs.Statement.{labels_of}
 use Rattle.route_steps.proofs.StatementLaws.{labels_hit, labels_next, labels_stop, labeled_inner}
 use Rattle.route_walk.proofs.has_label.Goals as goal
 
@@ -12,7 +12,7 @@ pub loop-l-init : goal.loop-l-init
 loop-l-init c = (c.requires.p_bound, refl)
 
 pub has_same_label-requires : goal.has_same_label-requires
-has_same_label-requires c = record { walkable = c.requires.walkable; p_bound = c.loop-l.invariant.0; l_bound = c.requires.l_bound }
+has_same_label-requires c = record { tree = c.requires.walkable.good.tree; named = c.requires.walkable.named; p_bound = c.loop-l.invariant.0; l_bound = c.requires.l_bound }
 
 pub returns-then-has_same_label : goal.returns-then-has_same_label
 returns-then-has_same_label c = let a = c.args in

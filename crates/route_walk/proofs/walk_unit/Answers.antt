@@ -7,7 +7,7 @@ use Rattle.route_completion.specs.Route.{route}
 use Rattle.route_walk.specs.declared.Run.{Run}
 use Rattle.route_walk.specs.declared.Completion.TheVariants as how
 use Rattle.route_walk.specs.Walk.{Shows}
-use Rattle.route_steps.specs.Statement.{is_labeled}
+use Rattle.code_tree.specs.Parts.{is_labeled}
 use Rattle.route_walk.proofs.WalkLaws.{whole, whole_none}
 use Rattle.route_steps.proofs.StatementLaws.{labels_off, unit_is_lem, unit_none}
 use Rattle.route_walk.proofs.walk_unit.Goals as goal

@@ -20,5 +20,5 @@ returns-in-Ok c =
     let p = c.requires.nodes_len in
     let t =
     text_tables (room_of a.nodes.now a.scopes.now a.source.now a.names.now) a.input.now (room_lent a.nodes.now a.scopes.now a.source.now a.names.now p.0 p.1 p.2 p.3) c.read-read.result c.read-read.ensures.answer
-    c.in-Ok.t a.nodes.now a.scopes.now a.source.now a.names.now c.read-read.new.nodes c.read-read.new.scopes c.read-read.new.source c.read-read.new.names c.in-Ok.is c.read-read.ensures.tables in
+    c.in-Ok.tables a.nodes.now a.scopes.now a.source.now a.names.now c.read-read.new.nodes c.read-read.new.scopes c.read-read.new.source c.read-read.new.names c.in-Ok.is c.read-read.ensures.tables in
     front_same a.out.now _ _ _ _ (sym t) c.check_text.ensures

@@ -4,10 +4,10 @@ use Rattle.std.proofs.KnownBytes.{Appends-nil, Appends-trans}
 use Rattle.ruleroute.proofs.AnswerLaws.{lines_next, lines_none}
 use Rattle.ruleroute.proofs.print_entries.Goals as goal
 
-pub loop-i-init : goal.loop-i-init
-loop-i-init g c = (search rules, subst (Appends _ _) (sym lines_none) (Appends-nil _))
+pub loop-entry-init : goal.loop-entry-init
+loop-entry-init g c = (search rules, subst (Appends _ _) (sym lines_none) (Appends-nil _))
 
-pub loop-i-preserved : goal.loop-i-preserved
-loop-i-preserved g c =
-    let more = lines_next c.args.entries.now c.loop-i.i (omega arith) in
-    (search rules, subst (Appends _ _) more (Appends-trans _ _ _ _ _ c.loop-i.invariant.1 c.in_ok-print_entry.ensures))
+pub loop-entry-preserved : goal.loop-entry-preserved
+loop-entry-preserved g c =
+    let more = lines_next c.args.entries.now c.loop-entry.entry-index (omega arith) in
+    (search rules, subst (Appends _ _) more (Appends-trans _ _ _ _ _ c.loop-entry.invariant.1 c.in_ok-print_entry.ensures))

@@ -1,7 +1,0 @@
-use Rattle.exports.specs.Numbers.{route_numbers}
-use Rattle.route_viewer.specs.Shown.{Routed}
-use mathlib.Core.Path.{ap, ◌∙◌}
-use Rattle.exports.proofs.velkunshe_route_resume_stop.Goals as goal
-
-pub returns : goal.returns
-returns c = record { value = c.route_numbers.ensures ∙ ap (λ (v : Routed). route_numbers v) c.route_resume_stop.ensures.answer; code_after = c.route_resume_stop.ensures.code; route_after = c.route_resume_stop.ensures.list; marks_after = c.route_resume_stop.ensures.marks }
