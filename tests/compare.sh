@@ -3,7 +3,7 @@
 # shellcheck source=tests/lib.bash
 source "$(dirname "$0")/lib.bash" || exit 1
 
-needs cargo rulecheck ruleroute exports
+needs cargo rulecheck ruleroute velkunshe
 cargo build --profile checked --offline -q --features cases/proved || give_up
 compare=target/cargo/checked/compare
 if cargo test --profile checked --offline -q --features cases/proved >/dev/null 2>&1; then ok; else bad "cargo test of the judges"; fi

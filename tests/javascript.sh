@@ -147,9 +147,9 @@ table() {
     rm -f "$lines"
 }
 check "a misplaced child in words" says 'TABLE  no verdict: refused (13), node 2: Other with role 3 (body) under node 1, While: a While takes statements with role 3, and of the roles 4 and 5 none; Other is no statement
-0 findings, no verdict on 1 file in 1 file' table 'J,0,3,1\nS,0,2,0\nN,0,0,0,0,0,0,0,0,\nN,10,0,3,0,0,0,0,0,\nN,55,1,3,0,0,0,0,0,\nX,\n'
+no verdict on 1 file' table 'J,0,3,1\nS,0,2,0\nN,0,0,0,0,0,0,0,0,\nN,10,0,3,0,0,0,0,0,\nN,55,1,3,0,0,0,0,0,\nX,\n'
 check "a missing child in words" says 'TABLE  no verdict: refused (14), node 1: a Try takes a CatchClause (role 4), a Block with role 5, or both, and has neither
-0 findings, no verdict on 1 file in 1 file' table 'J,0,3,1\nS,0,2,0\nN,0,0,0,0,0,0,0,0,\nN,16,0,3,0,0,0,0,0,\nN,5,1,3,0,0,0,0,0,\nX,\n'
+no verdict on 1 file' table 'J,0,3,1\nS,0,2,0\nN,0,0,0,0,0,0,0,0,\nN,16,0,3,0,0,0,0,0,\nN,5,1,3,0,0,0,0,0,\nX,\n'
 
 check "a route: the answers go to a continue" says 'L,3\nL,6\nL,10\nL,3\nZ,0,4,3' lines 1,0,0
 check "a route: the answers go past it" says 'L,3\nL,6\nL,12\nL,3\nZ,0,4,3' lines 1,5,0
@@ -245,6 +245,8 @@ check "labels renamed that are written with escapes" says 'a: { break /**/ a }' 
 check "no label renamed" says 'x; // a: b' renamed 'x; // a: b'
 check "a label that is a reserved word in some code" says 'rename-labels: not renamed: the name of this label is a reserved word in some code, or there are 700 different labels (label yield)' renamed 'a: b: yield: ;'
 check "the tables of renamed texts" says '300 texts with labels: 288 changed, 0 as they were, 12 with a label that is not renamed' tools/rename-labels --generated 300 3
+# shellcheck source=tests/check-rule.bash
+source tests/check-rule.bash
 check "the units of a rule" says '0  program  line 1, column 1
 3  function opens  line 3, column 1' ./show-route rules/office-hours.js --units
 check "the route of a TypeScript function" says 'route of the function at line 3 with answers 1, 0, 1

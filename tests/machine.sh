@@ -2,7 +2,7 @@
 # The machine code, which the proofs don't reach: no function loses a number where it makes room for a large array (tools/stack-probes), and the benchmark of the walk, which links an archive of its own, runs.
 # shellcheck source=tests/lib.bash
 source "$(dirname "$0")/lib.bash" || exit 1
-needs node cargo cc objdump rulecheck ruleroute exports bench_walk
+needs node cargo cc objdump rulecheck ruleroute velkunshe bench_walk
 
 work=$(mktemp -d)
 
@@ -30,7 +30,7 @@ planted() { made 'mov %rdx, %r11' 'nop' && tools/stack-probes "$work/made.o" >"$
 harmless() { made 'nop' 'mov %rdx, %r11' && tools/stack-probes "$work/made.o" >/dev/null; }
 
 check "bench/walk runs" bench/walk --once
-check "no number lost in the library, the benchmark's archive and the programs" tools/stack-probes target/staticlib/libexports.a target/staticlib/libbench_walk.a target/bin/rulecheck target/bin/ruleroute
+check "no number lost in the library, the benchmark's archive and the programs" tools/stack-probes target/staticlib/libvelkunshe.a target/staticlib/libbench_walk.a target/bin/rulecheck target/bin/ruleroute
 check "a number lost is found" planted
 check "a number kept is none" harmless
 rm -rf "$work"

@@ -77,21 +77,21 @@ law_in_specs() {
 calls_of() { sed -E 's/^pub extern "C" fn /pub fn /' "$1" | awk '/^pub fn velkunshe_/{on=1} on{print} /^\{/{on=0}' | tr -s ' \n' ' '; }
 same_calls() {
     [ "$(grep -c '^pub fn velkunshe_' crates/exports/src/lib.rt)" -eq 9 ] &&
-        [ "$(calls_of crates/exports/src/lib.rt)" = "$(calls_of "${1:-crates/exports_c/src/lib.rt}")" ]
+        [ "$(calls_of crates/exports/src/lib.rt)" = "$(calls_of "${1:-crates/velkunshe/src/lib.rt}")" ]
 }
 # a copy with one clause changed must be told
 clause_changed() {
     local copy status
     copy=$(mktemp)
-    sed '0,/findings\.new ≡/s//findings.old ≡/' crates/exports_c/src/lib.rt >"$copy"
-    ! cmp -s crates/exports_c/src/lib.rt "$copy" && ! same_calls "$copy"
+    sed '0,/findings\.new ≡/s//findings.old ≡/' crates/velkunshe/src/lib.rt >"$copy"
+    ! cmp -s crates/velkunshe/src/lib.rt "$copy" && ! same_calls "$copy"
     status=$?
     rm -f "$copy"
     return $status
 }
 
 check "every file in rt's layout" laid_out
-check "the calls of exports_c have the clauses of those of exports" same_calls
+check "the calls of velkunshe have the clauses of those of exports" same_calls
 check "a clause changed in a copy is told" clause_changed
 check "every crate listed in crates.txt" listed
 check "no hole and no axiom" no_holes

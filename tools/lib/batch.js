@@ -1,14 +1,28 @@
 'use strict';
-// One program over many inputs: a shell loop over files in a folder of its own, with the answers in one stream.
+// One program over one input, or over many: a shell loop over files in a folder of its own, with the answers in one stream.
 
 const fs = require('fs');
 const os = require('os');
 const path = require('path');
 const { spawnSync } = require('child_process');
 
+const MOST_OUTPUT = 1 << 30;
+
+// The lines that a program gives to an input, through pipes. Where it fails, or its last line isn't whole, a last line `C,why`.
+function answerOf(program, input, argument = '') {
+  const run = spawnSync(path.resolve(program), argument === '' ? [] : [argument], { input, maxBuffer: MOST_OUTPUT });
+  const lines = run.stdout ? run.stdout.toString('utf8').split('\n') : [''];
+  const rest = lines.pop();
+  // one that ends before it has read all is not at fault
+  if (run.error && run.error.code !== 'EPIPE') return [...lines, `C,${run.error.message}`];
+  if (run.status !== 0) return [...lines, `C,${run.status === null ? run.signal : run.status}`];
+  return rest === '' ? lines : [...lines, 'C,its last line has no end'];
+}
+
 // The output lines for each input, in order. A program that fails gives a last line `C,status`. A program may come with an argument.
 function answersOf(program, inputs, argument = '') {
   if (!fs.existsSync(program)) throw new Error(`no program ${program}: name one that is there`);
+  if (inputs.length === 1) return [answerOf(program, inputs[0], argument)];
   const dir = fs.mkdtempSync(path.join(os.tmpdir(), 'lines-'));
   try {
     inputs.forEach((input, i) => fs.writeFileSync(path.join(dir, String(i)), input));
@@ -28,19 +42,27 @@ function answersOf(program, inputs, argument = '') {
   }
 }
 
+// The programs have no exit status of their own: an answer is one that ends with its closing line, which counts the others, or a refusal alone.
+// What is neither is a failure.
+const failure = (lines) => {
+  const last = lines[lines.length - 1] || 'C,nothing';
+  return { refused: /^C,/.test(last) || (lines.length === 1 && /^R,\d+,\d+$/.test(last)) ? last : `C,${last}` };
+};
+
 // Findings as lists of numbers, or the line of a refusal or failure.
 function findingsOf(lines) {
-  const last = lines[lines.length - 1] || 'C,nothing';
-  if (!last.startsWith('E,')) return { refused: last };
-  return { findings: lines.slice(0, -1).map((l) => l.slice(2).split(',').map(Number)) };
+  const found = lines.slice(0, -1);
+  if (lines[found.length] !== `E,${found.length}` || !found.every((l) => /^F(,\d+){7}$/.test(l))) return failure(lines);
+  return { findings: found.map((l) => l.slice(2).split(',').map(Number)) };
 }
 
 // A route: entries, end, how many entries and answers taken; or the line of a refusal or failure.
 function routeOf(lines) {
-  const last = lines[lines.length - 1] || 'C,nothing';
-  if (!last.startsWith('Z,')) return { refused: last };
-  const [end, entries, taken] = last.slice(2).split(',').map(Number);
-  return { list: lines.slice(0, -1).map((l) => Number(l.slice(2))), end, entries, taken };
+  const list = lines.slice(0, -1);
+  const closing = /^Z,(\d+),(\d+),(\d+)$/.exec(lines[list.length] || '');
+  if (!closing || Number(closing[2]) !== list.length || !list.every((l) => /^L,\d+$/.test(l))) return failure(lines);
+  const [end, entries, taken] = closing.slice(1).map(Number);
+  return { list: list.map((l) => Number(l.slice(2))), end, entries, taken };
 }
 
 // Several routes one after the other.
@@ -68,10 +90,13 @@ function programOf(named, name) {
 }
 
 // The engines that give routes: ruleroute runs code, rulecalls walks over the tree, or stops behind each answer and takes the route up again.
+// Code for a rule that is too large for ruleroute is run by rulecalls too.
 const ENGINES = { code: ['code'], walk: ['walk'], both: ['code', 'walk'], all: ['code', 'walk', 'stopped'] };
-function enginesOf(which, { router, caller }) {
-  const of = (name) => (name === 'code' ? { program: programOf(router, 'ruleroute'), argument: '' } : { program: programOf(caller, 'rulecalls'), argument: name });
-  return ENGINES[which].map((name) => ({ name, ...of(name) }));
+const CODE_BY_CALL = 'route';
+function enginesOf(which, { router, caller }, large = false) {
+  const call = (argument) => ({ program: programOf(caller, 'rulecalls'), argument });
+  const code = () => (large ? call(CODE_BY_CALL) : { program: programOf(router, 'ruleroute'), argument: '' });
+  return ENGINES[which].map((name) => ({ name, ...(name === 'code' ? code() : call(name)) }));
 }
 
 module.exports = { ENGINES, answersOf, enginesOf, findingsOf, routeOf, routesOf, sharedOf, programOf };

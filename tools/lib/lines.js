@@ -6,19 +6,24 @@ const { KINDS, ROLES, F } = require('./kinds.js');
 const LIMIT = 1024;
 const LONGEST = 2100;
 
+// How many nodes and scopes, and how many bytes of source and of names: what rulecheck and ruleroute read, and what the library takes (refusal 1).
+const PROGRAMS = { records: LIMIT, bytes: LIMIT, words: 'and rulecheck reads' };
+const LIBRARY = { records: 65535, bytes: 1048576, words: 'and a rule has at most' };
+const DEEPEST = 512;
+
 function depthOf(nodes) {
   const depth = new Array(nodes.length).fill(0);
   for (let i = 1; i < nodes.length; i++) depth[i] = depth[nodes[i].parent] + 1;
   return depth;
 }
 
-// which limit of rulecheck's a tree is beyond, or null
-function tooLarge(tree) {
+// which limit a tree is beyond, or null
+function tooLarge(tree, { records, bytes, words } = PROGRAMS) {
   const names = tree.nodes.reduce((n, x) => n + x.name.length, 0);
-  const counts = { nodes: tree.nodes.length, scopes: tree.scopes.length, 'bytes of names': names, 'bytes of source': tree.source.length };
-  for (const [what, n] of Object.entries(counts)) if (n > LIMIT) return `${n} ${what}, and rulecheck reads ${LIMIT}`;
-  const depth = Math.max(...depthOf(tree.nodes));
-  return depth > 512 ? `depth ${depth}, and 512 is the deepest` : null;
+  const counts = [['nodes', tree.nodes.length, records], ['scopes', tree.scopes.length, records], ['bytes of names', names, bytes], ['bytes of source', tree.source.length, bytes]];
+  for (const [what, n, most] of counts) if (n > most) return `${n} ${what}, ${words} ${most}`;
+  const depth = depthOf(tree.nodes).reduce((a, b) => Math.max(a, b));
+  return depth > DEEPEST ? `depth ${depth}, and ${DEEPEST} is the deepest` : null;
 }
 
 function linesOf(tree) {
@@ -31,9 +36,10 @@ function linesOf(tree) {
   return Buffer.concat(out);
 }
 
-// The tree that lines tell, as far as it takes to say in words what a refusal is about; null where they can't be read.
+// The tree that lines tell, as far as it takes to say how large it is and in words what a refusal is about; null where they can't be read.
 function treeIn(bytes) {
   const lines = bytes.toString('latin1').split('\n');
+  const nameIn = (line) => line.split(',').slice(9).join();
   const numbers = (line, letter, n) => {
     const fields = line === undefined ? [] : line.split(',');
     return fields[0] === letter && fields.length > n && fields.slice(1, n + 1).every((f) => /^\d+$/.test(f)) ? fields.slice(1, n + 1).map(Number) : null;
@@ -42,12 +48,15 @@ function treeIn(bytes) {
   if (!head) return null;
   const [type, size, scoped] = head;
   const scopes = lines.slice(1, 1 + scoped).map((l) => numbers(l, 'S', 3));
-  const nodes = lines.slice(1 + scoped, 1 + scoped + size).map((l) => numbers(l, 'N', 8));
+  const records = lines.slice(1 + scoped, 1 + scoped + size);
+  const nodes = records.map((l) => numbers(l, 'N', 8));
+  const hexadecimal = (lines[1 + scoped + size] || '').replace('X,', '');
   if (scopes.length !== scoped || nodes.length !== size || [...scopes, ...nodes].includes(null)) return null;
   return {
     type,
     scopes: scopes.map(([parent, flags, node]) => ({ parent, flags, node })),
-    nodes: nodes.map(([kind, parent, role, start, end, scope, flags, extra]) => ({ kind, parent, role, start, end, scope, flags, extra })),
+    nodes: nodes.map(([kind, parent, role, start, end, scope, flags, extra], i) => ({ kind, parent, role, start, end, scope, flags, extra, name: nameIn(records[i]) })),
+    source: Buffer.from(hexadecimal, 'hex'),
   };
 }
 
@@ -88,4 +97,4 @@ function viewOf(tree) {
   return out.join('\n') + '\n';
 }
 
-module.exports = { linesOf, treeIn, routeLinesOf, markLinesOf, answersIn, viewOf, tooLarge, depthOf };
+module.exports = { PROGRAMS, LIBRARY, linesOf, treeIn, routeLinesOf, markLinesOf, answersIn, viewOf, tooLarge, depthOf };

@@ -2,26 +2,23 @@
 // Reads JavaScript and TypeScript with Debian's @babel/parser. A text that breaks only early errors still has a tree;
 // a text outside the grammar has none. Which of the parser's errors are of which sort is listed here.
 
-const { spawnSync } = require('child_process');
+const PLACES = ['/usr/share/nodejs/@babel/parser', '@babel/parser'];
 
-function find() {
-  for (const place of ['/usr/share/nodejs/@babel/parser', '@babel/parser']) {
-    try { return require(place); } catch (e) { if (e.code !== 'MODULE_NOT_FOUND') throw e; }
+// a part of the parser's package, or null where it isn't installed
+function partOf(name = '') {
+  for (const place of PLACES) {
+    try { return require(`${place}${name}`); } catch (e) { if (e.code !== 'MODULE_NOT_FOUND') throw e; }
   }
   return null;
 }
 
-// The parser is installed by apt where it is missing.
 function load() {
-  const have = find();
-  if (have) return have;
-  const sh = 'apt-get update && apt-get install -y --no-install-recommends node-babel7';
-  process.stderr.write(`@babel/parser is missing: ${sh}\n`);
-  spawnSync('sh', ['-c', sh], { stdio: ['ignore', 2, 2] });
-  const got = find();
-  if (!got) throw new Error('no @babel/parser: install the Debian package node-babel7');
-  return got;
+  const parser = partOf();
+  if (!parser) throw new Error('no @babel/parser, of Debian\'s package node-babel7: tools/setup node installs it');
+  return parser;
 }
+
+const version = () => (partOf('/package.json') || { version: 'not installed' }).version;
 
 const words = (s) => new Set(s.trim().split(/\s+/));
 
@@ -199,4 +196,4 @@ function parse(text, { module = false, jsx = false, typescript = false } = {}) {
   }
 }
 
-module.exports = { parse, sortOf };
+module.exports = { parse, sortOf, version };

@@ -6,8 +6,12 @@ const { TextDecoder } = require('util');
 // The standard's LineTerminatorSequence.
 const LINE_END = /\r\n|[\n\r\u2028\u2029]/g;
 
-// Characters that are not seen, or that change the order in which others are shown.
-const UNSEEN = /[\u0000-\u001f\u007f-\u009f\u061c\u200b-\u200f\u202a-\u202e\u2060-\u2064\u2066-\u206f\ufeff]/u;
+// Characters that are not seen, or that change the order in which others are shown: controls, formats, fillers, and what has no meaning yet or no shape.
+const UNSEEN = /[\p{Cc}\p{Cf}\p{Zl}\p{Zp}\p{Cs}\p{Co}\p{Cn}\p{Default_Ignorable_Code_Point}]/u;
+// those that take two columns of a terminal, and none
+const WIDE = /[\p{Emoji_Presentation}\p{scx=Han}\p{scx=Hira}\p{scx=Kana}\p{scx=Hang}\uff01-\uff60\uffe0-\uffe6]/u;
+const NO_WIDTH = /[\p{Mn}\p{Me}]/u;
+const widthOf = (shownChar) => (shownChar.startsWith('<U+') ? shownChar.length : NO_WIDTH.test(shownChar) ? 0 : WIDE.test(shownChar) ? 2 : 1);
 
 const shownAs = (c) => (c === '\t' ? ' ' : UNSEEN.test(c) ? `<U+${c.codePointAt(0).toString(16).toUpperCase().padStart(4, '0')}>` : c);
 const shown = (text) => [...text].map(shownAs).join('');
@@ -41,34 +45,70 @@ class Lines {
 
   // the line (from 1) of a byte offset, and the column (from 1) in characters
   at(byte) {
-    let line = this.lines.findIndex((l) => byte < l.next);
-    if (line < 0) line = this.lines.length - 1;
-    const { text, start } = this.lines[line];
-    const before = Buffer.from(text).subarray(0, byte - start).toString('utf8');
-    return { line: line + 1, column: [...before].length + 1 };
+    let line = 0;
+    for (let above = this.lines.length; above - line > 1;) {
+      const middle = (line + above) >> 1;
+      if (this.lines[middle].start <= byte) line = middle;
+      else above = middle;
+    }
+    return { line: line + 1, column: 1 + this.cellAt(this.cellsOf(line), byte) };
   }
 
-  // A line as it is shown, and under it a mark for each character in a span: `^` in the first, `~` in the second.
-  marked(line, first, second) {
-    const { text, start } = this.lines[line - 1];
-    let byte = start;
-    let above = '';
-    let below = '';
-    const mark = (from, to) => {
-      const within = (span) => span && from < span[1] && to > span[0];
-      return within(second) ? '~' : within(first) ? '^' : ' ';
-    };
-    for (const c of text) {
-      const to = byte + Buffer.byteLength(c);
-      const as = shownAs(c);
-      above += as;
-      below += mark(byte, to).repeat(as.length);
-      byte = to;
+  // The characters of a line: where they begin and end, how they are shown, and in how many columns. Those of the last line are kept.
+  cellsOf(line) {
+    if (this.kept && this.kept.line === line) return this.kept.cells;
+    let byte = this.lines[line].start;
+    const cells = [...this.lines[line].text].map((c) => {
+      const from = byte;
+      byte += Buffer.byteLength(c);
+      const above = shownAs(c);
+      return { from, to: byte, above, width: widthOf(above) };
+    });
+    this.kept = { line, cells, width: cells.reduce((n, c) => n + c.width, 0) };
+    return cells;
+  }
+
+  // which of them holds a byte; how many there are, where it is behind them all
+  cellAt(cells, byte) {
+    let [below, above] = [0, cells.length];
+    while (below < above) {
+      const middle = (below + above) >> 1;
+      if (cells[middle].to <= byte) below = middle + 1;
+      else above = middle;
     }
+    return below;
+  }
+
+  // A line as it is shown, and under it a mark for each character in a span: `^` in the first, `~` in the second. Of a line that is longer than `most`
+  // columns the part around its first mark is shown.
+  marked(line, first, second, most = 160) {
+    const cells = this.cellsOf(line - 1);
+    const starts = [first, second].filter((span) => span && span[1] >= this.lines[line - 1].start).map((span) => this.cellAt(cells, span[0]));
+    const [from, to] = partOf(cells, this.kept.width, Math.min(...starts), most);
+    const within = (span, c) => span && c.from < span[1] && c.to > span[0];
+    const part = cells.slice(from, to).map((c) => ({ ...c, mark: within(second, c) ? '~' : within(first, c) ? '^' : ' ' }));
     // a span without bytes, or behind the line's last character
-    if (!/[~^]/.test(below)) below = ' '.repeat(first ? [...text].length && this.at(first[0]).line === line ? this.at(first[0]).column - 1 : 0 : 0) + '^';
+    if (part.every((c) => c.mark === ' ')) {
+      const at = this.cellAt(cells, first[0]) - from;
+      if (at >= part.length) part.push({ above: ' ', width: 1 });
+      part[at].mark = '^';
+    }
+    const above = `${from > 0 ? CUT : ''}${part.map((c) => c.above).join('')}${to < cells.length ? ` ${CUT}` : ''}`;
+    const below = `${' '.repeat(from > 0 ? CUT.length : 0)}${part.map((c) => c.mark.repeat(c.width)).join('')}`;
     return { above: above.trimEnd(), below: below.trimEnd() };
   }
+}
+
+const CUT = '.. ';
+
+// from which character to which a line is shown that holds a mark at one of them
+function partOf(cells, width, marked, most) {
+  if (width <= most) return [0, cells.length];
+  let from = Math.min(marked, cells.length);
+  for (let room = most / 4; from > 0 && room > 0; room -= cells[from].width) from -= 1;
+  let to = from;
+  for (let room = most; to < cells.length && room > 0; to += 1) room -= cells[to].width;
+  return [from, to];
 }
 
 module.exports = { Lines, shown, shownLines, textOf };

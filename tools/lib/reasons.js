@@ -1,5 +1,5 @@
 'use strict';
-// Why the checks find nothing in a text that has early errors, by the parser's own words for them.
+// The parser's own words for early errors: which findings stand for them, and why the checks find nothing where none does.
 
 const words = (s) => new Set(s.trim().split(/\s+/));
 
@@ -19,6 +19,18 @@ const CLASSES = [
   ['parser:template-in-chain', words('OptionalChainingNoTemplate')],
   ['parser:meta-property', words('UnexpectedNewTarget ImportMetaOutsideModule')],
 ];
+
+// The parser's word for an error, and the codes of findings that may stand for it.
+const CODES_FOR = {
+  ArgumentsInClass: [6, 4], AwaitBindingIdentifierInStaticBlock: [3, 2], AwaitNotInAsyncContext: [3, 33], AwaitNotInAsyncFunction: [3, 33],
+  AwaitExpressionFormalParameter: [33], YieldInParameter: [33], DeletePrivateField: [32], DuplicateConstructor: [27],
+  DuplicateProto: [1], ForInOfLoopInitializer: [24], IllegalBreakContinue: [18, 19, 20, 21, 22], IllegalLanguageModeDirective: [12],
+  InvalidPrivateFieldResolution: [7, 8], LabelRedeclaration: [23], LetInLexicalBinding: [5, 2], PrivateNameRedeclaration: [1],
+  SloppyFunction: [16], StrictFunction: [15], StrictDelete: [31], StrictEvalArguments: [4], StrictEvalArgumentsBinding: [4, 2],
+  StrictNumericEscape: [9, 11], StrictOctalLiteral: [9, 10], StrictWith: [17], SuperNotAllowed: [28, 29], UnexpectedSuper: [30, 29],
+  UnexpectedReservedWord: [2, 3, 4], UnexpectedUsingDeclaration: [13], AwaitBindingIdentifier: [2, 3], YieldBindingIdentifier: [2],
+  AsyncFunctionInSingleStatementContext: [15, 16, 34], GeneratorInSingleStatementContext: [15, 16, 34],
+};
 
 // The classes of all reasons but those of the checks; null where one is not known.
 function classOf(parsed, text) {
@@ -47,4 +59,4 @@ function badPattern(node) {
 // the names of all classes, but for sums of them
 const leftOut = () => [...CLASSES.map(([name]) => name), 'parser:for-head-value'];
 
-module.exports = { classOf, leftOut };
+module.exports = { CODES_FOR, classOf, leftOut };

@@ -856,4 +856,4 @@ function treeOf(text, parsed, { module = false, typescript = false } = {}) {
   return { type: typescript ? 2 : module ? 1 : 0, nodes: maker.nodes, scopes: maker.scopes, source: bytesOf(text), made: maker.made };
 }
 
-module.exports = { treeOf, bytesOf };
+module.exports = { treeOf, bytesOf, offsetsOf };

@@ -3,7 +3,7 @@
 // function; what none recognises is a fault.
 
 const { K, F, S } = require('./kinds.js');
-const { classOf, leftOut } = require('./reasons.js');
+const { CODES_FOR, classOf, leftOut } = require('./reasons.js');
 
 // The nearest function or program around a node is sloppy, so that only a class makes the code strict.
 function strictByClassAlone(tree, node) {
@@ -84,18 +84,6 @@ function verdictClass(run) {
 
 // ---- place by place
 
-// The parser's word for an error, and the codes of findings that may stand for it.
-const WORDS = {
-  ArgumentsInClass: [6, 4], AwaitBindingIdentifierInStaticBlock: [3, 2], AwaitNotInAsyncContext: [3, 33], AwaitNotInAsyncFunction: [3, 33],
-  AwaitExpressionFormalParameter: [33], YieldInParameter: [33], DeletePrivateField: [32], DuplicateConstructor: [27],
-  DuplicateProto: [1], ForInOfLoopInitializer: [24], IllegalBreakContinue: [18, 19, 20, 21, 22], IllegalLanguageModeDirective: [12],
-  InvalidPrivateFieldResolution: [7, 8], LabelRedeclaration: [23], LetInLexicalBinding: [5, 2], PrivateNameRedeclaration: [1],
-  SloppyFunction: [16], StrictFunction: [15], StrictDelete: [31], StrictEvalArguments: [4], StrictEvalArgumentsBinding: [4, 2],
-  StrictNumericEscape: [9, 11], StrictOctalLiteral: [9, 10], StrictWith: [17], SuperNotAllowed: [28, 29], UnexpectedSuper: [30, 29],
-  UnexpectedReservedWord: [2, 3, 4], UnexpectedUsingDeclaration: [13], AwaitBindingIdentifier: [2, 3], YieldBindingIdentifier: [2],
-  AsyncFunctionInSingleStatementContext: [15, 16, 34], GeneratorInSingleStatementContext: [15, 16, 34],
-};
-
 // An error and a finding are about one place: the error lies in a span of the finding, or of the jump or label that
 // raised it, or of the function whose directive it is about.
 function samePlace(error, finding, tree, byte) {
@@ -110,8 +98,8 @@ function samePlace(error, finding, tree, byte) {
 function parserClasses(run) {
   const { parsed, findings, tree, text } = run;
   const byte = (i) => Buffer.byteLength(text.slice(0, i), 'utf8');
-  const errors = parsed.errors.filter((e) => WORDS[e.reasonCode]);
-  const meets = (e, f) => WORDS[e.reasonCode].includes(f[0]) && samePlace(e, f, tree, byte);
+  const errors = parsed.errors.filter((e) => CODES_FOR[e.reasonCode]);
+  const meets = (e, f) => CODES_FOR[e.reasonCode].includes(f[0]) && samePlace(e, f, tree, byte);
   const out = [];
   for (const e of errors) if (!findings.some((f) => meets(e, f))) out.push([nameOf(ONLY_PARSER, 'parser', e.reasonCode, e, run), `the parser: ${e.message}`]);
   for (const f of findings) if (!errors.some((e) => meets(e, f))) out.push([nameOf(ONLY_CHECK, 'check', f[0], f, run), `found ${f}`]);

@@ -2,12 +2,15 @@
 
 use std::fmt;
 
-use crate::{code_of, shown, with_room, Refusal, Route, Rule, Shown};
+use crate::route::{listed, shown};
+use crate::{code_of, Error, Refusal, Route, Rule, Shown, ROUTE_LIMIT};
 
 /// How many numbers the marks take.
 pub const MARKS: usize = 8208;
 
 /// Eight marks, 0 to 7, under which routes are stopped and taken up again.
+///
+/// They are 8,208 numbers by value, about 32 KiB: put them in a box where they are kept long or handed on often.
 ///
 /// A mark is good for the tables and the unit on which it was set. Taken up on others, or made of any numbers by
 /// [`numbers_mut`](Marks::numbers_mut), it gives no route that means something, but the call ends and does no harm.
@@ -41,7 +44,7 @@ pub const MARKS: usize = 8208;
 /// assert_eq!(marks.route_resume_of(&rule, 0, 3, &[0, 0]).unwrap().nodes, [4, 7, 1]);
 /// ```
 #[derive(Clone, PartialEq, Eq)]
-pub struct Marks(Box<[u32; MARKS]>);
+pub struct Marks([u32; MARKS]);
 
 /// Where a route is stopped.
 #[derive(Clone, Copy, Debug, PartialEq, Eq)]
@@ -63,12 +66,12 @@ pub struct Slices<'a> {
 
 impl Marks {
     /// No mark is set.
-    pub fn new() -> Marks {
-        Marks(vec![0; MARKS].into_boxed_slice().try_into().expect("so many were made"))
+    pub const fn new() -> Marks {
+        Marks([0; MARKS])
     }
 
     /// The numbers, to be kept elsewhere: 1,026 a mark.
-    pub fn numbers(&self) -> &[u32; MARKS] {
+    pub const fn numbers(&self) -> &[u32; MARKS] {
         &self.0
     }
 
@@ -182,32 +185,34 @@ impl Marks {
         shown(answer)
     }
 
-    /// [`route_stop`](Marks::route_stop) in a vector as long as it needs.
+    /// [`route_stop`](Marks::route_stop) in a vector as long as it needs, with at most [`ROUTE_LIMIT`] entries.
     ///
     /// # Errors
     ///
-    /// Refusals 1 to 7, 9, 13 to 15 and 16; 11 or 12 where there is no memory for the code or the route.
-    pub fn route_stop_of(&mut self, rule: &Rule, unit: u32, answers: &[u32], stop: Stop) -> Result<Route, Refusal> {
+    /// Refusals 1 to 7, 9, 13 to 15 and 16; [`Error::TooLong`] where the route is longer than that, [`Error::NoMemory`]
+    /// where there is none for the code or the route.
+    pub fn route_stop_of(&mut self, rule: &Rule, unit: u32, answers: &[u32], stop: Stop) -> Result<Route, Error> {
         let mut code = code_of(rule, unit)?;
-        with_room(|route| self.route_stop(rule, unit, answers, stop, Slices { code: &mut code, route })).map(Route::of)
+        listed(ROUTE_LIMIT, |route| self.route_stop(rule, unit, answers, stop, Slices { code: &mut code, route }))
     }
 
-    /// [`route_resume`](Marks::route_resume) in a vector as long as it needs.
+    /// [`route_resume`](Marks::route_resume) in a vector as long as it needs, with at most [`ROUTE_LIMIT`] entries.
     ///
     /// # Errors
     ///
-    /// Refusals 1 to 7, 9 and 13 to 17; 11 or 12 where there is no memory for the code or the route.
-    pub fn route_resume_of(&mut self, rule: &Rule, unit: u32, mark: u32, answers: &[u32]) -> Result<Route, Refusal> {
+    /// Refusals 1 to 7, 9 and 13 to 17; [`Error::TooLong`] where the route is longer than that, [`Error::NoMemory`]
+    /// where there is none for the code or the route.
+    pub fn route_resume_of(&mut self, rule: &Rule, unit: u32, mark: u32, answers: &[u32]) -> Result<Route, Error> {
         let mut code = code_of(rule, unit)?;
-        with_room(|route| self.route_resume(rule, unit, mark, answers, Slices { code: &mut code, route }))
-            .map(Route::of)
+        listed(ROUTE_LIMIT, |route| self.route_resume(rule, unit, mark, answers, Slices { code: &mut code, route }))
     }
 
-    /// [`route_resume_stop`](Marks::route_resume_stop) in a vector as long as it needs.
+    /// [`route_resume_stop`](Marks::route_resume_stop) in a vector as long as it needs, with at most [`ROUTE_LIMIT`] entries.
     ///
     /// # Errors
     ///
-    /// Refusals 1 to 7, 9 and 13 to 17; 11 or 12 where there is no memory for the code or the route.
+    /// Refusals 1 to 7, 9 and 13 to 17; [`Error::TooLong`] where the route is longer than that, [`Error::NoMemory`]
+    /// where there is none for the code or the route.
     pub fn route_resume_stop_of(
         &mut self,
         rule: &Rule,
@@ -215,10 +220,11 @@ impl Marks {
         from: u32,
         answers: &[u32],
         stop: Stop,
-    ) -> Result<Route, Refusal> {
+    ) -> Result<Route, Error> {
         let mut code = code_of(rule, unit)?;
-        with_room(|route| self.route_resume_stop(rule, unit, from, answers, stop, Slices { code: &mut code, route }))
-            .map(Route::of)
+        listed(ROUTE_LIMIT, |route| {
+            self.route_resume_stop(rule, unit, from, answers, stop, Slices { code: &mut code, route })
+        })
     }
 }
 

@@ -1,6 +1,7 @@
 //! Labels renamed to short ones.
 
-use crate::{ffi, with_room, Refusal, Rule};
+use crate::room::{resize, with_room};
+use crate::{ffi, Error, Refusal, Rule};
 
 /// Renames the labels of a rule (nodes of kind 33 with role 6) to `a`, `b`, .., `z`, `aa` and so on, without `do`, `if` and `in`, in the
 /// order in which their names first appear. Writes a node table to `nodes`, and each node's name in node order to `names`, and gives how
@@ -35,6 +36,9 @@ pub fn rename(rule: &Rule, nodes: &mut [u32], names: &mut [u8]) -> Result<usize,
         number => Err(Refusal::new(number, answer.place, answer.needed)),
     }
 }
+
+/// The most bytes that the names of a table may take.
+const MOST_NAMES: usize = 1_048_576;
 
 /// The tables of a rule with its labels renamed; its scopes and its text are as they were.
 #[derive(Clone, Debug, PartialEq, Eq)]
@@ -82,13 +86,12 @@ impl Renamed {
 ///
 /// # Errors
 ///
-/// Refusals 1 to 6, 13 to 15 and 19; 20 where the names are above 1,048,576 bytes or there is no memory for the vectors.
-pub fn renamed(rule: &Rule) -> Result<Renamed, Refusal> {
+/// Refusals 1 to 6, 13 to 15 and 19; [`Error::TooLong`] where the names are above 1,048,576 bytes; [`Error::NoMemory`] where there is none
+/// for the vectors.
+pub fn renamed(rule: &Rule) -> Result<Renamed, Error> {
     let mut nodes = Vec::new();
-    // Without memory the slice stays too short, and the call is refused by 20.
-    if nodes.try_reserve_exact(rule.nodes.len()).is_ok() {
-        nodes.resize(rule.nodes.len(), 0);
-    }
-    let (names, _) = with_room(|out| rename(rule, &mut nodes, out))?;
+    resize(&mut nodes, rule.nodes.len())?;
+    let (names, ()) =
+        with_room(rule.names.len(), MOST_NAMES, |out| rename(rule, &mut nodes, out).map(|length| (length, ())))?;
     Ok(Renamed { nodes, names })
 }

@@ -1,6 +1,6 @@
 //! How much two routes of one unit share.
 
-use crate::{code_of, Refusal, Rule};
+use crate::{code_of, Error, Refusal, Rule};
 
 /// Makes the flat code of a unit in `code` and gives the length of the longest beginning that its routes for two lists of answers share.
 /// The lists may be of any lengths. No entry past the last one written is changed.
@@ -57,8 +57,8 @@ pub fn shared(rule: &Rule, unit: u32, first: &[u32], second: &[u32], code: &mut 
 ///
 /// # Errors
 ///
-/// Refusals 1 to 7, 9 and 13 to 15; 11 where there is no memory for the code.
-pub fn shared_of(rule: &Rule, unit: u32, first: &[u32], second: &[u32]) -> Result<u64, Refusal> {
+/// Refusals 1 to 7, 9 and 13 to 15; [`Error::NoMemory`] where there is none for the code.
+pub fn shared_of(rule: &Rule, unit: u32, first: &[u32], second: &[u32]) -> Result<u64, Error> {
     let mut code = code_of(rule, unit)?;
-    shared(rule, unit, first, second, &mut code)
+    Ok(shared(rule, unit, first, second, &mut code)?)
 }

@@ -1,6 +1,7 @@
 //! The second engine: routes by a walk over the tree, without code.
 
-use crate::{shown, with_room, Refusal, Route, Rule, Shown};
+use crate::route::{listed, shown};
+use crate::{Error, Refusal, Route, Rule, Shown, ROUTE_LIMIT};
 
 /// Walks the tree of a unit over the answers and lists the nodes from the start of `out`. It gives what [`route`](crate::route) gives, and
 /// needs no code. No entry past the last one written is changed.
@@ -15,7 +16,7 @@ pub fn walk(rule: &Rule, unit: u32, answers: &[u32], out: &mut [u32]) -> Result<
     shown(answer)
 }
 
-/// The route of a unit by the second engine, in a vector as long as it needs.
+/// The route of a unit by the second engine, in a vector as long as it needs, with at most [`ROUTE_LIMIT`] entries.
 ///
 /// `do x; while (t);` with the answers yes and no:
 ///
@@ -42,7 +43,16 @@ pub fn walk(rule: &Rule, unit: u32, answers: &[u32], out: &mut [u32]) -> Result<
 ///
 /// # Errors
 ///
-/// Refusals 1 to 7, 9 and 13 to 15; 12 where there is no memory for the route.
-pub fn walk_of(rule: &Rule, unit: u32, answers: &[u32]) -> Result<Route, Refusal> {
-    with_room(|out| walk(rule, unit, answers, out)).map(Route::of)
+/// Those of [`walk_within`].
+pub fn walk_of(rule: &Rule, unit: u32, answers: &[u32]) -> Result<Route, Error> {
+    walk_within(rule, unit, answers, ROUTE_LIMIT)
+}
+
+/// The same, with at most `limit` entries.
+///
+/// # Errors
+///
+/// Refusals 1 to 7, 9 and 13 to 15; [`Error::TooLong`] where the route is longer than that, [`Error::NoMemory`] where there is none for it.
+pub fn walk_within(rule: &Rule, unit: u32, answers: &[u32], limit: usize) -> Result<Route, Error> {
+    listed(limit, |out| walk(rule, unit, answers, out))
 }

@@ -1,9 +1,18 @@
 //! The calls on slices of every length: nothing but what is promised is written.
 
 use velkunshe::{
-    check, code, code_of, findings, rename, renamed, route, route_of, shared, shared_of, walk, walk_of, End, Marks,
-    Refusal, Rule, Shown, Slices, Stop, CODE, FINDING,
+    check, code, code_of, findings, rename, renamed, route, route_of, shared, shared_of, walk, walk_of, Context, End,
+    Error, Marks, Reason, Refusal, Rule, Shown, Slices, Stop, CODE, FINDING,
 };
+
+fn refusal(number: u32, place: u64, needed: Option<u64>) -> Refusal {
+    Refusal { reason: Reason::from_number(number), place, needed }
+}
+
+/// What a call that makes vectors answers then.
+fn refused<T>(number: u32, place: u64) -> Result<T, Error> {
+    Err(refusal(number, place, None).into())
+}
 
 /// A script with nothing in it.
 const EMPTY: Rule =
@@ -98,29 +107,40 @@ fn async_bodies() {
     assert_eq!(findings(&off), Ok(vec![]));
     let found = findings(&on).unwrap();
     assert_eq!(
-        found.iter().map(|f| (f.code, f.node, f.first, f.second, f.context)).collect::<Vec<_>>(),
-        [(34, 1, (7, 29), (0, 0), 0)]
+        found.iter().map(|f| (f.code.number(), f.node, f.first, f.second, f.context)).collect::<Vec<_>>(),
+        [(34, 1, (7, 29), (0, 0), Context::None)]
     );
     assert_eq!(route_of(&off, 0, &[1]).map(|r| r.nodes), Ok(vec![1, 3]));
-    assert_eq!(route_of(&on, 0, &[1]).map_err(|r| (r.number, r.place)).unwrap_err(), (9, 1));
+    assert_eq!(route_of(&on, 0, &[1]), refused(9, 1));
     let mut made = vec![77; 64];
-    assert_eq!(code(&on, 0, &mut made).map_err(|r| (r.number, r.place)), Err((9, 1)));
+    assert_eq!(code(&on, 0, &mut made), Err(refusal(9, 1, None)));
     assert!(made.iter().all(|&n| n == 77));
     // The flag is a Function's alone.
     let mut arrow = nodes;
     arrow[30] = 2;
-    assert_eq!(findings(&Rule { nodes: &arrow, ..off }).map_err(|r| (r.number, r.place)), Err((2, 3)));
+    assert_eq!(findings(&Rule { nodes: &arrow, ..off }), refused(2, 3));
+}
+
+/// `with` is shown by its word, which in tables that no text gives reaches behind the source; there is no such text then.
+#[test]
+fn a_span_behind_the_source() {
+    let nodes = [0, 0, 0, 0, 3, 0, 0, 0, 0, 0, 13, 0, 3, 0, 3, 0, 0, 0, 0, 0, 22, 1, 3, 0, 3, 0, 0, 0, 0, 0];
+    let rule = Rule { nodes: &nodes, source: b"wit", ..TWO };
+    let found = findings(&rule).unwrap();
+    assert_eq!((found[0].first, rule.part(found[0].first), rule.text(1)), ((0, 4), "", "wit"));
+    assert_eq!(findings(&TWO).unwrap().iter().map(|f| TWO.part(f.first)).collect::<Vec<_>>(), ["with", "with"]);
+    assert_eq!((TWO.part((2, 1)), TWO.part((u32::MAX, u32::MAX)), TWO.text(5)), ("", "", ""));
 }
 
 #[test]
 fn slices_of_every_length() {
     let found = findings(&TWO).unwrap();
-    assert_eq!(found.iter().map(|f| (f.code, f.node)).collect::<Vec<_>>(), [(17, 1), (17, 3)]);
+    assert_eq!(found.iter().map(|f| (f.code.number(), f.node)).collect::<Vec<_>>(), [(17, 1), (17, 3)]);
     for length in 0..20 {
         let mut out = vec![77; length];
         let answer = check(&TWO, &mut out);
         if length < 2 * FINDING {
-            assert_eq!(answer, Err(Refusal { number: 10, place: 0, needed: Some(14) }));
+            assert_eq!(answer, Err(refusal(10, 0, Some(14))));
             assert!(out.iter().all(|&n| n == 77));
         } else {
             assert_eq!(answer, Ok(2));
@@ -137,7 +157,7 @@ fn refusals() {
         let refusal = check(&rule, &mut out).unwrap_err();
         assert_eq!(out, [77; 7]);
         assert_eq!(refusal.needed, None);
-        (refusal.number, refusal.place)
+        (refusal.number(), refusal.place)
     };
     assert_eq!(refused(Rule { nodes: &[], ..EMPTY }), (1, 0));
     assert_eq!(refused(Rule { nodes: &[0; 9], ..EMPTY }), (1, 0));
@@ -185,12 +205,12 @@ fn flat_code() {
 fn code_slices_of_every_length() {
     let made = code_of(&ROUTED, 0).unwrap();
     assert!(made.len() <= CODE * ROUTED.node_count());
-    assert_eq!(code(&ROUTED, 0, &mut []), Err(Refusal { number: 11, place: 0, needed: Some(made.len() as u64) }));
+    assert_eq!(code(&ROUTED, 0, &mut []), Err(refusal(11, 0, Some(made.len() as u64))));
     for room in [made.len() - 1, made.len(), made.len() + 3] {
         let mut out = vec![77; room];
         let answer = code(&ROUTED, 0, &mut out);
         if room < made.len() {
-            assert_eq!(answer, Err(Refusal { number: 11, place: 0, needed: Some(made.len() as u64) }));
+            assert_eq!(answer, Err(refusal(11, 0, Some(made.len() as u64))));
             assert!(out.iter().all(|&n| n == 77));
         } else {
             assert_eq!(answer, Ok(made.len()));
@@ -209,7 +229,7 @@ fn route_slices_of_every_length() {
         let answer = route(&ROUTED, 0, &[1, 0, 0], &mut made, &mut out);
         assert_eq!(made, expected);
         if room < 4 {
-            assert_eq!(answer, Err(Refusal { number: 12, place: 0, needed: Some(4) }));
+            assert_eq!(answer, Err(refusal(12, 0, Some(4))));
             assert!(out.iter().all(|&n| n == 77));
         } else {
             assert_eq!(answer, Ok(Shown { entries: 4, end: End::FellThrough, taken: 3 }));
@@ -248,11 +268,11 @@ fn a_static_block() {
         |statement| [node(0, 0, 0), node(26, 0, 3), node(27, 1, 0), node(3, 2, 0), node(statement, 3, 3)].concat();
     let route = route_of(&Rule { nodes: &with(21), ..EMPTY }, 0, &[]).unwrap();
     assert_eq!((route.nodes, route.end, route.taken), (vec![1, 4], End::Thrown, 0));
-    let (nodes, refusal) = (with(20), Refusal { number: 15, place: 4, needed: None });
+    let nodes = with(20);
     let rule = Rule { nodes: &nodes, ..EMPTY };
-    assert_eq!(findings(&rule), Err(refusal));
-    assert_eq!(code_of(&rule, 0), Err(refusal));
-    assert_eq!(route_of(&rule, 3, &[]), Err(refusal));
+    assert_eq!(findings(&rule), refused(15, 4));
+    assert_eq!(code_of(&rule, 0), refused(15, 4));
+    assert_eq!(route_of(&rule, 3, &[]), refused(15, 4));
 }
 
 #[test]
@@ -262,7 +282,7 @@ fn refusals_of_units() {
         let refusal = route(rule, unit, &[], &mut made, &mut out).unwrap_err();
         assert_eq!(code(rule, unit, &mut made), Err(refusal));
         assert!(made.iter().chain(&out).all(|&n| n == 77));
-        (refusal.number, refusal.place)
+        (refusal.number(), refusal.place)
     };
     let room = code_of(&ROUTED, 0).unwrap().len();
     assert_eq!(refused(&ROUTED, 1, room), (7, 1));
@@ -314,7 +334,7 @@ fn walks() {
         let mut out = vec![77; room];
         let answer = walk(&ROUTED, 0, &[1, 0, 0], &mut out);
         if room < 4 {
-            assert_eq!(answer, Err(Refusal { number: 12, place: 0, needed: Some(4) }));
+            assert_eq!(answer, Err(refusal(12, 0, Some(4))));
             assert!(out.iter().all(|&n| n == 77));
         } else {
             assert_eq!(answer, Ok(Shown { entries: 4, end: End::FellThrough, taken: 3 }));
@@ -322,10 +342,9 @@ fn walks() {
             assert!(out[4..].iter().all(|&n| n == 77));
         }
     }
-    let refused = |rule: &Rule, unit| walk_of(rule, unit, &[]).map_err(|r| (r.number, r.place)).unwrap_err();
-    assert_eq!(refused(&ROUTED, 1), (7, 1));
-    assert_eq!(refused(&TWO, 0), (9, 1));
-    assert_eq!(refused(&Rule { nodes: &[], ..ROUTED }, 0), (1, 0));
+    assert_eq!(walk_of(&ROUTED, 1, &[]), refused(7, 1));
+    assert_eq!(walk_of(&TWO, 0, &[]), refused(9, 1));
+    assert_eq!(walk_of(&Rule { nodes: &[], ..ROUTED }, 0, &[]), refused(1, 0));
 }
 
 /// A label within a label, with jumps to both.
@@ -356,8 +375,8 @@ fn renamed_labels() {
     assert_eq!(route_of(&once.rule(&rule), 0, &[]), route_of(&rule, 0, &[]));
     // 19 at the first label of that name, 20 after it.
     let reserved = Rule { names: b"awaityield", ..rule };
-    assert_eq!(renamed(&reserved), Err(Refusal { number: 19, place: 2, needed: None }));
-    assert_eq!(rename(&reserved, &mut [], &mut []), Err(Refusal { number: 19, place: 2, needed: None }));
+    assert_eq!(renamed(&reserved), refused(19, 2));
+    assert_eq!(rename(&reserved, &mut [], &mut []), Err(refusal(19, 2, None)));
 }
 
 #[test]
@@ -369,7 +388,7 @@ fn renamed_into_slices_of_every_length() {
         let (mut nodes, mut names) = (vec![77; node_room], vec![b'-'; name_room]);
         let answer = rename(&rule, &mut nodes, &mut names);
         if node_room < 70 || name_room < 3 {
-            assert_eq!(answer, Err(Refusal { number: 20, place: 0, needed: Some(3) }));
+            assert_eq!(answer, Err(refusal(20, 0, Some(3))));
             assert!(nodes.iter().all(|&n| n == 77) && names.iter().all(|&b| b == b'-'));
         } else {
             assert_eq!(answer, Ok(3));
@@ -403,10 +422,6 @@ fn stopped_and_taken_up() {
     assert_eq!([begun.nodes, next.nodes, last.nodes].concat(), whole.nodes);
 }
 
-fn refusal<T>(number: u32, place: u32, needed: Option<u64>) -> Result<T, Refusal> {
-    Err(Refusal { number, place, needed })
-}
-
 /// What each refusal leaves: 16, 11, 17, 12 in this order.
 #[test]
 fn refusals_of_marks() {
@@ -414,22 +429,22 @@ fn refusals_of_marks() {
     let mut marks = Marks::new();
     let stop = |mark| Stop { mark, answers: 0 };
     let length = made.len() as u64;
-    assert_eq!(marks.route_stop_of(&ROUTED, 0, &[], stop(8)), refusal(16, 8, None));
-    assert_eq!(marks.route_resume_of(&ROUTED, 0, 7, &[]), refusal(16, 7, None));
-    assert_eq!(marks.route_resume_stop_of(&ROUTED, 0, 3, &[], stop(9)), refusal(16, 3, None));
-    assert_eq!(marks.route_stop_of(&ROUTED, 1, &[], stop(8)), refusal(7, 1, None));
+    assert_eq!(marks.route_stop_of(&ROUTED, 0, &[], stop(8)), refused(16, 8));
+    assert_eq!(marks.route_resume_of(&ROUTED, 0, 7, &[]), refused(16, 7));
+    assert_eq!(marks.route_resume_stop_of(&ROUTED, 0, 3, &[], stop(9)), refused(16, 3));
+    assert_eq!(marks.route_stop_of(&ROUTED, 1, &[], stop(8)), refused(7, 1));
     // Pending ends and 1, then a place within an instruction.
     marks.numbers_mut()[3 * 1026..][..2].copy_from_slice(&[1, 1]);
-    assert_eq!(marks.route_resume_stop_of(&ROUTED, 0, 3, &[], stop(9)), refusal(16, 9, None));
+    assert_eq!(marks.route_resume_stop_of(&ROUTED, 0, 3, &[], stop(9)), refused(16, 9));
     let before = marks.clone();
     let (mut short, mut code, mut route) = (vec![77; made.len() - 1], vec![77; made.len() + 1], [77; 9]);
     let slices = Slices { code: &mut short, route: &mut route };
-    assert_eq!(marks.route_resume(&ROUTED, 0, 3, &[1], slices), refusal(11, 0, Some(length)));
+    assert_eq!(marks.route_resume(&ROUTED, 0, 3, &[1], slices), Err(refusal(11, 0, Some(length))));
     assert!(short.iter().all(|&n| n == 77));
     let slices = Slices { code: &mut code, route: &mut [] };
-    assert_eq!(marks.route_resume(&ROUTED, 0, 3, &[1], slices), refusal(17, 3, None));
+    assert_eq!(marks.route_resume(&ROUTED, 0, 3, &[1], slices), Err(refusal(17, 3, None)));
     assert_eq!((&code[..made.len()], code[made.len()]), (&made[..], 77));
     let slices = Slices { code: &mut code, route: &mut [] };
-    assert_eq!(marks.route_stop(&ROUTED, 0, &[1], Stop { mark: 0, answers: 1 }, slices), refusal(12, 0, Some(1)));
+    assert_eq!(marks.route_stop(&ROUTED, 0, &[1], Stop { mark: 0, answers: 1 }, slices), Err(refusal(12, 0, Some(1))));
     assert_eq!((marks, route), (before, [77; 9]));
 }

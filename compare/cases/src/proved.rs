@@ -8,7 +8,7 @@ use std::ops::Range;
 
 use cases::rng::Rng;
 use plain::{Refusal, Route, Tables};
-use velkunshe::{End, Rule};
+use velkunshe::Rule;
 
 use crate::counts::Counts;
 use crate::stored::RouteAnswer;
@@ -68,7 +68,12 @@ fn rule<'a>(t: &Tables<'a>) -> Rule<'a> {
 }
 
 fn refusal(r: velkunshe::Refusal) -> Refusal {
-    Refusal { number: r.number, place: r.place as usize, needed: r.needed }
+    Refusal { number: r.number(), place: r.place as usize, needed: r.needed }
+}
+
+/// No answer of these tables is too long for the memory.
+fn of_error(error: velkunshe::Error) -> Refusal {
+    refusal(error.refusal().expect("a refusal"))
 }
 
 /// A slice of that length within a longer vector.
@@ -190,18 +195,7 @@ fn walk(t: &Tables, unit: u32, answers: &[u32], counts: &mut Counts) -> Result<(
 }
 
 fn shown(route: velkunshe::Shown) -> Route {
-    Route { entries: route.entries, end: end_number(route.end), answers_taken: route.taken as usize }
-}
-
-fn end_number(end: End) -> u32 {
-    match end {
-        End::FellThrough => 0,
-        End::Returned => 1,
-        End::Thrown => 2,
-        End::AnswersSpent => 3,
-        End::Stopped => 4,
-        End::NoOtherEnd => 5,
-    }
+    Route { entries: route.entries, end: route.end.number(), answers_taken: route.taken as usize }
 }
 
 /// The code of a unit.
@@ -214,6 +208,6 @@ pub fn code_of(t: &Tables, unit: u32) -> Result<Vec<u32>, Refusal> {
 
 /// The route of a unit.
 pub fn route_of(t: &Tables, unit: u32, answers: &[u32]) -> RouteAnswer {
-    let route = velkunshe::route_of(&rule(t), unit, answers).map_err(refusal)?;
-    Ok((route.nodes, end_number(route.end), route.taken as usize))
+    let route = velkunshe::route_of(&rule(t), unit, answers).map_err(of_error)?;
+    Ok((route.nodes, route.end.number(), route.taken as usize))
 }

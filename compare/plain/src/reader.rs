@@ -7,11 +7,28 @@
 //! them. The last line may lack its newline. A name is the rest of its line, commas and all; a node's name starts
 //! where the names so far end.
 
+use crate::refusals::{MOST_BYTES, MOST_RECORDS};
 use crate::tables::Tables;
 
-pub const MOST_RECORDS: u32 = 1_024;
-pub const MOST_BYTES: usize = 1_024;
-pub const MOST_LINE: usize = 2_100;
+/// How much a reader takes.
+#[derive(Clone, Copy, Debug)]
+pub struct Limits {
+    /// Nodes, and scopes.
+    pub records: u32,
+    /// Bytes of source, and bytes of names.
+    pub bytes: usize,
+    /// Bytes of a line without its newline.
+    pub line: usize,
+}
+
+impl Limits {
+    /// Those of `rulecheck` and `ruleroute`.
+    pub const PROGRAMS: Limits = Limits { records: 1_024, bytes: 1_024, line: 2_100 };
+
+    /// Those of the library (refusal 1): the longest line is X with all bytes of source in hexadecimal.
+    pub const LIBRARY: Limits =
+        Limits { records: MOST_RECORDS as u32, bytes: MOST_BYTES, line: "X,".len() + 2 * MOST_BYTES };
+}
 
 #[derive(Clone, Debug, Default, PartialEq, Eq)]
 pub struct OwnedTables {
@@ -67,13 +84,19 @@ pub struct BadLine(pub usize);
 /// Holds the bytes and how far it has come.
 pub struct Reader<'a> {
     rest: &'a [u8],
+    limits: Limits,
     /// The number of the line read last.
     line: usize,
 }
 
 impl<'a> Reader<'a> {
+    /// With the limits of `rulecheck` and `ruleroute`.
     pub fn new(input: &'a [u8]) -> Reader<'a> {
-        Reader { rest: input, line: 0 }
+        Reader::within(Limits::PROGRAMS, input)
+    }
+
+    pub fn within(limits: Limits, input: &'a [u8]) -> Reader<'a> {
+        Reader { rest: input, limits, line: 0 }
     }
 
     /// The line read last, where it is none that could stand there.
@@ -90,7 +113,7 @@ impl<'a> Reader<'a> {
         let length = self.rest.iter().position(|&b| b == b'\n').unwrap_or(self.rest.len());
         let line = &self.rest[..length];
         self.rest = self.rest.get(length + 1..).unwrap_or(&[]);
-        if length > MOST_LINE {
+        if length > self.limits.line {
             Err(self.bad())
         } else {
             Ok(line)
@@ -126,7 +149,7 @@ impl<'a> Reader<'a> {
     /// All lines up to X.
     pub fn tables(&mut self) -> Result<OwnedTables, BadLine> {
         let [source_type, nodes, scopes] = self.exactly(b'J')?;
-        if nodes > MOST_RECORDS || scopes > MOST_RECORDS {
+        if nodes > self.limits.records || scopes > self.limits.records {
             return Err(self.bad());
         }
         let mut t = OwnedTables { source_type, ..OwnedTables::default() };
@@ -137,8 +160,11 @@ impl<'a> Reader<'a> {
             self.node(&mut t)?;
         }
         let line = self.next_line()?;
-        t.source =
-            line.strip_prefix(b"X,").and_then(hexadecimal).filter(|s| s.len() <= MOST_BYTES).ok_or(self.bad())?;
+        t.source = line
+            .strip_prefix(b"X,")
+            .and_then(hexadecimal)
+            .filter(|s| s.len() <= self.limits.bytes)
+            .ok_or(self.bad())?;
         Ok(t)
     }
 
@@ -155,7 +181,7 @@ impl<'a> Reader<'a> {
         let name = parts.next().ok_or(self.bad())?;
         t.nodes.extend([t.names.len() as u32, name.len() as u32]);
         t.names.extend(name);
-        if t.names.len() > MOST_BYTES {
+        if t.names.len() > self.limits.bytes {
             Err(self.bad())
         } else {
             Ok(())

@@ -1,4 +1,4 @@
-// The calls for programs in C and Rust: numbers and slices in, document 01's numbers out. `exports_c` gives them C names.
+// The calls for programs in C and Rust: numbers and slices in, document 01's numbers out. `velkunshe` gives them C names.
 #![tactic(auto)]
 
 ghost use Rattle.std.specs.Prelude.{◌≡◌, length};

@@ -1,6 +1,6 @@
 -- THE THREE DEMANDS AS ONE STATEMENT. Each field is a sentence of the demands with its theorem; docs/CLAIMS.md says the same in words. What is not here is not claimed.
 -- `statement` of a call is its contract as it stands above the function in crates/exports/src/lib.rt: that the call, on any memory, ends, does nothing undefined and meets its `ensures`.
--- The calls for C are those of crates/exports_c, each of which calls the one of its name there, under the same clauses (tests/source.sh).
+-- The calls for C are those of crates/velkunshe, each of which calls the one of its name there, under the same clauses (tests/source.sh).
 use Rattle.std.specs.Prelude.{ℕ, ◌≤◌, ◌≡◌, false, eqb, Ok}
 use mathlib.Core.List.{List, flat_map}
 use Rattle.refusal_verdict.specs.Verdict.{Passed}

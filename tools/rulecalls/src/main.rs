@@ -1,6 +1,9 @@
-//! Calls of the proved library that ruleroute doesn't make, over lines as it reads and prints them.
+//! Calls of the proved library over lines as rulecheck and ruleroute read and print them, with the library's limits in
+//! place of theirs: 65,535 nodes and scopes, 1,048,576 bytes of source and of names, and routes of any length.
 //!
-//!     rulecalls walk      as ruleroute, by the second engine: L,node for each entry, then Z,end,entries,answers taken
+//!     rulecalls check     as rulecheck: F with seven numbers for each finding, then E with the count
+//!     rulecalls route     as ruleroute: L,node for each entry, then Z,end,entries,answers taken
+//!     rulecalls walk      as route, by the second engine
 //!     rulecalls shared    behind the rule's lines U, A with answers and A with others: prints B,entries shared
 //!     rulecalls rename    the rule's lines alone: prints them with its labels renamed
 //!     rulecalls marks     behind the rule's lines U, then a line for each call over eight marks that are clear at first:
@@ -14,20 +17,27 @@
 use std::io::{Read, Write};
 use std::process::ExitCode;
 
-use plain::reader::{BadLine, OwnedTables, Reader};
-use velkunshe::{End, Marks, Refusal, Route, Rule, Stop};
+use plain::reader::{BadLine, Limits, OwnedTables, Reader};
+use velkunshe::{End, Error, Finding, Marks, Refusal, Route, Rule, Stop};
 
 type Call = fn(&mut Reader) -> Result<Vec<u8>, Refused>;
 
-const CALLS: [(&str, Call); 5] =
-    [("shared", shared), ("walk", walk), ("rename", rename), ("marks", marks), ("stopped", stopped)];
+const CALLS: [(&str, Call); 7] = [
+    ("check", check),
+    ("route", route),
+    ("walk", walk),
+    ("shared", shared),
+    ("rename", rename),
+    ("marks", marks),
+    ("stopped", stopped),
+];
 
 /// A wrong call, or an input or output that is lost.
 const FAILED: u8 = 2;
 
 enum Refused {
     Line(BadLine),
-    Call(velkunshe::Refusal),
+    Call(Error),
 }
 
 impl From<BadLine> for Refused {
@@ -36,19 +46,20 @@ impl From<BadLine> for Refused {
     }
 }
 
-impl From<velkunshe::Refusal> for Refused {
-    fn from(refusal: velkunshe::Refusal) -> Refused {
-        Refused::Call(refusal)
+impl From<Error> for Refused {
+    fn from(error: Error) -> Refused {
+        Refused::Call(error)
     }
 }
 
 impl Refused {
-    fn line(&self) -> Vec<u8> {
+    /// The line that tells a refusal; what is no refusal is told as a failure.
+    fn line(&self) -> std::io::Result<Vec<u8>> {
         match self {
-            Refused::Line(BadLine(line)) => format!("R,0,{line}\n"),
-            Refused::Call(refusal) => format!("R,{},{}\n", refusal.number, refusal.place),
+            Refused::Line(BadLine(line)) => Ok(format!("R,0,{line}\n").into_bytes()),
+            Refused::Call(Error::Refused(refusal)) => Ok(refusal_line(*refusal)),
+            Refused::Call(error) => Err(std::io::Error::other(*error)),
         }
-        .into_bytes()
     }
 }
 
@@ -71,11 +82,11 @@ fn main() -> ExitCode {
 fn answer(call: Call) -> std::io::Result<()> {
     let mut input = Vec::new();
     std::io::stdin().read_to_end(&mut input)?;
-    let lines = call(&mut Reader::new(&input)).unwrap_or_else(|refused| refused.line());
+    let lines = call(&mut Reader::within(Limits::LIBRARY, &input)).or_else(|refused| refused.line())?;
     std::io::stdout().write_all(&lines)
 }
 
-/// With the option on async bodies off, as in ruleroute.
+/// With the option on async bodies off, as in rulecheck and ruleroute.
 fn rule(t: &OwnedTables) -> Rule<'_> {
     Rule {
         source_type: t.source_type,
@@ -85,6 +96,24 @@ fn rule(t: &OwnedTables) -> Rule<'_> {
         source: &t.source,
         names: &t.names,
     }
+}
+
+fn check(reader: &mut Reader) -> Result<Vec<u8>, Refused> {
+    let tables = reader.tables()?;
+    let found = velkunshe::findings(&rule(&tables))?;
+    let listed: String = found.iter().map(finding_line).collect();
+    Ok(format!("{listed}E,{}\n", found.len()).into_bytes())
+}
+
+fn finding_line(f: &Finding) -> String {
+    let ((start, end), (start_2, end_2)) = (f.first, f.second);
+    format!("F,{},{},{start},{end},{start_2},{end_2},{}\n", f.code.number(), f.node, f.context.number())
+}
+
+fn route(reader: &mut Reader) -> Result<Vec<u8>, Refused> {
+    let tables = reader.tables()?;
+    let (unit, answers) = reader.unit_and_answers()?;
+    Ok(route_lines(&velkunshe::route_within(&rule(&tables), unit, &answers, usize::MAX)?))
 }
 
 fn shared(reader: &mut Reader) -> Result<Vec<u8>, Refused> {
@@ -98,7 +127,7 @@ fn shared(reader: &mut Reader) -> Result<Vec<u8>, Refused> {
 fn walk(reader: &mut Reader) -> Result<Vec<u8>, Refused> {
     let tables = reader.tables()?;
     let (unit, answers) = reader.unit_and_answers()?;
-    Ok(route_lines(&velkunshe::walk_of(&rule(&tables), unit, &answers)?))
+    Ok(route_lines(&velkunshe::walk_within(&rule(&tables), unit, &answers, usize::MAX)?))
 }
 
 fn rename(reader: &mut Reader) -> Result<Vec<u8>, Refused> {
@@ -113,13 +142,17 @@ fn marks(reader: &mut Reader) -> Result<Vec<u8>, Refused> {
     let (rule, mut marks, mut out) = (rule(&tables), Marks::new(), Vec::new());
     while let Some((letter, numbers)) = reader.letter_and_numbers()? {
         let answer = one_call(&rule, unit, &mut marks, letter, &numbers).ok_or(reader.bad())?;
-        out.extend(answer.map_or_else(|refusal| Refused::Call(refusal).line(), |route| route_lines(&route)));
+        match answer {
+            Ok(route) => out.extend(route_lines(&route)),
+            Err(Error::Refused(refusal)) => out.extend(refusal_line(refusal)),
+            Err(error) => return Err(error.into()),
+        }
     }
     Ok(out)
 }
 
 /// What a line calls for; none where it is no such line.
-fn one_call(rule: &Rule, unit: u32, marks: &mut Marks, letter: u8, numbers: &[u32]) -> Option<Result<Route, Refusal>> {
+fn one_call(rule: &Rule, unit: u32, marks: &mut Marks, letter: u8, numbers: &[u32]) -> Option<Result<Route, Error>> {
     let stop = |mark, answers: u32| Stop { mark, answers: answers.into() };
     match (letter, numbers) {
         (b'T', &[mark, behind, ref answers @ ..]) => Some(marks.route_stop_of(rule, unit, answers, stop(mark, behind))),
@@ -149,18 +182,11 @@ fn stopped(reader: &mut Reader) -> Result<Vec<u8>, Refused> {
     Ok(route_lines(&route))
 }
 
-fn route_lines(route: &Route) -> Vec<u8> {
-    let listed: String = route.nodes.iter().map(|node| format!("L,{node}\n")).collect();
-    format!("{listed}Z,{},{},{}\n", number(route.end), route.nodes.len(), route.taken).into_bytes()
+fn refusal_line(refusal: Refusal) -> Vec<u8> {
+    format!("R,{},{}\n", refusal.number(), refusal.place).into_bytes()
 }
 
-fn number(end: End) -> u32 {
-    match end {
-        End::FellThrough => 0,
-        End::Returned => 1,
-        End::Thrown => 2,
-        End::AnswersSpent => 3,
-        End::Stopped => 4,
-        End::NoOtherEnd => 5,
-    }
+fn route_lines(route: &Route) -> Vec<u8> {
+    let listed: String = route.nodes.iter().map(|node| format!("L,{node}\n")).collect();
+    format!("{listed}Z,{},{},{}\n", route.end.number(), route.nodes.len(), route.taken).into_bytes()
 }
