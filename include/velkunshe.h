@@ -350,7 +350,7 @@ static inline const char *velkunshe_end_sentence(uint32_t number) {
     case VELKUNSHE_END_THROWN: return "it threw";
     case VELKUNSHE_END_ANSWERS_SPENT: return "no answer was left for an if, a switch or a turn of a loop";
     case VELKUNSHE_END_STOPPED: return "it was stopped under a mark";
-    case VELKUNSHE_END_NO_OTHER_END: return "it comes to no other end: a mark was taken up that no stop on this rule and unit has set";
+    case VELKUNSHE_END_NO_OTHER_END: return "it comes to no other end: the code is of no unit, or no stop on this rule and unit has set the mark";
     default: return "an end of a later library";
     }
 }
@@ -524,6 +524,51 @@ struct velkunshe_rename_answer velkunshe_rename(
     const uint8_t *names, size_t names_length,
     uint32_t *renamed_nodes, size_t renamed_nodes_length,
     uint8_t *renamed_names, size_t renamed_names_length);
+
+/* A code slice that a caller lends, whoever wrote it. It may hold any numbers and be of any length. Its numbers are a code where
+ * instructions stand in it one behind the other up to its end, each target that one of them names begins an instruction, and the last one
+ * doesn't run on (docs/CODE.md, "Which numbers are a code"); else it is refused by 18, before anything is changed. The code that
+ * velkunshe_code writes, taken with its own length, is never refused.
+ *
+ * refusal: 0, or 18.
+ * place: of 18 the lowest offset where an entry or an instruction begins that is at fault, 0 of an empty slice; else 0.
+ * length: the length of the shorter code; 0 after a refusal.
+ * freed: how many numbers fewer that is than code_length; 0 after a refusal. */
+struct velkunshe_shorten_answer {
+    uint32_t refusal;
+    uint64_t place;
+    uint64_t length;
+    uint64_t freed;
+};
+
+/* Makes a code shorter where it stands: sends each jump on to its last target, drops what no path reaches, and closes up the room. The first
+ * `length` entries are then the shorter code, and those behind are as they were; after a refusal all are. A second pass over the shorter
+ * code changes nothing. Of the code of a unit every route stays, for all answers; of other codes that is not promised. A mark holds a
+ * place in the code as velkunshe_code writes it, not in the shorter one. */
+struct velkunshe_shorten_answer velkunshe_shorten(
+    uint32_t *code, size_t code_length);
+
+/* refusal: 0, or 18 as of velkunshe_shorten, or 12 where the route slice is too short.
+ * end: as of velkunshe_route, or 5 where more instructions pass without an answer than the slice has numbers, where pending ends run
+ *   below none or above 512, or where an END says no number from 0 to 2 (never of a unit's code, shorter or not); 0 after a refusal.
+ * place: of 18 as of velkunshe_shorten, else 0.
+ * entries: how many nodes were listed, from the route slice's start; 0 after a refusal.
+ * needed: after 12 the length that the route slice must have, else 0.
+ * taken: how many answers were taken; 0 after a refusal. */
+struct velkunshe_run_answer {
+    uint32_t refusal;
+    uint32_t end;
+    uint64_t place;
+    uint64_t entries;
+    uint64_t needed;
+    uint64_t taken;
+};
+
+/* Runs a code over the answers. After a refusal the route slice is as it was; no entry past the last one written is changed. */
+struct velkunshe_run_answer velkunshe_run(
+    const uint32_t *code, size_t code_length,
+    const uint32_t *answers, size_t answers_length,
+    uint32_t *route, size_t route_length);
 
 /* Routes that are stopped under a mark, and taken up again there with further answers.
  *

@@ -22,7 +22,7 @@ version() { grep -qx "#define VELKUNSHE_VERSION \"$(pkg-config --modversion velk
 # Each call of the header has an example of its name, in both languages.
 calls() { sed -nE 's/^struct velkunshe_[a-z]+_answer velkunshe_([a-z_]+)\($/\1/p' include/velkunshe.h; }
 each_call() {
-    [ "$(calls | wc -l)" -ge 9 ] && diff <(calls | sort) <(cd bindings/c && printf '%s\n' *.c | sed 's/\.c$//' | sort) || return
+    [ "$(calls | wc -l)" -eq 11 ] && diff <(calls | sort) <(cd bindings/c && printf '%s\n' *.c | sed 's/\.c$//' | sort) || return
     local name
     for name in $(calls); do [ -e "bindings/rust/examples/$name.rs" ] || return; done
 }

@@ -10,7 +10,7 @@ if cargo test --profile checked --offline -q --features cases/proved >/dev/null 
 answer=$($compare run 20000 2027)
 if [ "$(tail -n 1 <<<"$answer")" = "20000 cases, 0 differences" ]; then ok; else bad "compare run 20000 2027: $answer"; fi
 # each call of the library was compared, and was not only refused
-for call in check code route shared walk rename route_stop route_resume route_resume_stop; do
+for call in check code route shared walk rename route_stop route_resume route_resume_stop shorten run; do
     if grep "^$call calls of the proved library by refusal 0 to 20: \[[1-9]" <<<"$answer"; then ok; else bad "no $call calls compared"; fi
 done
 

@@ -38,6 +38,8 @@ lines() { tools/treemaker --route 0 "$1" rules/while-switch.js | target/bin/rule
 appended() { { tools/treemaker rules/while-switch.js && echo U,0 && echo A,1,0; } | target/bin/ruleroute; }
 
 # beside ANSWERS..: rulecalls on the lines of a rule with a line A for each
+# lent NUMBERS ANSWERS: a run of any numbers as code
+lent() { printf 'K,%s\nA%s\n' "$1" "${2:+,$2}" | target/bin/rulecalls run; }
 beside() { { tools/treemaker rules/while-switch.js && echo U,0 && printf 'A,%s\n' "$@"; } | target/bin/rulecalls shared; }
 
 needs rulecheck ruleroute node cargo rulecalls
@@ -238,6 +240,45 @@ then with answers 1, 5
 6  line 1  x;
 it stopped for want of an answer after 6 entries and 4 answers; line 1 asks next: while(t)' ./show-route rules/while-switch.js 1,0,7 --stop 2 --then 0 --then y,5
 check "a route that ends before it is stopped" says 'show-route: the route ends before 2 answers are taken: there is nothing to stop' ./show-route rules/while-switch.js 0 --stop 2 --then 1
+check "the code of a unit, before and after" says 'code of the program, 42 numbers
+ 0  LEAVE   3 0
+ 3  ASK     3 10 7   line 1  while(t)
+ 7  LEAVE   34 0
+10  LEAVE   13 0
+13  SELECT  6 20 17  line 1  switch(s)
+17  LEAVE   29 0
+20  CASE    0 24 0
+24  LIST    10       line 1  continue a;
+26  LEAVE   3 0
+29  LIST    12       line 1  x;
+31  LEAVE   3 0
+34  END     0        fell through
+36  END     1        returned
+38  END     2        threw
+40  END     5        no end
+the shorter code, 36 numbers; 6 are freed
+ 0  LEAVE   3 0
+ 3  ASK     3 10 7   line 1  while(t)
+ 7  LEAVE   34 0
+10  LEAVE   13 0
+13  SELECT  6 20 17  line 1  switch(s)
+17  LEAVE   29 0
+20  CASE    0 24 0
+24  LIST    10       line 1  continue a;
+26  LEAVE   3 0
+29  LIST    12       line 1  x;
+31  LEAVE   3 0
+34  END     0        fell through' ./show-route rules/while-switch.js --code
+check "a route by the shorter code" says 'route of the program with answers 1, 1
+1  line  3  class Doors                                its static blocks run
+2  line  6  for (const door of config.doors)           1: another turn
+3  line  7  if (!door.name)                            1: yes
+4  line  7  throw new Error("a door without a name");  the catch at line 16 takes it
+5  line 17  alarm(error);
+it fell through its last statement after 5 entries and 2 answers
+all engines give this' ./show-route rules/doors.js 1,1 --engine all
+check "a lent code is run" says 'L,7\nL,8\nL,7\nZ,1,3,2' lent 2,3,0,3,7,7,12,1,8,2,3,0,6,1 1,0
+check "numbers that are no code" says 'R,18,2' lent 1,5,9
 # renamed TEXT: the text of a script with its labels renamed
 renamed() { printf '%b' "$1" | tools/rename-labels --script -; }
 check "labels renamed" says 'a: for (;;) { b: do { if (x) continue a; break b } while (y) }' renamed 'outer: for (;;) { inner: do { if (x) continue outer; break inner } while (y) }'

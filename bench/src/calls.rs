@@ -1,6 +1,6 @@
 //! Who is timed in each call: the proved library, the plain version, and for `check` the crate's text. That one gives no
 //! refusals and writes to no slice, and makes its tree of the tables first. The plain version makes no code: of the code
-//! call it has the refusals alone, and its route is its walk.
+//! call it has the refusals alone, and its route is its walk. What it makes shorter and runs is the proved library's code.
 
 use std::hint::black_box;
 
@@ -8,12 +8,22 @@ use plain::reader::OwnedTables;
 use velkunshe::{CODE, Rule};
 
 pub struct Input {
-    pub tables: OwnedTables,
+    tables: OwnedTables,
     /// For the route of the program.
-    pub answers: Vec<u32>,
+    answers: Vec<u32>,
+    /// The code of the program, and its shorter one; none where it is refused.
+    code: Vec<u32>,
+    shorter: Vec<u32>,
 }
 
 impl Input {
+    pub fn new(tables: OwnedTables, answers: Vec<u32>) -> Input {
+        let mut input = Input { tables, answers, code: Vec::new(), shorter: Vec::new() };
+        input.code = velkunshe::code_of(&input.rule(), 0).unwrap_or_default();
+        input.shorter = velkunshe::shortened(input.code.clone()).unwrap_or_default();
+        input
+    }
+
     pub fn nodes(&self) -> usize {
         self.tables.nodes.len() / 10
     }
@@ -63,11 +73,18 @@ pub struct Call {
     pub compare: fn(&Input) -> usize,
 }
 
-pub const CALLS: [Call; 4] = [
+pub const CALLS: [Call; 7] = [
     Call { name: "check", contenders: &[check, plain_check, crate_check], compare: compare_check },
     Call { name: "code", contenders: &[code, plain_code_refusal], compare: compare_code },
     Call { name: "route", contenders: &[route, plain_route], compare: compare_route },
     Call { name: "walk", contenders: &[walk, plain_walk], compare: compare_walk },
+    Call { name: "shorten", contenders: &[shorten, plain_shorten], compare: compare_shorten },
+    Call { name: "run", contenders: &[run, plain_run], compare: compare_run },
+    Call {
+        name: "run of the shorter code",
+        contenders: &[run_shorter, plain_run_shorter],
+        compare: compare_run_shorter,
+    },
 ];
 
 fn check(rule: &Input, slices: &mut Slices) {
@@ -108,6 +125,37 @@ fn plain_walk(rule: &Input, slices: &mut Slices) {
     let _ = black_box(plain::walk(&rule.tables.lend(), 0, &rule.answers, &mut slices.route));
 }
 
+/// The copy of the code is timed too, and so it is of the plain version.
+fn shorten(rule: &Input, slices: &mut Slices) {
+    let _ = black_box(velkunshe::shorten(copied(&rule.code, slices)));
+}
+
+fn plain_shorten(rule: &Input, slices: &mut Slices) {
+    let _ = black_box(plain::shorten(copied(&rule.code, slices)));
+}
+
+fn copied<'s>(code: &[u32], slices: &'s mut Slices) -> &'s mut [u32] {
+    let copy = &mut slices.code[..code.len()];
+    copy.copy_from_slice(code);
+    copy
+}
+
+fn run(rule: &Input, slices: &mut Slices) {
+    let _ = black_box(velkunshe::run(&rule.code, &rule.answers, &mut slices.route));
+}
+
+fn plain_run(rule: &Input, slices: &mut Slices) {
+    let _ = black_box(plain::run(&rule.code, &rule.answers, &mut slices.route));
+}
+
+fn run_shorter(rule: &Input, slices: &mut Slices) {
+    let _ = black_box(velkunshe::run(&rule.shorter, &rule.answers, &mut slices.route));
+}
+
+fn plain_run_shorter(rule: &Input, slices: &mut Slices) {
+    let _ = black_box(plain::run(&rule.shorter, &rule.answers, &mut slices.route));
+}
+
 fn compare_check(rule: &Input) -> usize {
     let mut expected = vec![0; room_for_findings(rule)];
     let mut found = expected.clone();
@@ -138,5 +186,34 @@ fn compare_walk(rule: &Input) -> usize {
     let shown = velkunshe::walk(&rule.rule(), 0, &rule.answers, &mut listed).expect("no findings");
     assert_eq!((shown.entries, shown.taken), (plain.entries, plain.answers_taken as u64));
     assert_eq!(listed, expected);
+    plain.entries
+}
+
+fn compare_shorten(rule: &Input) -> usize {
+    let (mut expected, mut left) = (rule.code.clone(), rule.code.clone());
+    let plain = plain::shorten(&mut expected).expect("a unit's code");
+    let shorter = velkunshe::shorten(&mut left).expect("a unit's code");
+    assert_eq!((shorter.length, shorter.freed), (plain, rule.code.len() - plain));
+    assert_eq!(left, expected);
+    plain
+}
+
+fn compare_run(rule: &Input) -> usize {
+    same_run(rule, &rule.code)
+}
+
+fn compare_run_shorter(rule: &Input) -> usize {
+    same_run(rule, &rule.shorter)
+}
+
+/// The run is the plain one, and the route of the tree.
+fn same_run(rule: &Input, code: &[u32]) -> usize {
+    let mut expected = vec![0; room_for_route(rule)];
+    let (mut listed, mut walked) = (expected.clone(), expected.clone());
+    let plain = plain::run(code, &rule.answers, &mut expected).expect("a unit's code");
+    let shown = velkunshe::run(code, &rule.answers, &mut listed).expect("a unit's code");
+    assert_eq!((shown.entries, shown.taken), (plain.entries, plain.answers_taken as u64));
+    assert_eq!(plain::walk(&rule.tables.lend(), 0, &rule.answers, &mut walked), Ok(plain));
+    assert_eq!((&listed, &listed), (&expected, &walked));
     plain.entries
 }

@@ -72,7 +72,7 @@ fn well_formed(rng: &mut Rng, size: usize, calm: bool, call: &Call) -> Input {
             plain::code_refusal(&tables.lend(), 0, usize::MAX).is_ok()
         };
         if taken {
-            return Input { tables, answers };
+            return Input::new(tables, answers);
         }
     }
 }
@@ -106,7 +106,7 @@ struct Timed {
 
 fn sized(call: &Call, shape: &Shape, size: usize) -> Timed {
     let tables: OwnedTables = (shape.make)(size);
-    let rules = [Input { tables, answers: shapes::answers(size) }];
+    let rules = [Input::new(tables, shapes::answers(size))];
     let (written, times) = time(call, &rules);
     Timed { size: size as f64, nodes: rules[0].nodes() as f64, written, times }
 }

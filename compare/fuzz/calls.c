@@ -17,7 +17,7 @@ static void saw(uint32_t what, uint32_t first, uint32_t second) {
     seen[(mixed ^ mixed >> 13) % SEEN] = 1;
 }
 
-enum { SAW_REFUSAL, SAW_FINDING, SAW_CODES, SAW_CODE, SAW_ROUTE, SAW_END, SAW_SHARED, SAW_NAMES };
+enum { SAW_REFUSAL, SAW_FINDING, SAW_CODES, SAW_CODE, SAW_ROUTE, SAW_END, SAW_SHARED, SAW_NAMES, SAW_SHORTER };
 
 /* The slices that are read, and those that are written. */
 static struct lent nodes, scopes, source, names, answers, others;
@@ -253,6 +253,37 @@ static void try_stopped(struct velkunshe_route_answer whole) {
     REQUIRE(memcmp(walked.at, route.at + begun.entries * 4, rest.entries * 4) == 0);
 }
 
+/* A shorter code frees what it says, leaves the rest, stays at a second pass, and has the route (which `route` holds). */
+static void try_shorter(struct velkunshe_code_answer made, struct velkunshe_route_answer whole) {
+    lend_copy(&again, code.at, made.length, (int)in->head[AT_FRONT] >> 3 & 1);
+    struct velkunshe_shorten_answer answer = velkunshe_shorten(LENT(again));
+    REQUIRE(answer.refusal == 0 && answer.length + answer.freed == made.length);
+    REQUIRE(memcmp(again.at + answer.length * 4, code.at + answer.length * 4, answer.freed * 4) == 0);
+    REQUIRE(untouched_behind(&again, again.entries));
+    saw(SAW_SHORTER, bits(answer.length), bits(answer.freed));
+    struct velkunshe_shorten_answer twice = velkunshe_shorten(numbers(&again), answer.length);
+    REQUIRE(twice.refusal == 0 && twice.freed == 0 && twice.length == answer.length);
+    lend(&walked, whole.entries, 0);
+    struct velkunshe_run_answer run = velkunshe_run(numbers(&again), answer.length, LENT(answers), LENT(walked));
+    REQUIRE(run.refusal == 0 && run.entries == whole.entries && run.taken == whole.taken && run.end == whole.end);
+    REQUIRE(memcmp(walked.at, route.at, run.entries * 4) == 0);
+}
+
+/* A code of any numbers: that of the unit, or a part of it, with another number in it. Both calls refuse the same ones. */
+static void try_any_code(struct velkunshe_code_answer made) {
+    lend_copy(&again, code.at, in->head[STOP] % 3 ? made.length : made.length * 2 / 3, 0);
+    if (again.entries > 0)
+        numbers(&again)[in->head[FROM] % again.entries] = in->head[TO];
+    lend(&walked, room_of(ROUTE_ROOM, 10000), 1);
+    struct velkunshe_run_answer run = velkunshe_run(LENT(again), LENT(answers), LENT(walked));
+    REQUIRE(untouched_behind(&walked, run.entries) && run.end <= VELKUNSHE_END_NO_OTHER_END);
+    REQUIRE((run.refusal == VELKUNSHE_REFUSAL_ROUTE_SLICE) == (run.needed > 0));
+    struct velkunshe_shorten_answer answer = velkunshe_shorten(LENT(again));
+    REQUIRE(untouched_behind(&again, again.entries) && answer.length <= again.entries);
+    REQUIRE((answer.refusal != 0) == (run.refusal == VELKUNSHE_REFUSAL_NO_CODE) && answer.place == run.place);
+    saw(SAW_REFUSAL, 400 + answer.refusal, run.end);
+}
+
 /* Marks of any numbers: a call ends, and writes no more than it says. */
 static void try_marks(void) {
     lend(&marks, VELKUNSHE_MARKS, (int)in->head[AT_FRONT] >> 4 & 1);
@@ -355,8 +386,10 @@ int LLVMFuzzerTestOneInput(const uint8_t *data, size_t size) {
         lend(&marks, VELKUNSHE_MARKS, 0);
         memset(marks.at, 0, bytes_of(&marks));
         try_stopped(walked_to);
+        try_shorter(made, walked_to);
     }
     try_shared(walked_to, made);
+    try_any_code(made);
     try_marks();
     try_rename(checked);
     require_unchanged();

@@ -90,3 +90,22 @@ struct velkunshe_route_answer __wrap_velkunshe_route_stop(uint32_t type, uint32_
         marks[mark * (VELKUNSHE_MARKS / 8)] = 0;
     return answer;
 }
+
+struct velkunshe_shorten_answer __real_velkunshe_shorten(uint32_t *, size_t);
+struct velkunshe_shorten_answer __wrap_velkunshe_shorten(uint32_t *code, size_t code_length) {
+    struct velkunshe_shorten_answer answer = __real_velkunshe_shorten(code, code_length);
+    if (planted("freed") && answer.freed > 0)
+        answer.freed--;
+    if (planted("tail") && answer.freed > 0)
+        code[code_length - 1] = 0;
+    return answer;
+}
+
+struct velkunshe_run_answer __real_velkunshe_run(const uint32_t *, size_t, const uint32_t *, size_t, uint32_t *, size_t);
+struct velkunshe_run_answer __wrap_velkunshe_run(const uint32_t *code, size_t code_length, const uint32_t *answers,
+                                                 size_t answers_length, uint32_t *route, size_t route_length) {
+    struct velkunshe_run_answer answer = __real_velkunshe_run(code, code_length, answers, answers_length, route, route_length);
+    if (planted("end") && answer.end == VELKUNSHE_END_FELL_THROUGH)
+        answer.end = VELKUNSHE_END_RETURNED;
+    return answer;
+}

@@ -81,6 +81,14 @@ function sharedOf(lines) {
   return /^B,\d+$/.test(last) ? { shared: Number(last.slice(2)) } : { refused: last };
 }
 
+// A unit's code and the shorter one as lists of numbers, and how many numbers are freed; or the line of a refusal or failure.
+function codesOf(lines) {
+  const last = lines[lines.length - 1] || 'C,nothing';
+  if (lines.length !== 3 || !/^F,\d+$/.test(last)) return { refused: last };
+  const [made, shorter] = lines.map((l) => l.split(',').slice(1).map(Number));
+  return { made, shorter, freed: Number(last.slice(2)) };
+}
+
 // The program as named, else the proved one where the build leaves it.
 function programOf(named, name) {
   if (named) return named;
@@ -89,9 +97,9 @@ function programOf(named, name) {
   return built;
 }
 
-// The engines that give routes: ruleroute runs code, rulecalls walks over the tree, or stops behind each answer and takes the route up again.
-// Code for a rule that is too large for ruleroute is run by rulecalls too.
-const ENGINES = { code: ['code'], walk: ['walk'], both: ['code', 'walk'], all: ['code', 'walk', 'stopped'] };
+// The engines that give routes: ruleroute runs code, rulecalls walks over the tree, or stops behind each answer and takes the route up again, or runs the
+// shorter code. Code for a rule that is too large for ruleroute is run by rulecalls too.
+const ENGINES = { code: ['code'], walk: ['walk'], shorter: ['shorter'], both: ['code', 'walk'], all: ['code', 'walk', 'stopped', 'shorter'] };
 const CODE_BY_CALL = 'route';
 function enginesOf(which, { router, caller }, large = false) {
   const call = (argument) => ({ program: programOf(caller, 'rulecalls'), argument });
@@ -99,4 +107,4 @@ function enginesOf(which, { router, caller }, large = false) {
   return ENGINES[which].map((name) => ({ name, ...(name === 'code' ? code() : call(name)) }));
 }
 
-module.exports = { ENGINES, answersOf, enginesOf, findingsOf, routeOf, routesOf, sharedOf, programOf };
+module.exports = { ENGINES, answersOf, codesOf, enginesOf, findingsOf, routeOf, routesOf, sharedOf, programOf };

@@ -70,14 +70,17 @@ function answersIn(text) {
   return fits ? answers : null;
 }
 
+// with the unit behind them, for rulecalls
+const unitLinesOf = (tree, unit) => Buffer.concat([linesOf(tree), Buffer.from(`U,${unit}\n`)]);
+
 // with the unit and the answers behind them, for ruleroute; with several lists of answers for rulecalls
 function routeLinesOf(tree, unit, ...lists) {
-  return Buffer.concat([linesOf(tree), Buffer.from(`U,${unit}\n${lists.map((answers) => `${lineOf(answers)}\n`).join('')}`)]);
+  return Buffer.concat([unitLinesOf(tree, unit), Buffer.from(lists.map((answers) => `${lineOf(answers)}\n`).join(''))]);
 }
 
 // with the unit and a line for each call over marks, of a letter and numbers, for rulecalls
 function markLinesOf(tree, unit, calls) {
-  return Buffer.concat([linesOf(tree), Buffer.from(`U,${unit}\n${calls.map((call) => `${call.join()}\n`).join('')}`)]);
+  return Buffer.concat([unitLinesOf(tree, unit), Buffer.from(calls.map((call) => `${call.join()}\n`).join(''))]);
 }
 
 function viewOf(tree) {
@@ -97,4 +100,4 @@ function viewOf(tree) {
   return out.join('\n') + '\n';
 }
 
-module.exports = { PROGRAMS, LIBRARY, linesOf, treeIn, routeLinesOf, markLinesOf, answersIn, viewOf, tooLarge, depthOf };
+module.exports = { PROGRAMS, LIBRARY, linesOf, treeIn, unitLinesOf, routeLinesOf, markLinesOf, answersIn, viewOf, tooLarge, depthOf };

@@ -43,6 +43,24 @@ pub struct RenameAnswer {
     pub needed: u64,
 }
 
+#[repr(C)]
+pub struct ShortenAnswer {
+    pub refusal: u32,
+    pub place: u64,
+    pub length: u64,
+    pub freed: u64,
+}
+
+#[repr(C)]
+pub struct RunAnswer {
+    pub refusal: u32,
+    pub end: u32,
+    pub place: u64,
+    pub entries: u64,
+    pub needed: u64,
+    pub taken: u64,
+}
+
 extern "C" {
     pub fn velkunshe_check(
         source_type: u32,
@@ -148,6 +166,17 @@ extern "C" {
         renamed_names: *mut u8,
         renamed_names_length: usize,
     ) -> RenameAnswer;
+
+    pub fn velkunshe_shorten(code: *mut u32, code_length: usize) -> ShortenAnswer;
+
+    pub fn velkunshe_run(
+        code: *const u32,
+        code_length: usize,
+        answers: *const u32,
+        answers_length: usize,
+        route: *mut u32,
+        route_length: usize,
+    ) -> RunAnswer;
 
     pub fn velkunshe_route_stop(
         source_type: u32,

@@ -4,7 +4,8 @@
 //! makes the flat code of one of its units (the program, a function, an arrow or a static block), and [`route`] lists the statements that the
 //! unit comes to on a list of answers. [`findings`], [`code_of`] and [`route_of`] give the same in vectors. [`shared`] says how much two
 //! routes of one unit share. [`walk`] gives a route by a second engine, which makes no code. [`renamed`] gives a rule with short labels.
-//! [`Marks`] has routes that are stopped and taken up again. Whatever the tables hold, a call ends and does nothing undefined, and its answer
+//! [`Marks`] has routes that are stopped and taken up again. [`shorten`] makes a code shorter and [`run`] runs one, whoever wrote it.
+//! Whatever the tables, the codes and the answers hold, a call ends and does nothing undefined, and its answer
 //! is the one that is proved; nothing here asks for `unsafe`.
 //!
 //! The static library `libvelkunshe.a` is linked, which Velkunshe's `tools/setup velkunshe` proves and builds. The environment variable
@@ -140,7 +141,9 @@ mod rename;
 mod room;
 mod route;
 mod rule;
+mod run;
 mod shared;
+mod shorten;
 mod walk;
 
 pub use builder::{BuildError, Builder, Node, NodeId, ScopeId};
@@ -151,7 +154,9 @@ pub use numbers::{extras, Code, Context, End, Flags, Kind, Reason, Role, ScopeFl
 pub use rename::{rename, renamed, Renamed};
 pub use route::{code, code_of, route, route_of, route_within, Route, Shown, ROUTE_LIMIT};
 pub use rule::Rule;
+pub use run::{run, run_of, run_within};
 pub use shared::{shared, shared_of};
+pub use shorten::{shorten, shortened, Shorter};
 pub use walk::{walk, walk_of, walk_within};
 
 /// How many numbers a node takes in [`Rule::nodes`].

@@ -230,7 +230,7 @@ numbered! {
     Thrown = 2, "it threw";
     AnswersSpent = 3, "no answer was left for an if, a switch or a turn of a loop";
     Stopped = 4, "it was stopped under a mark";
-    NoOtherEnd = 5, "it comes to no other end: a mark was taken up that no stop on this rule and unit has set";
+    NoOtherEnd = 5, "it comes to no other end: the code is of no unit, or no stop on this rule and unit has set the mark";
 }
 
 numbered! {

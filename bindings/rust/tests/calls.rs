@@ -1,8 +1,9 @@
 //! The calls on slices of every length: nothing but what is promised is written.
 
 use velkunshe::{
-    check, code, code_of, findings, rename, renamed, route, route_of, shared, shared_of, walk, walk_of, Context, End,
-    Error, Marks, Reason, Refusal, Rule, Shown, Slices, Stop, CODE, FINDING,
+    check, code, code_of, findings, rename, renamed, route, route_of, run, run_of, shared, shared_of, shorten,
+    shortened, walk, walk_of, Context, End, Error, Marks, Reason, Refusal, Rule, Shorter, Shown, Slices, Stop, CODE,
+    FINDING,
 };
 
 fn refusal(number: u32, place: u64, needed: Option<u64>) -> Refusal {
@@ -447,4 +448,81 @@ fn refusals_of_marks() {
     let slices = Slices { code: &mut code, route: &mut [] };
     assert_eq!(marks.route_stop(&ROUTED, 0, &[1], Stop { mark: 0, answers: 1 }, slices), Err(refusal(12, 0, Some(1))));
     assert_eq!((marks, route), (before, [77; 9]));
+}
+
+/// The shorter code of ROUTED, by hand: the jumps at 10 (the block), 17 and 7 (behind the switch and the while), each to a LIST or an END, stay
+/// as they are; what no path reaches, the ends 1, 2 and 5, goes.
+#[test]
+fn shorter_code() {
+    let made = code_of(&ROUTED, 0).unwrap();
+    let expected = [
+        2, 3, 0, 3, 3, 10, 7, 2, 34, 0, // while
+        2, 13, 0, // its block
+        4, 6, 20, 17, 2, 29, 0, // switch
+        7, 0, 24, 0, // case
+        1, 10, 2, 3, 0, // continue
+        1, 12, 2, 3, 0, // x
+        6, 0, // the end that is reached
+    ];
+    let mut code = [&made[..], &[77, 77]].concat();
+    let length = expected.len();
+    assert_eq!(shorten(&mut code[..made.len()]), Ok(Shorter { length, freed: made.len() - length }));
+    assert_eq!(code[..length], expected);
+    assert_eq!((&code[length..made.len()], &code[made.len()..]), (&made[length..], &[77, 77][..]));
+    // A second pass changes nothing.
+    assert_eq!(shortened(code[..length].to_vec()), Ok(expected.to_vec()));
+    for answers in [&[1, 0, 0][..], &[1, 5, 0], &[1], &[]] {
+        let route = route_of(&ROUTED, 0, answers);
+        assert_eq!((run_of(&made, answers), run_of(&expected, answers)), (route.clone(), route));
+    }
+}
+
+/// A jump over two jumps to the last target, with the least depth on the way; a ring stays; what waits is no target.
+#[test]
+fn jumps_to_jumps() {
+    let of = |code: &[u32]| shortened(code.to_vec()).unwrap();
+    assert_eq!(of(&[2, 3, 5, 2, 6, 1, 2, 9, 3, 6, 1]), [2, 3, 1, 6, 1]);
+    assert_eq!(of(&[2, 3, 0, 2, 6, 0, 2, 3, 0]), [2, 3, 0, 2, 6, 0, 2, 3, 0]);
+    assert_eq!(of(&[5, 2, 2, 5, 0, 2, 0, 1]), [5, 2, 2, 0, 0]);
+    // The jumps at 3, 6 and 9 go, through which those at 16, 23 and 26 lead back.
+    let ways_back = [
+        2, 12, 0, 2, 29, 1, 2, 31, 2, 2, 3, 0, // in front
+        3, 5, 16, 19, 2, 9, 7, 3, 6, 23, 26, 2, 6, 1, 2, 3, 9, 1, 7, 6, 0,
+    ];
+    let shorter = [2, 3, 0, 3, 5, 7, 10, 2, 20, 0, 3, 6, 14, 17, 2, 22, 1, 2, 20, 1, 1, 7, 6, 0];
+    assert_eq!(of(&ways_back), shorter);
+}
+
+/// 18 first, at its place, with the code and the route as they were; then 12.
+#[test]
+fn lent_codes() {
+    let faults: [(&[u32], u64); 7] = [
+        (&[], 0),
+        (&[8], 0),
+        (&[1, 5, 9], 2),
+        (&[6, 0, 2, 1, 0], 2),
+        (&[6, 0, 1, 4], 2),
+        (&[6, 0, 3, 1, 0], 2),
+        (&[2, 3, 0, 3, 1, 0], 0),
+    ];
+    for (numbers, place) in faults {
+        let (mut code, mut out) = (numbers.to_vec(), [77; 3]);
+        assert_eq!(shorten(&mut code), Err(refusal(18, place, None)));
+        assert_eq!(run(&code, &[1], &mut out), Err(refusal(18, place, None)));
+        assert_eq!((&code[..], out), (numbers, [77; 3]));
+    }
+    let (lists, mut out) = ([1, 4, 1, 5, 1, 6, 6, 2], [77; 4]);
+    assert_eq!(run(&lists, &[], &mut out[..2]), Err(refusal(12, 0, Some(3))));
+    assert_eq!(out, [77; 4]);
+    assert_eq!(run(&lists, &[], &mut out), Ok(Shown { entries: 3, end: End::Thrown, taken: 0 }));
+    assert_eq!(out, [4, 5, 6, 77]);
+}
+
+/// 5: in a ring, which is run until more instructions have passed than the code has numbers; for what waits where nothing does.
+#[test]
+fn no_other_end() {
+    let ring = run_of(&[2, 3, 0, 1, 9, 2, 3, 0], &[]).unwrap();
+    // Eight instructions: four times the jump to the entry, and the entry.
+    assert_eq!((&ring.nodes[..], ring.end, ring.taken), (&[9; 4][..], End::NoOtherEnd, 0));
+    assert_eq!(run_of(&[2, 0, 0], &[]).map(|r| r.end), Ok(End::NoOtherEnd));
 }

@@ -55,6 +55,10 @@ pub struct Counts {
     typescript: TypeScript,
     ends: [u64; 4],
     route_refusals: [u64; NUMBERS],
+    /// Numbers of the codes of routed units, and of the shorter ones.
+    numbers: [u64; 2],
+    /// Lent code slices, those that 18 refuses, and those that become shorter.
+    lent: [u64; 3],
     /// Calls of the proved library by their name and refusal; 0 is success.
     proved: BTreeMap<&'static str, [u64; NUMBERS]>,
 }
@@ -79,6 +83,8 @@ impl Counts {
             typescript: TypeScript::default(),
             ends: [0; 4],
             route_refusals: [0; NUMBERS],
+            numbers: [0; 2],
+            lent: [0; 3],
             proved: BTreeMap::new(),
         }
     }
@@ -134,6 +140,16 @@ impl Counts {
             Ok(route) => self.ends[route.end as usize] += 1,
             Err(refusal) => self.route_refusals[refusal.number as usize] += 1,
         }
+    }
+
+    pub fn codes(&mut self, lengths: [usize; 2]) {
+        self.numbers.iter_mut().zip(lengths).for_each(|(sum, length)| *sum += length as u64);
+    }
+
+    pub fn lent_code(&mut self, code: &[u32]) {
+        let shorter = plain::shorten(&mut code.to_vec());
+        let seen = [true, shorter.is_err(), shorter.is_ok_and(|length| length < code.len())];
+        self.lent.iter_mut().zip(seen).for_each(|(count, seen)| *count += u64::from(seen));
     }
 
     /// A unit that has a route.
@@ -210,6 +226,10 @@ impl fmt::Display for Counts {
             "routed units with a try {}, one with its block behind {}, with an entered static block {}",
             self.tries, self.turned, self.entering
         )?;
+        let [made, left] = self.numbers;
+        writeln!(f, "numbers of the units' codes {made}, of the shorter ones {left}")?;
+        let [lent, refused, shorter] = self.lent;
+        writeln!(f, "lent codes {lent}, refused by 18 {refused}, made shorter {shorter}")?;
         for (name, calls) in &self.proved {
             writeln!(f, "{name} calls of the proved library by refusal 0 to 20: {calls:?}")?;
         }

@@ -9,6 +9,7 @@
 mod clashes;
 mod counts;
 mod flat;
+mod lent;
 mod over_code;
 #[cfg(feature = "proved")]
 mod proved;
@@ -184,6 +185,16 @@ fn compare(t: &Tables, sort: Sort, rng: &mut Rng, counts: &mut Counts) -> Result
     }
     #[cfg(feature = "proved")]
     proved::compare(t, rng, counts)?;
+    lent_code(rng, counts)
+}
+
+/// A lent code slice, of no tree.
+fn lent_code(rng: &mut Rng, counts: &mut Counts) -> Result<(), String> {
+    let (code, answers) = (lent::code(rng), answers(rng));
+    counts.lent_code(&code);
+    lent::compare(&code, &answers)?;
+    #[cfg(feature = "proved")]
+    proved::lent_code(&code, &answers, counts)?;
     Ok(())
 }
 
@@ -249,7 +260,7 @@ fn routes(t: &Tables, rng: &mut Rng, counts: &mut Counts) -> Result<(), String> 
         let needed = Err(Refusal { number: 11, place: 0, needed: Some(length as u64) });
         same("a code slice one too short", &plain::route(t, unit as u32, &answers, length - 1, &mut out), &needed)?;
         same("a code slice of the code's length", &plain::code_refusal(t, unit as u32, length), &Ok(length))?;
-        over_code::compare(t, unit, &answers, rng)?;
+        counts.codes(over_code::compare(t, unit, &answers, rng)?);
         let second = second::route(t, unit, &answers);
         let plain = (out[..route.entries].to_vec(), route.end, route.answers_taken);
         same(&format!("route of {unit} with {answers:?}, plain and second reading"), &plain, &second)?;

@@ -8,21 +8,21 @@ use plain::{Refusal, Route, Tables};
 
 use crate::{answers, flat, same};
 
-/// A unit that has a route.
-pub fn compare(t: &Tables, unit: usize, given: &[u32], rng: &mut Rng) -> Result<(), String> {
+/// A unit that has a route; gives the length of its code and of the shorter one.
+pub fn compare(t: &Tables, unit: usize, given: &[u32], rng: &mut Rng) -> Result<[usize; 2], String> {
     let made = flat::code(t, unit);
     same("code's length, made and as a sum", &made.len(), &plain::code_length(t, unit))?;
-    over(t, unit, &made, given, rng)
+    over(t, unit, &made, given, rng).map(|shorter| [made.len(), shorter])
 }
 
-/// All that is said of a unit's code, whoever made it.
-pub fn over(t: &Tables, unit: usize, made: &[u32], given: &[u32], rng: &mut Rng) -> Result<(), String> {
+/// All that is said of a unit's code, whoever made it; gives the length of the shorter one.
+pub fn over(t: &Tables, unit: usize, made: &[u32], given: &[u32], rng: &mut Rng) -> Result<usize, String> {
     let run = plain::routes::run(t, unit, given);
     same("a unit's code has no fault", &plain::shorten::first_fault(made), &None)?;
     same("route by the code and by the evaluator", &ran(made, given), &run)?;
-    shortened(made, given, &run)?;
+    let shorter = shortened(made, given, &run)?;
     stopped(t, unit, made, given, rng)?;
-    changed(t, unit, given, rng)
+    changed(t, unit, given, rng).map(|()| shorter)
 }
 
 fn ran(code: &[u32], answers: &[u32]) -> Run {
@@ -31,7 +31,7 @@ fn ran(code: &[u32], answers: &[u32]) -> Run {
 }
 
 /// Request 10: the same route, never longer, and a second pass changes nothing.
-fn shortened(made: &[u32], answers: &[u32], run: &Run) -> Result<(), String> {
+fn shortened(made: &[u32], answers: &[u32], run: &Run) -> Result<usize, String> {
     let mut code = made.to_vec();
     let length = plain::shorten(&mut code).map_err(|r| format!("shorten: {r:?}"))?;
     same("what is behind the shorter code", &code[length..].to_vec(), &made[length..].to_vec())?;
@@ -39,7 +39,7 @@ fn shortened(made: &[u32], answers: &[u32], run: &Run) -> Result<(), String> {
     same("route of the shorter code", &ran(&code, answers), run)?;
     let mut again = code.clone();
     same("length of a second pass", &plain::shorten(&mut again).map_err(|r| r.number), &Ok(length))?;
-    same("a second pass", &again, &code)
+    same("a second pass", &again, &code).map(|()| length)
 }
 
 /// Request 7: stopped once or twice and taken up again, the lists joined are the route of the answers joined.

@@ -3,6 +3,7 @@
 
 mod marks;
 mod rename;
+mod shorten;
 
 use std::ops::Range;
 
@@ -21,7 +22,13 @@ const MARGIN: usize = 9;
 
 /// What no seeded case has.
 pub fn at_limits(counts: &mut Counts) -> Result<(), String> {
-    rename::at_limits(counts)
+    rename::at_limits(counts)?;
+    shorten::at_limits(counts)
+}
+
+/// A lent code slice: made shorter, and run before and after.
+pub fn lent_code(code: &[u32], answers: &[u32], counts: &mut Counts) -> Result<(), String> {
+    shorten::compare(code, answers, counts)
 }
 
 /// With the option on async bodies off and on; the calls that don't take it once.
@@ -43,7 +50,10 @@ fn compare_calls(t: &Tables, rng: &mut Rng, counts: &mut Counts) -> Result<(), S
         marks::compare(t, n as u32, rng, counts)?;
         // What is said of a unit's code holds of the proved library's.
         match code_of(t, n as u32) {
-            Ok(made) if t.node_count() < 2000 => over_code::over(t, n, &made, &given, rng),
+            Ok(made) if t.node_count() < 2000 => {
+                shorten::compare(&made, &given, counts)?;
+                over_code::over(t, n, &made, &given, rng).map(|_| ())
+            }
             _ => Ok(()),
         }
     })

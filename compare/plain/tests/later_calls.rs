@@ -178,6 +178,13 @@ fn shorter_code() {
     assert_eq!(shorter(&[2, 3, 1, 2, 0, 1]), [2, 0, 1]);
     assert_eq!(shorter(&[3, 9, 4, 4, 2, 7, 0, 6, 0]), [3, 9, 4, 4, 2, 7, 0, 6, 0]);
     assert_eq!(shorter(&[4, 9, 4, 8, 7, 8, 12, 0, 7, 0, 12, 0, 6, 0]), [4, 9, 4, 8, 7, 8, 12, 0, 7, 0, 12, 0, 6, 0]);
+    // The jumps at 3, 6 and 9 go, through which those at 16, 23 and 26 lead back.
+    let ways_back = [
+        2, 12, 0, 2, 29, 1, 2, 31, 2, 2, 3, 0, // in front
+        3, 5, 16, 19, 2, 9, 7, 3, 6, 23, 26, 2, 6, 1, 2, 3, 9, 1, 7, 6, 0,
+    ];
+    let closed_up = [2, 3, 0, 3, 5, 7, 10, 2, 20, 0, 3, 6, 14, 17, 2, 22, 1, 2, 20, 1, 1, 7, 6, 0];
+    assert_eq!(shorter(&ways_back), closed_up);
     // "Reached jumps that form or lead into a ring stay."
     assert_eq!(shorter(&[2, 3, 0, 2, 6, 0, 2, 3, 0]), [2, 3, 0, 2, 6, 0, 2, 3, 0]);
     // Of the loop's code the three ends go that no path reaches.

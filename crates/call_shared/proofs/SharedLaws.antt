@@ -44,7 +44,7 @@ shared_by_lem r u first second len = go (code_refusal r u) (leb (code_length r.n
 
 module _ (r : Rule) (u n : ℕ) (s : List ℕ) (e : Ok n ≡ code_answer r u (length s)) where
   -- Where there is a code, nothing is refused, and the slice begins with it.
-  told : (code_refusal r u ≡ Passed) × (n ≡ length (unit (unit_of r.nodes r.names u))) × (code_slice r u s ≡ over (unit (unit_of r.nodes r.names u)) s)
+  pub told : (code_refusal r u ≡ Passed) × (n ≡ length (unit (unit_of r.nodes r.names u))) × (code_slice r u s ≡ over (unit (unit_of r.nodes r.names u)) s)
   unfolding code_answer code_slice
   told = go (code_refusal r u) refl (leb (code_length r.nodes u) (length s)) e
     where

@@ -1,8 +1,8 @@
--- Laws of closing up: where an instruction comes to stand, and its numbers there.
-use Prim.Native.Nat.{ℕ, zero, suc, ◌+◌, ◌-◌, ◌≤◌, ◌<◌}
-use Rattle.std.specs.Prelude.{◌≡◌, ◌≢◌, Bool, length, drop, ltb}
+-- Laws of the end of the pass.
+use Prim.Native.Nat.{ℕ, zero, suc, ◌+◌, ◌-◌, ◌*◌, ◌%◌, ◌≤◌, ◌<◌}
+use Rattle.std.specs.Prelude.{◌≡◌, ◌≢◌, ◌⊎◌, Bool, length, set, drop, ltb}
 use Rattle.std.proofs.Math.Path.{refl, sym, ap, subst}
-use Rattle.std.proofs.Common.{◌∙◌, inl, inr, true≢false, length-append, length-drop, get_or-drop, get_or-append-add, ext_get_or, ne_eqb, lt-ltb, le-ltb}
+use Rattle.std.proofs.Common.{◌∙◌, inl, inr, true≢false, length-append, length-drop, get_or-drop, get_or-append-add, ext_get_or, ne_eqb, lt-ltb, le-ltb, get_or-set_same, get_or-set_other, length-set}
 use Rattle.std.proofs.Math.Bool.{true, false}
 use mathlib.Core.List.{List, [], ◌∷◌, ◌++◌}
 use Rattle.std.proofs.Math.ListN.{get_or, get_or-append}
@@ -10,21 +10,28 @@ use native.Mathlib.Omega.{arith}
 use Rattle.std.proofs.Math.Decide.{dec_lt}
 use Rattle.route_completion.specs.Sem.{pick, elem}
 use Rattle.code_flat.specs.Opcodes as op
-use Rattle.code_flat.specs.Machine.{Instr, decode}
+use Rattle.code_flat.specs.Machine.{Instr, NONE, LIST, LEAVE, ASK, SELECT, OPEN, END, CASE, decode}
 use Rattle.code_flat.specs.Machine.{is_none}
 use Rattle.code_flat.proofs.Correct.{has_self}
 use Rattle.code_flat.specs.Has.{Has}
-use Rattle.code_valid.specs.Instrs.{len, words, flat, find, names}
+use Rattle.code_valid.specs.Instrs.{len, words, flat, parse, find, names, runs_on}
+use Rattle.code_valid.specs.Valid.{Valid}
 use Rattle.code_valid.proofs.ReadingLaws.{decode_none}
-use Rattle.code_shorten.specs.Short.{moved, relocate, kept, close_up}
+use Rattle.code_shorten.specs.Short.{relocate, close_up, shorter}
 use Rattle.code_shorten.specs.Longer.{total, flat_length, words_length, relocate_length}
 use Rattle.code_shorten.specs.Reads.{find_has}
-use Rattle.code_shorten.specs.Sound.{AreInstrs, Begin, All, Sound, len_pos, find_here, find_there, find_low, none_in}
-use Rattle.code_shorten.specs.Closes.{In, moved_here, moved_there, kept_find, relocate_none}
-use Rattle.code_shorten.specs.Marking.{raise, plain, Inked}
-use Rattle.code_shorten.proofs.MarkingLaws.{first_low, mark_is, decoded, size_is}
+use Rattle.code_shorten.specs.Sound.{AreInstrs, Begin, All, Sound, dec_eq, len_pos}
+use Rattle.code_shorten.specs.Closes.{In, Closed, relocate_none}
+use Rattle.code_shorten.specs.Reaches.{reached_zero, reached_closed}
+use Rattle.code_shorten.specs.Stands.{short_sound, old_of, new_find}
+use Rattle.code_shorten.proofs.PlaceLaws.{find_inside, next_place}
 use Rattle.code_put.specs.Put.{Put}
-use Rattle.code_close.specs.Closing.{names_first, names_second, names_third, Moving, Closing}
+use Rattle.code_pass.specs.Stages.{cycle, sent_on, kept_places, new_place, kept_to, marked, Gathered, Split}
+use Rattle.code_pass.proofs.KeptLaws.{At, Next, Covers, covers, begin_apart, begin_in, kept_low, kept_next, sent_sound, sent_total, sent_begin, kept_begin, place_is, kept_end, kept_most, at_next, begin_fits, kept_inside, kept_less, next_kept}
+use Rattle.code_mark.specs.Read.{read_at, standing_in}
+use Rattle.code_places.specs.Placing.{Tagged}
+use Rattle.code_places.proofs.PlacingLaws.{first, first_low, first_is, raised_len}
+use Rattle.code_close.specs.Closing.{names_first, names_second, names_third, placed, begun, Moves, Moved, Starts, Raised, Plain, Restored, Saved}
 
 -- Which operands name places.
 module _ (x : ℕ) where
@@ -110,172 +117,336 @@ module _ (P : ℕ → Type 0) where
   named_third (suc (suc (suc (suc (suc (suc (suc (suc k)))))))) a b c h e =
       absurd (true≢false (sym e ∙ sym (third_not (suc (suc (suc (suc (suc (suc (suc (suc k)))))))) (λ z. omega arith) (λ z. omega arith))))
 
-add_pick : (b : Bool) (q x : ℕ) → q + pick b x 0 ≡ pick b (q + x) q
-add_pick true q x = refl
-add_pick false q x = omega arith
+-- The instruction whose numbers stand at q, the first of which may be raised.
+read_words : (f : List ℕ) (q : ℕ) (i : Instr) → is_none i ≡ false → get_or f q 0 % 8 ≡ first i
+    → ((j : ℕ) → 0 < j → j < len i → get_or f (q + j) 0 ≡ get_or (words i) j 0) → read_at f q ≡ i
+unfolding read_at
+read_words f q NONE n e h = absurd (true≢false n)
+read_words f q (LIST a) n e h = λ t. decode (e t) (h 1 (omega arith) (omega arith) t) (get_or f (q + 2) 0) (get_or f (q + 3) 0)
+read_words f q (LEAVE u d) n e h = λ t. decode (e t) (h 1 (omega arith) (omega arith) t) (h 2 (omega arith) (omega arith) t) (get_or f (q + 3) 0)
+read_words f q (ASK a y z) n e h = λ t. decode (e t) (h 1 (omega arith) (omega arith) t) (h 2 (omega arith) (omega arith) t) (h 3 (omega arith) (omega arith) t)
+read_words f q (SELECT a c k) n e h = λ t. decode (e t) (h 1 (omega arith) (omega arith) t) (h 2 (omega arith) (omega arith) t) (h 3 (omega arith) (omega arith) t)
+read_words f q (OPEN a) n e h = λ t. decode (e t) (h 1 (omega arith) (omega arith) t) (get_or f (q + 2) 0) (get_or f (q + 3) 0)
+read_words f q (END a) n e h = λ t. decode (e t) (h 1 (omega arith) (omega arith) t) (get_or f (q + 2) 0) (get_or f (q + 3) 0)
+read_words f q (CASE c u d) n e h = λ t. decode (e t) (h 1 (omega arith) (omega arith) t) (h 2 (omega arith) (omega arith) t) (h 3 (omega arith) (omega arith) t)
 
-pub pick_most : (b : Bool) (x : ℕ) → pick b x 0 ≤ x
-pick_most true x = omega arith
-pick_most false x = omega arith
+first_relocate : (φ : ℕ → ℕ) (i : Instr) → first (relocate φ i) ≡ first i
+first_relocate φ NONE = refl
+first_relocate φ (LIST n) = refl
+first_relocate φ (LEAVE t d) = refl
+first_relocate φ (ASK n y z) = refl
+first_relocate φ (SELECT n c e) = refl
+first_relocate φ (OPEN f) = refl
+first_relocate φ (END e) = refl
+first_relocate φ (CASE c t d) = refl
 
-pick_true : (b : Bool) (x k : ℕ) → k < pick b x 0 → b ≡ true
-pick_true true x k h = refl
-pick_true false x k h = absurd (omega arith)
+-- One instruction.
+module _ (C : List ℕ) (v : Valid C) where
+  abbrev is : List Instr
+  is = sent_on C
 
--- The walk.
-module _ (is : List Instr) (S : List ℕ) where
+  abbrev S : List ℕ
+  S = kept_places C
+
   abbrev φ : ℕ → ℕ
-  φ = moved S is 0 0
+  φ = new_place C
 
-  pub moving_first : AreInstrs is → Moving is S 0 0
-  unfolding close_up
-  moving_first s =
-      record {
-        rest = is;
-        some = s;
-        stands = λ o h. refl;
-        left = λ o h. refl;
-        size = let z : total (kept φ S is 0) ≡ total (close_up S is) = refl in omega arith;
-        ends = omega arith;
-        low = omega arith;
-      }
-
-  kept_total : (i : Instr) (r : List Instr) (p : ℕ) → total (kept φ S (i ∷ r) p) ≡ pick (elem p S) (len i) 0 + total (kept φ S r (p + len i))
-  unfolding kept total
-  kept_total i r p = go (elem p S)
+  names_in : (o : ℕ) → In S o → All (In S) (names (find is 0 o))
+  names_in o i = go (runs_on (find is 0 o)) (reached_closed is (sent_sound C v) o (kept_begin C v o i) i)
     where
-      go : (b : Bool) → total (pick b (relocate φ i ∷ kept φ S r (p + len i)) (kept φ S r (p + len i))) ≡ pick b (len i) 0 + total (kept φ S r (p + len i))
-      go true = omega (arith, relocate_length φ i)
-      go false = omega arith
+      go : (b : Bool) → All (In S) (pick b ((o + len (find is 0 o)) ∷ names (find is 0 o)) (names (find is 0 o))) → All (In S) (names (find is 0 o))
+      go true h = h.1
+      go false h = h
 
-  module _ (p q : ℕ) (m : Moving is S p q) where
-    pub moving_before : (o : ℕ) → p ≤ o → Begin is o → Begin is p
-    moving_before o h b = go m.rest m.some m.stands
-      where
-        go : (r : List Instr) → AreInstrs r → ((x : ℕ) → p ≤ x → find r p x ≡ find is 0 x) → Begin is p
-        go [] u st = absurd (none_in p o (ap is_none (st o h) ∙ b))
-        go (i ∷ r) u st = ap is_none (sym (st p (omega arith)) ∙ find_here i r p) ∙ u.0
+  module _ (f : List ℕ) (q o : ℕ) (i : In S o) (r : read_at f q ≡ find is 0 o) (x a b c : ℕ) (ex : x ≡ get_or f q 0 % 8) (ea : a ≡ get_or f (q + 1) 0) (eb : b ≡ get_or f (q + 2) 0) (ec : c ≡ get_or f (q + 3) 0) where
+    decoded : decode x a b c ≡ find is 0 o
+    unfolding read_at
+    decoded = (λ t. decode (ex t) (ea t) (eb t) (ec t)) ∙ r
 
-    pub moving_begin : p < total is → Begin is p
-    unfolding total
-    moving_begin l = go m.rest m.some m.stands m.ends
-      where
-        go : (r : List Instr) → AreInstrs r → ((x : ℕ) → p ≤ x → find r p x ≡ find is 0 x) → p + total r ≡ total is → Begin is p
-        go [] u st e = absurd (omega arith)
-        go (i ∷ r) u st e = ap is_none (sym (st p (omega arith)) ∙ find_here i r p) ∙ u.0
+    kept_names : All (In S) (names (decode x a b c))
+    kept_names = subst (λ j. All (In S) (names j)) (sym decoded) (names_in o i)
 
-    pub moving_fits : Begin is p → p + len (find is 0 p) ≤ total is
-    unfolding total
-    moving_fits b = go m.rest m.stands m.ends
-      where
-        go : (r : List Instr) → ((x : ℕ) → p ≤ x → find r p x ≡ find is 0 x) → p + total r ≡ total is → p + len (find is 0 p) ≤ total is
-        go [] st e = absurd (none_in p p (ap is_none (st p (omega arith)) ∙ b))
-        go (i ∷ r) st e = let f : find is 0 p ≡ i = sym (st p (omega arith)) ∙ find_here i r p in omega (arith, ap len f)
+    pub first_in : names_first x ≡ true → In S a
+    first_in h = named_first (In S) x a b c kept_names h
 
-    pub moving_up : (o : ℕ) → p < o → Begin is o → p + len (find is 0 p) ≤ o
-    moving_up o l b = go m.rest m.stands
-      where
-        go : (r : List Instr) → ((x : ℕ) → p ≤ x → find r p x ≡ find is 0 x) → p + len (find is 0 p) ≤ o
-        go [] st = absurd (none_in p o (ap is_none (st o (omega arith)) ∙ b))
-        go (i ∷ r) st =
-            let f : find is 0 p ≡ i = sym (st p (omega arith)) ∙ find_here i r p in
-            let g : find r (p + len i) o ≡ find is 0 o = sym (find_there i r p o (λ e. omega arith)) ∙ st o (omega arith) in
-            omega (arith, ap len f, find_low r (p + len i) o (ap is_none g ∙ b))
+    pub second_in : names_second x ≡ true → In S b
+    second_in h = named_second (In S) x a b c kept_names h
 
-    pub moving_at : (o : ℕ) → p ≡ o → Begin is o → q ≡ moved S is 0 0 o
-    moving_at o e b = go m.rest m.stands m.left
-      where
-        go : (r : List Instr) → ((x : ℕ) → p ≤ x → find r p x ≡ find is 0 x) → ((x : ℕ) → p ≤ x → moved S r p q x ≡ moved S is 0 0 x) → q ≡ moved S is 0 0 o
-        go [] st lf = absurd (none_in p o (ap is_none (st o (omega arith)) ∙ b))
-        go (i ∷ r) st lf = sym (moved_here S i r p q) ∙ lf p (omega arith) ∙ ap (moved S is 0 0) e
+    pub third_in : names_third x ≡ true → In S c
+    third_in h = named_third (In S) x a b c kept_names h
 
-    pub moving_next : Begin is p → Moving is S (p + len (find is 0 p)) (q + pick (elem p S) (len (find is 0 p)) 0)
-    unfolding total
-    moving_next b = go m.rest m.some m.stands m.left m.size m.ends
-      where
-        go : (r : List Instr) → AreInstrs r → ((x : ℕ) → p ≤ x → find r p x ≡ find is 0 x) → ((x : ℕ) → p ≤ x → moved S r p q x ≡ moved S is 0 0 x)
-            → q + total (kept φ S r p) ≡ total (close_up S is) → p + total r ≡ total is → Moving is S (p + len (find is 0 p)) (q + pick (elem p S) (len (find is 0 p)) 0)
-        go [] u st lf sz en = absurd (none_in p p (ap is_none (st p (omega arith)) ∙ b))
-        go (i ∷ r) u st lf sz en =
-            subst (λ j. Moving is S (p + len j) (q + pick (elem p S) (len j) 0)) (sym (sym (st p (omega arith)) ∙ find_here i r p))
-            (record {
-              rest = r;
-              some = u.1;
-              stands = λ o h. sym (find_there i r p o (λ e. omega (arith, len_pos i u.0))) ∙ st o (omega arith);
-              left =
-                  λ o h.
-                  ap (λ z. moved S r (p + len i) z o) (add_pick (elem p S) q (len i))
-                  ∙ sym (moved_there S i r p q o (λ e. omega (arith, len_pos i u.0))) ∙ lf o (omega arith);
-              size = omega (arith, kept_total i r p);
-              ends = omega arith;
-              low = omega (arith, m.low, pick_most (elem p S) (len i));
-            })
-
-    pub moving_end : total is ≤ p → q ≡ total (close_up S is)
-    unfolding total kept
-    moving_end l = go m.rest m.some m.size m.ends
-      where
-        go : (r : List Instr) → AreInstrs r → q + total (kept φ S r p) ≡ total (close_up S is) → p + total r ≡ total is → q ≡ total (close_up S is)
-        go [] u sz en = omega arith
-        go (i ∷ r) u sz en = absurd (omega (arith, len_pos i u.0))
-
--- What is read of numbers with marks.
-module _ (is : List Instr) (s : Sound is) (S C : List ℕ) (k : Inked is S C) where
-  abbrev F : List ℕ
-  F = flat is
-
-  module _ (p : ℕ) (b : Begin is p) where
-    kept_is : (w : ℕ) → pick (ltb (get_or C p 0) raise) 0 w ≡ pick (elem p S) w 0
-    kept_is w = go (elem p S) refl
-      where
-        go : (c : Bool) → elem p S ≡ c → pick (ltb (get_or C p 0) raise) 0 w ≡ pick c w 0
-        go true e = let m : get_or C p 0 ≡ get_or F p 0 + 8 = mark_is is s p b S C k true e in ap (λ t. pick t 0 w) (le-ltb (get_or C p 0) raise (omega arith))
-        go false e = let m : get_or C p 0 ≡ get_or F p 0 + 0 = mark_is is s p b S C k false e in ap (λ t. pick t 0 w) (lt-ltb (get_or C p 0) raise (omega (arith, first_low is s p b)))
-
-    -- A turn of the walk, by the numbers that it reads: w is how many the instruction takes, n how many of them are kept.
-    module _ (w n : ℕ) (size : (x y z : ℕ) → w ≡ len (decode (plain (get_or C p 0)) x y z)) (keeps : n ≡ pick (ltb (get_or C p 0) raise) 0 w) where
-      pub turn_size : w ≡ len (find is 0 p)
-      turn_size = size_is is s p b S C k w size
-
-      pub turn_kept : n ≡ pick (elem p S) (len (find is 0 p)) 0
-      turn_kept = keeps ∙ kept_is w ∙ ap (λ z. pick (elem p S) z 0) turn_size
-
-      pub turn_some : w ≢ 0
-      turn_some z = omega (arith, turn_size, len_pos (find is 0 p) b)
-
-      pub turn : (q : ℕ) → Moving is S p q → Moving is S (p + w) (q + n)
-      turn q m =
-          subst (λ z. Moving is S (p + z) (q + n)) (sym turn_size)
-          (subst (λ z. Moving is S (p + len (find is 0 p)) (q + z)) (sym turn_kept) (moving_next is S p q m b))
-
-    -- The numbers that are written for it.
-    pub put_moved : (f g : List ℕ) (q n x a c d : ℕ) → n ≤ len (find is 0 p) → x ≡ plain (get_or C p 0)
-        → a ≡ pick (names_first (plain (get_or C p 0))) (moved S is 0 0 (get_or C (p + 1) 0)) (get_or C (p + 1) 0)
-        → c ≡ pick (names_second (plain (get_or C p 0))) (moved S is 0 0 (get_or C (p + 2) 0)) (get_or C (p + 2) 0)
-        → d ≡ pick (names_third (plain (get_or C p 0))) (moved S is 0 0 (get_or C (p + 3) 0)) (get_or C (p + 3) 0)
-        → Put f q (x ∷ a ∷ c ∷ d ∷ []) n g → Put f q (words (relocate (moved S is 0 0) (find is 0 p))) n g
-    put_moved f g q n x a c d l ex ea ec ed u =
+    pub moves : (g : List ℕ) (n w a' b' c' : ℕ) → n ≡ len (find is 0 o) → w ≡ get_or f q 0 → a' ≡ pick (names_first x) (φ a) a → b' ≡ pick (names_second x) (φ b) b
+        → c' ≡ pick (names_third x) (φ c) c → Put f q (w ∷ a' ∷ b' ∷ c' ∷ []) n g → Moves C f g q o
+    moves g n w a' b' c' en ew fa fb fc u =
         record {
           same = u.same;
-          here =
-              λ j h.
-              u.here j h ∙ (λ t. get_or (ex t ∷ ea t ∷ ec t ∷ ed t ∷ []) j 0)
-              ∙ moved_words (moved S is 0 0) (plain (get_or C p 0)) (get_or C (p + 1) 0) (get_or C (p + 2) 0) (get_or C (p + 3) 0) j (omega (arith, ap len (decoded is s p b S C k)))
-              ∙ ap (λ i. get_or (words (relocate (moved S is 0 0) i)) j 0) (decoded is s p b S C k);
-          elsewhere = u.elsewhere;
+          first = zeroth;
+          rest = λ j k l. u.here j (omega (arith, en)) ∙ operand j k ∙ moved_words φ x a b c j (omega (arith, ap len decoded)) ∙ ap (λ y. get_or (words (relocate φ y)) j 0) decoded;
+          elsewhere = λ y k. u.elsewhere y (away y k);
+        }
+      where
+        zeroth : get_or g q 0 ≡ get_or f q 0
+        zeroth =
+            let z : q + 0 ≡ q = omega arith in
+            ap (λ y. get_or g y 0) (sym z) ∙ u.here 0 (omega (arith, en, len_pos (find is 0 o) (kept_begin C v o i))) ∙ ew
+
+        operand : (j : ℕ) → 0 < j → get_or (w ∷ a' ∷ b' ∷ c' ∷ []) j 0 ≡ get_or (x ∷ pick (names_first x) (φ a) a ∷ pick (names_second x) (φ b) b ∷ pick (names_third x) (φ c) c ∷ []) j 0
+        operand zero k = absurd (omega arith)
+        operand (suc j) k = λ t. get_or (fa t ∷ fb t ∷ fc t ∷ []) j 0
+
+        away : (y : ℕ) → (y < q) ⊎ (q + len (find is 0 o) ≤ y) → (y < q) ⊎ (q + n ≤ y)
+        away y (inl h) = inl h
+        away y (inr h) = inr (omega (arith, en))
+
+-- Targets are moved as far as q.
+pub record Moving (C f : List ℕ) (split q : ℕ) : Type 0 where
+  pub same : length f ≡ length C
+  pub firsts : (o : ℕ) → In (kept_places C) o → get_or f (new_place C o) 0 ≡ begun C split o
+  pub done : (o j : ℕ) → In (kept_places C) o → new_place C o < q → 0 < j → j < len (find (sent_on C) 0 o) → get_or f (new_place C o + j) 0 ≡ get_or (words (placed C o)) j 0
+  pub todo : (o j : ℕ) → In (kept_places C) o → q ≤ new_place C o → 0 < j → j < len (find (sent_on C) 0 o)
+      → get_or f (new_place C o + j) 0 ≡ get_or (words (find (sent_on C) 0 o)) j 0
+  pub behind : (x : ℕ) → split ≤ x → get_or f x 0 ≡ marked C x
+  pub from : ℕ
+  pub at : At C from
+  pub count : q ≡ kept_to C from
+
+module _ (C : List ℕ) (v : Valid C) (split : ℕ) (cut : Split C split) where
+  abbrev ts : List Instr
+  ts = sent_on C
+
+  abbrev K : List ℕ
+  K = kept_places C
+
+  all : kept_to C (length C) ≡ length (shorter C)
+  all = kept_end C v
+
+  pub moving_first : (f : List ℕ) → Gathered C f split (length C) → Moving C f split 0
+  moving_first f g =
+      record {
+        same = g.fronted.same;
+        firsts = λ o i. firsts o i (dec_lt o split);
+        done = λ o j i h k l. absurd (omega arith);
+        todo = λ o j i h k l. todo o j i k l (dec_lt o split);
+        behind = g.fronted.behind;
+        from = 0;
+        at = inl (sent_sound C v).start;
+        count = sym (kept_low (kept_places C) (sent_on C) 0 0 (omega arith));
+      }
+    where
+      inside : (o : ℕ) → In K o → o < length C
+      inside o i = omega (arith, begin_fits C v o (kept_begin C v o i), len_pos (find ts 0 o) (kept_begin C v o i))
+
+      firsts : (o : ℕ) → In K o → Dec (o < split) → get_or f (new_place C o) 0 ≡ begun C split o
+      firsts o i (yes l) =
+          let z : new_place C o + 0 ≡ new_place C o = omega arith in
+          ap (λ y. get_or f y 0) (sym z) ∙ g.fronted.front o 0 i l (len_pos (find ts 0 o) (kept_begin C v o i))
+          ∙ ap (λ b. first (find ts 0 o) + pick b (8 * (o % cycle)) 0) (sym (lt-ltb o split l))
+      firsts o i (no l) =
+          let z : new_place C o + 0 ≡ new_place C o = omega arith in
+          let y : first (find ts 0 o) ≡ first (find ts 0 o) + 0 = omega arith in
+          ap (λ y. get_or f y 0) (sym z) ∙ g.back o 0 i (omega arith) (inside o i) (len_pos (find ts 0 o) (kept_begin C v o i))
+          ∙ y ∙ ap (λ b. first (find ts 0 o) + pick b (8 * (o % cycle)) 0) (sym (le-ltb o split (omega arith)))
+
+      todo : (o j : ℕ) → In K o → 0 < j → j < len (find ts 0 o) → Dec (o < split) → get_or f (new_place C o + j) 0 ≡ get_or (words (find ts 0 o)) j 0
+      todo o j i k l (yes h) =
+          let y : get_or (words (find ts 0 o)) j 0 + 0 ≡ get_or (words (find ts 0 o)) j 0 = omega arith in
+          g.fronted.front o j i h l ∙ ap (λ b. get_or (words (find ts 0 o)) j 0 + pick b (8 * (o % cycle)) 0) (ne_eqb j 0 (λ z. omega arith)) ∙ y
+      todo o j i k l (no h) = g.back o j i (omega arith) (inside o i) l
+
+  module _ (f : List ℕ) (q : ℕ) (m : Moving C f split q) where
+    pub moving_tagged : Tagged C f split
+    moving_tagged =
+        record {
+          same = m.same;
+          firsts = λ o i l. m.firsts o i ∙ ap (λ b. first (find ts 0 o) + pick b (8 * (o % cycle)) 0) (lt-ltb o split l);
+          behind = m.behind;
         }
 
-    names_begin : All (Begin is) (names (decode (plain (get_or C p 0)) (get_or C (p + 1) 0) (get_or C (p + 2) 0) (get_or C (p + 3) 0)))
-    names_begin = subst (λ i. All (Begin is) (names i)) (sym (decoded is s p b S C k)) (s.named p b)
+    module _ (h : q < length (shorter C)) where
+      next : Next C m.from q
+      next = next_kept C v (length C) m.from q (omega arith) m.at m.count (omega (arith, all))
 
-    pub begin_first : names_first (plain (get_or C p 0)) ≡ true → Begin is (get_or C (p + 1) 0)
-    begin_first e = named_first (Begin is) (plain (get_or C p 0)) (get_or C (p + 1) 0) (get_or C (p + 2) 0) (get_or C (p + 3) 0) names_begin e
+      pub old : ℕ
+      old = next.old
 
-    pub begin_second : names_second (plain (get_or C p 0)) ≡ true → Begin is (get_or C (p + 2) 0)
-    begin_second e = named_second (Begin is) (plain (get_or C p 0)) (get_or C (p + 1) 0) (get_or C (p + 2) 0) (get_or C (p + 3) 0) names_begin e
+      pub old_in : In K old
+      unfolding next old
+      old_in = next.stays
 
-    pub begin_third : names_third (plain (get_or C p 0)) ≡ true → Begin is (get_or C (p + 3) 0)
-    begin_third e = named_third (Begin is) (plain (get_or C p 0)) (get_or C (p + 1) 0) (get_or C (p + 2) 0) (get_or C (p + 3) 0) names_begin e
+      begins : Begin ts old
+      begins = kept_begin C v old old_in
+
+      here : q ≡ kept_to C old
+      unfolding next old
+      here = next.place
+
+      new_here : q ≡ new_place C old
+      new_here = here ∙ sym (place_is C v old begins)
+
+      plain_first : get_or f q 0 % 8 ≡ first (find ts 0 old)
+      plain_first = go (ltb old split) (ap (λ y. get_or f y 0) new_here ∙ m.firsts old old_in)
+        where
+          go : (b : Bool) → get_or f q 0 ≡ first (find ts 0 old) + pick b (8 * (old % cycle)) 0 → get_or f q 0 % 8 ≡ first (find ts 0 old)
+          go true e = omega (arith, first_low (find ts 0 old))
+          go false e = omega (arith, first_low (find ts 0 old))
+
+      inside : q + len (find ts 0 old) ≤ length f
+      inside = omega (arith, here, kept_inside C v old old_in, m.same)
+
+      pub moving_size : len (standing_in f q) ≡ len (find ts 0 old)
+      moving_size = raised_len f q (find ts 0 old) plain_first inside
+
+      pub moving_some : len (standing_in f q) ≢ 0
+      moving_some z = omega (arith, moving_size, len_pos (find ts 0 old) begins)
+
+      pub moving_read : read_at f q ≡ find ts 0 old
+      moving_read =
+          read_words f q (find ts 0 old) begins plain_first
+          (λ j k l. ap (λ y. get_or f (y + j) 0) new_here ∙ m.todo old j old_in (omega (arith, new_here)) k l)
+
+      pub moving_next : (g : List ℕ) → Moves C f g q old → Moving C g split (q + len (standing_in f q))
+      moving_next g u =
+          record {
+            same = u.same ∙ m.same;
+            firsts = λ o i. firsts o i (dec_lt o old) (dec_lt old o);
+            done = λ o j i a k l. done o j i a k l (dec_lt o old) (dec_lt old o);
+            todo = λ o j i a k l. todo o j i a k l (dec_lt old o);
+            behind = λ x l. u.elsewhere x (inr (omega (arith, end, cut.behind))) ∙ m.behind x l;
+            from = old + len (find ts 0 old);
+            at = at_next C v old begins;
+            count = omega (arith, moving_size, here, kept_next K ts 0 old (sent_sound C v).some begins, kept_all);
+          }
+        where
+          kept_all : pick (elem old K) (len (find ts 0 old)) 0 ≡ len (find ts 0 old)
+          kept_all = ap (λ c. pick c (len (find ts 0 old)) 0) old_in
+
+          end : q + len (find ts 0 old) ≤ length (shorter C)
+          end = omega (arith, here, all, kept_less C v old (length C) old_in (omega (arith, begin_fits C v old begins, len_pos (find ts 0 old) begins)))
+
+          before : (o : ℕ) → In K o → o < old → new_place C o + len (find ts 0 o) ≤ q
+          before o i l = omega (arith, here, place_is C v o (kept_begin C v o i), kept_less C v o old i l)
+
+          after : (o : ℕ) → In K o → old < o → q + len (find ts 0 old) ≤ new_place C o
+          after o i l = omega (arith, here, place_is C v o (kept_begin C v o i), kept_less C v old o old_in l)
+
+          firsts : (o : ℕ) → In K o → Dec (o < old) → Dec (old < o) → get_or g (new_place C o) 0 ≡ begun C split o
+          firsts o i (yes l) d = u.elsewhere (new_place C o) (inl (omega (arith, before o i l, len_pos (find ts 0 o) (kept_begin C v o i)))) ∙ m.firsts o i
+          firsts o i (no l) (yes d) = u.elsewhere (new_place C o) (inr (after o i d)) ∙ m.firsts o i
+          firsts o i (no l) (no d) =
+              let e : old ≡ o = omega arith in
+              subst (λ x. get_or g (new_place C x) 0 ≡ begun C split x) e
+              (ap (λ y. get_or g y 0) (sym new_here) ∙ u.first ∙ ap (λ y. get_or f y 0) new_here ∙ m.firsts old old_in)
+
+          done : (o j : ℕ) → In K o → new_place C o < q + len (standing_in f q) → 0 < j → j < len (find ts 0 o) → Dec (o < old) → Dec (old < o)
+              → get_or g (new_place C o + j) 0 ≡ get_or (words (placed C o)) j 0
+          done o j i a k l (yes x) d =
+              u.elsewhere (new_place C o + j) (inl (omega (arith, before o i x)))
+              ∙ m.done o j i (omega (arith, before o i x, len_pos (find ts 0 o) (kept_begin C v o i))) k l
+          done o j i a k l (no x) (yes d) = absurd (omega (arith, after o i d, moving_size))
+          done o j i a k l (no x) (no d) =
+              let e : old ≡ o = omega arith in
+              ap (λ y. get_or g (y + j) 0) (sym (new_here ∙ ap (new_place C) e)) ∙ u.rest j k (subst (λ y. j < len (find ts 0 y)) (sym e) l) ∙ ap (λ y. get_or (words (placed C y)) j 0) e
+
+          todo : (o j : ℕ) → In K o → q + len (standing_in f q) ≤ new_place C o → 0 < j → j < len (find ts 0 o) → Dec (old < o)
+              → get_or g (new_place C o + j) 0 ≡ get_or (words (find ts 0 o)) j 0
+          todo o j i a k l (yes d) = u.elsewhere (new_place C o + j) (inr (omega (arith, after o i d))) ∙ m.todo o j i (omega arith) k l
+          todo o j i a k l (no d) = absurd (low (dec_lt o old))
+            where
+              low : Dec (o < old) → ⊥
+              low (yes x) = omega (arith, before o i x, len_pos (find ts 0 o) (kept_begin C v o i), len_pos (find ts 0 old) begins, moving_size)
+              low (no x) =
+                  let e : new_place C o ≡ q = ap (new_place C) (let z : o ≡ old = omega arith in z) ∙ sym new_here in
+                  omega (arith, moving_size, len_pos (find ts 0 old) begins)
+
+    pub moving_end : length (shorter C) ≤ q → Moved C f split
+    moving_end h =
+        record {
+          same = m.same;
+          firsts = m.firsts;
+          rest = λ o j i k l.
+              let b : Begin ts o = kept_begin C v o i in
+              m.done o j i (omega (arith, place_is C v o b, all, len_pos (find ts 0 o) b, kept_less C v o (length C) i (omega (arith, begin_fits C v o b, len_pos (find ts 0 o) b)))) k l;
+          behind = m.behind;
+        }
+
+-- Numbers are plain as far as p.
+pub record Plaining (is : List Instr) (f g : List ℕ) (from to p : ℕ) : Type 0 where
+  pub at : Begin is p ⊎ (p ≡ to)
+  pub low : from ≤ p
+  pub same : length g ≡ length f
+  pub done : (o : ℕ) → Begin is o → from ≤ o → o < p → get_or g o 0 ≡ get_or (words (find is 0 o)) 0 0
+  pub rest : (x : ℕ) → (Begin is x → from ≤ x → p ≤ x) → get_or g x 0 ≡ get_or f x 0
+
+module _ (is : List Instr) (s : AreInstrs is) (f : List ℕ) (from to : ℕ) (st : Starts is from to) (r : Raised is f from to) where
+  pub plain_start : Plaining is f f from to from
+  plain_start = record { at = st.start; low = omega arith; same = refl; done = λ o b l k. absurd (omega arith); rest = λ x h. refl }
+
+  module _ (g : List ℕ) (p : ℕ) (h : Plaining is f g from to p) where
+    module _ (l : p < to) where
+      begins' : Begin is p
+      begins' = go h.at
+        where
+          go : Begin is p ⊎ (p ≡ to) → Begin is p
+          go (inl b) = b
+          go (inr e) = absurd (omega arith)
+
+      behind' : (Begin is (p + len (find is 0 p))) ⊎ (p + len (find is 0 p) ≡ to)
+      behind' = go (next_place is 0 p s begins')
+        where
+          go : (is_none (find is 0 (p + len (find is 0 p))) ≡ false) ⊎ (p + len (find is 0 p) ≡ 0 + total is) → Begin is (p + len (find is 0 p)) ⊎ (p + len (find is 0 p) ≡ to)
+          go (inl b) = inl b
+          go (inr e) = inr (omega (arith, st.ends))
+
+      fits' : p + len (find is 0 p) ≤ to
+      fits' = go behind'
+        where
+          go : Begin is (p + len (find is 0 p)) ⊎ (p + len (find is 0 p) ≡ to) → p + len (find is 0 p) ≤ to
+          go (inl b) = omega (arith, begin_in is 0 (p + len (find is 0 p)) b, st.ends)
+          go (inr e) = omega arith
+
+      raised : get_or g p 0 % 8 ≡ first (find is 0 p)
+      raised = ap (λ y. y % 8) (h.rest p (λ b k. omega arith)) ∙ r.firsts p begins' h.low
+
+      plain_len : len (standing_in g p) ≡ len (find is 0 p)
+      plain_len = raised_len g p (find is 0 p) raised (omega (arith, fits', r.fits, h.same))
+
+      pub plain_some : len (standing_in g p) ≢ 0
+      plain_some z = omega (arith, plain_len, len_pos (find is 0 p) begins')
+
+      pub plain_next : (w : ℕ) → w ≡ get_or g p 0 % 8 → p < length g → Plaining is f (set g p w) from to (p + len (standing_in g p))
+      plain_next w e k =
+          record {
+            at = subst (λ y. Begin is (p + y) ⊎ (p + y ≡ to)) (sym plain_len) behind';
+            low = omega (arith, h.low);
+            same = length-set g p w ∙ h.same;
+            done = λ o b a c. done o b a c (dec_eq o p);
+            rest = λ x a. get_or-set_other g p x w 0 (λ q. absurd (omega (arith, plain_len, len_pos (find is 0 p) begins', subst (λ y. Begin is y → from ≤ y → p + len (standing_in g p) ≤ y) q a begins' h.low))) ∙ h.rest x (λ b c. omega (arith, a b c));
+          }
+        where
+          done : (o : ℕ) → Begin is o → from ≤ o → o < p + len (standing_in g p) → Dec (o ≡ p) → get_or (set g p w) o 0 ≡ get_or (words (find is 0 o)) 0 0
+          done o b a c (yes q) =
+              subst (λ y. get_or (set g p w) y 0 ≡ get_or (words (find is 0 y)) 0 0) (sym q) (get_or-set_same g p w 0 k ∙ e ∙ raised)
+          done o b a c (no q) = get_or-set_other g p o w 0 q ∙ h.done o b a (low (dec_lt p o))
+            where
+              low : Dec (p < o) → o < p
+              low (yes x) = absurd (omega (arith, plain_len, begin_apart is 0 p o s begins' b x))
+              low (no x) = omega arith
+
+    pub plain_end : to ≤ p → Plain is f g from
+    plain_end k =
+        record {
+          same = h.same;
+          firsts = λ o b a. h.done o b a (low o b (dec_lt o p));
+          others = λ x a. h.rest x (λ b c. absurd (a b c));
+        }
+      where
+        low : (o : ℕ) → Begin is o → Dec (o < p) → o < p
+        low o b (yes x) = x
+        low o b (no x) = absurd (inside' (next_place is 0 o s b))
+          where
+            inside' : (is_none (find is 0 (o + len (find is 0 o))) ≡ false) ⊎ (o + len (find is 0 o) ≡ 0 + total is) → ⊥
+            inside' (inl y) = omega (arith, begin_in is 0 (o + len (find is 0 o)) y, st.ends, len_pos (find is 0 o) b)
+            inside' (inr y) = omega (arith, st.ends, len_pos (find is 0 o) b)
 
 -- What stands somewhere, read number by number.
 has_at : (D : List ℕ) (o : ℕ) (l : List ℕ) (i : ℕ) → Has D o l → i < length l → get_or D (o + i) 0 ≡ get_or l i 0
@@ -283,58 +454,152 @@ has_at D o [] i p q = absurd (omega arith)
 has_at D o (x ∷ l) zero p q = ap (λ j. get_or D j 0) (let z : o + 0 ≡ o = omega arith in z) ∙ p.0
 has_at D o (x ∷ l) (suc i) p q = ap (λ j. get_or D j 0) (let e : o + suc i ≡ suc o + i = omega arith in e) ∙ has_at D (suc o) l i p.1 (omega arith)
 
--- Closing up.
-module _ (is : List Instr) (s : Sound is) (S : List ℕ) where
-  abbrev N : List ℕ
-  N = flat (close_up S is)
+-- The whole end.
+module _ (C : List ℕ) (v : Valid C) (split : ℕ) (cut : Split C split) where
+  abbrev us : List Instr
+  us = sent_on C
 
-  pub closing_first : (f : List ℕ) → Closing is S f f 0 0
-  closing_first f = record { moving = moving_first is S s.some; done = λ x h. absurd (omega arith); behind = λ x h. refl }
+  abbrev M : List ℕ
+  M = kept_places C
 
-  -- Its numbers stand in the new code where it comes to stand.
-  stands_new : (p : ℕ) → Begin is p → In S p → Has N (moved S is 0 0 p) (words (relocate (moved S is 0 0) (find is 0 p)))
-  unfolding close_up
-  stands_new p b i =
-      let f : find (close_up S is) 0 (moved S is 0 0 p) ≡ relocate (moved S is 0 0) (find is 0 p) = kept_find S (moved S is 0 0) is 0 0 p s.some b i in
-      subst (λ j. Has N (moved S is 0 0 p) (words j)) f
-      (find_has N (close_up S is) 0 (moved S is 0 0 p) (has_self N) (ap is_none f ∙ relocate_none (moved S is 0 0) (find is 0 p) ∙ b))
+  abbrev N : List Instr
+  N = close_up M us
 
-  pub closing_next : (f g g' : List ℕ) (p q w n : ℕ) → Closing is S f g p q → Begin is p → n ≡ pick (elem p S) (len (find is 0 p)) 0 → Moving is S (p + w) (q + n)
-      → Put g q (words (relocate (moved S is 0 0) (find is 0 p))) n g' → Closing is S f g' (p + w) (q + n)
-  closing_next f g g' p q w n c b e m u =
-      record {
-        moving = m;
-        done = λ x h. new x h (dec_lt x q);
-        behind = λ x h. u.elsewhere x (inr h) ∙ c.behind x (omega arith);
-      }
+  sound : Sound us
+  sound = sent_sound C v
+
+  zero_in : In M 0
+  zero_in = reached_zero us sound
+
+  shut : Closed us M
+  shut = reached_closed us sound
+
+  flat_is : flat N ≡ shorter C
+  unfolding shorter
+  flat_is = refl
+
+  n_total : length (shorter C) ≡ total N
+  n_total = ap length (sym flat_is) ∙ flat_length N
+
+  pub n_some : AreInstrs N
+  n_some = (short_sound us sound M zero_in shut).some
+
+  pub n_starts : Starts N 0 (length (shorter C))
+  n_starts = record { start = inl (short_sound us sound M zero_in shut).start; ends = n_total }
+
+  n_find : (o : ℕ) → In M o → find N 0 (new_place C o) ≡ placed C o
+  n_find o i = new_find us sound M zero_in shut o (kept_begin C v o i, i)
+
+  n_begin : (o : ℕ) → In M o → Begin N (new_place C o)
+  n_begin o i = ap is_none (n_find o i) ∙ relocate_none (new_place C) (find us 0 o) ∙ kept_begin C v o i
+
+  n_low : (x : ℕ) → Begin N x → x < length (shorter C)
+  n_low x b = go (next_place N 0 x n_some b)
     where
-      new : (x : ℕ) → x < q + n → Dec (x < q) → get_or g' x 0 ≡ get_or N x 0
-      new x h (yes l) = u.elsewhere x (inl l) ∙ c.done x l
-      new x h (no l) =
-          let r : q + (x - q) ≡ x = omega arith in
-          let t : x - q < n = omega arith in
-          let i : In S p = pick_true (elem p S) (len (find is 0 p)) (x - q) (subst (λ z. x - q < z) e t) in
-          let at : q ≡ moved S is 0 0 p = moving_at is S p q c.moving p refl b in
-          let v : x - q < length (words (relocate (moved S is 0 0) (find is 0 p)))
-          = omega (arith, pick_most (elem p S) (len (find is 0 p)), relocate_length (moved S is 0 0) (find is 0 p), words_length (relocate (moved S is 0 0) (find is 0 p))) in
-          subst (λ z. get_or g' z 0 ≡ get_or N z 0) r
-          (u.here (x - q) t ∙ sym (has_at N q (words (relocate (moved S is 0 0) (find is 0 p))) (x - q) (subst (λ z. Has N z (words (relocate (moved S is 0 0) (find is 0 p)))) (sym at) (stands_new p b i)) v))
+      go : (is_none (find N 0 (x + len (find N 0 x))) ≡ false) ⊎ (x + len (find N 0 x) ≡ 0 + total N) → x < length (shorter C)
+      go (inl y) = omega (arith, begin_in N 0 (x + len (find N 0 x)) y, n_total, len_pos (find N 0 x) b)
+      go (inr y) = omega (arith, n_total, len_pos (find N 0 x) b)
 
-  pub closing_end : (f g : List ℕ) (p q : ℕ) → Closing is S f g p q → length g ≡ length f → length f ≡ total is → total is ≤ p → (q ≡ length N) × (g ≡ N ++ drop q f)
-  closing_end f g p q c e t l = (size, ext_get_or 0 g (N ++ drop q f) same (λ x h. at x (dec_lt x q)))
+  short : length (shorter C) ≤ length C
+  short = omega (arith, kept_end C v, kept_most C v)
+
+  pub n_raised : (f : List ℕ) → Moved C f split → Raised N f 0 (length (shorter C))
+  n_raised f m = record { fits = omega (arith, short, m.same); firsts = λ x b l. at x b (old_of us sound M zero_in shut x b) }
     where
-      size : q ≡ length N
-      size = moving_end is S p q c.moving l ∙ sym (flat_length (close_up S is))
+      plain_of : (o : ℕ) (b : Bool) → (first (find us 0 o) + pick b (8 * (o % cycle)) 0) % 8 ≡ first (find us 0 o)
+      plain_of o true = omega (arith, first_low (find us 0 o))
+      plain_of o false = omega (arith, first_low (find us 0 o))
 
-      fits : q ≤ length f
-      fits = omega (arith, c.moving.low, c.moving.ends)
+      at : (x : ℕ) → Begin N x → (o : ℕ) × (Begin us o × In M o) × (new_place C o ≡ x) → get_or f x 0 % 8 ≡ first (find N 0 x)
+      at x b h =
+          subst (λ y. get_or f y 0 % 8 ≡ first (find N 0 y)) h.2
+          (ap (λ y. y % 8) (m.firsts h.0 h.1.1) ∙ plain_of h.0 (ltb h.0 split) ∙ sym (ap first (n_find h.0 h.1.1) ∙ first_relocate (new_place C) (find us 0 h.0)))
 
-      same : length g ≡ length (N ++ drop q f)
-      same = simp length-append (simp length-drop (omega (arith, size, fits)))
+  pub t_some : AreInstrs us
+  t_some = sound.some
 
-      at : (x : ℕ) → Dec (x < q) → get_or g x 0 ≡ get_or (N ++ drop q f) x 0
-      at x (yes a) = c.done x a ∙ sym (get_or-append N (drop q f) 0 x (omega (arith, size)))
-      at x (no a) =
-          let z : length N + (x - q) ≡ x = omega (arith, size) in
-          let y : q + (x - q) ≡ x = omega arith in
-          c.behind x (omega arith) ∙ ap (λ j. get_or f j 0) (sym y) ∙ sym (get_or-drop q f (x - q) 0) ∙ sym (get_or-append-add N (drop q f) (x - q) 0) ∙ ap (λ j. get_or (N ++ drop q f) j 0) z
+  pub t_starts : Starts us split (length C)
+  t_starts = record { start = go cut.begins; ends = sym (sent_total C v) }
+    where
+      go : Begin (parse C) split ⊎ (split ≡ length C) → Begin us split ⊎ (split ≡ length C)
+      go (inl b) = inl (sent_begin C v split b)
+      go (inr e) = inr e
+
+  -- Behind the split the first walk changes nothing.
+  kept_behind : (f g : List ℕ) → Moved C f split → Plain N f g 0 → (x : ℕ) → split ≤ x → get_or g x 0 ≡ marked C x
+  kept_behind f g m p x l = p.others x (λ b k. omega (arith, n_low x b, cut.behind)) ∙ m.behind x l
+
+  pub t_raised : (f g : List ℕ) → Moved C f split → Plain N f g 0 → Raised us g split (length C)
+  t_raised f g m p = record { fits = omega (arith, p.same, m.same); firsts = λ o b l. ap (λ y. y % 8) (kept_behind f g m p o l) ∙ at o b (elem o M) }
+    where
+      at : (o : ℕ) → Begin us o → (c : Bool) → (get_or C o 0 + pick c 8 0) % 8 ≡ first (find us 0 o)
+      at o b true = omega (arith, first_is C v o b, first_low (find us 0 o))
+      at o b false = omega (arith, first_is C v o b, first_low (find us 0 o))
+
+  module _ (f g h e saved : List ℕ) (m : Moved C f split) (p : Plain N f g 0) (q : Plain us g h split) (r : Restored h e (length (shorter C)) split saved) (s : Saved C (length (shorter C)) split saved) where
+    same_length : length e ≡ length C
+    same_length = r.same ∙ q.same ∙ p.same ∙ m.same
+
+    in_front : (x : ℕ) → x < length (shorter C) → get_or e x 0 ≡ get_or g x 0
+    in_front x l = r.outside x (inl l) ∙ q.others x (λ b k. omega (arith, cut.behind))
+
+    -- The numbers of a kept instruction.
+    number : (a j : ℕ) → In M a → j < len (find us 0 a) → get_or g (new_place C a + j) 0 ≡ get_or (words (placed C a)) j 0
+    number a zero i l =
+        let z : new_place C a + 0 ≡ new_place C a = omega arith in
+        ap (λ y. get_or g y 0) z ∙ p.firsts (new_place C a) (n_begin a i) (omega arith) ∙ ap first (n_find a i)
+    number a (suc j) i l =
+        p.others (new_place C a + suc j) (λ b k. find_inside N 0 (new_place C a) (suc j) n_some (n_begin a i) (omega arith) (omega (arith, ap len (n_find a i), relocate_length (new_place C) (find us 0 a))) b)
+        ∙ m.rest a (suc j) i (omega arith) l
+
+    new_number : (a j : ℕ) → In M a → j < len (find us 0 a) → get_or (shorter C) (new_place C a + j) 0 ≡ get_or (words (placed C a)) j 0
+    new_number a j i l =
+        ap (λ D. get_or D (new_place C a + j) 0) (sym flat_is)
+        ∙ has_at (flat N) (new_place C a) (words (placed C a)) j
+        (subst (λ k. Has (flat N) (new_place C a) (words k)) (n_find a i) (find_has (flat N) N 0 (new_place C a) (has_self (flat N)) (n_begin a i)))
+        (omega (arith, words_length (placed C a), relocate_length (new_place C) (find us 0 a)))
+
+    front : (x : ℕ) → x < length (shorter C) → get_or e x 0 ≡ get_or (shorter C) x 0
+    front x l = in_front x l ∙ at (covers M us 0 (length C) x sound.some (omega (arith, kept_end C v)))
+      where
+        at : Covers M us 0 (length C) x → get_or g x 0 ≡ get_or (shorter C) x 0
+        at c =
+            let j : ℕ = x - kept_to C c.old in
+            let w : x - kept_to C c.old < len (find us 0 c.old) = omega (arith, c.from, c.until) in
+            let z : new_place C c.old + (x - kept_to C c.old) ≡ x = omega (arith, place_is C v c.old c.begun, c.from) in
+            subst (λ y. get_or g y 0 ≡ get_or (shorter C) y 0) z (number c.old (x - kept_to C c.old) c.stays w ∙ sym (new_number c.old (x - kept_to C c.old) c.stays w))
+
+    back : (x : ℕ) → split ≤ x → get_or h x 0 ≡ get_or C x 0
+    back x l = go (is_none (find us 0 x)) refl
+      where
+        go : (b : Bool) → is_none (find us 0 x) ≡ b → get_or h x 0 ≡ get_or C x 0
+        go false b = q.firsts x b l ∙ sym (first_is C v x b)
+        go true b = q.others x (λ c k. true≢false (sym b ∙ c)) ∙ kept_behind f g m p x l ∙ plain_one (elem x M) refl
+          where
+            plain_one : (c : Bool) → elem x M ≡ c → get_or C x 0 + pick (elem x M) 8 0 ≡ get_or C x 0
+            plain_one true i = absurd (true≢false (sym b ∙ kept_begin C v x i))
+            plain_one false i =
+                let z : get_or C x 0 + 0 ≡ get_or C x 0 = omega arith in ap (λ c. get_or C x 0 + pick c 8 0) i ∙ z
+
+    rest : (x : ℕ) → length (shorter C) ≤ x → x < length e → get_or e x 0 ≡ get_or C x 0
+    rest x l k = go (dec_lt x split)
+      where
+        go : Dec (x < split) → get_or e x 0 ≡ get_or C x 0
+        go (yes y) =
+            let z : length (shorter C) + (x - length (shorter C)) ≡ x = omega arith in
+            r.inside x l y (omega (arith, r.same)) ∙ s.each (x - length (shorter C)) (omega arith) ∙ ap (λ t. get_or C t 0) z
+        go (no y) = r.outside x (inr (omega arith)) ∙ back x (omega arith)
+
+    -- It is the shorter code, and the entries behind it are as they came.
+    pub closed : e ≡ shorter C ++ drop (length (shorter C)) C
+    closed = ext_get_or 0 e (shorter C ++ drop (length (shorter C)) C) same (λ x k. at x k (dec_lt x (length (shorter C))))
+      where
+        same : length e ≡ length (shorter C ++ drop (length (shorter C)) C)
+        same = simp length-append (simp length-drop (omega (arith, same_length, short)))
+
+        at : (x : ℕ) → x < length e → Dec (x < length (shorter C)) → get_or e x 0 ≡ get_or (shorter C ++ drop (length (shorter C)) C) x 0
+        at x k (yes a) = front x a ∙ sym (get_or-append (shorter C) (drop (length (shorter C)) C) 0 x a)
+        at x k (no a) =
+            let z : length (shorter C) + (x - length (shorter C)) ≡ x = omega arith in
+            rest x (omega arith) k ∙ ap (λ j. get_or C j 0) (sym z) ∙ sym (get_or-drop (length (shorter C)) C (x - length (shorter C)) 0)
+            ∙ sym (get_or-append-add (shorter C) (drop (length (shorter C)) C) (x - length (shorter C)) 0) ∙ ap (λ j. get_or (shorter C ++ drop (length (shorter C)) C) j 0) z

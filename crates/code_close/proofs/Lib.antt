@@ -1,2 +1,1 @@
 pub mod ClosingLaws
-pub mod PassLaws

@@ -1,49 +1,22 @@
-// Closes up a code whose jumps are sent on and whose reached instructions are marked: they are written to the front of another slice, with their targets moved.
+// Ends the pass that makes a code shorter: what is kept stands gathered at the front and names old places yet. Its targets are moved, what its first
+// numbers are raised by is taken off, and the entries behind it become what they were.
 #![tactic(auto)]
 
-ghost use Rattle.std.specs.Prelude.{◌≡◌, true, List, ◌++◌, ℕ, ◌+◌, ◌≤◌, ◌<◌, get_or, length, drop, ltb};
-ghost use Rattle.route_completion.specs.Sem.{pick, elem};
-ghost use Rattle.code_flat.specs.Machine.{Instr, decode};
-ghost use Rattle.code_valid.specs.Instrs.{len, words, flat, find, parse};
-ghost use Rattle.code_valid.specs.Valid.{Valid};
-ghost use Rattle.code_shorten.specs.Short.{threaded, moved, relocate, close_up, shorter};
-ghost use Rattle.code_shorten.specs.Sound.{Sound, Begin};
-ghost use Rattle.code_shorten.specs.Marking.{raise, plain, Inked, Reached};
-ghost use Rattle.code_put.specs.Put.{Put};
-ghost use Rattle.code_close.specs.Closing.{names_first, names_second, names_third};
+ghost use Rattle.std.specs.Prelude.{◌≡◌, ◌⊎◌, true, List, ◌++◌, ℕ, ◌+◌, ◌-◌, ◌%◌, ◌≤◌, ◌<◌, get_or, length, drop};
+ghost use Rattle.route_completion.specs.Sem.{pick};
+ghost use Rattle.code_flat.specs.Machine.{Instr};
+ghost use Rattle.code_valid.specs.Instrs.{len, find};
+ghost use Rattle.code_shorten.specs.Short.{shorter};
+ghost use Rattle.code_shorten.specs.Sound.{AreInstrs};
+ghost use Rattle.code_shorten.specs.Closes.{In};
+ghost use Rattle.code_pass.specs.Stages.{mark, sent_on, kept_places, new_place, Gathered};
+ghost use Rattle.code_mark.specs.Read.{read_at};
+ghost use Rattle.code_places.specs.Placing.{Tagged, Placed};
+ghost use Rattle.code_close.specs.Closing.{names_first, names_second, names_third, Moves, Moved, Starts, Raised, Plain, Restored, Saved};
 
 use code_machine::{opcodes, word};
-use code_shorten::{RAISE, length_at, unmarked};
-
-// How many numbers of the instruction at p are kept: all if it is marked, none otherwise.
-fn kept_at(code: &[u32], p: usize, size: usize) -> usize
-    ensures value { result ≡ pick (ltb (get_or code.now p 0) raise) 0 size }
-    ensures upper_bound { result ≤ size }
-{
-    if word(code, p) < RAISE { 0 } else { size }
-}
-
-// Where the instruction at o comes to stand: behind all that is kept before it.
-fn new_place(code: &[u32], o: u32) -> u32
-    ensures { (is : List Instr) → Sound is → (S : List ℕ) → Inked is S code.now → Begin is o → result ≡ moved S is 0 0 o }
-{
-    let end = o as usize;
-    let mut p = 0;
-    let mut q = 0;
-    while p < end {
-        let size = length_at(code, p);
-        if size == 0 {
-            return 0;
-        }
-        let kept = kept_at(code, p, size);
-        q += kept;
-        p += size;
-    }
-    if p == end {
-        return q as u32;
-    }
-    0
-}
+use code_mark::{opcode_at, size_at};
+use code_places::Places;
 
 fn names_first(x: u32) -> bool
     ensures { result ≡ names_first x }
@@ -64,54 +37,75 @@ fn names_third(x: u32) -> bool
 }
 
 // An operand of the new code: a place is moved, another number stays.
-fn new_operand(code: &[u32], o: u32, named: bool) -> u32
-    ensures { (is : List Instr) → Sound is → (S : List ℕ) → Inked is S code.now → (named ≡ true → Begin is o) → result ≡ pick named (moved S is 0 0 o) o }
+fn new_operand(code: &[u32], places: &Places, o: u32, named: bool) -> u32
+    ensures { (C : List ℕ) → Placed C places.now.begins.now places.now.news.now places.now.stride places.now.split places.now.front → Tagged C code.now places.now.split → (named ≡ true → In (kept_places C) o) → result ≡ pick named (new_place C o) o }
 {
-    if named { new_place(code, o) } else { o }
+    if named { places.place_of(code, o) } else { o }
 }
 
-// Writes the first n numbers of the instruction at p to q, with its targets moved.
-fn put_moved(code: &[u32], out: &mut [u32], p: usize, q: usize, n: usize)
-    requires p_in_bounds { p < length code.now }
-    requires n_bound { n ≤ 4 }
-    requires n_in_bounds { q + n ≤ length out.old }
-    ensures { (is : List Instr) → Sound is → (S : List ℕ) → Inked is S code.now → Begin is p → n ≤ len (find is 0 p) → Put out.old q (words (relocate (moved S is 0 0) (find is 0 p))) n out.new }
+// Moves the targets of the instruction at q, which takes so many numbers.
+fn move_at(code: &mut [u32], places: &Places, q: usize, size: usize)
+    requires size_bound { size ≤ 4 }
+    requires in_bounds { q + size ≤ length code.old }
+    ensures { (C : List ℕ) (o : ℕ) → Placed C places.now.begins.now places.now.news.now places.now.stride places.now.split places.now.front → Tagged C code.old places.now.split → In (kept_places C) o → read_at code.old q ≡ find (sent_on C) 0 o → size ≡ len (find (sent_on C) 0 o) → Moves C code.old code.new q o }
 {
-    let x = unmarked(word(code, p));
-    let a = new_operand(code, word(code, p + 1), names_first(x));
-    let b = new_operand(code, word(code, p + 2), names_second(x));
-    let c = new_operand(code, word(code, p + 3), names_third(x));
-    let words: [u32; 4] = [x, a, b, c];
-    code_put::put_words(out, q, &words, n);
+    let x = opcode_at(code, q);
+    let a = new_operand(code, places, word(code, q + 1), names_first(x));
+    let b = new_operand(code, places, word(code, q + 2), names_second(x));
+    let c = new_operand(code, places, word(code, q + 3), names_third(x));
+    let words: [u32; 4] = [word(code, q), a, b, c];
+    code_put::put_words(code, q, &words, size);
 }
 
-// Writes what is kept to the front of `out`, and tells how many numbers that is.
-pub fn close_up(code: &[u32], out: &mut [u32]) -> usize
-    requires { length out.old ≡ length code.now }
-    ensures { (is : List Instr) → Sound is → (S : List ℕ) → Inked is S code.now → (result ≡ length (flat (close_up S is))) × (out.new ≡ flat (close_up S is) ++ drop result out.old) }
+// Moves the targets of all that is kept.
+fn move_targets(code: &mut [u32], places: &Places, end: usize)
+    ensures { (C : List ℕ) → Placed C places.now.begins.now places.now.news.now places.now.stride places.now.split places.now.front → end ≡ length (shorter C) → Gathered C code.old places.now.split (length C) → Moved C code.new places.now.split }
 {
-    let mut p = 0;
     let mut q = 0;
-    while p < code.len() {
-        let size = length_at(code, p);
-        if size == 0 || code.len() - p < size {
-            return q;
+    while q < end {
+        let size = size_at(code, q);
+        if size == 0 {
+            return;
         }
-        let kept = kept_at(code, p, size);
-        put_moved(code, out, p, q, kept);
-        q += kept;
+        move_at(code, places, q, size);
+        q += size;
+    }
+}
+
+// Makes the numbers plain that begin instructions from a place on, up to another.
+fn make_plain(code: &mut [u32], from: usize, to: usize)
+    ensures { (is : List Instr) → AreInstrs is → Starts is from to → Raised is code.old from to → Plain is code.old code.new from }
+{
+    let mut p = from;
+    while p < to {
+        let size = size_at(code, p);
+        if size == 0 {
+            return;
+        }
+        code[p] = opcode_at(code, p);
         p += size;
     }
-    q
 }
 
-// Makes a code shorter by a copy whose jumps are sent on and whose reached instructions are marked, and tells the new length. The entries behind it
-// stay as they were.
-pub fn shorten_by(marked: &[u32], code: &mut [u32]) -> usize
-    requires valid { Valid code.old }
-    requires reached { Reached (threaded (parse code.old)) marked.now }
-    ensures value { result ≡ length (shorter code.old) }
-    ensures code_after { code.new ≡ shorter code.old ++ drop result code.old }
+// Puts the entries back that stood from a place on, up to another.
+fn restore(code: &mut [u32], from: usize, to: usize, saved: &[u32])
+    ensures { Restored code.old code.new from to saved.now }
 {
-    close_up(marked, code)
+    let mut x = from;
+    while x < to && x < code.len() {
+        code[x] = word(saved, x - from);
+        x += 1;
+    }
+}
+
+// Ends the pass over a slice where all that is kept is gathered. `new_length` is that of the shorter code, and `saved` holds the entries from there to
+// the split as they came.
+pub fn close_up(code: &mut [u32], places: &Places, new_length: usize, saved: &[u32])
+    ensures { (C : List ℕ) → Placed C places.now.begins.now places.now.news.now places.now.stride places.now.split places.now.front → new_length ≡ length (shorter C) → Gathered C code.old places.now.split (length C) → Saved C new_length places.now.split saved.now → code.new ≡ shorter C ++ drop new_length C }
+{
+    move_targets(code, places, new_length);
+    make_plain(code, 0, new_length);
+    let end = code.len();
+    make_plain(code, places.split, end);
+    restore(code, new_length, places.split, saved);
 }

@@ -1,3 +1,2 @@
 pub mod Examples
-pub mod MarkingLaws
-pub mod ThreadingLaws
+pub mod PlaceLaws

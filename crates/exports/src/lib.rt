@@ -9,10 +9,13 @@ ghost use Rattle.call_rename.specs.Rename.{renaming};
 ghost use Rattle.call_shared.specs.Shared.{shared_answer};
 ghost use Rattle.call_marks.specs.Calls.{stop_answer, stop_code, stop_slice, stop_marks, resume_answer, resume_code, resume_slice, resume_stop_answer, resume_stop_code, resume_stop_slice, resume_stop_marks};
 ghost use Rattle.call_walk.specs.Walked.{walk_answer, walk_slice};
-ghost use Rattle.exports.specs.Numbers.{check_numbers, code_numbers, route_numbers, shared_numbers, rename_numbers};
+ghost use Rattle.call_run.specs.Run.{run_answer, run_slice};
+ghost use Rattle.call_shorten.specs.Shorten.{shorten_answer, shorten_slice};
+ghost use Rattle.exports.specs.Numbers.{check_numbers, code_numbers, route_numbers, shared_numbers, rename_numbers, run_numbers, shorten_numbers};
 
+use call_run::NoRoute;
 use check_dispatch::Rule;
-use refusal_verdict::Refused;
+use refusal_verdict::{Refusal, Refused};
 use route_marks::Marks;
 use route_viewer::Route;
 
@@ -66,6 +69,28 @@ pub struct RenameAnswer {
     pub place: u32,
     pub names: u64,
     pub needed: u64,
+}
+
+// The run call's answer: the refusal's number, the end, 18's place, which may be above 32 bits, how many entries were written, after 12 the length needed, and how many answers were taken.
+#[repr(C)]
+#[derive(Clone, Copy)]
+pub struct RunAnswer {
+    pub refusal: u32,
+    pub end: u32,
+    pub place: u64,
+    pub entries: u64,
+    pub needed: u64,
+    pub taken: u64,
+}
+
+// The shorten call's answer: the refusal's number, 18's place, the new length, and the room freed.
+#[repr(C)]
+#[derive(Clone, Copy)]
+pub struct ShortenAnswer {
+    pub refusal: u32,
+    pub place: u64,
+    pub length: u64,
+    pub freed: u64,
 }
 
 fn check_numbers(answer: Result<usize, Refused>) -> CheckAnswer
@@ -320,6 +345,73 @@ pub fn velkunshe_rename(
         renamed_nodes,
         renamed_names,
     ))
+}
+
+fn run_numbers(answer: Result<Route, NoRoute>) -> RunAnswer
+    ensures { result ≡ run_numbers answer }
+{
+    match answer {
+        Ok(route) => RunAnswer {
+            refusal: 0,
+            end: route.end,
+            place: 0,
+            entries: route.entries as u64,
+            needed: 0,
+            taken: route.taken,
+        },
+        Err(NoRoute::Invalid(place)) => RunAnswer {
+            refusal: Refusal::NoCode.number(),
+            end: 0,
+            place,
+            entries: 0,
+            needed: 0,
+            taken: 0,
+        },
+        Err(NoRoute::Refused(refused)) => RunAnswer {
+            refusal: refused.number(),
+            end: 0,
+            place: u64::from(refused.place()),
+            entries: 0,
+            needed: refused.needed(),
+            taken: 0,
+        },
+    }
+}
+
+// Runs a lent code slice over the answers, and shows the route.
+pub fn velkunshe_run(code: &[u32], answers: &[u32], route: &mut [u32]) -> RunAnswer
+    ensures value { result ≡ run_numbers (run_answer code.now answers.now (length route.old)) }
+    ensures route_after { route.new ≡ run_slice code.now answers.now route.old }
+{
+    run_numbers(call_run::run(code, answers, route))
+}
+
+fn shorten_numbers(room: usize, answer: Result<usize, u64>) -> ShortenAnswer
+    ensures { result ≡ shorten_numbers room answer }
+{
+    match answer {
+        Ok(length) => ShortenAnswer {
+            refusal: 0,
+            place: 0,
+            length: length as u64,
+            // the pass never lengthens code, so nothing is cut off here
+            freed: room.saturating_sub(length) as u64,
+        },
+        Err(place) => ShortenAnswer {
+            refusal: Refusal::NoCode.number(),
+            place,
+            length: 0,
+            freed: 0,
+        },
+    }
+}
+
+// Makes the code in a lent slice shorter, where it stands.
+pub fn velkunshe_shorten(code: &mut [u32]) -> ShortenAnswer
+    ensures value { result ≡ shorten_numbers (length code.old) (shorten_answer code.old) }
+    ensures code_after { code.new ≡ shorten_slice code.old }
+{
+    shorten_numbers(code.len(), call_shorten::shorten(code))
 }
 
 // From the start, stopped under `mark` behind `stop` answers.

@@ -1,7 +1,7 @@
 -- THE THREE DEMANDS AS ONE STATEMENT. Each field is a sentence of the demands with its theorem; docs/CLAIMS.md says the same in words. What is not here is not claimed.
 -- `statement` of a call is its contract as it stands above the function in crates/exports/src/lib.rt: that the call, on any memory, ends, does nothing undefined and meets its `ensures`.
 -- The calls for C are those of crates/velkunshe, each of which calls the one of its name there, under the same clauses (tests/source.sh).
-use Rattle.std.specs.Prelude.{ℕ, ◌≤◌, ◌≡◌, false, eqb, Ok}
+use Rattle.std.specs.Prelude.{ℕ, ◌≤◌, ◌≡◌, false, eqb, length, take, Ok}
 use mathlib.Core.List.{List, flat_map}
 use Rattle.refusal_verdict.specs.Verdict.{Passed}
 use Rattle.refusal_input.specs.Input.{input_refusal}
@@ -25,6 +25,7 @@ use Rattle.ecma_standard.specs.Standard.{Standard, standard262}
 use Rattle.ecma_standard.specs.Findings.{Broken, findings262}
 use Rattle.ecma_standard.specs.AsyncBodies.{OptionOn, option_on}
 use Rattle.code_jump_scope.specs.UnitScoped.{Targeted}
+use Rattle.call_routes.specs.Calls.{code_answer, code_slice}
 use Rattle.call_routes.specs.Theorem.{Routes}
 use Rattle.call_routes.proofs.TheoremLaws.{routes, targeted}
 use Rattle.call_shared.specs.Theorem.{OneAnswerChanged, one_answer_changed_lem}
@@ -36,6 +37,9 @@ use Rattle.call_rows.proofs.RowsHold.{rows_hold_lem}
 use Rattle.call_labels.specs.Written.{nodes_renamed, names_renamed}
 use Rattle.call_rename_laws.specs.Output.{renaming_of, Output}
 use Rattle.call_rename_laws.proofs.OutputLaws.{output}
+use Rattle.call_shorten.specs.Shorten.{shorten_answer}
+use Rattle.call_shorten_laws.specs.Shortened.{ShorterSlice, ShorterRoute}
+use Rattle.call_shorten_laws.proofs.ShortenedLaws.{shorter_slice, shorter_route}
 use Rattle.exports.proofs.velkunshe_check.Statement as check-call
 use Rattle.exports.proofs.velkunshe_check.Met as check-proved
 use Rattle.exports.proofs.velkunshe_code.Statement as code_call
@@ -54,6 +58,10 @@ use Rattle.exports.proofs.velkunshe_route_resume_stop.Statement as resume-stop-c
 use Rattle.exports.proofs.velkunshe_route_resume_stop.Met as resume-stop-proved
 use Rattle.exports.proofs.velkunshe_rename.Statement as rename-call
 use Rattle.exports.proofs.velkunshe_rename.Met as rename-proved
+use Rattle.exports.proofs.velkunshe_run.Statement as lent-run-call
+use Rattle.exports.proofs.velkunshe_run.Met as lent-run-proved
+use Rattle.exports.proofs.velkunshe_shorten.Statement as shorten-call
+use Rattle.exports.proofs.velkunshe_shorten.Met as shorten-proved
 use Rattle.code_machine.proofs.run.Statement as machine-run
 use Rattle.code_machine.proofs.run.Met as run-proved
 
@@ -75,6 +83,10 @@ pub record Demands : Type 2 where
   pub resume_stop : {M : Type 1} → resume-stop-call.statement M
   -- .. and of the renaming call to `renaming` (crates/call_rename/specs/Rename.antt; document 02, request 12).
   pub rename : {M : Type 1} → rename-call.statement M
+  -- "A call that runs a lent code slice; .. It gives 18, then 12" (document 02, request 10): `run_answer`, `run_slice` (crates/call_run/specs/Run.antt); and the pass "over the finished code", 18 "checked
+  -- before anything is changed", with the room that it frees: `shorten_answer`, `shorten_slice`, `freed` (crates/call_shorten/specs/Shorten.antt).
+  pub lent_run : {M : Type 1} → lent-run-call.statement M
+  pub shorten : {M : Type 1} → shorten-call.statement M
   -- "A run reads the code and the answers, never the tables": the machine is lent nothing else, and is total on any list of numbers as code.
   pub machine : {M : Type 1} → machine-run.statement M
   -- 2. "On well-formed tables .. the findings .. save on the conditions listed in docs/DIFFERENCES.md, are proved against definitions from ECMA-262 with Annex B: one where a rule is
@@ -111,6 +123,10 @@ pub record Demands : Type 2 where
   -- "For a mark taken up on the tables and unit of all its stops, the list so far followed by what comes after, if not stopped again, equals the route, its end too, for the answers taken so far joined
   -- with the further ones" (document 02, request 7).
   pub marks : (r : Rule) (u : ℕ) (M : List ℕ) (m : ℕ) (qs l : List ℕ) → History r u M m qs l → (more : List ℕ) → TakenUp r u M m qs l more
+  -- "The route of the shorter code is the old route for all answers" (document 02, request 10), of the n numbers that the code call wrote to the slice s; ..
+  pub shorter_route : (r : Rule) (u : ℕ) (s : List ℕ) (n : ℕ) → code_answer r u (length s) ≡ Ok n → (answers : List ℕ) → ShorterRoute r u (take n (code_slice r u s)) answers
+  -- .. "The pass never lengthens code, and a second pass changes nothing .. reached jumps that form or lead into a ring stay", of every slice that isn't refused.
+  pub shorter_slice : (C : List ℕ) (n : ℕ) → shorten_answer C ≡ Ok n → ShorterSlice C n
   -- Document 01's rows, of the calls.
   pub rows_hold : Each Holds rows
 
@@ -125,6 +141,8 @@ demands = record {
   resume = resume-proved.met;
   resume_stop = resume-stop-proved.met;
   rename = rename-proved.met;
+  lent_run = lent-run-proved.met;
+  shorten = shorten-proved.met;
   machine = run-proved.met;
   standard = standard262;
   changed = findings262;
@@ -140,5 +158,7 @@ demands = record {
   one_answer_changed = λ t async_bodies ns ss source names u f p. one_answer_changed_lem t async_bodies ns ss source names u f p;
   engines = both_engines;
   marks = marks_in_a_route;
+  shorter_route = shorter_route;
+  shorter_slice = shorter_slice;
   rows_hold = rows_hold_lem;
 }

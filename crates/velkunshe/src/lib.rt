@@ -9,9 +9,13 @@ ghost use Rattle.call_rename.specs.Rename.{renaming};
 ghost use Rattle.call_shared.specs.Shared.{shared_answer};
 ghost use Rattle.call_marks.specs.Calls.{stop_answer, stop_code, stop_slice, stop_marks, resume_answer, resume_code, resume_slice, resume_stop_answer, resume_stop_code, resume_stop_slice, resume_stop_marks};
 ghost use Rattle.call_walk.specs.Walked.{walk_answer, walk_slice};
-ghost use Rattle.exports.specs.Numbers.{check_numbers, code_numbers, route_numbers, shared_numbers, rename_numbers};
+ghost use Rattle.call_run.specs.Run.{run_answer, run_slice};
+ghost use Rattle.call_shorten.specs.Shorten.{shorten_answer, shorten_slice};
+ghost use Rattle.exports.specs.Numbers.{check_numbers, code_numbers, route_numbers, shared_numbers, rename_numbers, run_numbers, shorten_numbers};
 
-use exports::{CheckAnswer, CodeAnswer, RenameAnswer, RouteAnswer, SharedAnswer};
+use exports::{
+    CheckAnswer, CodeAnswer, RenameAnswer, RouteAnswer, RunAnswer, SharedAnswer, ShortenAnswer,
+};
 use route_marks::Marks;
 
 // Checks the tables of a rule.
@@ -182,6 +186,24 @@ pub extern "C" fn velkunshe_rename(
         renamed_nodes,
         renamed_names,
     )
+}
+
+// Runs a lent code slice over the answers, and shows the route.
+#[unsafe(no_mangle)]
+pub extern "C" fn velkunshe_run(code: &[u32], answers: &[u32], route: &mut [u32]) -> RunAnswer
+    ensures value { result ≡ run_numbers (run_answer code.now answers.now (length route.old)) }
+    ensures route_after { route.new ≡ run_slice code.now answers.now route.old }
+{
+    exports::velkunshe_run(code, answers, route)
+}
+
+// Makes the code in a lent slice shorter, where it stands.
+#[unsafe(no_mangle)]
+pub extern "C" fn velkunshe_shorten(code: &mut [u32]) -> ShortenAnswer
+    ensures value { result ≡ shorten_numbers (length code.old) (shorten_answer code.old) }
+    ensures code_after { code.new ≡ shorten_slice code.old }
+{
+    exports::velkunshe_shorten(code)
 }
 
 // From the start, stopped under `mark` behind `stop` answers.

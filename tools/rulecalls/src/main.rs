@@ -10,6 +10,9 @@
 //!                         T,mark,stop,answers.. from the start, stopped; C,mark,answers.. taken up; D,from,to,stop,answers..
 //!                         taken up and stopped again: prints what walk prints for each, end 4 where it was stopped
 //!     rulecalls stopped   as walk, by a route that is stopped behind each answer and taken up again
+//!     rulecalls shorter   as walk, by a run of the unit's code that was made shorter
+//!     rulecalls codes     behind the rule's lines U: prints K with the unit's code, K with the shorter one, F,numbers freed
+//!     rulecalls run       K with any numbers, A with answers, and no rule: prints what walk prints
 //!
 //! A refusal is printed as R,number,place, and R,0,line where a line can't be read or is missing. What is read and
 //! printed is not proved; what the calls answer is.
@@ -22,7 +25,7 @@ use velkunshe::{End, Error, Finding, Marks, Refusal, Route, Rule, Stop};
 
 type Call = fn(&mut Reader) -> Result<Vec<u8>, Refused>;
 
-const CALLS: [(&str, Call); 7] = [
+const CALLS: [(&str, Call); 10] = [
     ("check", check),
     ("route", route),
     ("walk", walk),
@@ -30,6 +33,9 @@ const CALLS: [(&str, Call); 7] = [
     ("rename", rename),
     ("marks", marks),
     ("stopped", stopped),
+    ("shorter", shorter),
+    ("codes", codes),
+    ("run", run),
 ];
 
 /// A wrong call, or an input or output that is lost.
@@ -49,6 +55,12 @@ impl From<BadLine> for Refused {
 impl From<Error> for Refused {
     fn from(error: Error) -> Refused {
         Refused::Call(error)
+    }
+}
+
+impl From<Refusal> for Refused {
+    fn from(refusal: Refusal) -> Refused {
+        Refused::Call(refusal.into())
     }
 }
 
@@ -180,6 +192,33 @@ fn stopped(reader: &mut Reader) -> Result<Vec<u8>, Refused> {
         (route.end, route.taken) = (next.end, route.taken + next.taken);
     }
     Ok(route_lines(&route))
+}
+
+fn shorter(reader: &mut Reader) -> Result<Vec<u8>, Refused> {
+    let tables = reader.tables()?;
+    let (unit, answers) = reader.unit_and_answers()?;
+    let code = velkunshe::shortened(velkunshe::code_of(&rule(&tables), unit)?)?;
+    Ok(route_lines(&velkunshe::run_within(&code, &answers, usize::MAX)?))
+}
+
+fn codes(reader: &mut Reader) -> Result<Vec<u8>, Refused> {
+    let tables = reader.tables()?;
+    let [unit] = reader.exactly(b'U')?;
+    let made = velkunshe::code_of(&rule(&tables), unit)?;
+    let mut code = made.clone();
+    let shorter = velkunshe::shorten(&mut code)?;
+    let [before, after] = [&made[..], &code[..shorter.length]].map(code_line);
+    Ok(format!("{before}{after}F,{}\n", shorter.freed).into_bytes())
+}
+
+fn code_line(code: &[u32]) -> String {
+    let numbers: String = code.iter().map(|n| format!(",{n}")).collect();
+    format!("K{numbers}\n")
+}
+
+fn run(reader: &mut Reader) -> Result<Vec<u8>, Refused> {
+    let (code, answers) = (reader.numbers(b'K')?, reader.numbers(b'A')?);
+    Ok(route_lines(&velkunshe::run_within(&code, &answers, usize::MAX)?))
 }
 
 fn refusal_line(refusal: Refusal) -> Vec<u8> {

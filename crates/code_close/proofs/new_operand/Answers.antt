@@ -1,10 +1,10 @@
-use Rattle.code_shorten.specs.Short.{moved}
 use Rattle.route_completion.specs.Sem.{pick}
+use Rattle.code_pass.specs.Stages.{new_place}
 use mathlib.Core.Path.{sym, ◌∙◌, ap}
 use Rattle.code_close.proofs.new_operand.Goals as goal
 
 pub returns-then-named : goal.returns-then-named
-returns-then-named c = λ is s S k h. c.new_place.ensures is s S k (h c.if-named.true) ∙ sym (ap (λ t. pick t (moved S is 0 0 c.args.o) c.args.o) c.if-named.true)
+returns-then-named c = λ C k t h. c.place_of.ensures C k t (h c.if-named.true) ∙ sym (ap (λ b. pick b (new_place C c.args.o) c.args.o) c.if-named.true)
 
 pub returns-else-named : goal.returns-else-named
-returns-else-named c = λ is s S k h. sym (ap (λ t. pick t (moved S is 0 0 c.args.o) c.args.o) c.if-named.false)
+returns-else-named c = λ C k t h. sym (ap (λ b. pick b (new_place C c.args.o) c.args.o) c.if-named.false)

@@ -1,0 +1,14 @@
+pub mod WayLaws
+pub mod BackLaws
+pub mod JumpLaws
+pub mod TargetLaws
+pub mod EnteredLaws
+pub mod SlotLaws
+pub mod FrontReads
+pub mod NowLaws
+pub mod SentLaws
+pub mod WordsLaws
+pub mod FreeLaws
+pub mod FrontLaws
+pub mod BehindLaws
+pub mod StepLaws
