@@ -1,6 +1,6 @@
 #!/usr/bin/env bash
 # What the source says of itself: the layout, no hole or axiom in a proof, no long function, shell scripts without warnings,
-# documents in short lines, the table of the code's length as it is defined, edits that can be applied, laws in proofs/.
+# documents in short lines that name what is there, the table of the code's length as it is defined, edits that can be applied, laws in proofs/.
 # shellcheck source=tests/lib.bash
 source "$(dirname "$0")/lib.bash" || exit 1
 
@@ -90,10 +90,51 @@ clause_changed() {
     return $status
 }
 
+# The documents tell of crates that are there, and of every one; what LANDINGS, PORT and DESIGN-PASS tell may be gone.
+every_crate_told() {
+    local d ok=0
+    for d in crates/*/; do
+        grep -q "\`$(basename "$d")\`" "${1:-docs/ARCHITECTURE.md}" || { echo "not in ARCHITECTURE.md: $d"; ok=1; }
+    done
+    return $ok
+}
+paths_there() {
+    local doc path ok=0
+    for doc in "$@"; do
+        while read -r path; do
+            compgen -G "$path*" >/dev/null || { echo "$doc: no $path"; ok=1; }
+        done < <(grep -oE '(crates|tools|compare|bench|include|docs|rules)/[A-Za-z0-9_./-]+' "$doc" | sed 's/[.,]*$//' | grep -v NAME | sort -u)
+    done
+    return $ok
+}
+# a copy with a crate left out, and one with a path that is not there, must be told
+crate_left_out() {
+    local copy status
+    copy=$(mktemp)
+    sed '/code_put/d' docs/ARCHITECTURE.md >"$copy"
+    ! every_crate_told "$copy" >/dev/null
+    status=$?
+    rm -f "$copy"
+    return $status
+}
+path_gone() {
+    local copy status
+    copy=$(mktemp)
+    sed '0,/crates\/code_flat/s//crates\/code_flap/' docs/CODE.md >"$copy"
+    ! cmp -s docs/CODE.md "$copy" && ! paths_there "$copy" >/dev/null
+    status=$?
+    rm -f "$copy"
+    return $status
+}
+
 check "every file in rt's layout" laid_out
 check "the calls of velkunshe have the clauses of those of exports" same_calls
 check "a clause changed in a copy is told" clause_changed
 check "every crate listed in crates.txt" listed
+check "every crate is told in docs/ARCHITECTURE.md" every_crate_told
+check "a crate left out in a copy is told" crate_left_out
+check "what the documents name is there" paths_there README.md bindings/rust/README.md compare/*.md docs/{ARCHITECTURE,CHANGING,CLAIMS,CODE,COMPARED,COST,DECISIONS,DIFFERENCES,EDITS,PERFORMANCE,PORTING,TOOLS,TREES}.md
+check "a path changed in a copy is told" path_gone
 check "no hole and no axiom" no_holes
 check "no long function" small_functions
 check "no warning of shellcheck" shell_scripts

@@ -70,7 +70,7 @@ function telling({ nodes, made }) {
   return { async: (i) => told.get(i).async === true, generator: (i) => told.get(i).generator === true };
 }
 
-// directive_placed: a directive stands under the program or a function's body
+// DirectiveTold: a directive stands under the program or a function's body
 const directivePlaced = everywhere((n, i, { nodes }) => n.kind !== K.Directive || [K.Program, K.FunctionBody].includes(nodes[n.parent].kind));
 
 // BaseTold: of a number that begins with 0 and a digit the base is that of its text
@@ -84,7 +84,7 @@ const baseTold = everywhere((n, i, tree) => {
 const DIGIT_ESCAPE = /^(?:[^\\]|\\[^0-9]|\\0(?!\d))*\\\d/s;
 const escapesTold = everywhere((n, i, tree) => n.kind !== K.StringLiteral || n.end - n.start !== n.extra + 2 || !DIGIT_ESCAPE.test(textOf(n, tree)));
 
-// UsedOutside, PrivatesPlain: a PrivateIdentifier that is no key is used by a private member or by `in`
+// OutsideUsed, PrivatesPlain: a PrivateIdentifier that is no key is used by a private member or by `in`
 const privatesUsed = everywhere((n, i, { nodes }) => n.kind !== K.PrivateIdentifier || n.role === R.key || [K.PrivateField, K.PrivateIn].includes(nodes[n.parent].kind));
 
 // PrivatesEntered: a private element has a name, and a method of it a body
