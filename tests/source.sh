@@ -127,6 +127,26 @@ path_gone() {
     return $status
 }
 
+# each edit that a row of EDITS.md names is there; a name without a crate is of the crate before it
+edits_told() {
+    local crate name ok=0
+    while IFS=/ read -r crate name; do
+        [ -f "crates/$crate/must-fail/$name.edit" ] || [ -f "slow-edits/$crate/$name.edit" ] || { echo "no edit $crate/$name"; ok=1; }
+    done < <(awk -F'|' '/^\|/ { crate = ""; s = $3; while (match(s, /`[a-z_0-9]+(\/[a-z_0-9]+)?`/)) {
+        n = substr(s, RSTART + 1, RLENGTH - 2); s = substr(s, RSTART + RLENGTH)
+        if (n ~ /\//) { split(n, part, "/"); crate = part[1]; print n } else if (crate != "") print crate "/" n } }' "${1:-docs/EDITS.md}")
+    return $ok
+}
+edit_gone() {
+    local copy status
+    copy=$(mktemp)
+    sed 's/behind_lost/behind_found/' docs/EDITS.md >"$copy"
+    ! edits_told "$copy" >/dev/null
+    status=$?
+    rm -f "$copy"
+    return $status
+}
+
 check "every file in rt's layout" laid_out
 check "the calls of velkunshe have the clauses of those of exports" same_calls
 check "a clause changed in a copy is told" clause_changed
@@ -135,6 +155,8 @@ check "every crate is told in docs/ARCHITECTURE.md" every_crate_told
 check "a crate left out in a copy is told" crate_left_out
 check "what the documents name is there" paths_there README.md bindings/rust/README.md compare/*.md docs/{ARCHITECTURE,CHANGING,CLAIMS,CODE,COMPARED,COST,DECISIONS,DIFFERENCES,EDITS,PERFORMANCE,PORTING,TOOLS,TREES}.md
 check "a path changed in a copy is told" path_gone
+check "each edit that docs/EDITS.md names is there" edits_told
+check "an edit's name changed in a copy is told" edit_gone
 check "no hole and no axiom" no_holes
 check "no long function" small_functions
 check "no warning of shellcheck" shell_scripts
