@@ -222,6 +222,22 @@ printf '#!/bin/sh\n%s/target/bin/ruleroute | sed 1d\n' "$PWD" >"$lossy"
 chmod +x "$lossy"
 check "engines that differ" says 'show-route: the engines differ: code gives Z,0,1,1; walk gives L,3 Z,0,1,1' ./show-route rules/while-switch.js 0 --engine both --router "$lossy"
 check "status 2: engines that differ" status 2 ./show-route rules/while-switch.js 0 --engine both --router "$lossy"
+# asked LINES RULE OPTION..: the viewer at a terminal, with these lines as its input
+asked() { local lines=$1; shift; printf '%b' "$lines" | ./show-route "$@" --ask --text; }
+# a router that names another statement
+printf '#!/bin/sh\n%s/target/bin/ruleroute | sed s/L,3/L,6/\n' "$PWD" >"$lossy"
+check "the viewer, whose engines differ" says '1  line 1  switch(s)  0: case c
+it fell through its last statement after 1 entry and 1 answer
+the engines differ: trust neither
+code:
+route of the program with answers 0
+1  line 1  switch(s)  0: case c
+it fell through its last statement after 1 entry and 1 answer
+
+walk:
+route of the program with answers 0
+1  line 1  while(t)  0: no more turns
+it fell through its last statement after 1 entry and 1 answer' asked 'both\n' rules/while-switch.js 0 --router "$lossy"
 rm -f "$lossy"
 check "no second route of a rule with an error" status 2 ./show-route rules/block-label.js '' --against 1
 check "a call of rulecalls that can't be read" says 'R,0,22' beside 1
@@ -288,6 +304,60 @@ check "a label that is a reserved word in some code" says 'rename-labels: not re
 check "the tables of renamed texts" says '300 texts with labels: 288 changed, 0 as they were, 12 with a label that is not renamed' tools/rename-labels --generated 300 3
 # shellcheck source=tests/check-rule.bash
 source tests/check-rule.bash
+check "the viewer at a terminal: answers, back, the other answer, two routes, both engines" says 'line 1 asks: while(t)
+  1 another turn, 0 no more turns
+1  line 1  while(t)  1: another turn
+line 1 asks: switch(s)
+  0 case c, 1 no case
+2  line 1  switch(s)  0: case c
+3  line 1  continue a;
+line 1 asks: while(t)
+  1 another turn, 0 no more turns
+back behind step 1
+line 1 asks: switch(s)
+  0 case c, 1 no case
+2  line 1  switch(s)  5: no case
+3  line 1  x;
+line 1 asks: while(t)
+  1 another turn, 0 no more turns
+routes of the program with answers 1, 5 and with answers 1, 0
+  1, 5                                  |   1, 0
+= 1  line 1  while(t)   1: another turn | = 1  line 1  while(t)     1: another turn
+= 2  line 1  switch(s)  5: no case      | = 2  line 1  switch(s)    0: case c
+  3  line 1  x;                         |   3  line 1  continue a;
+they share their first 2 entries
+the first stopped for want of an answer after 3 entries and 2 answers; line 1 asks next: while(t)
+the second stopped for want of an answer after 3 entries and 2 answers; line 1 asks next: while(t)
+back behind step 1
+2  line 1  switch(s)  0: case c
+3  line 1  continue a;
+line 1 asks: while(t)
+  1 another turn, 0 no more turns
+both engines agree
+4  line 1  while(t)  0: no more turns
+it fell through its last statement after 4 entries and 3 answers
+nothing is asked any more; `help` lists what can be done' asked 'y\n0\nback 2\n5\nbeside 2\nother 2\nboth\n0\ny\n' rules/while-switch.js
+# the address that it prints answers until it is interrupted
+served() {
+    local out pid turn was
+    out=$(mktemp)
+    tools/routeview rules/keys.js --ask --unit opens --caller target/bin/rulecalls >"$out" &
+    pid=$!
+    for turn in $(seq 300); do
+        ! grep -q Ctrl-C "$out" || break
+        sleep 0.1
+    done
+    [ "$turn" -lt 300 ] && node -e 'fetch(process.argv[1]).then((r) => r.text()).then((t) => process.exit(t.includes("Line 3 asks: <code>for (const key of keys)</code>") ? 0 : 1))' "$(head -n 1 "$out")"
+    was=$?
+    kill -INT $pid
+    wait $pid && [ "$was" -eq 0 ]
+    was=$?
+    rm -f "$out"
+    return $was
+}
+check "the viewer's address, and its end" served
+check "status 2: the viewer with another engine" status 2 ./show-route rules/keys.js --ask --engine walk
+check "status 2: the viewer, of a rule with an error" status 2 ./show-route rules/block-label.js --ask --text
 check "the units of a rule" says '0  program  line 1, column 1
 3  function opens  line 3, column 1' ./show-route rules/office-hours.js --units
 check "the route of a TypeScript function" says 'route of the function at line 3 with answers 1, 0, 1
@@ -296,7 +366,53 @@ check "the route of a TypeScript function" says 'route of the function at line 3
 3  line 4  for (const host of guest.hosts)  1: another turn
 it stopped for want of an answer after 3 entries and 3 answers; line 5 asks next: if (here.has(host!))
 V8 was not asked, since it compiles no TypeScript' ./show-route rules/guests.mts 1,0,1 --unit welcome
+shapes=$(mktemp -d)
+printf 'const open = () => { if (a) b; }; class A { static { c; } #m() { while (d) e; } get m() { return f; } }\n' >"$shapes/units.js"
+check "units by the name of what holds them, several on a line" says '0  program  line 1, column 1
+4  arrow open  line 1, column 14
+14  static block  line 1, column 45
+19  function #m  line 1, column 61
+28  function m  line 1, column 86' ./show-route "$shapes/units.js" --units
+check "a unit by the name of its variable" says 'route of the arrow function at line 1 with answers 1
+1  line 1  if (a)  1: yes
+2  line 1  b;
+it fell through its last statement after 2 entries and 1 answer' ./show-route "$shapes/units.js" y --unit open
+check "a unit by its line and column" says 'route of the static block at line 1 with answers none
+1  line 1  c;
+it fell through its last statement after 1 entry and 0 answers' ./show-route "$shapes/units.js" '' --line 1:45
+check "a line on which several begin is asked about" says 'show-route: several units begin on line 1; --line 1:COLUMN takes one:
+4  arrow open  line 1, column 14
+14  static block  line 1, column 45
+19  function #m  line 1, column 61
+28  function m  line 1, column 86' ./show-route "$shapes/units.js" '' --line 1
+printf 'switch (a) {\r\n case "\u202e": b;\u2028}\rc("\x01");' >"$shapes/unseen.js"
+check "characters that are not seen, in a route; lines as the standard ends them" says 'route of the program with answers 0
+1  line 1  switch (a)      0: case "<U+202E>"
+2  line 2  b;
+3  line 4  c("<U+0001>");
+it fell through its last statement after 3 entries and 1 answer' ./show-route "$shapes/unseen.js" 0
+unseen_page() { ./show-route "$shapes/unseen.js" 0 -o "$shapes/unseen.html" && (! grep -qP '\x{202e}|\x{2028}|\x01|\r' "$shapes/unseen.html") && grep -q '&lt;U+202E&gt;' "$shapes/unseen.html" && grep -q 'data-n="4"' "$shapes/unseen.html"; }
+check "and in a page" unseen_page
+printf 'const \u202ea = 1;' >"$shapes/message.js"
+check "and in what is told of an error" says "show-route: $shapes/message.js: no tree: Unexpected character '<U+202E>'. (1:6)" ./show-route "$shapes/message.js" ''
+# over_rule LINK: a page that would be written over the rule by another name is refused, and the rule stays
+over_rule() {
+    cp rules/office-hours.js "$shapes/kept.js"
+    ln "$@" "$shapes/kept.js" "$shapes/kept.html"
+    status 2 ./show-route "$shapes/kept.js" '' -o "$shapes/kept.html" && cmp rules/office-hours.js "$shapes/kept.js"
+    local was=$?
+    rm "$shapes/kept.html"
+    return $was
+}
+other_rule() {
+    ln -s units.js "$shapes/other.html"
+    status 2 ./show-route rules/office-hours.js '' -o "$shapes/other.html" && grep -q '^const' "$shapes/units.js"
+}
 check "a page is not written over a rule" status 2 ./show-route rules/office-hours.js '' -o rules/office-hours.js
+check "nor by a link" over_rule -s
+check "nor by its other name" over_rule
+check "nor over another rule by a link" other_rule
+rm -rf "$shapes"
 check "no route of a rule that the engine refuses" text_status_of 2 .js 'let a; let a;' ./show-route ''
 
 if [ -d ../shared/test262 ]; then check "test262" tools/test262; else unrun "test262" "its files are not beside the repository"; fi
@@ -313,5 +429,10 @@ check "V8's routes, by all engines" says '1000 units (447 programs, 231 function
     tools/v8-routes 1000 3 --engine all --quiet
 check "V8's routes, with try, by all engines" says '200 units (94 programs, 47 functions, 15 arrows, 44 static blocks; 61 with a try, 24 with a static block of a class), 800 runs: 528 fell through, 7 returned, 57 threw, 208 spent their answers; 3988 entries, 1731 answers taken, longest list 59; 0 disagree' \
     tools/v8-routes 200 4 --engine all --try --quiet
-if tools/setup chromium; then check "pages in Chromium" tools/pages 60 5; else unrun "pages in Chromium" "it can't be installed"; fi
+if tools/setup chromium; then
+    check "pages in Chromium" tools/pages 60 5
+    check "the viewer clicked through in Chromium" tools/asked 12 5
+else
+    unrun "pages and the viewer in Chromium" "it can't be installed"
+fi
 finish

@@ -6,7 +6,7 @@ const fs = require('fs');
 const os = require('os');
 const path = require('path');
 
-const LIMIT = 30000;
+const LIMIT = 60000;
 const PAUSE = 100;
 
 // a promise that fails if it takes too long
@@ -20,7 +20,8 @@ class Browser {
   static async open() {
     const b = new Browser();
     b.dir = fs.mkdtempSync(path.join(os.tmpdir(), 'browser-'));
-    const flags = ['--headless', '--no-sandbox', '--disable-gpu', '--disable-dev-shm-usage', '--remote-debugging-pipe', `--user-data-dir=${b.dir}`, '--window-size=1200,900'];
+    // a page that is gone back to is loaded anew, so that its end is told
+    const flags = ['--headless', '--disable-features=BackForwardCache', '--no-sandbox', '--disable-gpu', '--disable-dev-shm-usage', '--remote-debugging-pipe', `--user-data-dir=${b.dir}`, '--window-size=1200,900'];
     b.child = spawn('chromium', flags, { stdio: ['ignore', 'ignore', 'ignore', 'pipe', 'pipe'] });
     Object.assign(b, { next: 0, waiting: new Map(), got: '' });
     b.child.stdio[4].setEncoding('utf8').on('data', (text) => b.read(text));
@@ -50,11 +51,30 @@ class Browser {
     return inTime(answer, method);
   }
 
-  async show(file) {
+  show(file) { return this.go(`file://${path.resolve(file)}`); }
+  go(url) { return this.loading(() => this.ask('Page.navigate', { url }), url); }
+
+  // does what makes it load a page, and waits until that is there
+  async loading(act, what) {
     const loaded = new Promise((resolve) => { this.loaded = resolve; });
-    await this.ask('Page.navigate', { url: `file://${path.resolve(file)}` });
-    await inTime(loaded, `loading ${file}`);
+    await act();
+    await inTime(loaded, `loading ${what}`);
   }
+
+  // a click on the one element that a function gives, which leads to another page
+  async follow(find, ...args) {
+    const place = await this.run(`(...args) => { const e = (${find})(...args); e.scrollIntoView({ block: 'center' }); const r = e.getClientRects()[0]; return { x: r.x + r.width / 2, y: r.y + r.height / 2 }; }`, ...args);
+    await this.loading(() => this.click(place), 'the page behind a link');
+  }
+
+  // the page before this one
+  async back() {
+    const { currentIndex, entries } = await this.ask('Page.getNavigationHistory');
+    await this.loading(() => this.ask('Page.navigateToHistoryEntry', { entryId: entries[currentIndex - 1].id }), 'the page before');
+  }
+
+  // as on a screen that is dark, or light
+  scheme(value) { return this.ask('Emulation.setEmulatedMedia', { features: [{ name: 'prefers-color-scheme', value }] }); }
 
   // what a function gives in the page
   async run(f, ...args) {

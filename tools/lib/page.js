@@ -2,8 +2,10 @@
 // A route as one page, or as lines of text: the rule's text with the statements that ran, in order, the answers where
 // they were taken, and the end in words. No script, nothing from elsewhere.
 
+const { createHash } = require('crypto');
 const { K, R, F } = require('./kinds.js');
-const { Lines, shown, shownLines } = require('./place.js');
+const { LINE_END, Lines, shown, shownTabs } = require('./place.js');
+const { STYLE, MARK_WIDTH } = require('./style.js');
 
 const LOOPS = [K.For, K.ForIn, K.ForOf, K.While, K.DoWhile];
 const ENDS = ['fell through its last statement', 'returned', 'threw', 'stopped for want of an answer', 'was stopped', 'came to no end'];
@@ -13,17 +15,34 @@ const EXPORTS = [K.ExportDefault, K.ExportNamed];
 
 const takesAnswer = (kind) => kind === K.If || kind === K.Switch || LOOPS.includes(kind);
 
-const escape = (s) => shownLines(s).replace(/[&<>"]/g, (c) => ({ '&': '&amp;', '<': '&lt;', '>': '&gt;', '"': '&quot;' }[c]));
+const MOST_ROWS = 2000;
+const MOST_MARKS = 3;
+const MOST_SHOWN = 60;
+
+const escaped = (s) => s.replace(/[&<>"]/g, (c) => ({ '&': '&amp;', '<': '&lt;', '>': '&gt;', '"': '&quot;' }[c]));
+// what is seen of a text on one line
+const escape = (s) => escaped(shown(s));
+const code = (s) => `<code>${escape(s)}</code>`;
+const short = (s) => { const text = shown(s.replace(/\s+/g, ' ').trim()); return text.length > MOST_SHOWN ? `${text.slice(0, MOST_SHOWN - 1)}…` : text; };
+const link = (href, words, name) => `<a${name ? ` class="${name}"` : ''} href="${escaped(href)}">${words}</a>`;
+
+const partOf = (number) => Math.floor((number - 1) / MOST_ROWS);
 
 class Page {
-  // Of two routes on one page each has a prefix for its places; the first `shared` steps are marked as those of both.
-  constructor(tree, unit, answers, route, { prefix = '', shared = 0 } = {}) {
-    Object.assign(this, { tree, unit, answers, route, prefix, shared, lines: new Lines(tree.source.toString('utf8')) });
+  // Of two routes on one page each has a prefix for its places; the first `shared` steps are marked as those of both. Of many steps one part has its rows
+  // on a page; `partAt` tells where the others are. `doing` gives the links that stand in a step's row.
+  constructor(tree, unit, answers, route, { prefix = '', shared = 0, part = 0, partAt = () => '', doing = null } = {}) {
+    Object.assign(this, { tree, unit, answers, route, prefix, shared, part, partAt, doing, lines: new Lines(tree.source.toString('utf8')) });
     this.children = tree.nodes.map(() => []);
     tree.nodes.forEach((n, i) => { if (i > 0) this.children[n.parent].push(i); });
   }
 
+  // how many pages the rows take, and one of them
+  parts() { return Math.max(1, Math.ceil(this.route.list.length / MOST_ROWS)); }
+  at(part, partAt) { return Object.assign(Object.create(Page.prototype), this, { part, partAt }); }
+
   text(from, to) { return this.tree.source.subarray(from, to).toString('utf8'); }
+  textOf(i) { return this.text(this.tree.nodes[i].start, this.tree.nodes[i].end); }
   child(i, test) { return this.children[i].find((c) => test(this.tree.nodes[c])); }
 
   // The bytes that show a statement: without the statements that it holds.
@@ -86,7 +105,7 @@ class Page {
       const { kind } = this.tree.nodes[node];
       const step = { number: k + 1, node, kind };
       this.passed(waiting, node);
-      if (takesAnswer(kind)) return { ...step, answer: this.answers[taken++] };
+      if (takesAnswer(kind)) return { ...step, index: taken, answer: this.answers[taken++] };
       if (kind < K.Break || kind > K.Throw) return step;
       const way = this.wayOf(node);
       const replaced = way.left.filter((b) => waiting.has(b)).map((b) => waiting.get(b).number);
@@ -108,23 +127,37 @@ class Page {
 
   within(i, above) { return i === above || (i > above && this.within(this.tree.nodes[i].parent, above)); }
 
-  words({ node, kind, answer }) {
-    if (answer === undefined) return '';
-    if (kind === K.Switch) return this.switchWords(node, answer);
-    const n = this.tree.nodes[node];
-    if (kind === K.For && !(n.flags & 256)) return `${answer}: goes on, as there is no test`;
+  // what can be answered at a statement, each with one of the answers that mean it
+  choices(node) {
+    const { kind, flags } = this.tree.nodes[node];
+    if (kind === K.Switch) return this.casesOf(node);
+    if (kind === K.For && !(flags & F.initialiser)) return [{ answer: 1, words: 'goes on, as there is no test' }];
     const [yes, no] = kind === K.If ? ['yes', 'no'] : ['another turn', 'no more turns'];
-    return `${answer}: ${answer ? yes : no}`;
+    return [{ answer: 1, words: yes }, { answer: 0, words: no }];
   }
 
-  switchWords(node, answer) {
+  casesOf(node) {
     const cases = this.children[node].filter((c) => this.tree.nodes[c].kind === K.SwitchCase);
-    const fallback = cases.findIndex((c) => this.tree.nodes[c].flags & 4096);
-    const picked = answer < cases.length ? answer : fallback;
-    if (picked < 0) return `${answer}: no case`;
-    const n = this.tree.nodes[cases[picked]];
-    const test = this.children[cases[picked]][0];
-    return `${answer}: ${n.flags & 4096 ? 'default' : `case ${this.text(this.tree.nodes[test].start, this.tree.nodes[test].end)}`}`;
+    const isDefault = (c) => (this.tree.nodes[c].flags & F.default) !== 0;
+    const choices = cases.map((c, answer) => ({ answer, words: isDefault(c) ? 'default' : `case ${short(this.textOf(this.children[c][0]))}`, otherwise: isDefault(c) }));
+    return choices.some((c) => c.otherwise) ? choices : [...choices, { answer: cases.length, words: 'no case', otherwise: true }];
+  }
+
+  // which of them an answer means
+  picked(node, answer) {
+    const choices = this.choices(node);
+    if (this.tree.nodes[node].kind === K.Switch) return choices.find((c) => c.answer === answer) || choices.find((c) => c.otherwise);
+    return choices.find((c) => (c.answer !== 0) === (answer !== 0)) || choices[0];
+  }
+
+  words({ node, answer }) { return answer === undefined ? '' : `${answer}: ${this.picked(node, answer).words}`; }
+
+  // the statement that asks next, in the rule's own words, and what can be answered; null where none does
+  question() {
+    if (this.route.asks === undefined) return null;
+    const node = this.route.asks;
+    const [from, to] = this.headOf(node)[0];
+    return { node, line: this.lineOf(from), text: this.text(from, to).trim(), choices: this.choices(node) };
   }
 
   // where a jump goes: the finally blocks that run on its way, those that it leaves, and the catch that takes a throw
@@ -173,44 +206,86 @@ class Page {
 
   lineOf(byte) { return this.lines.at(byte).line; }
 
-  // the text in pieces: shown statements with their marks, and what is between
-  source(steps) {
+  // the text in pieces: statements with the steps at them, and what is between
+  pieces(steps) {
     const by = new Map();
     for (const s of steps) by.set(s.node, [...(by.get(s.node) || []), s]);
-    const pieces = this.statements().flatMap((i) => this.headOf(i).map(([from, to]) => ({ from, to, steps: by.get(i) || [] })));
-    pieces.sort((a, b) => a.from - b.from);
-    let out = '';
+    const heads = this.statements().flatMap((i) => this.headOf(i).map(([from, to]) => ({ from, to, steps: by.get(i) || [] })));
+    heads.sort((a, b) => a.from - b.from);
+    const out = [];
     let at = 0;
-    for (const p of pieces) {
-      const end = p.to - Buffer.byteLength(/\s*$/.exec(this.text(p.from, p.to))[0]);
-      out += escape(this.text(at, p.from));
-      out += `<span class="${p.steps.length > 0 ? 'ran' : 'idle'}"${p.steps.length > 0 ? ` id="${this.prefix}n${p.steps[0].node}"` : ''}>`;
-      out += p.steps.map((s) => this.badge(s)).join('') + escape(this.text(p.from, end)) + '</span>';
-      at = end;
+    for (const head of heads) {
+      const to = head.to - Buffer.byteLength(/\s*$/.exec(this.text(head.from, head.to))[0]);
+      out.push({ text: this.text(at, head.from), steps: null }, { ...head, to, text: this.text(head.from, to) });
+      at = to;
     }
-    return out + escape(this.text(at, this.tree.source.length));
+    return [...out, { text: this.text(at, this.tree.source.length), steps: null }];
   }
 
-  badge(s) {
-    const answer = s.answer === undefined ? '' : `<i>${escape(this.words(s))}</i>`;
-    return `<a class="step${this.isShared(s) ? ' shared' : ''}" href="#${this.prefix}s${s.number}">${s.number}${answer}</a>`;
+  // the text with a number before each line; at a statement that ran, its steps stand above it
+  source(steps) {
+    let line = 0;
+    const number = () => `<i class="line" data-n="${++line}"></i>`;
+    const lines = (text) => text.split(LINE_END).map((part, k) => (k > 0 ? number() : '') + escaped(shownTabs(part)));
+    const first = number();
+    const pieces = this.pieces(steps);
+    const out = pieces.map(({ text, steps: at }, k) => {
+      const inside = joined(text, lines(text));
+      if (at === null) return inside;
+      if (at.length === 0) return `<span class="idle">${inside}</span>`;
+      return `<span class="ran" id="${this.prefix}n${at[0].node}">${this.marks(at, roomAt(pieces, k))}${inside}</span>`;
+    });
+    return first + out.join('');
+  }
+
+  // The steps at a statement, as many as have room and three at most, and behind the last how many there are where these are not all.
+  marks(steps, room) {
+    const texts = (most) => [...steps.slice(0, most).map((s) => String(s.number)), ...(most < steps.length ? [`×${steps.length}`] : [])];
+    const fits = (most) => texts(most).join(' ').length * MARK_WIDTH < room;
+    let most = Math.min(MOST_MARKS, steps.length);
+    while (most > (steps.length > 1 ? 0 : 1) && !fits(most)) most -= 1;
+    const marks = texts(most).map((text, k) => `<a class="step${this.isShared(steps[k]) ? ' shared' : ''}" href="${this.rowAt(steps[k].number)}" title="${escape(this.words(steps[k]))}">${text}</a>`);
+    return `<span class="marks">${marks.join('')}</span>`;
   }
 
   isShared({ number }) { return number <= this.shared; }
 
+  // where a step's row is: one that two routes share has no prefix
+  rowAt(number) {
+    const part = partOf(number);
+    return `${part === this.part ? '' : escaped(this.partAt(part))}#${this.rowId(number)}`;
+  }
+
+  rowId(number) { return `${this.isShared({ number }) ? '' : this.prefix}s${number}`; }
+
   // a step's statement in short, and the line on which it is shown
   shown({ node }) {
     const [from, to] = this.headOf(node)[0];
-    const text = shown(this.text(from, to).replace(/\s+/g, ' ').trim());
-    return { line: this.lineOf(from), text: text.length > 60 ? `${text.slice(0, 59)}…` : text };
+    return { line: this.lineOf(from), text: short(this.text(from, to)) };
   }
 
-  rows(steps) {
-    return steps.map((s) => {
-      const { line, text } = this.shown(s);
-      return `<tr id="${this.prefix}s${s.number}"${this.isShared(s) ? ' class="shared"' : ''}><td>${s.number}</td><td>${line}</td>`
-        + `<td><a href="#${this.prefix}n${s.node}"><code>${escape(text)}</code></a>${this.note(s) ? `<br><small>${escape(this.note(s))}</small>` : ''}</td><td>${escape(this.words(s))}</td></tr>`;
-    }).join('\n');
+  row(s, words) {
+    const { line, text } = this.shown(s);
+    const note = this.note(s) ? `<br><small>${escape(this.note(s))}</small>` : '';
+    const doing = this.doing ? `<td>${this.doing(this, s)}</td>` : '';
+    return `<tr id="${this.rowId(s.number)}"${this.isShared(s) ? ' class="shared"' : ''}><td>${s.number}</td><td>${line}</td>`
+      + `<td><a href="#${this.prefix}n${s.node}"><code>${escaped(text)}</code></a>${note}</td><td>${escape(words)}</td>${doing}</tr>`;
+  }
+
+  // the rows of this part; behind the last one the end, where it is told
+  table(steps, end = '', wordsOf = (s) => this.words(s)) {
+    const rows = steps.filter(({ number }) => partOf(number) === this.part).map((s) => this.row(s, wordsOf(s)));
+    if (end !== '' && this.part === this.parts() - 1) rows.push(`<tr class="end"><td></td><td></td><td colspan="${this.doing ? 3 : 2}">${end}</td></tr>`);
+    const head = `<thead><tr><th></th><th>line</th><th>statement</th><th>answer</th>${this.doing ? '<th></th>' : ''}</tr></thead>`;
+    return `<table>${head}<tbody>\n${rows.join('\n')}\n</tbody></table>`;
+  }
+
+  // which rows these are, where not all are on this page, with links to the others
+  partLinks(parts = this.parts()) {
+    if (parts === 1) return '';
+    const words = (part) => `${part * MOST_ROWS + 1} to ${(part + 1) * MOST_ROWS}`;
+    const to = (part, name) => (part >= 0 && part < parts ? ` ${link(this.partAt(part), `${name}: ${words(part)}`)}` : '');
+    return `<p class="parts">steps ${words(this.part)}, page ${this.part + 1} of ${parts}${to(this.part - 1, 'before')}${to(this.part + 1, 'next')}</p>\n`;
   }
 
   unitWords() {
@@ -254,25 +329,46 @@ class Page {
     return `It <b>${ENDS[this.route.end]}</b> after ${this.counted()}${left.length > 0 ? `; left over: <code>${left.join(', ')}</code>` : ''}${escape(this.waits())}.`;
   }
 
+  ended() { return ENDS[this.route.end]; }
+
+  textShown(steps) { return `<pre>\n${this.source(steps)}</pre>`; }
+
   // the text and the table
   shownSteps() {
     const steps = this.steps();
-    return `<pre>
-${this.source(steps)}</pre>
-<table><thead><tr><th></th><th>line</th><th>statement</th><th>answer</th></tr></thead><tbody>
-${this.rows(steps)}
-<tr class="end"><td></td><td></td><td colspan="2">${ENDS[this.route.end]}</td></tr></tbody></table>`;
+    return `${this.textShown(steps)}\n${this.table(steps, this.ended())}`;
   }
 
   html(title) {
-    return pageOf(title, `<p>Route of ${this.unitWords()} with answers <code>${this.given()}</code>.
+    return pageOf(title, `<p>Route of ${escape(this.unitWords())} with answers <code>${this.given()}</code>.
 ${this.says()}</p>
-<main>${this.shownSteps()}</main>`);
+${this.partLinks()}<main>${this.shownSteps()}</main>`);
   }
 }
 
-const pageOf = (title, body) => `<!doctype html>
-<html lang="en"><head><meta charset="utf-8"><title>${escape(title)}</title>
+// lines that are numbered, with their ends, which a browser shows as line feeds
+function joined(text, lines) {
+  const ends = [...text.matchAll(LINE_END)].map(([end]) => `${/[\u2028\u2029]/.test(end) ? escaped(shown(end)) : ''}\n`);
+  return lines.map((line, k) => line + (ends[k] || '')).join('');
+}
+
+// How many columns there are from a statement to the next one on its line that ran.
+function roomAt(pieces, k) {
+  let room = 0;
+  for (let at = k; at < pieces.length; at++) {
+    if (at > k && pieces[at].steps !== null && pieces[at].steps.length > 0) return room;
+    const [line, ...more] = pieces[at].text.split(LINE_END);
+    room += shown(line).length;
+    if (more.length > 0) return Infinity;
+  }
+  return Infinity;
+}
+
+// no script, nothing from elsewhere, and this style alone
+const POLICY = `default-src 'none'; style-src 'sha256-${createHash('sha256').update(STYLE).digest('base64')}'; base-uri 'none'; form-action 'none'`;
+
+const pageOf = (title, body, tab = title) => `<!doctype html>
+<html lang="en"><head><meta charset="utf-8"><meta http-equiv="Content-Security-Policy" content="${POLICY}"><title>${escape(tab)}</title>
 <meta name="viewport" content="width=device-width, initial-scale=1">
 <style>${STYLE}</style></head><body>
 <h1>${escape(title)}</h1>
@@ -282,25 +378,4 @@ ${body}
 
 const count = (n, one, many = `${one}s`) => `${n} ${n === 1 ? one : many}`;
 
-const STYLE = `
-:root { color-scheme: light dark; --ran: #d8f0d8; --mark: #1c6b2a; --idle: #8a8a8a; --at: #ffe08a; --shared: #dfe6ff; }
-@media (prefers-color-scheme: dark) { :root { --ran: #17381d; --mark: #7ed491; --idle: #7a7a7a; --at: #6a5200; --shared: #232c52; } }
-body { font: 16px/1.5 system-ui, sans-serif; margin: 2rem; max-width: 90rem; }
-h1 { font-size: 1.3rem; }
-main { display: flex; flex-wrap: wrap; gap: 2rem; align-items: flex-start; }
-pre { font: 15px/1.9 ui-monospace, monospace; margin: 0; white-space: pre-wrap; flex: 2 1 30rem; }
-.ran { background: var(--ran); border-radius: 3px; padding: 1px 2px; }
-.idle { color: var(--idle); }
-.step { font-size: 11px; color: var(--mark); border: 1px solid; border-radius: 8px; padding: 0 5px; margin-right: 3px; text-decoration: none; }
-.step i { font-style: normal; margin-left: 5px; opacity: .85; }
-table { border-collapse: collapse; flex: 1 1 24rem; font-size: 14px; }
-td, th { text-align: left; padding: 2px 8px; border-bottom: 1px solid #8884; }
-td a { color: inherit; text-decoration: none; }
-.end td { font-weight: bold; }
-section { flex: 1 1 34rem; min-width: 0; }
-section h2 { font-size: 1.1rem; }
-.shared { background: var(--shared); }
-:target { background: var(--at); }
-`;
-
-module.exports = { Page, pageOf, count };
+module.exports = { POLICY, Page, code, count, escape, link, pageOf };

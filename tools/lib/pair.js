@@ -1,16 +1,18 @@
 'use strict';
-// Two routes of one unit side by side, as one page or as lines of text, with the beginning that they share marked.
+// Two routes of one unit side by side, as one page or as lines of text; the beginning that they share is marked, and its rows stand once on a page.
 
-const { Page, pageOf, count } = require('./page.js');
+const { Page, escape, pageOf, count } = require('./page.js');
 
 class Pair {
-  // each route with its answers
+  // each route with its answers, and what else its page is told
   constructor(tree, unit, [first, second], shared) {
     this.shared = shared;
-    this.pages = [first, second].map(({ answers, route }, k) => new Page(tree, unit, answers, route, { prefix: 'ab'[k], shared }));
+    this.pages = [first, second].map(({ answers, route, ...more }, k) => new Page(tree, unit, answers, route, { ...more, prefix: 'ab'[k], shared }));
   }
 
   taken() { return Math.max(...this.pages.map((p) => p.taken())); }
+  parts() { return Math.max(...this.pages.map((p) => p.parts())); }
+  at(part, partAt) { return Object.assign(Object.create(Pair.prototype), this, { pages: this.pages.map((p) => p.at(part, partAt)) }); }
 
   words() {
     const { shared } = this;
@@ -36,10 +38,25 @@ class Pair {
     return `routes of ${this.unitAndAnswers((text) => text)}\n${rows.map((r) => `${r}\n`).join('')}${this.words()}\n${ends.join('')}`;
   }
 
+  // what both share, once, and behind it what each has of its own
+  shownSteps(asked = () => '') {
+    const [both, other] = this.pages;
+    const [shared, others] = [both.steps().filter((s) => both.isShared(s)), other.steps()];
+    // the statements are the same, the answers may not be
+    const words = (s) => [...new Set([both.words(s), other.words(others[s.number - 1])])].join(' | ');
+    const once = this.shared > 0 ? `<section class="both"><h2>both</h2>\n${both.table(shared, '', words)}</section>\n` : '';
+    const sections = this.pages.map((p, k) => {
+      const steps = p.steps();
+      const own = p.table(steps.filter((s) => !p.isShared(s)), p.ended());
+      return `<section class="own"><h2>with answers <code>${p.given()}</code></h2>\n<p>${p.says()}</p>\n${asked(p, k)}${p.textShown(steps)}\n${own}</section>`;
+    });
+    return once + sections.join('\n');
+  }
+
+  partLinks() { return this.pages[0].partLinks(this.parts()); }
+
   html(title) {
-    const sections = this.pages.map((p) => `<section><h2>with answers <code>${p.given()}</code></h2>\n<p>${p.says()}</p>\n${p.shownSteps()}</section>`);
-    const words = this.words();
-    return pageOf(title, `<p>Routes of ${this.unitAndAnswers((text) => `<code>${text}</code>`)}; ${words}.</p>\n<main>${sections.join('\n')}</main>`);
+    return pageOf(title, `<p>Routes of ${this.unitAndAnswers((text) => `<code>${escape(text)}</code>`)}; ${this.words()}.</p>\n${this.partLinks()}<main>${this.shownSteps()}</main>`);
   }
 }
 

@@ -15,7 +15,8 @@ const widthOf = (shownChar) => (shownChar.startsWith('<U+') ? shownChar.length :
 
 const shownAs = (c) => (c === '\t' ? ' ' : UNSEEN.test(c) ? `<U+${c.codePointAt(0).toString(16).toUpperCase().padStart(4, '0')}>` : c);
 const shown = (text) => [...text].map(shownAs).join('');
-// the same with its lines and tabs as they are
+// the same with its tabs, and with its lines and tabs, as they are
+const shownTabs = (text) => [...text].map((c) => (c === '\t' ? c : shownAs(c))).join('');
 const shownLines = (text) => [...text].map((c) => (/[\n\r\t]/.test(c) ? c : shownAs(c))).join('');
 
 // The text of bytes, or why there is none.
@@ -111,4 +112,4 @@ function partOf(cells, width, marked, most) {
   return [from, to];
 }
 
-module.exports = { Lines, shown, shownLines, textOf };
+module.exports = { LINE_END, Lines, shown, shownLines, shownTabs, textOf };

@@ -1,6 +1,7 @@
 -- The report of findings, as the code comes to it.
-use Rattle.std.specs.Prelude.{ℕ, ◌+◌, ◌*◌, ◌≤◌, ◌<◌, ◌≡◌, List, Ok, Err}
-use Rattle.std.proofs.Common.{sym, ◌∙◌, le-leb}
+use Rattle.std.specs.Prelude.{ℕ, ◌+◌, ◌*◌, ◌≤◌, ◌<◌, ◌≡◌, List, ◌++◌, take, drop, Ok, Err}
+use Rattle.std.proofs.Common.{sym, ◌∙◌, ap, le-leb, take_all}
+use Rattle.std.proofs.lemmas.List.{take-append-le}
 use native.Mathlib.Omega.{arith}
 use Rattle.std.proofs.lemmas.Bool.{lt-leb}
 use Rattle.std.proofs.Math.ListN.{length}
@@ -30,3 +31,12 @@ module _ (fs : List Finding) (s : List ℕ) where
       let l = length_flat_lem fs in
       let e : 0 + length (flat fs) ≡ 7 * length fs = omega arith in
       rw (le-leb (7 * length fs) (length s) h) (sym (sink_all s 0 fs (omega arith) ∙ rw e))
+
+  -- Counted in an array that has room for all of them, and copied from there.
+  pub slice_copied : (few : List ℕ) (n : ℕ) → n ≡ 7 * length fs → n ≤ length few → n ≤ length s → (take n (sink few 0 fs) ++ drop n s) ≡ report_slice fs s
+  unfolding report_slice
+  slice_copied few n q a h =
+      let l = length_flat_lem fs in
+      let e : sink few 0 fs ≡ flat fs ++ drop (0 + length (flat fs)) few = sink_all few 0 fs (omega arith) in
+      let t : take n (flat fs ++ drop (0 + length (flat fs)) few) ≡ flat fs = take-append-le n (flat fs) (drop (0 + length (flat fs)) few) (omega arith) ∙ take_all n (flat fs) (omega arith) in
+      rw (le-leb (7 * length fs) (length s) (omega arith)) (ap (λ x. x ++ drop n s) (ap (take n) e ∙ t) ∙ ap (λ m. flat fs ++ drop m s) q)

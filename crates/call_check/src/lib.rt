@@ -10,6 +10,9 @@ ghost use Rattle.call_check.specs.Check.{report_answer, report_slice, check_answ
 use check_dispatch::Rule;
 use refusal_verdict::{Refusal, Refused};
 
+// How many numbers of findings are kept while they are counted: those of 64 findings. A rule with more is gone over twice.
+const FEW: usize = 448;
+
 // How many findings well-formed tables have, seven numbers each, written from the slice's start: counted first, and written only where there is room for all.
 fn report(rule: &Rule, findings: &mut [u32]) -> Result<usize, Refused>
     requires input { Input rule.now.nodes.now rule.now.scopes.now rule.now.names.now }
@@ -17,10 +20,14 @@ fn report(rule: &Rule, findings: &mut [u32]) -> Result<usize, Refused>
     ensures value { result ≡ report_answer (reported (rule_of rule.now)) (length findings.old) }
     ensures findings_after { findings.new ≡ report_slice (reported (rule_of rule.now)) findings.old }
 {
-    let mut none: [u32; 1] = [0; 1];
-    let needed = check_dispatch::check_tree(rule, &mut none);
+    let mut few: [u32; FEW] = [0; FEW];
+    let needed = check_dispatch::check_tree(rule, &mut few);
     if findings.len() < needed {
         return Err(Refused::Short(Refusal::FindingsSlice, needed as u64));
+    }
+    if needed <= FEW {
+        findings[..needed].copy_from_slice(&few[..needed]);
+        return Ok(needed / 7);
     }
     let written = check_dispatch::check_tree(rule, findings);
     Ok(written / 7)
