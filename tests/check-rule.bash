@@ -212,14 +212,14 @@ stopped_setup() {
     echo 20 >"$copy/slow"
     (cd "$copy" && rm -rf target crates/*/out order last && exec env PATH="$tried/rt:$PATH" tools/setup rulecheck >/dev/null 2>&1) &
     local setup=$! turn
-    for turn in $(seq 100); do
+    for _ in $(seq 100); do
         [ ! -s "$copy/last" ] || break
         sleep 0.1
     done
     echo 0.5 >"$copy/slow"
     kill "$setup"
     wait "$setup"
-    for turn in $(seq 50); do
+    for _ in $(seq 50); do
         kill -0 "$(cat "$copy/last")" 2>/dev/null || return 0
         sleep 0.1
     done

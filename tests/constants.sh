@@ -34,8 +34,7 @@ proved() {
     constants CODE crates/check_bodies/src/lib.rt ASYNC_BODY
     constants CODE crates/check_duplicates/src/lib.rt STATIC_AND_INSTANCE_PRIVATE
     constants CONTEXT crates/check_diagnostics/src/contexts.rt
-    { constants END crates/route_walk/src/unit_end.rt; constants END crates/code_machine/src/run_end.rt; } |
-        sed 's/END SPENT/END ANSWERS_SPENT/; s/END ASTRAY/END NO_OTHER_END/' | sort -u
+    constants END crates/route_list/src/run_end.rt | sed 's/END SPENT/END ANSWERS_SPENT/; s/END ASTRAY/END NO_OTHER_END/'
     sed -nE 's/^            Refusal::([A-Za-z]+) => ([0-9]+),$/REFUSAL \1 \2/p' crates/refusal_verdict/src/lib.rt | grep -v ' 0$' | upper
     constants INSTRUCTION crates/code_machine/src/opcodes.rt
 }
@@ -80,7 +79,7 @@ same() {
 proved_but_instructions() { proved | grep -v '^INSTRUCTION '; }
 marks() {
     local count part
-    count=$(sed -nE 's/^const MARKS: u32 = ([0-9]+);$/\1/p' crates/route_marks/src/lib.rt)
+    count=$(sed -nE 's/^pub const MARKS: u32 = ([0-9]+);$/\1/p' crates/route_marks/src/lib.rt)
     part=$(sed -nE 's/^const PART: usize = ([0-9]+);$/\1/p' crates/route_marks/src/lib.rt)
     once_of_header | grep -qx "MARKS $((count * part))"
 }

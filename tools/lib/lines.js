@@ -22,7 +22,7 @@ function tooLarge(tree, { records, bytes, words } = PROGRAMS) {
   const names = tree.nodes.reduce((n, x) => n + x.name.length, 0);
   const counts = [['nodes', tree.nodes.length, records], ['scopes', tree.scopes.length, records], ['bytes of names', names, bytes], ['bytes of source', tree.source.length, bytes]];
   for (const [what, n, most] of counts) if (n > most) return `${n} ${what}, ${words} ${most}`;
-  const depth = depthOf(tree.nodes).reduce((a, b) => Math.max(a, b));
+  const depth = depthOf(tree.nodes).reduce((a, b) => Math.max(a, b), 0);
   return depth > DEEPEST ? `depth ${depth}, and ${DEEPEST} is the deepest` : null;
 }
 
@@ -55,7 +55,7 @@ function treeIn(bytes) {
   return {
     type,
     scopes: scopes.map(([parent, flags, node]) => ({ parent, flags, node })),
-    nodes: nodes.map(([kind, parent, role, start, end, scope, flags, extra], i) => ({ kind, parent, role, start, end, scope, flags, extra, name: nameIn(records[i]) })),
+    nodes: nodes.map(([kind, parent, role, start, end, scope, flags, extra], i) => ({ kind, parent, role, start, end, scope, flags, extra, name: Buffer.from(nameIn(records[i]), 'latin1') })),
     source: Buffer.from(hexadecimal, 'hex'),
   };
 }
@@ -100,4 +100,4 @@ function viewOf(tree) {
   return out.join('\n') + '\n';
 }
 
-module.exports = { PROGRAMS, LIBRARY, linesOf, treeIn, unitLinesOf, routeLinesOf, markLinesOf, answersIn, viewOf, tooLarge, depthOf };
+module.exports = { DEEPEST, LIBRARY, LIMIT, LONGEST, PROGRAMS, linesOf, treeIn, unitLinesOf, routeLinesOf, markLinesOf, answersIn, viewOf, tooLarge, depthOf };

@@ -11,6 +11,7 @@ const MAY = new Set([1, 24, 26, 53, 54]);
 const HOLDER = new Set([0, ...range(3, 13), 15, 16, 17]);
 const held = (role) => role >= 3 && role <= 5;
 
+const HIGHEST_KIND = K.Other;
 const MOST_EXTRA = { 24: 4, 28: 3, 35: 4, 44: 2, 55: 1, 26: Infinity, 36: Infinity };
 
 function onPath(nodes, a, i) {
@@ -33,7 +34,7 @@ function ownFlag(n, type) {
 }
 
 function wrongFields(tree) {
-  return firstNode(tree, (n) => n.kind > 55 || n.role > 7 || n.flags - ownFlag(n, tree.type) > MOST_FLAGS || n.flags % 2 !== 0 || n.extra > (MOST_EXTRA[n.kind] || 0));
+  return firstNode(tree, (n) => n.kind > HIGHEST_KIND || n.role > 7 || n.flags - ownFlag(n, tree.type) > MOST_FLAGS || n.flags % 2 !== 0 || n.extra > (MOST_EXTRA[n.kind] || 0));
 }
 
 function wrongTree(tree) {
@@ -171,4 +172,4 @@ function refusalOf(tree) {
   return null;
 }
 
-module.exports = { refusalOf, returnInStaticBlock, wordsFor };
+module.exports = { HIGHEST_KIND, MOST_EXTRA, MOST_FLAGS, TYPESCRIPT, isElement, onPath, ownFlag, refusalOf, returnInStaticBlock, wordsFor };

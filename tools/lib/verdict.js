@@ -84,4 +84,4 @@ function verdictOn(one, how) {
   return table ? { ...judged(bytes, treeIn(bytes), how), unasked: UNASKED.table } : judgedText(bytes, one, how);
 }
 
-module.exports = { UNASKED, verdictOn };
+module.exports = { UNASKED, judged, verdictOn };

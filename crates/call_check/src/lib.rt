@@ -10,8 +10,8 @@ ghost use Rattle.call_check.specs.Check.{report_answer, report_slice, check_answ
 use check_dispatch::Rule;
 use refusal_verdict::{Refusal, Refused};
 
-// How many numbers of findings are kept while they are counted: those of 64 findings. A rule with more is gone over twice.
-const FEW: usize = 448;
+// How many numbers of findings are kept while they are counted: those of 256 findings. A rule with more is gone over twice.
+const FEW: usize = 1792;
 
 // How many findings well-formed tables have, seven numbers each, written from the slice's start: counted first, and written only where there is room for all.
 fn report(rule: &Rule, findings: &mut [u32]) -> Result<usize, Refused>
