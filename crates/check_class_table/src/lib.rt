@@ -65,6 +65,7 @@ pub fn class_node(nodes: &[u32], c: ClassId) -> NodeId
     table_records::parent(nodes, NodeId::from(c))
 }
 
+// This and `is_private` are two functions, since each is one call of `has_flag` with a flag of its own, which one function for both would be again.
 pub fn is_static(nodes: &[u32], e: ElementId) -> bool
     requires { e.0 < count nodes.now }
     ensures { result ≡ is_static nodes.now e.0 }
@@ -295,17 +296,16 @@ pub fn has_private_definition(
     requires c_bound { c.0 < count nodes.now }
     ensures { result ≡ has_private source_type nodes.now names.now c.0 name.now }
 {
-    let mut i = c.0 + 1;
-    // `while`, since a range asks for the table's size: nothing that a walk up calls divides.
-    while table_records::is_node(nodes, i) {
-        let p = table_records::parent(nodes, NodeId(i));
-        if p.0 < c.0 {
-            return false;
+    for i in c.0 + 1.. {
+        if !table_records::is_node(nodes, i) {
+            break;
+        }
+        if table_records::parent(nodes, NodeId(i)).0 < c.0 {
+            break;
         }
         if is_named(source_type, nodes, names, c, true, name, ElementId(i)) {
             return true;
         }
-        i += 1;
     }
     false
 }

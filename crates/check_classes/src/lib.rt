@@ -11,7 +11,8 @@ ghost use Rattle.check_classes.specs.ClassChecksLaws.{is_reference_of, raised_at
 
 use check_class_table::Span;
 use check_diagnostics::{Finding, Findings, codes, contexts};
-use table_records::{ClassId, ElementId, NodeId, kinds, node_flag, roles};
+use table_children::Part;
+use table_records::{ClassId, ElementId, NodeId, kinds, node_flag};
 
 pub fn check_private_identifier_outside_class(nodes: &[u32], n: NodeId) -> Option<Finding>
     requires tree { Tree nodes.now }
@@ -153,14 +154,7 @@ fn has_id(nodes: &[u32], n: NodeId) -> bool
     requires n_bound { n.0 < count nodes.now }
     ensures { result ≡ has_id nodes.now n.0 }
 {
-    let id = table_children::first_child(
-        nodes,
-        n,
-        kinds::BINDING_IDENTIFIER,
-        kinds::BINDING_IDENTIFIER,
-        roles::OTHER,
-        roles::LEFT,
-    );
+    let id = table_children::first_child(nodes, n, Part::of_kind(kinds::BINDING_IDENTIFIER));
     id.is_some()
 }
 

@@ -1,5 +1,6 @@
 // The codes of findings, numbered as document 01 does, under the names of diagnostics.rs. Numbers and no enum: a finding is seven numbers in a slice that a
-// C caller lends, and nothing here asks for a finding's code again.
+// C caller lends, and nothing here asks for a finding's code again. The theorems do, by number and by range (`with_code`, `within f.code 1 33`), and an enum
+// would put a `number` into each of those tests.
 // redeclaration
 pub const REDECLARATION: u32 = 1;
 // reserved word

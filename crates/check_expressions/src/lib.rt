@@ -10,7 +10,8 @@ ghost use Rattle.check_expressions.specs.Expressions.{proto_key, check_object_ex
 ghost use Rattle.check_expressions.specs.ExpressionLaws.{repeated, later};
 
 use check_diagnostics::{Finding, Findings, codes, contexts, error_at};
-use table_records::{NodeId, extras, kinds, node_flag, roles};
+use table_children::Part;
+use table_records::{NodeId, extras, kinds, node_flag};
 
 // The key of a property, where it is written `__proto__: value`.
 #[tactic(auto, unfolding(crate::specs::Expressions::proto_key))]
@@ -58,6 +59,8 @@ fn later(a: Option<NodeId>, b: Option<NodeId>) -> Option<NodeId>
 }
 
 // Of the keys `__proto__` of an object each but the first repeats the one before it.
+// > It is a Syntax Error if PropertyNameList of PropertyDefinitionList contains any duplicate entries for "__proto__" and at least two of those entries
+// > were obtained from productions of the form PropertyDefinition : PropertyName : AssignmentExpression.
 pub fn check_object_expression(nodes: &[u32], names: &[u8], n: NodeId, findings: &mut Findings)
     requires tree { Tree nodes.now }
     requires named { Named nodes.now names.now }
@@ -72,10 +75,7 @@ pub fn check_object_expression(nodes: &[u32], names: &[u8], n: NodeId, findings:
         let Some(p) = table_children::next_child(
             nodes,
             n,
-            kinds::OBJECT_PROPERTY,
-            kinds::OBJECT_PROPERTY,
-            roles::OTHER,
-            roles::LEFT,
+            Part::of_kind(kinds::OBJECT_PROPERTY),
             from,
         ) else {
             return;
@@ -87,6 +87,7 @@ pub fn check_object_expression(nodes: &[u32], names: &[u8], n: NodeId, findings:
     }
 }
 
+// Its body is that of is_label (call_labels) by chance: that one asks for a role, this one for an extra number.
 fn is_parenthesis(nodes: &[u32], n: NodeId) -> bool
     requires { n.0 < count nodes.now }
     ensures { result ≡ is_parenthesis nodes.now n.0 }
@@ -126,10 +127,7 @@ fn delete_of_chain(nodes: &[u32], n: NodeId, e: NodeId) -> Option<Finding>
     let Some(field) = table_children::first_child(
         nodes,
         member,
-        kinds::PRIVATE_IDENTIFIER,
-        kinds::PRIVATE_IDENTIFIER,
-        roles::OTHER,
-        roles::LEFT,
+        Part::of_kind(kinds::PRIVATE_IDENTIFIER),
     ) else {
         return check_diagnostics::error(codes::DELETE_PRIVATE_FIELD, n, 0, 0, contexts::NONE);
     };
@@ -159,6 +157,11 @@ fn delete_of(nodes: &[u32], scopes: &[u32], n: NodeId, e: NodeId) -> Option<Find
 }
 
 // What may not be deleted.
+// > It is a Syntax Error if IsStrict(the UnaryExpression) is true and the derived UnaryExpression is
+// > PrimaryExpression : IdentifierReference, MemberExpression : MemberExpression . PrivateIdentifier,
+// > CallExpression : CallExpression . PrivateIdentifier, OptionalChain : ?. PrivateIdentifier, OptionalChain : OptionalChain . PrivateIdentifier
+// > PrimaryExpression : CoverParenthesizedExpressionAndArrowParameterList and [it] ultimately derives a phrase that, if used in place of UnaryExpression,
+// > would produce a Syntax Error according to these rules. This rule is recursively applied.
 #[tactic(auto, unfolding(crate::specs::Expressions::check_unary_expression))]
 pub fn check_unary_expression(nodes: &[u32], scopes: &[u32], n: NodeId) -> Option<Finding>
     requires tree { Tree nodes.now }
@@ -250,6 +253,8 @@ fn in_block(nodes: &[u32], scopes: &[u32], n: NodeId) -> Option<Finding>
 }
 
 // `await` in parameters, and in a static block.
+// > It is a Syntax Error if FormalParameters Contains AwaitExpression is true.
+// > It is a Syntax Error if ClassStaticBlockStatementList Contains await is true.
 pub fn check_await_expression(nodes: &[u32], scopes: &[u32], n: NodeId, findings: &mut Findings)
     requires tree { Tree nodes.now }
     requires chained { Chained scopes.now }
@@ -265,6 +270,7 @@ pub fn check_await_expression(nodes: &[u32], scopes: &[u32], n: NodeId, findings
 }
 
 // `yield` in parameters.
+// > It is a Syntax Error if FormalParameters Contains YieldExpression is true.
 pub fn check_yield_expression(nodes: &[u32], n: NodeId) -> Option<Finding>
     requires tree { Tree nodes.now }
     requires n_bound { n.0 < count nodes.now }

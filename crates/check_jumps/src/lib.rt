@@ -1,11 +1,11 @@
 // Breaks, continues and labels: check_break_statement, check_continue_statement and check_labeled_statement of checker/javascript.rs.
 #![tactic(auto)]
 
-ghost use Rattle.std.specs.Prelude.{◌≡◌, ◌<◌};
+ghost use Rattle.std.specs.Prelude.{◌≡◌, ◌<◌, cond};
 ghost use Rattle.table_records.specs.Table.{count};
 ghost use Rattle.table_records.specs.Facts.{Tree, Named};
 ghost use Rattle.table_children.specs.Children.{below};
-ghost use Rattle.check_jumps.specs.Jumps.{is_boundary, is_unit, is_iteration, is_breakable, walk_up, same_label, labeled_item, plain_break_at, no_label, labelled_break_at, plain_continue_at, continue_to, labelled_continue_at, labeled_at, check_break_statement, check_continue_statement, check_labeled_statement};
+ghost use Rattle.check_jumps.specs.Jumps.{is_boundary, is_unit, is_iteration, walk_up, same_label, labeled_item, plain_break_at, no_label, labelled_break_at, plain_continue_at, continue_to, labelled_continue_at, labeled_at, check_break_statement, check_continue_statement, check_labeled_statement};
 
 use check_diagnostics::{Finding, codes, contexts, error_at, error_between};
 use table_records::{NodeId, kinds};
@@ -26,12 +26,6 @@ fn is_iteration_statement(kind: u32) -> bool
     ensures { result ≡ is_iteration kind }
 {
     matches!(kind, kinds::FOR..=kinds::DO_WHILE)
-}
-
-fn is_breakable(kind: u32) -> bool
-    ensures { result ≡ is_breakable kind }
-{
-    is_iteration_statement(kind) || kind == kinds::SWITCH
 }
 
 // The label of a, where a is a Labeled with the name of this label.
@@ -76,12 +70,18 @@ fn labeled_item(nodes: &[u32], labeled: NodeId) -> NodeId
     }
 }
 
-#[tactic(auto, using(crate::proofs::JumpsLaws::walk_up_lem, crate::proofs::JumpsLaws::walk_root), unfolding(crate::specs::Jumps::plain_break_at))]
-fn plain_break(nodes: &[u32], n: NodeId) -> Option<Finding>
+// A break without a label, or else a continue: the nearest loop is its target, and of a break the nearest switch too.
+#[tactic(auto, using(crate::proofs::JumpsLaws::walk_up_lem, crate::proofs::JumpsLaws::walk_root), unfolding(crate::specs::Jumps::plain_break_at, crate::specs::Jumps::plain_continue_at))]
+fn plain_jump(nodes: &[u32], n: NodeId, is_break: bool) -> Option<Finding>
     requires tree { Tree nodes.now }
     requires n_bound { n.0 < count nodes.now }
-    ensures { result ≡ walk_up nodes.now (plain_break_at nodes.now n.0) n.0 }
+    ensures { result ≡ walk_up nodes.now (cond is_break (plain_break_at nodes.now n.0) (plain_continue_at nodes.now n.0)) n.0 }
 {
+    let code = if is_break {
+        codes::INVALID_BREAK
+    } else {
+        codes::INVALID_CONTINUE
+    };
     let mut at = n;
     loop {
         if at.0 == 0 {
@@ -90,9 +90,9 @@ fn plain_break(nodes: &[u32], n: NodeId) -> Option<Finding>
         at = table_ancestry::up(nodes, at);
         let kind = table_records::kind(nodes, at);
         if is_unit(kind) {
-            break error_at(nodes, codes::INVALID_BREAK, n, n, contexts::NONE);
+            break error_at(nodes, code, n, n, contexts::NONE);
         }
-        if is_breakable(kind) {
+        if is_iteration_statement(kind) || is_break && kind == kinds::SWITCH {
             break None;
         }
     }
@@ -151,32 +151,9 @@ pub fn check_break_statement(nodes: &[u32], names: &[u8], n: NodeId) -> Option<F
     ensures { result ≡ check_break_statement nodes.now names.now n.0 }
 {
     let Some(label) = table_children::label_of(nodes, n) else {
-        return plain_break(nodes, n);
+        return plain_jump(nodes, n, true);
     };
     labelled_break(nodes, names, n, label)
-}
-
-// Not one function with plain_break: it would take the test and the code as parameters, and be no plainer.
-#[tactic(auto, using(crate::proofs::JumpsLaws::walk_up_lem, crate::proofs::JumpsLaws::walk_root), unfolding(crate::specs::Jumps::plain_continue_at))]
-fn plain_continue(nodes: &[u32], n: NodeId) -> Option<Finding>
-    requires tree { Tree nodes.now }
-    requires n_bound { n.0 < count nodes.now }
-    ensures { result ≡ walk_up nodes.now (plain_continue_at nodes.now n.0) n.0 }
-{
-    let mut at = n;
-    loop {
-        if at.0 == 0 {
-            break None;
-        }
-        at = table_ancestry::up(nodes, at);
-        let kind = table_records::kind(nodes, at);
-        if is_unit(kind) {
-            break error_at(nodes, codes::INVALID_CONTINUE, n, n, contexts::NONE);
-        }
-        if is_iteration_statement(kind) {
-            break None;
-        }
-    }
 }
 
 // A continue at the Labeled of its label's name, whose own label is `outer`.
@@ -236,7 +213,7 @@ pub fn check_continue_statement(nodes: &[u32], names: &[u8], n: NodeId) -> Optio
     ensures { result ≡ check_continue_statement nodes.now names.now n.0 }
 {
     let Some(label) = table_children::label_of(nodes, n) else {
-        return plain_continue(nodes, n);
+        return plain_jump(nodes, n, false);
     };
     labelled_continue(nodes, names, n, label)
 }

@@ -93,6 +93,8 @@ fn error_escape(nodes: &[u32], code: u32, n: NodeId, i: usize) -> Option<Finding
 }
 
 // A string of strict code has no legacy escape.
+// > EscapeSequence :: LegacyOctalEscapeSequence
+// > It is a Syntax Error if IsStrict(this production) is true.
 #[tactic(auto, unfolding(crate::specs::Literals::check_string_literal))]
 pub fn check_string_literal(
     nodes: &[u32],
@@ -137,6 +139,8 @@ fn leading_zero(raw: &[u8]) -> bool
 }
 
 // A number of strict code has no leading zero, be it octal or decimal.
+// > NumericLiteral :: LegacyOctalIntegerLiteral
+// > It is a Syntax Error if IsStrict(this production) is true.
 #[tactic(auto, unfolding(crate::specs::Literals::check_number_literal))]
 pub fn check_number_literal(
     nodes: &[u32],

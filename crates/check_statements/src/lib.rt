@@ -8,6 +8,7 @@ ghost use Rattle.table_children.specs.Children.{below};
 ghost use Rattle.check_statements.specs.Statements.{check_found, check_function_declaration, check_body, check_consequent, check_alternate, labelled_function, check_labeled_item, check_function_declaration_in_labeled_statement, check_with_statement, check_initialiser, check_left, check_for_statement_left, check_for_of_statement, check_using, check_await_using};
 
 use check_diagnostics::{Finding, codes, contexts, error, error_at};
+use table_children::Part;
 use table_records::{NodeId, extras, kinds, node_flag, roles, scope_flag};
 
 // A function declaration as the statement that n holds.
@@ -74,7 +75,7 @@ pub fn check_body(nodes: &[u32], scopes: &[u32], n: NodeId) -> Option<Finding>
     check_found(nodes, scopes, n, table_children::held_of(nodes, n), false)
 }
 
-// The consequent of an If.
+// The consequent of an If. It and the alternate are one call each over what they share, `check_found`.
 pub fn check_consequent(nodes: &[u32], scopes: &[u32], n: NodeId) -> Option<Finding>
     requires tree { Tree nodes.now }
     requires scoped { Scoped nodes.now scopes.now }
@@ -153,7 +154,7 @@ fn check_labeled_item(nodes: &[u32], scopes: &[u32], n: NodeId, item: NodeId) ->
     labelled_function(nodes, n, item)
 }
 
-// A function declaration as the statement of a Labeled.
+// A function declaration as the statement of a Labeled. Its body is that of check_labeled_statement (check_jumps) by chance: each goes on with a check of its own.
 // > It is a Syntax Error if IsLabelledFunction(Statement) is true.
 pub fn check_function_declaration_in_labeled_statement(
     nodes: &[u32],
@@ -244,10 +245,7 @@ fn check_left(
     let declarators = table_children::how_many(
         nodes,
         decl,
-        kinds::VARIABLE_DECLARATOR,
-        kinds::VARIABLE_DECLARATOR,
-        roles::OTHER,
-        roles::LEFT,
+        Part::of_kind(kinds::VARIABLE_DECLARATOR),
     );
     if declarators > 1 {
         return None;
@@ -255,10 +253,7 @@ fn check_left(
     let declarator = table_children::first_child(
         nodes,
         decl,
-        kinds::VARIABLE_DECLARATOR,
-        kinds::VARIABLE_DECLARATOR,
-        roles::OTHER,
-        roles::LEFT,
+        Part::of_kind(kinds::VARIABLE_DECLARATOR),
     )?;
     check_initialiser(nodes, scopes, n, is_for_in, decl, declarator)
 }
@@ -275,14 +270,7 @@ pub fn check_for_statement_left(
     requires n_bound { n.0 < count nodes.now }
     ensures { result ≡ check_for_statement_left nodes.now scopes.now n.0 is_for_in }
 {
-    let decl = table_children::first_child(
-        nodes,
-        n,
-        kinds::PROGRAM,
-        kinds::ANYTHING_ELSE,
-        roles::LEFT,
-        roles::LEFT,
-    )?;
+    let decl = table_children::first_child(nodes, n, Part::of_role(roles::LEFT))?;
     check_left(nodes, scopes, n, is_for_in, decl)
 }
 

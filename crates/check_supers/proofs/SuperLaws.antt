@@ -1,8 +1,8 @@
 -- The searches of check_super, as loops meet them.
 use Rattle.table_records.specs.declared.NodeId.{NodeId}
-use Rattle.std.specs.Prelude.{ℕ, ◌<◌, refl, List, ◌∷◌, Bool, Option, Some, None}
+use Rattle.std.specs.Prelude.{ℕ, ◌+◌, ◌<◌, refl, List, ◌∷◌, Bool, Option, Some, None, eqb, ltb}
 use Rattle.std.proofs.Math.Path.{◌≡◌, ap}
-use Rattle.std.proofs.Common.{sym, ◌∙◌}
+use Rattle.std.proofs.Common.{sym, ◌∙◌, eq-eqb, ne_eqb}
 use Rattle.std.proofs.Math.Bool.{true, false}
 use native.Mathlib.Omega.{arith}
 use Rattle.base_common.specs.Tests.{within}
@@ -10,8 +10,10 @@ use Rattle.base_walk.proofs.AboveLaws.{above_up, above_root}
 use Rattle.table_records.specs.Table.{kind_of, parent_of, count, outer, count_scopes, scope_parent_of, scope_node_of}
 use Rattle.table_records.specs.Facts.{Tree, Chained}
 use Rattle.table_records.specs.Kinds as k
+use Rattle.table_children.specs.Children.{first_node}
+use Rattle.table_children.proofs.ChildrenLaws.{node_on, node_stop, node_past}
 use Rattle.table_ancestry.proofs.AncestryLaws.{ancestors_up, ancestors_root}
-use Rattle.check_supers.specs.Super.{part_of, part_at, place_of, step_at, class_after, leave_class, or_rest, reach_from}
+use Rattle.check_supers.specs.Super.{first_class, part_of, part_at, place_of, step_at, class_after, leave_class, or_rest, reach_from}
 use Rattle.check_supers.specs.declared.ElementPart.{ElementPart}
 use Rattle.check_supers.specs.declared.Reach.{Reach}
 use Rattle.check_supers.specs.declared.Reach.TheVariants.{Illegal}
@@ -84,3 +86,24 @@ outer_next ss c s p e h l = above_up (scope_parent_of ss) (count_scopes ss) c.fa
 pub reach_end : (ns ss : List ℕ) (n : ℕ) (call : Bool) (class : Option NodeId) (start : ℕ) → reach_from ns ss n call (outer ss 0) class start ≡ Illegal
 unfolding reach_from
 reach_end ns ss n call class start = rw (above_root (scope_parent_of ss))
+
+-- the search for the first class, from node i on
+module _ (ns : List ℕ) where
+  unfoldable pub classes_from : ℕ → Option NodeId
+  classes_from i = first_node (λ j. eqb (kind_of ns j) k.ClassBody) i (count ns)
+
+  pub classes_start : classes_from 0 ≡ first_class ns
+  unfolding classes_from
+  classes_start = refl
+
+  pub classes_here : (i : ℕ) → i < count ns → kind_of ns i ≡ k.ClassBody → classes_from i ≡ Some (record { 0 = i })
+  unfolding classes_from
+  classes_here i h e = node_stop _ i (count ns) h (eq-eqb _ _ e)
+
+  pub classes_on : (i : ℕ) → i < count ns → (kind_of ns i ≡ k.ClassBody → ⊥) → classes_from i ≡ classes_from (i + 1)
+  unfolding classes_from
+  classes_on i h n = node_on _ i (count ns) h (ne_eqb _ _ n)
+
+  pub classes_past : (i : ℕ) → ltb i (count ns) ≡ false → classes_from i ≡ None
+  unfolding classes_from
+  classes_past i e = node_past _ i (count ns) e

@@ -116,19 +116,19 @@ fn heritage_use(nodes: &[u32], c: ClassId) -> Reach
 }
 
 // The first ClassBody of the table: class number 0.
-#[tactic(auto, using(table_children::proofs::ChildrenLaws::node_on, table_children::proofs::ChildrenLaws::node_stop, table_children::proofs::ChildrenLaws::node_end))]
+#[tactic(auto, using(crate::proofs::SuperLaws::classes_start, crate::proofs::SuperLaws::classes_here, crate::proofs::SuperLaws::classes_on, crate::proofs::SuperLaws::classes_past))]
 fn first_class(nodes: &[u32]) -> Option<NodeId>
     requires { Tree nodes.now }
     ensures value { result ≡ first_class nodes.now }
     ensures below { below nodes.now result }
 {
-    let mut i: u32 = 0;
-    // `while`, since a range asks for the table's size: nothing that a walk up calls divides.
-    while table_records::is_node(nodes, i) {
+    for i in 0.. {
+        if !table_records::is_node(nodes, i) {
+            break;
+        }
         if table_records::kind(nodes, NodeId(i)) == kinds::CLASS_BODY {
             return Some(NodeId(i));
         }
-        i += 1;
     }
     None
 }

@@ -13,6 +13,7 @@ ghost use Rattle.code_contexts.specs.Contexts.{Ready, Wide, goes_by, Follow, Pla
 
 use code_shapes::{is_try, shape_of, up_of};
 use code_tree::Shape;
+use table_children::Part;
 use table_records::{NodeId, kinds, roles};
 
 // Whether the Try p has a finally.
@@ -22,15 +23,7 @@ pub fn has_finally(nodes: &[u32], names: &[u8], b: NodeId, p: NodeId) -> bool
     requires p_value { shape_at nodes.now p.0 ≡ Try }
     ensures { result ≡ has_role nodes.now role.Finally (order nodes.now p.0) }
 {
-    table_children::first_child(
-        nodes,
-        p,
-        kinds::BLOCK,
-        kinds::BLOCK,
-        roles::FINALLY,
-        roles::FINALLY,
-    )
-    .is_some()
+    table_children::first_child(nodes, p, Part::of(kinds::BLOCK, roles::FINALLY)).is_some()
 }
 
 // Whether the Try p has a catch. One function for this and the one above would take a kind and a role, and ask that they fit each other: what they share is
@@ -41,15 +34,7 @@ pub fn has_catch(nodes: &[u32], names: &[u8], b: NodeId, p: NodeId) -> bool
     requires p_value { shape_at nodes.now p.0 ≡ Try }
     ensures { result ≡ has_role nodes.now role.Alternate (order nodes.now p.0) }
 {
-    table_children::first_child(
-        nodes,
-        p,
-        kinds::CATCH_CLAUSE,
-        kinds::CATCH_CLAUSE,
-        roles::ALTERNATE,
-        roles::ALTERNATE,
-    )
-    .is_some()
+    table_children::first_child(nodes, p, Part::of(kinds::CATCH_CLAUSE, roles::ALTERNATE)).is_some()
 }
 
 // The words of the Try p itself: OPEN's, where it has a finally.
@@ -95,14 +80,8 @@ fn offset_in_try(
     if r == roles::HELD {
         return start;
     }
-    let Some(block) = table_children::first_child(
-        nodes,
-        p,
-        kinds::BLOCK,
-        kinds::BLOCK,
-        roles::HELD,
-        roles::HELD,
-    ) else {
+    let Some(block) = table_children::first_child(nodes, p, Part::of(kinds::BLOCK, roles::HELD))
+    else {
         return 0;
     };
     start + widths[block.0 as usize]

@@ -324,10 +324,7 @@ fn try_words(laid: &Layout, n: NodeId) -> [u32; 10]
     match table_children::first_child(
         laid.nodes,
         n,
-        kinds::BLOCK,
-        kinds::BLOCK,
-        roles::FINALLY,
-        roles::FINALLY,
+        table_children::Part::of(kinds::BLOCK, roles::FINALLY),
     ) {
         Some(f) => [
             opcodes::OPEN,

@@ -7,7 +7,7 @@ ghost use Rattle.table_records.specs.Facts.{Tree};
 ghost use Rattle.refusal_verdict.specs.First.{first};
 ghost use Rattle.refusal_counts.specs.Counts.{with_role, with_kind, labels, is_default, defaults, wrong_body, wrong_alternate, wrong_default, wrong_try, wrong_clause, wrong_label, wrong_function, wrong_class, wrong_value, wrong_element, wrong_statement, wrong_part, wrong_home, wrong_count_at};
 
-use table_children::{how_many, is_child};
+use table_children::{Part, how_many, is_child};
 use table_records::{NodeId, kinds, node_flag, roles};
 
 fn with_role(nodes: &[u32], n: NodeId, role: u32) -> u32
@@ -15,7 +15,7 @@ fn with_role(nodes: &[u32], n: NodeId, role: u32) -> u32
     requires n_bound { n.0 < count nodes.now }
     ensures { result ≡ with_role nodes.now n.0 role }
 {
-    how_many(nodes, n, 0, kinds::ANYTHING_ELSE, role, role)
+    how_many(nodes, n, Part::of_role(role))
 }
 
 fn with_kind(nodes: &[u32], n: NodeId, kind: u32) -> u32
@@ -23,7 +23,7 @@ fn with_kind(nodes: &[u32], n: NodeId, kind: u32) -> u32
     requires n_bound { n.0 < count nodes.now }
     ensures { result ≡ with_kind nodes.now n.0 kind }
 {
-    how_many(nodes, n, kind, kind, 0, roles::LEFT)
+    how_many(nodes, n, Part::of_kind(kind))
 }
 
 fn labels(nodes: &[u32], n: NodeId) -> u32
@@ -31,14 +31,7 @@ fn labels(nodes: &[u32], n: NodeId) -> u32
     requires n_bound { n.0 < count nodes.now }
     ensures { result ≡ labels nodes.now n.0 }
 {
-    how_many(
-        nodes,
-        n,
-        kinds::LABEL_IDENTIFIER,
-        kinds::LABEL_IDENTIFIER,
-        roles::LABEL,
-        roles::LABEL,
-    )
+    how_many(nodes, n, Part::of(kinds::LABEL_IDENTIFIER, roles::LABEL))
 }
 
 // Whether c is a `default` of the Switch p.
@@ -47,15 +40,8 @@ fn is_default(nodes: &[u32], p: NodeId, c: NodeId) -> bool
     requires { c.0 < count nodes.now }
     ensures { result ≡ is_default nodes.now p.0 c.0 }
 {
-    is_child(
-        nodes,
-        p,
-        kinds::SWITCH_CASE,
-        kinds::SWITCH_CASE,
-        roles::HELD,
-        roles::HELD,
-        c,
-    ) && table_records::has_flag(table_records::flags(nodes, c), node_flag::DEFAULT)
+    is_child(nodes, p, Part::of(kinds::SWITCH_CASE, roles::HELD), c)
+        && table_records::has_flag(table_records::flags(nodes, c), node_flag::DEFAULT)
 }
 
 // How many `default`s the Switch p has. The loop is that of `how_many` over another test: a function that takes the test would ask, for all tests, what
@@ -117,10 +103,11 @@ fn wrong_try(nodes: &[u32], n: NodeId) -> bool
             || how_many(
                 nodes,
                 n,
-                0,
-                kinds::ANYTHING_ELSE,
-                roles::ALTERNATE,
-                roles::FINALLY,
+                Part {
+                    first: roles::ALTERNATE,
+                    last: roles::FINALLY,
+                    ..Part::ANY
+                },
             ) == 0)
 }
 

@@ -11,8 +11,9 @@ ghost use Rattle.refusal_scopes.specs.OwnScopes.{Meets, Deep};
 use table_ancestry::is_on_path;
 use table_records::{NodeId, ScopeId, kinds};
 
-// No node has this number: there are at most 65,535.
-// It stands in place of an Option, since the array of the chains' deepest nodes is of u32: fixed memory.
+// No node has this number: there are at most 65,535. It stands in place of an Option: as Option<u32> the array of the chains' deepest nodes would take 512 KB
+// of stack in place of 256, and velkunshe_check promises to need up to 280 KB (include/velkunshe.h); as Option<u16> it would take 256, but a node's number
+// would be a u16 here alone.
 const NO_NODE: u32 = 65535;
 
 // A number that is on the way up from a node just where both a and b are: the deeper of the two, or none.

@@ -1,14 +1,14 @@
 -- Laws of children: membership, the interval of p, counts and searches as a loop meets them.
 use Rattle.table_records.specs.declared.NodeId.{NodeId}
 use Prim.Native.Nat.{ℕ, zero, suc, ◌+◌, ◌≤◌, ◌<◌}
-use Rattle.std.specs.Prelude.{◌≡◌, List, [], ◌∷◌, Bool, ◌&&◌, ◌||◌, ◌⊎◌, ◌↔◌, leb, Option, Some, None}
+use Rattle.std.specs.Prelude.{◌≡◌, List, [], ◌∷◌, Bool, ◌&&◌, ◌||◌, ◌⊎◌, ◌↔◌, leb, ltb, Option, Some, None}
 use Rattle.std.proofs.Math.Path.{refl, sym, subst}
 use Rattle.std.proofs.Common.{ap, ◌∙◌, inl, inr, eq-or-lt_of_le}
 use Rattle.std.proofs.Math.Bool.{true, false, cond}
 use Rattle.std.proofs.Math.Logic.{⊎_elim}
 use native.Mathlib.Omega.{arith}
 use mir.Val.{bool_byte}
-use borrow.Author.Tests.{eq-eqb, ne_eqb, eqb-true, eqb-false, leb-true}
+use borrow.Author.Tests.{eq-eqb, ne_eqb, eqb-true, eqb-false, leb-true, ltb-false}
 use Rattle.std.proofs.Math.Dec.{eqb}
 use Rattle.std.proofs.Math.ListN.{length}
 use Rattle.base_common.specs.Upto.{upto}
@@ -142,6 +142,9 @@ module _ (q : ℕ → Bool) (i n : ℕ) where
   pub node_end : n ≤ i → first_node q i n ≡ None
   unfolding first_node
   node_end h = fold_end _ _ i n h
+
+  pub node_past : ltb i n ≡ false → first_node q i n ≡ None
+  node_past e = node_end (ltb-false i n e)
 
 no_node_by : (q : ℕ → Bool) (n f i : ℕ) → n ≤ i + f → ((j : ℕ) → i ≤ j → j < n → q j ≡ false) → first_node q i n ≡ None
 no_node_by q n zero i hf nn = node_end q i n (omega arith)

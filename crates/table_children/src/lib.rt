@@ -8,87 +8,116 @@ ghost use Rattle.table_children.specs.Children.{is_child, next_child, first_chil
 
 use table_records::{NodeId, kinds, roles};
 
-// Whether node i is a child of p with a kind from low to high and a role from first to last.
+// A part of a node: its children with a kind from `low` to `high` and a role from `first` to `last`.
+#[derive(Clone, Copy)]
+pub struct Part {
+    pub low: u32,
+    pub high: u32,
+    pub first: u32,
+    pub last: u32,
+}
+
+impl Part {
+    // Any child.
+    pub const ANY: Part = Part {
+        low: kinds::PROGRAM,
+        high: kinds::ANYTHING_ELSE,
+        first: roles::OTHER,
+        last: roles::LEFT,
+    };
+
+    // The children of this kind. It and `of_role` are one expression each, over bounds of their own.
+    pub fn of_kind(kind: u32) -> Part
+        ensures { result ≡ record { low = kind; high = kind; first = 0; last = 7 } }
+    {
+        Part {
+            low: kind,
+            high: kind,
+            ..Part::ANY
+        }
+    }
+
+    // The children in this role.
+    pub fn of_role(role: u32) -> Part
+        ensures { result ≡ record { low = 0; high = 55; first = role; last = role } }
+    {
+        Part {
+            first: role,
+            last: role,
+            ..Part::ANY
+        }
+    }
+
+    // The children of this kind in this role.
+    pub fn of(kind: u32, role: u32) -> Part
+        ensures { result ≡ record { low = kind; high = kind; first = role; last = role } }
+    {
+        Part {
+            low: kind,
+            high: kind,
+            first: role,
+            last: role,
+        }
+    }
+}
+
+// Whether node i is a child of p that is fit for this part.
 #[tactic(auto, unfolding(crate::specs::Children::is_child))]
-pub fn is_child(
-    nodes: &[u32],
-    p: NodeId,
-    low: u32,
-    high: u32,
-    first: u32,
-    last: u32,
-    i: NodeId,
-) -> bool
+pub fn is_child(nodes: &[u32], p: NodeId, part: Part, i: NodeId) -> bool
     requires { i.0 < count nodes.now }
-    ensures { result ≡ is_child nodes.now p.0 low high first last i.0 }
+    ensures { result ≡ is_child nodes.now p.0 part.low part.high part.first part.last i.0 }
 {
     table_records::parent(nodes, i) == p
-        && (low..=high).contains(&table_records::kind(nodes, i))
-        && (first..=last).contains(&table_records::role(nodes, i))
+        && (part.low..=part.high).contains(&table_records::kind(nodes, i))
+        && (part.first..=part.last).contains(&table_records::role(nodes, i))
 }
 
 // The first such child of p from `from` on: reads the nodes below p, and one more.
-#[tactic(auto, using(crate::proofs::ChildrenLaws::child_out, crate::proofs::ChildrenLaws::node_stop, crate::proofs::ChildrenLaws::node_on, crate::proofs::ChildrenLaws::node_end))]
-pub fn next_child(
-    nodes: &[u32],
-    p: NodeId,
-    low: u32,
-    high: u32,
-    first: u32,
-    last: u32,
-    from: u32,
-) -> Option<NodeId>
+#[tactic(auto, using(crate::proofs::ChildrenLaws::child_out, crate::proofs::ChildrenLaws::node_past, crate::proofs::ChildrenLaws::node_stop, crate::proofs::ChildrenLaws::node_on, crate::proofs::ChildrenLaws::node_end))]
+pub fn next_child(nodes: &[u32], p: NodeId, part: Part, from: u32) -> Option<NodeId>
     requires tree { Tree nodes.now }
     requires p_lt_from { p.0 < from }
     requires from_bound { from ≤ count nodes.now }
-    ensures value { result ≡ next_child nodes.now p.0 low high first last from }
+    ensures value { result ≡ next_child nodes.now p.0 part.low part.high part.first part.last from }
     ensures below { below nodes.now result }
 {
-    let mut i = from;
-    // `while`, since a range asks for the table's size: nothing that a walk up calls divides.
-    while table_records::is_node(nodes, i) {
-        let q = table_records::parent(nodes, NodeId(i));
-        if q.0 < p.0 {
-            return None;
+    for i in from.. {
+        if !table_records::is_node(nodes, i) {
+            break;
         }
-        if is_child(nodes, p, low, high, first, last, NodeId(i)) {
+        if table_records::parent(nodes, NodeId(i)).0 < p.0 {
+            break;
+        }
+        if is_child(nodes, p, part, NodeId(i)) {
             return Some(NodeId(i));
         }
-        i += 1;
     }
     None
 }
 
 // The first such child of p.
-pub fn first_child(
-    nodes: &[u32],
-    p: NodeId,
-    low: u32,
-    high: u32,
-    first: u32,
-    last: u32,
-) -> Option<NodeId>
+pub fn first_child(nodes: &[u32], p: NodeId, part: Part) -> Option<NodeId>
     requires tree { Tree nodes.now }
     requires p_bound { p.0 < count nodes.now }
-    ensures value { result ≡ first_child nodes.now p.0 low high first last }
+    ensures value { result ≡ first_child nodes.now p.0 part.low part.high part.first part.last }
     ensures below { below nodes.now result }
 {
-    next_child(nodes, p, low, high, first, last, p.0 + 1)
+    next_child(nodes, p, part, p.0 + 1)
 }
 
-// How many children of p have a kind from low to high and a role from first to last: reads the nodes below p, and one more.
+// How many children of p are fit for this part: reads the nodes below p, and one more.
 #[tactic(auto, using(crate::proofs::ChildrenLaws::one_more, crate::proofs::ChildrenLaws::tally_all, crate::proofs::ChildrenLaws::tally_turn, crate::proofs::ChildrenLaws::tally_end, crate::proofs::ChildrenLaws::tally_out))]
-pub fn how_many(nodes: &[u32], p: NodeId, low: u32, high: u32, first: u32, last: u32) -> u32
+pub fn how_many(nodes: &[u32], p: NodeId, part: Part) -> u32
     requires tree { Tree nodes.now }
     requires p_bound { p.0 < count nodes.now }
-    ensures { result ≡ how_many nodes.now p.0 low high first last }
+    ensures { result ≡ how_many nodes.now p.0 part.low part.high part.first part.last }
 {
     let mut c = 0;
     for i in p.0 + 1..table_records::size(nodes) {
         if table_records::parent(nodes, NodeId(i)).0 < p.0 {
             return c;
         }
-        c += u32::from(is_child(nodes, p, low, high, first, last, NodeId(i)));
+        c += u32::from(is_child(nodes, p, part, NodeId(i)));
     }
     c
 }
@@ -100,14 +129,7 @@ pub fn label_of(nodes: &[u32], n: NodeId) -> Option<NodeId>
     ensures value { result ≡ label_of nodes.now n.0 }
     ensures below { below nodes.now result }
 {
-    first_child(
-        nodes,
-        n,
-        kinds::LABEL_IDENTIFIER,
-        kinds::LABEL_IDENTIFIER,
-        roles::LABEL,
-        roles::LABEL,
-    )
+    first_child(nodes, n, Part::of(kinds::LABEL_IDENTIFIER, roles::LABEL))
 }
 
 // The key of an element or a property.
@@ -117,7 +139,7 @@ pub fn key_of(nodes: &[u32], n: NodeId) -> Option<NodeId>
     ensures value { result ≡ key_of nodes.now n.0 }
     ensures below { below nodes.now result }
 {
-    first_child(nodes, n, 0, 55, roles::KEY, roles::KEY)
+    first_child(nodes, n, Part::of_role(roles::KEY))
 }
 
 // The value of an element or a property, the argument of a unary expression.
@@ -127,7 +149,7 @@ pub fn value_of(nodes: &[u32], n: NodeId) -> Option<NodeId>
     ensures value { result ≡ value_of nodes.now n.0 }
     ensures below { below nodes.now result }
 {
-    first_child(nodes, n, 0, 55, roles::VALUE, roles::VALUE)
+    first_child(nodes, n, Part::of_role(roles::VALUE))
 }
 
 // The statement that a statement holds.
@@ -137,7 +159,7 @@ pub fn held_of(nodes: &[u32], n: NodeId) -> Option<NodeId>
     ensures value { result ≡ held_of nodes.now n.0 }
     ensures below { below nodes.now result }
 {
-    first_child(nodes, n, 0, 55, roles::HELD, roles::HELD)
+    first_child(nodes, n, Part::of_role(roles::HELD))
 }
 
 // The alternate of an If.
@@ -147,7 +169,7 @@ pub fn alternate_of(nodes: &[u32], n: NodeId) -> Option<NodeId>
     ensures value { result ≡ alternate_of nodes.now n.0 }
     ensures below { below nodes.now result }
 {
-    first_child(nodes, n, 0, 55, roles::ALTERNATE, roles::ALTERNATE)
+    first_child(nodes, n, Part::of_role(roles::ALTERNATE))
 }
 
 // The body of a function or an arrow.
@@ -157,7 +179,7 @@ pub fn function_body_of(nodes: &[u32], n: NodeId) -> Option<NodeId>
     ensures value { result ≡ function_body_of nodes.now n.0 }
     ensures below { below nodes.now result }
 {
-    first_child(nodes, n, kinds::FUNCTION_BODY, kinds::FUNCTION_BODY, 0, 7)
+    first_child(nodes, n, Part::of_kind(kinds::FUNCTION_BODY))
 }
 
 // The body of a class.
@@ -167,7 +189,7 @@ pub fn class_body_of(nodes: &[u32], n: NodeId) -> Option<NodeId>
     ensures value { result ≡ class_body_of nodes.now n.0 }
     ensures below { below nodes.now result }
 {
-    first_child(nodes, n, kinds::CLASS_BODY, kinds::CLASS_BODY, 0, 7)
+    first_child(nodes, n, Part::of_kind(kinds::CLASS_BODY))
 }
 
 // What a parenthesis or a chain holds.
@@ -177,5 +199,5 @@ pub fn inner_of(nodes: &[u32], n: NodeId) -> Option<NodeId>
     ensures value { result ≡ inner_of nodes.now n.0 }
     ensures below { below nodes.now result }
 {
-    first_child(nodes, n, 0, 55, 0, 7)
+    first_child(nodes, n, Part::ANY)
 }

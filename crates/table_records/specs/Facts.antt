@@ -18,6 +18,7 @@ pub record Tree (ns : List ℕ) : Type 0 where
   pub depth : (i : ℕ) → i < count ns → depth_of ns i ≤ 512
 
 -- what is known where no scope record is broken
+-- A `requires` and no struct's invariant: the scopes are lent as a slice that no struct holds alone, and `broken` (refusal_scopes) takes the same slice before this is known.
 pub record Chained (ss : List ℕ) : Type 0 where
   pub some : 0 < count_scopes ss
   pub small : count_scopes ss ≤ 65535
@@ -26,26 +27,31 @@ pub record Chained (ss : List ℕ) : Type 0 where
   pub falls : Falls (scope_parent_of ss) (count_scopes ss)
 
 -- every node's name lies within the bytes
+-- A `requires` and no struct's invariant: it ties two lent slices, and most functions that are lent the nodes take no names.
 pub record Named (ns names : List ℕ) : Type 0 where
   pub inside : (i : ℕ) → i < count ns → name_start_of ns i + name_len_of ns i ≤ length names
 
 -- what is known where the scope of no node is missing or does not fit it
+-- A `requires` and no struct's invariant: it ties two lent slices, and most functions that are lent the nodes take no scopes.
 pub record Scoped (ns ss : List ℕ) : Type 0 where
   pub scope : (i : ℕ) → i < count ns → scope_of ns i < count_scopes ss
   pub own : (i : ℕ) → i < count ns → kind_of ns i ≡ 26 → extra_of ns i < count_scopes ss
   pub chain : (i : ℕ) → i < count ns → (t : ℕ) → on (scope_parent_of ss) t (scope_of ns i) ≡ true → on (parent_of ns) (scope_node_of ss t) i ≡ true
 
 -- every span ends where it starts or later, within the largest source
+-- A `requires` and no struct's invariant: of the functions that are lent the nodes, few ask for it.
 pub record Spanned (ns : List ℕ) : Type 0 where
   pub span : (i : ℕ) → i < count ns → span_start_of ns i ≤ span_end_of ns i
   pub small : (i : ℕ) → i < count ns → span_end_of ns i ≤ 1048576
 
 -- every span lies within the source
+-- A `requires` and no struct's invariant: it ties two lent slices, and of the checks only those of literals read the source.
 pub record Sourced (ns source : List ℕ) : Type 0 where
   pub span : (i : ℕ) → i < count ns → span_start_of ns i ≤ span_end_of ns i
   pub inside : (i : ℕ) → i < count ns → span_end_of ns i ≤ length source
 
 -- nodes with their scopes, spans and names
+-- A `requires` and no struct's invariant: `Rule` (check_dispatch), which holds these tables, is made before the refusals are looked for, so it stands where this is not known.
 pub record Input (ns ss names : List ℕ) : Type 0 where
   pub tree : Tree ns
   pub chained : Chained ss

@@ -61,6 +61,7 @@ abbrev pub outer : List ℕ → ℕ → List ℕ
 outer ss s = above (scope_parent_of ss) s
 
 -- a table of nodes, or of scopes, has some records, and not too many
+-- A `requires` and no struct's invariant: it is about the count of one lent slice, of nodes or of scopes, from refusal 1 on until `Tree` or `Chained` has it too.
 pub record IsTableSize (n : ℕ) : Type 0 where
   pub some : 0 < n
   pub small : n ≤ 65535

@@ -34,15 +34,15 @@ pub overflow_add-from-in-loop-p : goal.overflow_add-from-in-loop-p
 overflow_add-from-in-loop-p c = let s = c.requires.tree.small in let q : c.in-Some.p.0 < count c.args.nodes.now = subst (λ (x : Option NodeId). below c.args.nodes.now x) c.in-Some.is c.next_child.ensures.below in omega arith
 
 pub loop-p-smaller : goal.loop-p-smaller
-loop-p-smaller c = let g = found_child c.args.nodes.now c.args.n.0 k.ObjectProperty k.ObjectProperty 0 7 c.loop-p.from c.in-Some.p.0 (sym c.next_child.ensures.value ∙ c.in-Some.is) in let x = g.from in let y = g.below in omega arith
+loop-p-smaller c = let g = found_child c.args.nodes.now c.args.n.0 k.ObjectProperty k.ObjectProperty 0 7 c.loop-p.from c.in-Some.p.0 (sym (rw c.of_kind.ensures at c.next_child.ensures.value) ∙ c.in-Some.is) in let x = g.from in let y = g.below in omega arith
 
 pub loop-p-preserved : goal.loop-p-preserved
 loop-p-preserved c = let a = c.args in
-    let g = found_child a.nodes.now a.n.0 k.ObjectProperty k.ObjectProperty 0 7 c.loop-p.from c.in-Some.p.0 (sym c.next_child.ensures.value ∙ c.in-Some.is) in
+    let g = found_child a.nodes.now a.n.0 k.ObjectProperty k.ObjectProperty 0 7 c.loop-p.from c.in-Some.p.0 (sym (rw c.of_kind.ensures at c.next_child.ensures.value) ∙ c.in-Some.is) in
     let x = g.from in
     let y = g.below in
     let t : repeats_from a.nodes.now a.n.0 c.loop-p.previous (keys_from a.nodes.now a.names.now a.n.0 c.loop-p.from) ≡ listed c.repeated.result ++ repeats_from a.nodes.now a.n.0 c.later-previous.result (keys_from a.nodes.now a.names.now a.n.0 (c.in-Some.p.0 + 1)) =
-    object_turn a.nodes.now a.names.now a.n.0 c.loop-p.from c.in-Some.p.0 c.loop-p.previous c.proto_key-key.result (sym c.next_child.ensures.value ∙ c.in-Some.is) c.proto_key-key.ensures.value ∙ rw (← c.repeated.ensures, ← c.later-previous.ensures) in (
+    object_turn a.nodes.now a.names.now a.n.0 c.loop-p.from c.in-Some.p.0 c.loop-p.previous c.proto_key-key.result (sym (rw c.of_kind.ensures at c.next_child.ensures.value) ∙ c.in-Some.is) c.proto_key-key.ensures.value ∙ rw (← c.repeated.ensures, ← c.later-previous.ensures) in (
       omega arith,
       omega arith,
       omega (arith, c.raise.ensures.upper_bound),
@@ -53,5 +53,5 @@ loop-p-preserved c = let a = c.args in
 pub returns-in_default : goal.returns-in_default
 returns-in_default c = let a = c.args in
     let s = c.requires.tree.small in
-    let e : repeats_from a.nodes.now a.n.0 c.loop-p.previous (keys_from a.nodes.now a.names.now a.n.0 c.loop-p.from) ≡ [] = object_end a.nodes.now a.names.now a.n.0 c.loop-p.from c.loop-p.previous (sym c.next_child.ensures.value ∙ c.in_default.is) in
+    let e : repeats_from a.nodes.now a.n.0 c.loop-p.previous (keys_from a.nodes.now a.names.now a.n.0 c.loop-p.from) ≡ [] = object_end a.nodes.now a.names.now a.n.0 c.loop-p.from c.loop-p.previous (sym (rw c.of_kind.ensures at c.next_child.ensures.value) ∙ c.in_default.is) in
     record { adds = left_end _ _ _ _ c.loop-p.invariant.4 e; upper_bound = omega arith }

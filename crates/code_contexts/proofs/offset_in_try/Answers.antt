@@ -58,14 +58,14 @@ returns-in_default c =
     let ns = a.nodes.now in
     let e = c.requires.p_value in
     let f = block_found ns a.names.now a.b.0 c.requires.ready a.n.0 c.requires.b_lt_n c.requires.n_bound c.requires.n_value (ap (shape_at ns) (sym e) ∙ c.requires.p_value_2) in
-    never (sym f ∙ ap (λ k. is_some (first_child ns k 5 5 3 3)) (sym e) ∙ ap is_some (sym c.first_child.ensures.value ∙ c.in_default.is))
+    never (sym f ∙ ap (λ k. is_some (first_child ns k 5 5 3 3)) (sym e) ∙ ap is_some (sym (rw c.of.ensures at c.first_child.ensures.value) ∙ c.in_default.is))
 
 pub overflow_add-result-2 : goal.overflow_add-result-2
 overflow_add-result-2 c =
     let a = c.args in
     let ns = a.nodes.now in
     let l = up_lt ns a.names.now a.b.0 c.requires.ready a.widths.now c.requires.wide a.n.0 c.requires.b_lt_n c.requires.n_bound c.requires.n_value a.p.0 a.o c.requires.p_value c.requires.o_value in
-    let w = child_part ns a.names.now a.b.0 c.requires.ready a.p.0 (omega (arith, l, c.requires.n_bound)) c.requires.p_value_2 3 c.in-Some.block.0 (inl refl) (sym c.first_child.ensures.value ∙ c.in-Some.is) in
+    let w = child_part ns a.names.now a.b.0 c.requires.ready a.p.0 (omega (arith, l, c.requires.n_bound)) c.requires.p_value_2 3 c.in-Some.block.0 (inl refl) (sym (rw c.of.ensures at c.first_child.ensures.value) ∙ c.in-Some.is) in
     let z = catch_room ns a.names.now a.b.0 c.requires.ready a.widths.now c.requires.wide a.n.0 c.requires.b_lt_n c.requires.n_bound c.requires.n_value a.p.0 a.o c.requires.p_value c.requires.o_value c.requires.p_value_2
     (λ y. c.if-r-eq-HELD.false (c.role-r.ensures ∙ y)) (λ y. c.if-r-eq-FINALLY.false (c.role-r.ensures ∙ y)) c.in-Some.block.0 w.0 w.1 in
     omega (arith, z, c.own_of_try.ensures.value)
@@ -75,6 +75,6 @@ returns c =
     let a = c.args in
     let ns = a.nodes.now in
     let l = up_lt ns a.names.now a.b.0 c.requires.ready a.widths.now c.requires.wide a.n.0 c.requires.b_lt_n c.requires.n_bound c.requires.n_value a.p.0 a.o c.requires.p_value c.requires.o_value in
-    let w = child_part ns a.names.now a.b.0 c.requires.ready a.p.0 (omega (arith, l, c.requires.n_bound)) c.requires.p_value_2 3 c.in-Some.block.0 (inl refl) (sym c.first_child.ensures.value ∙ c.in-Some.is) in
+    let w = child_part ns a.names.now a.b.0 c.requires.ready a.p.0 (omega (arith, l, c.requires.n_bound)) c.requires.p_value_2 3 c.in-Some.block.0 (inl refl) (sym (rw c.of.ensures at c.first_child.ensures.value) ∙ c.in-Some.is) in
     rw (c.own_of_try.ensures.value) (catch_is ns a.names.now a.b.0 c.requires.ready a.widths.now c.requires.wide a.n.0 c.requires.b_lt_n c.requires.n_bound c.requires.n_value a.p.0 a.o c.requires.p_value c.requires.o_value c.requires.p_value_2
     (λ y. c.if-r-eq-HELD.false (c.role-r.ensures ∙ y)) (λ y. c.if-r-eq-FINALLY.false (c.role-r.ensures ∙ y)) c.in-Some.block.0 w.0 w.1)

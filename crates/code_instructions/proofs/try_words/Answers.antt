@@ -13,8 +13,8 @@ returns-in-Some c = let a = c.args in
     let b = a.laid.now.body.0 in
     let n = a.n.0 in
     let os = a.laid.now.offsets.now in
-    let w = finally_part c.requires.arrays n c.requires.b_lt_n c.requires.n_bound c.requires.n_value c.requires.n_value_2 c.in-Some.f.0 (sym c.first_child.ensures.value ∙ c.in-Some.is) in
-    open_has ns nm b n c.requires.b_lt_n c.requires.n_value_2 (finally_has c.requires.arrays n c.requires.b_lt_n c.requires.n_bound c.requires.n_value c.requires.n_value_2 c.in-Some.f.0 (sym c.first_child.ensures.value ∙ c.in-Some.is)) (get_or os c.in-Some.f.0 0) (array.offset_is c.requires.arrays c.in-Some.f.0 w.inside (finally_in_lem c.requires.arrays n c.requires.b_lt_n c.requires.n_bound c.requires.n_value c.requires.n_value_2 c.in-Some.f.0 (sym c.first_child.ensures.value ∙ c.in-Some.is)) ∙ finally_at c.requires.arrays n c.requires.b_lt_n c.requires.n_bound c.requires.n_value c.requires.n_value_2 c.in-Some.f.0 (sym c.first_child.ensures.value ∙ c.in-Some.is))
+    let w = finally_part c.requires.arrays n c.requires.b_lt_n c.requires.n_bound c.requires.n_value c.requires.n_value_2 c.in-Some.f.0 (sym (rw c.of.ensures at c.first_child.ensures.value) ∙ c.in-Some.is) in
+    open_has ns nm b n c.requires.b_lt_n c.requires.n_value_2 (finally_has c.requires.arrays n c.requires.b_lt_n c.requires.n_bound c.requires.n_value c.requires.n_value_2 c.in-Some.f.0 (sym (rw c.of.ensures at c.first_child.ensures.value) ∙ c.in-Some.is)) (get_or os c.in-Some.f.0 0) (array.offset_is c.requires.arrays c.in-Some.f.0 w.inside (finally_in_lem c.requires.arrays n c.requires.b_lt_n c.requires.n_bound c.requires.n_value c.requires.n_value_2 c.in-Some.f.0 (sym (rw c.of.ensures at c.first_child.ensures.value) ∙ c.in-Some.is)) ∙ finally_at c.requires.arrays n c.requires.b_lt_n c.requires.n_bound c.requires.n_value c.requires.n_value_2 c.in-Some.f.0 (sym (rw c.of.ensures at c.first_child.ensures.value) ∙ c.in-Some.is))
 
 pub returns-in-None : goal.returns-in-None
 returns-in-None c = let a = c.args in
@@ -22,4 +22,4 @@ returns-in-None c = let a = c.args in
     let nm = a.laid.now.names.now in
     let b = a.laid.now.body.0 in
     let n = a.n.0 in
-    catch_has ns nm b n c.requires.b_lt_n c.requires.n_value_2 (finally_none c.requires.arrays n c.requires.b_lt_n c.requires.n_bound c.requires.n_value c.requires.n_value_2 (sym c.first_child.ensures.value ∙ c.in-None.is)) (0 ∷ 0 ∷ 0 ∷ 0 ∷ 0 ∷ 0 ∷ 0 ∷ 0 ∷ 0 ∷ 0 ∷ [])
+    catch_has ns nm b n c.requires.b_lt_n c.requires.n_value_2 (finally_none c.requires.arrays n c.requires.b_lt_n c.requires.n_bound c.requires.n_value c.requires.n_value_2 (sym (rw c.of.ensures at c.first_child.ensures.value) ∙ c.in-None.is)) (0 ∷ 0 ∷ 0 ∷ 0 ∷ 0 ∷ 0 ∷ 0 ∷ 0 ∷ 0 ∷ 0 ∷ [])
