@@ -14,6 +14,7 @@ use refusal_verdict::{Refusal, Refused};
 const FEW: usize = 1792;
 
 // How many findings well-formed tables have, seven numbers each, written from the slice's start: counted first, and written only where there is room for all.
+#[tactic(auto, using(crate::proofs::CheckLaws::answer_short, crate::proofs::CheckLaws::slice_short, crate::proofs::CheckLaws::answer_room, crate::proofs::CheckLaws::slice_room, crate::proofs::CheckLaws::slice_copied))]
 fn report(rule: &Rule, findings: &mut [u32]) -> Result<usize, Refused>
     requires input { Input rule.now.nodes.now rule.now.scopes.now rule.now.names.now }
     requires sourced { Sourced rule.now.nodes.now rule.now.source.now }
@@ -34,6 +35,7 @@ fn report(rule: &Rule, findings: &mut [u32]) -> Result<usize, Refused>
 }
 
 // Checks the tables of a rule, and says how many findings it wrote.
+#[tactic(auto, using(refusal_input::proofs::InputLaws::input_well_formed, refusal_verdict::proofs::VerdictLaws::handed), unfolding(crate::specs::Check::check_answer, crate::specs::Check::check_slice))]
 pub fn check(rule: &Rule, findings: &mut [u32]) -> Result<usize, Refused>
     ensures value { result ≡ check_answer (rule_of rule.now) (length findings.old) }
     ensures findings_after { findings.new ≡ check_slice (rule_of rule.now) findings.old }

@@ -9,6 +9,7 @@ use Rattle.table_names.specs.Name.{name_of}
 use Rattle.call_labels.specs.Short.{most}
 use Rattle.call_labels.specs.Order.{seen_before, label_names}
 use Rattle.call_labels.specs.Unfit.{unfit_at}
+use Rattle.call_labels.specs.Written.{most_bytes}
 use Rattle.call_labels.specs.declared.Kept.{Kept}
 
 -- the names of the nodes kept from place k on
@@ -41,5 +42,5 @@ pub record Ready (ns names : List ℕ) (kept : Kept) : Type 0 where
   pub tree : Tree ns
   pub within : Named ns names
   pub whole : length ns ≡ count ns * 10
-  pub small : length names ≤ 1048576
+  pub small : length names ≤ most_bytes
   pub firsts : Firsts ns names kept.nodes kept.size (label_names ns names)

@@ -11,7 +11,7 @@ letter_a = 97
 abbrev pub letters : ℕ
 letters = 26
 
--- "a 700th different label" has no short name
+-- how many short names there are, 26 and 26 * 26 - 3: "a 700th different label" has none
 abbrev pub most : ℕ
 most = 699
 

@@ -8,6 +8,10 @@ use Rattle.table_names.specs.Name.{name_of}
 use Rattle.code_tree.specs.Labels.{is_label}
 use Rattle.call_labels.specs.Order.{label_names, new_name}
 
+-- the most bytes that names may have, before (refusal 1) and after (refusal 20)
+abbrev pub most_bytes : ℕ
+most_bytes = 1048576
+
 -- a label's new name, or the name as it was
 unfoldable pub new_name_of : List ℕ → List ℕ → ℕ → List ℕ
 new_name_of ns names i = cond (is_label ns i) (new_name (label_names ns names) (name_of ns names i)) (name_of ns names i)

@@ -11,7 +11,7 @@ ghost use Rattle.code_tree.specs.Labels.{is_label};
 ghost use Rattle.call_labels.specs.Reserved.{is_reserved};
 ghost use Rattle.call_labels.specs.Short.{letter_a, letters, most, pair_of, short_name};
 ghost use Rattle.call_labels.specs.Order.{seen_before, place_in};
-ghost use Rattle.call_labels.specs.Written.{new_name_of, record_with, nodes_renamed, names_renamed};
+ghost use Rattle.call_labels.specs.Written.{most_bytes, new_name_of, record_with, nodes_renamed, names_renamed};
 ghost use Rattle.call_labels.specs.Firsts.{kept_from, Nodes, Firsts, Entered, Listed, Ready};
 
 use check_identifiers::is_strict_word;
@@ -22,14 +22,14 @@ const LETTER_A: u8 = 97;
 
 const LETTERS: usize = 26;
 
-// How many short names there are.
+// How many short names there are: 26 letters, and 676 pairs of them without `do`, `if` and `in`.
 pub const MOST: usize = 699;
 
-// The first label of each different name, by its node: so many of them, in the order in which they are found.
+// The first label of each different name: at the front of `nodes` stand `size` nodes, in the order in which they are found.
 #[derive(Clone, Copy)]
 pub struct Kept {
-    nodes: [u32; MOST],
-    size: usize,
+    pub nodes: [u32; MOST],
+    pub size: usize,
 }
 
 fn is_label(nodes: &[u32], n: NodeId) -> bool
@@ -41,6 +41,7 @@ fn is_label(nodes: &[u32], n: NodeId) -> bool
 }
 
 // Whether the reserved-word check looks for the name of n.
+#[tactic(auto, unfolding(check_identifiers::specs::Identifiers::is_strict_word))]
 fn is_reserved(nodes: &[u32], names: &[u8], n: NodeId) -> bool
     requires named { Named nodes.now names.now }
     requires n_bound { n.0 < count nodes.now }
@@ -53,6 +54,7 @@ fn is_reserved(nodes: &[u32], names: &[u8], n: NodeId) -> bool
 }
 
 // Where the name of n stands among those of the labels kept; their number where it is none of them.
+#[tactic(auto, using(crate::proofs::FirstsLaws::place_stop, crate::proofs::FirstsLaws::place_on, crate::proofs::FirstsLaws::place_end_lem))]
 fn place_in(nodes: &[u32], names: &[u8], kept: &Kept, n: NodeId) -> usize
     requires named { Named nodes.now names.now }
     requires nodes { Nodes nodes.now kept.now.nodes kept.now.size }
@@ -68,6 +70,7 @@ fn place_in(nodes: &[u32], names: &[u8], kept: &Kept, n: NodeId) -> usize
 }
 
 // Keeps the label i if it is the first of its name; or says that it cannot be renamed (19).
+#[tactic(auto, using(crate::proofs::UnfitLaws::reserved_unfit, crate::proofs::UnfitLaws::many_unfit, crate::proofs::FirstsLaws::firsts_length, table_names::proofs::NameLaws::name_length))]
 fn enter(nodes: &[u32], names: &[u8], kept: &mut Kept, i: u32) -> Result<(), NodeId>
     requires named { Named nodes.now names.now }
     requires firsts { Firsts nodes.now names.now kept.old.nodes kept.old.size (seen_before nodes.now names.now i) }
@@ -95,6 +98,7 @@ fn enter(nodes: &[u32], names: &[u8], kept: &mut Kept, i: u32) -> Result<(), Nod
 }
 
 // The first label of each different name, in node order; or the first that cannot be renamed.
+#[tactic(auto, using(refusal_verdict::proofs::FirstLaws::first_on, refusal_verdict::proofs::FirstLaws::first_stop, refusal_verdict::proofs::FirstLaws::first_end, refusal_verdict::proofs::VerdictLaws::handed, crate::proofs::FirstsLaws::firsts_start))]
 pub fn first_labels(nodes: &[u32], names: &[u8]) -> Result<Kept, NodeId>
     requires tree { Tree nodes.now }
     requires named { Named nodes.now names.now }
@@ -134,6 +138,7 @@ fn pair_of(m: usize) -> usize
     m + 3
 }
 
+#[tactic(auto, unfolding(crate::specs::Short::short_name))]
 fn short_length(k: usize) -> usize
     ensures { result ≡ length (short_name k) }
 {
@@ -144,6 +149,7 @@ fn short_length(k: usize) -> usize
 }
 
 // Writes the k-th short name at w.
+#[tactic(auto, using(crate::proofs::ShortLaws::short_one, crate::proofs::ShortLaws::short_two, crate::proofs::ShortLaws::pair_below, crate::proofs::ShortLaws::put_one, table_put::proofs::Stores::put_two))]
 fn put_short(k: usize, out: &mut [u8], w: usize)
     requires k_lt_most { k < most }
     requires k_in_bounds { w + length (short_name k) ≤ length out.old }
@@ -159,10 +165,11 @@ fn put_short(k: usize, out: &mut [u8], w: usize)
 }
 
 // How long the new name of n is.
+#[tactic(auto, using(crate::proofs::ShortLaws::short_most, crate::proofs::WrittenLaws::nameless_new, crate::proofs::WrittenLaws::other_new, crate::proofs::WrittenLaws::short_new, table_names::proofs::NameLaws::name_length))]
 fn new_length(nodes: &[u32], names: &[u8], kept: &Kept, n: NodeId) -> usize
     requires ready { Ready nodes.now names.now kept.now }
     requires n_bound { n.0 < count nodes.now }
-    ensures { (result ≡ length (new_name_of nodes.now names.now n.0)) × (result ≤ 1048576) }
+    ensures { (result ≡ length (new_name_of nodes.now names.now n.0)) × (result ≤ most_bytes) }
 {
     let len = table_records::name_len(nodes, n);
     if len == 0 {
@@ -175,6 +182,7 @@ fn new_length(nodes: &[u32], names: &[u8], kept: &Kept, n: NodeId) -> usize
 }
 
 // How long all new names are together. Names may overlap in the old slice, so it can be far above 1,048,576.
+#[tactic(auto, using(crate::proofs::WrittenLaws::next_length, check_diagnostics::proofs::Gather::flat_end), unfolding(crate::specs::Written::names_renamed))]
 pub fn names_length(nodes: &[u32], names: &[u8], kept: &Kept) -> usize
     requires { Ready nodes.now names.now kept.now }
     ensures { result ≡ length (names_renamed nodes.now names.now) }
@@ -187,6 +195,7 @@ pub fn names_length(nodes: &[u32], names: &[u8], kept: &Kept) -> usize
 }
 
 // Writes the new name of n at w.
+#[tactic(auto, using(crate::proofs::ShortLaws::put_none, crate::proofs::FirstsLaws::firsts_length, crate::proofs::WrittenLaws::nameless_new, crate::proofs::WrittenLaws::other_new, crate::proofs::WrittenLaws::short_new, crate::proofs::WrittenLaws::label_below, table_names::proofs::NameLaws::name_length))]
 fn put_name(nodes: &[u32], names: &[u8], kept: &Kept, n: NodeId, out: &mut [u8], w: usize)
     requires ready { Ready nodes.now names.now kept.now }
     requires n_bound { n.0 < count nodes.now }
@@ -206,8 +215,8 @@ fn put_name(nodes: &[u32], names: &[u8], kept: &Kept, n: NodeId, out: &mut [u8],
 // Writes the record of n with another name.
 fn put_record(nodes: &[u32], n: NodeId, start: usize, len: usize, out: &mut [u32])
     requires n_bound { n.0 < count nodes.now }
-    requires start_bound { start ≤ 1048576 }
-    requires len_bound { len ≤ 1048576 }
+    requires start_bound { start ≤ most_bytes }
+    requires len_bound { len ≤ most_bytes }
     requires n_in_bounds { n.0 * 10 + 10 ≤ length out.old }
     ensures { out.new ≡ put out.old (n.0 * 10) (record_with nodes.now n.0 start len) }
 {
@@ -227,6 +236,7 @@ fn put_record(nodes: &[u32], n: NodeId, start: usize, len: usize, out: &mut [u32
 }
 
 // Writes the node table and the names, where there is room for both.
+#[tactic(auto, using(base_common::proofs::WroteLaws::wrote_start, check_diagnostics::proofs::Gather::flat_end, crate::proofs::WriteLaws::written_length, crate::proofs::WriteLaws::write_end), unfolding(crate::specs::Written::nodes_renamed, crate::specs::Written::names_renamed))]
 pub fn write(
     nodes: &[u32],
     names: &[u8],
@@ -237,7 +247,7 @@ pub fn write(
     requires ready { Ready nodes.now names.now kept.now }
     requires names_in_bounds { length (nodes_renamed nodes.now names.now) ≤ length renamed_nodes.old }
     requires names_in_bounds_2 { length (names_renamed nodes.now names.now) ≤ length renamed_names.old }
-    requires names_len_bound { length (names_renamed nodes.now names.now) ≤ 1048576 }
+    requires names_len_bound { length (names_renamed nodes.now names.now) ≤ most_bytes }
     ensures renamed_nodes_after { renamed_nodes.new ≡ over (nodes_renamed nodes.now names.now) renamed_nodes.old }
     ensures renamed_names_after { renamed_names.new ≡ over (names_renamed nodes.now names.now) renamed_names.old }
 {

@@ -48,6 +48,7 @@ fn mark_refusal(marks: &Marks, begin: Begin, to: u32) -> Result<(), Refused>
 }
 
 // 17.
+#[tactic(auto, using(route_marks::proofs::MarksLaws::set_facts))]
 fn place_refusal(marks: &Marks, begin: Begin, code: &[u32]) -> Result<(), Refused>
     requires { MarkReady marks.now begin }
     ensures { result ≡ seventeen_of marks.now code.now begin }
@@ -64,6 +65,7 @@ fn place_refusal(marks: &Marks, begin: Begin, code: &[u32]) -> Result<(), Refuse
 }
 
 // The route on the unit's code, where 17 does not refuse it.
+#[tactic(auto, using(refusal_verdict::proofs::VerdictLaws::handed))]
 fn shown(
     marks: &mut Marks,
     begin: Begin,
@@ -84,6 +86,7 @@ fn shown(
 }
 
 // Makes the code of a unit that is not refused, and shows the route, where the code slice has room.
+#[tactic(auto, using(crate::proofs::MarkedLaws::made_short, crate::proofs::MarkedLaws::list_short, crate::proofs::MarkedLaws::marks_short, call_routes::proofs::CallsLaws::over_length, call_routes::proofs::CallsLaws::told_code, call_routes::proofs::CallsLaws::told_short, call_routes::proofs::CallsLaws::slice_over, refusal_verdict::proofs::VerdictLaws::handed))]
 fn made(
     nodes: &[u32],
     names: &[u8],
@@ -117,6 +120,7 @@ fn made(
 }
 
 // The refusals before 11.
+#[tactic(auto, using(refusal_verdict::proofs::VerdictLaws::handed))]
 fn refusal(rule: &Rule, unit: u32, marks: &Marks, begin: Begin, to: u32) -> Result<(), Refused>
     ensures { result ≡ refused_or (code_refusal (rule_of rule.now) unit) (sixteen_of marks.now begin to) }
 {
@@ -125,6 +129,7 @@ fn refusal(rule: &Rule, unit: u32, marks: &Marks, begin: Begin, to: u32) -> Resu
 }
 
 // A route that begins anywhere and is stopped behind so many answers, under the mark `to`.
+#[tactic(auto, using(crate::proofs::MarkedLaws::refused_answer, crate::proofs::MarkedLaws::refused_code, crate::proofs::MarkedLaws::refused_slice, crate::proofs::MarkedLaws::refused_marks, crate::proofs::MarkedLaws::unit_ready, crate::proofs::MarkedLaws::mark_ready, refusal_verdict::proofs::VerdictLaws::handed))]
 fn marked(
     rule: &Rule,
     unit: u32,
@@ -186,6 +191,7 @@ pub fn route_stop(
 }
 
 // Taken up at `mark`, and not stopped again: more answers than there are never stop it.
+#[tactic(auto, using(crate::proofs::MarkedLaws::sixteen_same, crate::proofs::MarkedLaws::never_set, route_marks::proofs::TakenLaws::resumed_is))]
 pub fn route_resume(
     rule: &Rule,
     unit: u32,

@@ -17,8 +17,8 @@ use Rattle.call_labels.specs.Unfit.{unfit_at}
 use Rattle.call_labels.specs.Order.{label_names}
 use Rattle.call_labels.specs.Firsts.{Firsts, Listed, Ready}
 use Rattle.call_labels.specs.declared.Kept.{Kept}
-use Rattle.call_labels.specs.Written.{nodes_renamed, names_renamed}
-use Rattle.call_rename.specs.Rename.{Renaming, most_bytes, written, labelled, renaming, after_unfit, after_input}
+use Rattle.call_labels.specs.Written.{most_bytes, nodes_renamed, names_renamed}
+use Rattle.call_rename.specs.Rename.{Renaming, written, labelled, renaming, after_unfit, after_input}
 use Rattle.call_rename.specs.Sized.{Sized}
 
 module _ (t : ℕ) (ns ss source names : List ℕ) where

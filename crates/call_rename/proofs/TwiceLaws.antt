@@ -12,9 +12,9 @@ use Rattle.refusal_input.specs.Input.{input_refusal}
 use Rattle.route_list.specs.Over.{over}
 use Rattle.call_labels.specs.Unfit.{unfit_at}
 use Rattle.call_labels.proofs.UnfitLaws.{renamable}
-use Rattle.call_labels.specs.Written.{nodes_renamed, names_renamed}
+use Rattle.call_labels.specs.Written.{most_bytes, nodes_renamed, names_renamed}
 use Rattle.call_labels.proofs.TwiceLaws.{twice_nodes, twice_names, twice_fit}
-use Rattle.call_rename.specs.Rename.{most_bytes, fits, written, labelled, renaming, after_unfit, after_input}
+use Rattle.call_rename.specs.Rename.{fits, written, labelled, renaming, after_unfit, after_input}
 use Rattle.call_rename.proofs.RenameLaws.{short, full, room, labelled_fit, input_passed}
 
 -- nothing was refused

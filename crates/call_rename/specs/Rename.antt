@@ -10,17 +10,13 @@ use Rattle.refusal_verdict.specs.declared.Refusal.TheVariants as refusal
 use Rattle.refusal_input.specs.Input.{input_refusal}
 use Rattle.route_list.specs.Over.{over}
 use Rattle.call_labels.specs.Unfit.{unfit_at}
-use Rattle.call_labels.specs.Written.{nodes_renamed, names_renamed}
+use Rattle.call_labels.specs.Written.{most_bytes, nodes_renamed, names_renamed}
 
 -- the answer, and both slices as the call leaves them
 pub record Renaming : Type 0 where
   pub answer : Result ℕ Refused
   pub nodes : List ℕ
   pub names : List ℕ
-
--- the most bytes that names may have
-abbrev pub most_bytes : ℕ
-most_bytes = 1048576
 
 -- what is not "20 (either slice too short, or names above 1,048,576 bytes)": nodesLen and namesLen are the lengths of the slices
 abbrev pub fits : List ℕ → List ℕ → ℕ → ℕ → Bool

@@ -2,7 +2,7 @@
 use Rattle.std.specs.Prelude.{ℕ, ◌*◌, ◌≤◌, ◌≡◌, List, length}
 use Rattle.table_records.specs.Table.{count}
 use Rattle.table_records.specs.Facts.{Tree, Named}
-use Rattle.call_rename.specs.Rename.{most_bytes}
+use Rattle.call_labels.specs.Written.{most_bytes}
 
 pub record Sized (ns names : List ℕ) : Type 0 where
   pub tree : Tree ns

@@ -13,6 +13,7 @@ use refusal_verdict::{Refusal, Refused};
 const MOST_BYTES: usize = 1048576;
 
 // How many bytes of names are written, with the node table, from each slice's start. The lengths first, so that nothing is written where either slice is too short.
+#[tactic(auto, using(crate::proofs::RenameLaws::short_nodes, crate::proofs::RenameLaws::short_names_lem, crate::proofs::RenameLaws::long_names, crate::proofs::RenameLaws::room, call_labels::proofs::WrittenLaws::records_length))]
 fn write_all(
     nodes: &[u32],
     names: &[u8],
@@ -40,6 +41,7 @@ fn write_all(
 }
 
 // 19, or else the labels renamed.
+#[tactic(auto, using(crate::proofs::RenameLaws::ready, crate::proofs::RenameLaws::listed_unfit, crate::proofs::RenameLaws::listed_few, crate::proofs::RenameLaws::labelled_unfit, crate::proofs::RenameLaws::labelled_fit))]
 fn labels(
     nodes: &[u32],
     names: &[u8],
@@ -59,6 +61,7 @@ fn labels(
 }
 
 // Writes the tables of a rule with its labels renamed to short names.
+#[tactic(auto, using(refusal_verdict::proofs::VerdictLaws::handed, crate::proofs::RenameLaws::sized, crate::proofs::RenameLaws::input_refused, crate::proofs::RenameLaws::input_passed))]
 pub fn rename(
     source_type: u32,
     nodes: &[u32],

@@ -8,9 +8,9 @@ use Rattle.check_dispatch.specs.Reported.{reported}
 use Rattle.refusal_state.specs.Targets.{names_unit, seek, plain_break, named_break, plain_continue, named_continue, has_target, lost_at, state_place, unit_refusal, state_answer}
 use Rattle.code_tree.specs.Labels.{is_label}
 use Rattle.code_length.specs.Length.{of_unit, code_length}
-use Rattle.table_renamed.specs.RenamedLaws.{Alike}
-use Rattle.table_renamed.specs.TableLaws.{tables}
-use Rattle.table_renamed.specs.NameLaws.{cond_both}
+use Rattle.table_renamed.specs.Alike.{Alike}
+use Rattle.table_renamed.proofs.TableLaws.{tables}
+use Rattle.table_renamed.proofs.NameLaws.{cond_both}
 use Rattle.check_renamed.proofs.CheckLaws.{checks}
 use Rattle.check_renamed.proofs.NamedLaws.{when_label, same_label_lem}
 

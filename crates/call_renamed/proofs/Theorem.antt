@@ -5,7 +5,8 @@ use Rattle.check_dispatch.specs.Rule.{Rule}
 use Rattle.refusal_input.proofs.InputLaws.{input_well_formed}
 use Rattle.refusal_input.specs.WellFormed.{WellFormed}
 use Rattle.call_routes.specs.Calls.{code_refusal}
-use Rattle.table_renamed.specs.RenamedLaws.{Alike, everywhere}
+use Rattle.table_renamed.specs.Alike.{Alike}
+use Rattle.table_renamed.proofs.RenamedLaws.{everywhere}
 use Rattle.check_renamed.proofs.FindingsLaws.{findings_renamed}
 use Rattle.call_renamed.specs.Same.{with_tables, refused_input, LabelsRenamed, Read, Same}
 use Rattle.call_renamed.proofs.UnitLaws.{same_unit_lem}

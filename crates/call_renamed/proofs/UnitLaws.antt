@@ -15,9 +15,9 @@ use Rattle.code_tree.specs.declared.Shape.TheVariants.{Leaf as Single, Class, If
 use Rattle.code_tree.specs.Labels.{is_label, name_id, lab_by, lab_at, id_by, id_at}
 use Rattle.code_tree.specs.Parts.{shape_at, up_of, is_part, parts, order_by, order}
 use Rattle.code_tree.specs.Statements.{leaf_at, if_of, try_of, cases_of, build, stmt_at, body_of, holder_of, unit_by, unit_of}
-use Rattle.table_renamed.specs.RenamedLaws.{Alike}
-use Rattle.table_renamed.specs.TableLaws.{tables}
-use Rattle.table_renamed.specs.NameLaws.{and_both_lem, at_label_lem, two_labels_lem}
+use Rattle.table_renamed.specs.Alike.{Alike}
+use Rattle.table_renamed.proofs.TableLaws.{tables}
+use Rattle.table_renamed.proofs.NameLaws.{and_both_lem, at_label_lem, two_labels_lem}
 
 module _ (ns names ms mnames : List ℕ) (r : Alike ns names ms mnames) where
   -- PARTS, which ask for no name

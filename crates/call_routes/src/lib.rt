@@ -16,6 +16,7 @@ use route_viewer::Route;
 use table_records::NodeId;
 
 // The refusals of both calls before 11, of the walk and of the calls of marks.
+#[tactic(auto, using(refusal_input::proofs::InputLaws::input_well_formed, refusal_verdict::proofs::VerdictLaws::handed), unfolding(crate::specs::Calls::code_refusal))]
 pub fn refusal(rule: &Rule, unit: u32) -> Result<(), Refused>
     ensures { result ≡ code_refusal (rule_of rule.now) unit }
 {
@@ -30,6 +31,7 @@ pub fn refusal(rule: &Rule, unit: u32) -> Result<(), Refused>
 }
 
 // Makes the flat code of a unit, and says how many numbers it wrote.
+#[tactic(auto, using(refusal_verdict::proofs::VerdictLaws::handed, crate::proofs::CallsLaws::ready, crate::proofs::CallsLaws::exact, crate::proofs::CallsLaws::by_room), unfolding(crate::specs::Calls::code_answer, crate::specs::Calls::code_slice, code_assemble::specs::Assembled::assembled, code_assemble::specs::Assembled::assembled_slice))]
 pub fn code(rule: &Rule, unit: u32, code: &mut [u32]) -> Result<usize, Refused>
     ensures value { result ≡ code_answer (rule_of rule.now) unit (length code.old) }
     ensures code_after { code.new ≡ code_slice (rule_of rule.now) unit code.old }
@@ -47,6 +49,7 @@ pub fn front(s: &[u32], n: usize) -> &[u32]
 }
 
 // Makes the code of a unit that is not refused, runs it, and shows the route, where the code slice has room.
+#[tactic(auto, using(crate::proofs::CallsLaws::code_route_lem, crate::proofs::CallsLaws::front_code, crate::proofs::CallsLaws::over_length, crate::proofs::CallsLaws::told_code, crate::proofs::CallsLaws::told_short, crate::proofs::CallsLaws::slice_over, crate::proofs::CallsLaws::made_room, crate::proofs::CallsLaws::kept_room, crate::proofs::CallsLaws::made_short, crate::proofs::CallsLaws::kept_short, refusal_verdict::proofs::VerdictLaws::handed))]
 fn made(
     nodes: &[u32],
     names: &[u8],
@@ -65,6 +68,7 @@ fn made(
 }
 
 // Makes the flat code of a unit, runs it over the answers, and shows the route.
+#[tactic(auto, using(refusal_verdict::proofs::VerdictLaws::handed, crate::proofs::CallsLaws::ready, crate::proofs::CallsLaws::exact, crate::proofs::CallsLaws::by_room), unfolding(crate::specs::Calls::route_answer, crate::specs::Calls::code_slice, crate::specs::Calls::route_slice, code_assemble::specs::Assembled::assembled_slice, crate::specs::Made::made_answer, crate::specs::Made::made_slice))]
 pub fn route(
     rule: &Rule,
     unit: u32,

@@ -15,6 +15,7 @@ pub enum NoRoute {
 }
 
 // The run of the code over the answers.
+#[tactic(auto, using(crate::proofs::RunLaws::invalid_answer, crate::proofs::RunLaws::invalid_slice, crate::proofs::RunLaws::valid_answer, crate::proofs::RunLaws::valid_slice, crate::proofs::RunLaws::shown, refusal_verdict::proofs::VerdictLaws::handed), unfolding(crate::specs::Run::run_answer, crate::specs::Run::run_slice))]
 pub fn run(code: &[u32], answers: &[u32], out: &mut [u32]) -> Result<Route, NoRoute>
     ensures value { result ≡ run_answer code.now answers.now (length out.old) }
     ensures out_after { out.new ≡ run_slice code.now answers.now out.old }

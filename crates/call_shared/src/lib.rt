@@ -10,6 +10,7 @@ use check_dispatch::Rule;
 use refusal_verdict::Refused;
 
 // Makes the flat code of a unit, and runs it over both lists of answers in step.
+#[tactic(auto, using(crate::proofs::SharedLaws::shared_by, crate::proofs::SharedLaws::shared_by_lem, crate::proofs::SharedLaws::inside, refusal_verdict::proofs::VerdictLaws::handed))]
 pub fn shared(
     rule: &Rule,
     unit: u32,

@@ -7,7 +7,8 @@ ghost use Rattle.code_shorten.specs.Short.{shorter};
 ghost use Rattle.call_shorten.specs.Shorten.{shorten_answer, shorten_slice};
 
 use code_machine::word;
-use code_places::{Places, STRIDES};
+use code_places::STRIDES;
+use code_places::index::{Places, Stride};
 
 // Makes a code shorter, and tells the new length. The entries behind it stay as they were.
 fn shorten_valid(code: &mut [u32]) -> usize
@@ -25,12 +26,10 @@ fn shorten_valid(code: &mut [u32]) -> usize
         word(code, length + 1),
         word(code, length + 2),
     ];
-    let mut begins = [0; STRIDES];
-    let mut news = [0; STRIDES];
-    code_places::fill(code, &mut begins, &mut news);
+    let mut index = [Stride { begin: 0, new: 0 }; STRIDES];
+    code_places::fill(code, &mut index);
     let places = Places {
-        begins: &begins,
-        news: &news,
+        index: &index,
         stride: code_places::stride_of(code.len()),
         split,
         front,

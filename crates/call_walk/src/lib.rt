@@ -15,6 +15,7 @@ use route_viewer::Route;
 use table_records::NodeId;
 
 // Walks a unit that is not refused: counts its list first, and writes it only where there is room for all of it.
+#[tactic(auto, using(route_viewer::proofs::ShownLaws::short_answer, route_viewer::proofs::ShownLaws::short_slice, route_viewer::proofs::ShownLaws::whole_answer, route_viewer::proofs::ShownLaws::whole_slice))]
 fn shown(
     nodes: &[u32],
     names: &[u8],
@@ -42,6 +43,7 @@ fn shown(
 }
 
 // Walks the statements of a unit over the answers, and shows the route.
+#[tactic(auto, using(refusal_verdict::proofs::VerdictLaws::handed, crate::proofs::WalkedLaws::enterable), unfolding(crate::specs::Walked::walk_answer, crate::specs::Walked::walk_slice))]
 pub fn walk(rule: &Rule, unit: u32, answers: &[u32], out: &mut [u32]) -> Result<Route, Refused>
     ensures value { result ≡ walk_answer (rule_of rule.now) unit answers.now (length out.old) }
     ensures out_after { out.new ≡ walk_slice (rule_of rule.now) unit answers.now out.old }

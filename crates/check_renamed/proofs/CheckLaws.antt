@@ -18,8 +18,8 @@ use Rattle.check_jumps.specs.Jumps.{under, walk_up, plain_break_at, no_label, pl
 use Rattle.check_class_table.specs.Classes.{current_class, is_class_body, outer_classes, classes_of}
 use Rattle.check_class_table.specs.Elements.{span_at, has_body_at, element_span, has_body}
 use Rattle.check_classes.specs.ClassChecks.{outside_by, require_class_name}
-use Rattle.table_renamed.specs.RenamedLaws.{Fields}
-use Rattle.table_renamed.specs.TableLaws.{tables}
+use Rattle.table_renamed.specs.Alike.{Fields}
+use Rattle.table_renamed.proofs.TableLaws.{tables}
 
 module _ (ns ms : List ℕ) (a : Fields ns ms) where
   -- STATEMENTS

@@ -10,9 +10,10 @@ use Rattle.check_dispatch.specs.Rule.{rule}
 use Rattle.check_dispatch.specs.Findings.{findings_at}
 use Rattle.check_dispatch.specs.Reported.{reported_at, reported}
 use Rattle.table_renamed.specs.Renamed.{Renamed}
-use Rattle.table_renamed.specs.RenamedLaws.{Alike, everywhere}
-use Rattle.table_renamed.specs.TableLaws.{tables}
-use Rattle.table_renamed.specs.NameLaws.{cond_both, name_at_kind}
+use Rattle.table_renamed.specs.Alike.{Alike}
+use Rattle.table_renamed.proofs.RenamedLaws.{everywhere}
+use Rattle.table_renamed.proofs.TableLaws.{tables}
+use Rattle.table_renamed.proofs.NameLaws.{cond_both, name_at_kind}
 use Rattle.check_renamed.specs.Unreserved.{Unreserved}
 use Rattle.check_renamed.proofs.CheckLaws.{checks}
 use Rattle.check_renamed.proofs.SuperLaws.{super}

@@ -26,9 +26,10 @@ use Rattle.check_duplicates.specs.declared.Place.{Place}
 use Rattle.check_duplicates.specs.Duplicates.{side_of, is_earlier, previous_on, previous_of, clashes, clash_code, redeclaration, duplicate_by, duplicates_in, duplicate_elements}
 use Rattle.check_classes.specs.ClassChecks.{is_reference, is_class, references, undeclared_at, undeclared_in, undeclared_by, constructors, constructor_span, first_pair, second_by, check_class}
 use Rattle.code_tree.specs.Labels.{is_label}
-use Rattle.table_renamed.specs.RenamedLaws.{Alike, label_in_lem}
-use Rattle.table_renamed.specs.TableLaws.{tables, size}
-use Rattle.table_renamed.specs.NameLaws.{cond_both, name_at_kind, at_key, at_label_lem, two_labels_lem, name_len}
+use Rattle.table_renamed.specs.Alike.{Alike}
+use Rattle.table_renamed.proofs.RenamedLaws.{label_in_lem}
+use Rattle.table_renamed.proofs.TableLaws.{tables, size}
+use Rattle.table_renamed.proofs.NameLaws.{cond_both, name_at_kind, at_key, at_label_lem, two_labels_lem, name_len}
 use Rattle.check_renamed.specs.Unreserved.{Unreserved}
 use Rattle.check_renamed.proofs.CheckLaws.{checks}
 

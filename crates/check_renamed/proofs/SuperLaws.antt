@@ -14,8 +14,8 @@ use Rattle.check_supers.specs.declared.Reach.TheVariants.{Legal, Illegal, Underi
 use Rattle.check_supers.specs.declared.Step.{Step}
 use Rattle.check_supers.specs.declared.Step.TheVariants.{Stop, Leave, On}
 use Rattle.check_supers.specs.Super.{is_value_of, part_of, place_of, dummy_use, derived_use, object_use, method_use, function_use, is_class_scope, step_at, class_after, leave_class, reach_from, reach_of, by_reach, check_super}
-use Rattle.table_renamed.specs.RenamedLaws.{Fields}
-use Rattle.table_renamed.specs.TableLaws.{tables}
+use Rattle.table_renamed.specs.Alike.{Fields}
+use Rattle.table_renamed.proofs.TableLaws.{tables}
 
 -- a step of `place_of`
 step_of : List ℕ → ℕ → Option ElementPart → Option ElementPart

@@ -6,21 +6,26 @@ ghost use Rattle.table_records.specs.Table.{count};
 ghost use Rattle.code_flat.specs.Code.{unit, ends};
 ghost use Rattle.route_list.specs.Over.{over};
 ghost use Rattle.code_tree.specs.Statements.{body_of, unit_of};
+ghost use Rattle.code_widths.specs.Widths.{Units, Widths};
 ghost use Rattle.code_contexts.specs.Contexts as contexts;
-ghost use Rattle.code_branch.specs.Branch.{Laid};
+ghost use Rattle.code_contexts.specs.Turn.{Room};
+ghost use Rattle.code_branch.specs.Branch.{Arrays, Laid};
 ghost use Rattle.code_put.specs.Put.{Put};
 ghost use Rattle.code_assemble.specs.Ready.{Ready};
 ghost use Rattle.code_assemble.specs.Assembled.{assembled, assembled_slice};
 ghost use Rattle.code_assemble.specs.Written.{Emitted};
 
 use code_branch::Layout;
+use code_contexts::Draft;
 use code_machine::opcodes;
 use code_put::put_words;
 use refusal_verdict::{Refusal, Refused};
 use table_records::NodeId;
 
-// Up to how many nodes small arrays serve: they cost less to clear.
+// Up to how many nodes small arrays serve, and smaller ones: they cost less to clear.
 const SMALL: usize = 1024;
+
+const FEW: usize = 128;
 
 // More nodes than a table has.
 const LARGE: usize = 65536;
@@ -68,6 +73,7 @@ fn put_ends(code: &mut [u32], o: usize)
 }
 
 // Writes the words of all nodes, and the ends.
+#[tactic(auto, using(crate::proofs::WrittenLaws::length_whole, crate::proofs::WrittenLaws::write_start, crate::proofs::WrittenLaws::write_turn, crate::proofs::WrittenLaws::write_end, code_layout::proofs::LayoutLaws::in_root, code_branch::proofs::JumpLaws::width_is_lem))]
 fn write_code(laid: &Layout, code: &mut [u32])
     requires arrays { Laid laid.now }
     requires b_in_bounds { length (unit (body_of laid.now.nodes.now laid.now.names.now laid.now.body.0)) ≤ length code.old }
@@ -79,42 +85,53 @@ fn write_code(laid: &Layout, code: &mut [u32])
     put_ends(code, laid.widths[laid.body.0 as usize] as usize);
 }
 
-// How many numbers the code of the statements that b holds has, written from the slice's start, by way of four arrays. The length is known before anything is written.
-fn code_by(
-    nodes: &[u32],
-    names: &[u8],
+// Writes the words of all nodes, and the ends, from a draft in which each node has its place.
+fn write_draft<'a>(
+    nodes: &'a [u32],
+    names: &'a [u8],
     b: NodeId,
-    widths: &mut [u32],
-    levels: &mut [u32],
-    offsets: &mut [u32],
-    follows: &mut [u32],
+    draft: &'a Draft<'a>,
     code: &mut [u32],
-) -> Result<usize, Refused>
-    requires ready { contexts.Ready nodes.now names.now b.0 }
-    requires nodes_in_bounds { count nodes.now ≤ length widths.old }
-    requires nodes_in_bounds_2 { count nodes.now ≤ length levels.old }
-    requires nodes_in_bounds_3 { count nodes.now ≤ length offsets.old }
-    requires nodes_in_bounds_4 { count nodes.now ≤ length follows.old }
-    ensures value { result ≡ assembled (unit (body_of nodes.now names.now b.0)) (length code.old) }
-    ensures code_after { code.new ≡ assembled_slice (unit (body_of nodes.now names.now b.0)) code.old }
+)
+    requires arrays { Arrays nodes.now names.now b.0 draft.now.widths.now draft.now.levels.now draft.now.offsets.now draft.now.follows.now }
+    requires b_in_bounds { length (unit (body_of nodes.now names.now b.0)) ≤ length code.old }
+    ensures { code.new ≡ over (unit (body_of nodes.now names.now b.0)) code.old }
 {
-    code_widths::fill_units(nodes, names, b, levels, widths);
-    code_widths::fill_widths(nodes, names, b, levels, widths, offsets);
-    let length = widths[b.0 as usize] as usize + END_WORDS;
-    if code.len() < length {
-        return Err(Refused::Short(Refusal::CodeSlice, length as u64));
-    }
-    code_contexts::fill_places(nodes, names, b, widths, levels, offsets, follows);
     let laid = Layout {
         nodes,
         names,
         body: b,
-        widths,
-        levels,
-        offsets,
-        follows,
+        widths: draft.widths,
+        levels: draft.levels,
+        offsets: draft.offsets,
+        follows: draft.follows,
     };
     write_code(&laid, code);
+}
+
+// How many numbers the code of the statements that b holds has, once the widths are there, written from the slice's start. The length is known before anything
+// is written.
+#[tactic(auto, using(crate::proofs::WrittenLaws::fits_answer, crate::proofs::WrittenLaws::fits_slice, crate::proofs::WrittenLaws::short_answer, crate::proofs::WrittenLaws::short_slice, crate::proofs::WrittenLaws::length_whole, code_layout::proofs::LayoutLaws::in_root))]
+fn code_by(
+    nodes: &[u32],
+    names: &[u8],
+    b: NodeId,
+    draft: &mut Draft,
+    code: &mut [u32],
+) -> Result<usize, Refused>
+    requires ready { contexts.Ready nodes.now names.now b.0 }
+    requires room { Room nodes.now draft.old }
+    requires units { Units nodes.now b.0 (count nodes.now) draft.old.levels.now }
+    requires widths { Widths nodes.now b.0 draft.old.widths.now draft.old.offsets.now }
+    ensures value { result ≡ assembled (unit (body_of nodes.now names.now b.0)) (length code.old) }
+    ensures code_after { code.new ≡ assembled_slice (unit (body_of nodes.now names.now b.0)) code.old }
+{
+    let length = draft.widths[b.0 as usize] as usize + END_WORDS;
+    if code.len() < length {
+        return Err(Refused::Short(Refusal::CodeSlice, length as u64));
+    }
+    code_contexts::fill_places(nodes, names, b, draft);
+    write_draft(nodes, names, b, draft, code);
     Ok(length)
 }
 
@@ -136,16 +153,15 @@ fn code_within<const N: usize>(
     let mut levels: [u32; N] = [0; N];
     let mut offsets: [u32; N] = [0; N];
     let mut follows: [u32; N] = [0; N];
-    code_by(
-        nodes,
-        names,
-        b,
-        &mut widths,
-        &mut levels,
-        &mut offsets,
-        &mut follows,
-        code,
-    )
+    code_widths::fill_units(nodes, names, b, &mut levels, &mut widths);
+    code_widths::fill_widths(nodes, names, b, &levels, &mut widths, &mut offsets);
+    let mut draft = Draft {
+        widths: &mut widths,
+        levels: &mut levels,
+        offsets: &mut offsets,
+        follows: &mut follows,
+    };
+    code_by(nodes, names, b, &mut draft, code)
 }
 
 // The code of the statements that b holds.
@@ -154,10 +170,13 @@ fn code_body(nodes: &[u32], names: &[u8], b: NodeId, code: &mut [u32]) -> Result
     ensures value { result ≡ assembled (unit (body_of nodes.now names.now b.0)) (length code.old) }
     ensures code_after { code.new ≡ assembled_slice (unit (body_of nodes.now names.now b.0)) code.old }
 {
-    if table_records::is_node(nodes, SMALL as u32) {
-        return code_within::<LARGE>(nodes, names, b, code);
+    if !table_records::is_node(nodes, FEW as u32) {
+        return code_within::<FEW>(nodes, names, b, code);
     }
-    code_within::<SMALL>(nodes, names, b, code)
+    if !table_records::is_node(nodes, SMALL as u32) {
+        return code_within::<SMALL>(nodes, names, b, code);
+    }
+    code_within::<LARGE>(nodes, names, b, code)
 }
 
 // The code of a unit without statements: the ends alone.
@@ -173,6 +192,7 @@ fn code_none(code: &mut [u32]) -> Result<usize, Refused>
 }
 
 // The code of the unit u.
+#[tactic(auto, using(crate::proofs::ReadyLaws::unit_held, crate::proofs::ReadyLaws::unit_none))]
 pub fn code_unit(nodes: &[u32], names: &[u8], u: NodeId, code: &mut [u32]) -> Result<usize, Refused>
     requires { Ready nodes.now names.now u.0 }
     ensures value { result ≡ assembled (unit (unit_of nodes.now names.now u.0)) (length code.old) }

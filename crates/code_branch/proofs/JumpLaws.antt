@@ -59,6 +59,9 @@ module _ {ns names : List ℕ} {b : ℕ} {widths levels offsets follows : List �
   pub follow_is : Follow ns names b n (get_or follows n 0)
   follow_is = A.places.follow n low l e
 
+  pub follow_low : b ≤ get_or follows n 0
+  follow_low = follow_is.low
+
 module _ (ns names : List ℕ) where
   pub jump_is : (b : ℕ) (j : Jump) → is_jump ns names b (comp_by ns names j) ≡ true
   jump_is b (Break l) = refl

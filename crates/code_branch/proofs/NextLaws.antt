@@ -86,6 +86,9 @@ module _ (ns names : List ℕ) (b : ℕ) (widths levels offsets follows : List �
     pub up_deep : 1 ≤ get_or levels (up_of ns f) 0
     up_deep = let u = up_level in omega arith
 
+    pub own_deep : 1 ≤ get_or levels f 0
+    own_deep = let u = own_level in omega arith
+
     pub up_small : get_or offsets (up_of ns f) 0 ≤ 786420
     up_small =
         let u = up_offset in

@@ -60,6 +60,7 @@ fn is_breakable(s: Shape) -> bool
 }
 
 // Where control goes from the end of f: behind it, to the next turn of the loop that holds it, from a finally to what is pending, from the body to the end of the unit.
+#[tactic(auto, using(crate::proofs::NextLaws::next_root, crate::proofs::NextLaws::next_try, crate::proofs::NextLaws::next_loop, crate::proofs::NextLaws::next_plain, crate::proofs::NextLaws::up_deep, crate::proofs::NextLaws::up_small, crate::proofs::NextLaws::end_small))]
 pub fn next_of(laid: &Layout, f: NodeId) -> Target
     requires arrays { Laid laid.now }
     requires b_le_f { laid.now.body.0 ≤ f.0 }
@@ -95,6 +96,7 @@ pub fn next_of(laid: &Layout, f: NodeId) -> Target
 }
 
 // Where what falls out of n goes on.
+#[tactic(auto, using(crate::proofs::JumpLaws::follow_is, crate::proofs::JumpLaws::follow_low))]
 pub fn normal_target(laid: &Layout, n: NodeId) -> Target
     requires arrays { Laid laid.now }
     requires n_bound { n.0 < count laid.now.nodes.now }
@@ -106,6 +108,7 @@ pub fn normal_target(laid: &Layout, n: NodeId) -> Target
 }
 
 // Where the loop p asks for its next turn.
+#[tactic(auto, using(crate::proofs::JumpLaws::offset_is, crate::proofs::JumpLaws::depth_is, crate::proofs::JumpLaws::level_some, crate::proofs::JumpLaws::end_small))]
 fn turn_of(laid: &Layout, p: NodeId) -> Target
     requires arrays { Laid laid.now }
     requires p_bound { p.0 < count laid.now.nodes.now }
@@ -119,6 +122,7 @@ fn turn_of(laid: &Layout, p: NodeId) -> Target
 }
 
 // Where the words of n end: the catch begins there, if n is the Block of a Try that has one. The pending ends are as deep as in n.
+#[tactic(auto, using(crate::proofs::JumpLaws::offset_is, crate::proofs::JumpLaws::width_is_lem, crate::proofs::JumpLaws::depth_is, crate::proofs::JumpLaws::level_some, crate::proofs::JumpLaws::end_small))]
 fn catch_behind(laid: &Layout, n: NodeId) -> Target
     requires arrays { Laid laid.now }
     requires n_bound { n.0 < count laid.now.nodes.now }
@@ -143,6 +147,7 @@ fn is_labeled_as(nodes: &[u32], names: &[u8], p: NodeId, l: NodeId) -> bool
 }
 
 // Whether a Labeled of the name of l stands over p, with no statement but Labeled between.
+#[tactic(auto, using(code_layout::proofs::Stands::in_from, code_contexts::proofs::PlacesLaws::above_in_lem, crate::proofs::JumpLaws::labels_root, crate::proofs::JumpLaws::labels_stop, crate::proofs::JumpLaws::labels_hit, crate::proofs::JumpLaws::labels_on))]
 fn has_label_above(laid: &Layout, p: NodeId, l: NodeId) -> bool
     requires ready { Ready laid.now.nodes.now laid.now.names.now laid.now.body.0 }
     requires p_bound { p.0 < count laid.now.nodes.now }
@@ -188,6 +193,7 @@ fn catches(laid: &Layout, p: NodeId, n: NodeId) -> bool
 }
 
 // Whether a jump out of the part n ends at its holder.
+#[tactic(auto, using(code_contexts::proofs::PlacesLaws::above_in_lem))]
 fn stops_at(laid: &Layout, n: NodeId, jump: Jump) -> bool
     requires ready { Ready laid.now.nodes.now laid.now.names.now laid.now.body.0 }
     requires b_lt_n { laid.now.body.0 < n.0 }
@@ -208,6 +214,7 @@ fn stops_at(laid: &Layout, n: NodeId, jump: Jump) -> bool
 }
 
 // Where a jump goes that ends at the holder of n.
+#[tactic(auto, using(code_contexts::proofs::PlacesLaws::above_in_lem))]
 fn land_at(laid: &Layout, n: NodeId, jump: Jump) -> Target
     requires arrays { Laid laid.now }
     requires b_lt_n { laid.now.body.0 < n.0 }

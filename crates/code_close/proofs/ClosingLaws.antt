@@ -449,7 +449,7 @@ module _ (is : List Instr) (s : AreInstrs is) (f : List ℕ) (from to : ℕ) (st
             inside' (inr y) = omega (arith, st.ends, len_pos (find is 0 o) b)
 
 -- What stands somewhere, read number by number.
-has_at : (D : List ℕ) (o : ℕ) (l : List ℕ) (i : ℕ) → Has D o l → i < length l → get_or D (o + i) 0 ≡ get_or l i 0
+pub has_at : (D : List ℕ) (o : ℕ) (l : List ℕ) (i : ℕ) → Has D o l → i < length l → get_or D (o + i) 0 ≡ get_or l i 0
 has_at D o [] i p q = absurd (omega arith)
 has_at D o (x ∷ l) zero p q = ap (λ j. get_or D j 0) (let z : o + 0 ≡ o = omega arith in z) ∙ p.0
 has_at D o (x ∷ l) (suc i) p q = ap (λ j. get_or D j 0) (let e : o + suc i ≡ suc o + i = omega arith in e) ∙ has_at D (suc o) l i p.1 (omega arith)

@@ -11,12 +11,12 @@ ghost use Rattle.code_shorten.specs.Sound.{AreInstrs};
 ghost use Rattle.code_shorten.specs.Closes.{In};
 ghost use Rattle.code_pass.specs.Stages.{mark, sent_on, kept_places, new_place, Gathered};
 ghost use Rattle.code_mark.specs.Read.{read_at};
-ghost use Rattle.code_places.specs.Placing.{Tagged, Placed};
+ghost use Rattle.code_places.specs.Placing.{Tagged, PlacedBy};
 ghost use Rattle.code_close.specs.Closing.{names_first, names_second, names_third, Moves, Moved, Starts, Raised, Plain, Restored, Saved};
 
 use code_machine::{opcodes, word};
 use code_mark::{opcode_at, size_at};
-use code_places::Places;
+use code_places::index::Places;
 
 fn names_first(x: u32) -> bool
     ensures { result ≡ names_first x }
@@ -38,7 +38,7 @@ fn names_third(x: u32) -> bool
 
 // An operand of the new code: a place is moved, another number stays.
 fn new_operand(code: &[u32], places: &Places, o: u32, named: bool) -> u32
-    ensures { (C : List ℕ) → Placed C places.now.begins.now places.now.news.now places.now.stride places.now.split places.now.front → Tagged C code.now places.now.split → (named ≡ true → In (kept_places C) o) → result ≡ pick named (new_place C o) o }
+    ensures { (C : List ℕ) → PlacedBy C places.now → Tagged C code.now places.now.split → (named ≡ true → In (kept_places C) o) → result ≡ pick named (new_place C o) o }
 {
     if named { places.place_of(code, o) } else { o }
 }
@@ -47,7 +47,7 @@ fn new_operand(code: &[u32], places: &Places, o: u32, named: bool) -> u32
 fn move_at(code: &mut [u32], places: &Places, q: usize, size: usize)
     requires size_bound { size ≤ 4 }
     requires in_bounds { q + size ≤ length code.old }
-    ensures { (C : List ℕ) (o : ℕ) → Placed C places.now.begins.now places.now.news.now places.now.stride places.now.split places.now.front → Tagged C code.old places.now.split → In (kept_places C) o → read_at code.old q ≡ find (sent_on C) 0 o → size ≡ len (find (sent_on C) 0 o) → Moves C code.old code.new q o }
+    ensures { (C : List ℕ) (o : ℕ) → PlacedBy C places.now → Tagged C code.old places.now.split → In (kept_places C) o → read_at code.old q ≡ find (sent_on C) 0 o → size ≡ len (find (sent_on C) 0 o) → Moves C code.old code.new q o }
 {
     let x = opcode_at(code, q);
     let a = new_operand(code, places, word(code, q + 1), names_first(x));
@@ -59,7 +59,7 @@ fn move_at(code: &mut [u32], places: &Places, q: usize, size: usize)
 
 // Moves the targets of all that is kept.
 fn move_targets(code: &mut [u32], places: &Places, end: usize)
-    ensures { (C : List ℕ) → Placed C places.now.begins.now places.now.news.now places.now.stride places.now.split places.now.front → end ≡ length (shorter C) → Gathered C code.old places.now.split (length C) → Moved C code.new places.now.split }
+    ensures { (C : List ℕ) → PlacedBy C places.now → end ≡ length (shorter C) → Gathered C code.old places.now.split (length C) → Moved C code.new places.now.split }
 {
     let mut q = 0;
     while q < end {
@@ -91,17 +91,15 @@ fn make_plain(code: &mut [u32], from: usize, to: usize)
 fn restore(code: &mut [u32], from: usize, to: usize, saved: &[u32])
     ensures { Restored code.old code.new from to saved.now }
 {
-    let mut x = from;
-    while x < to && x < code.len() {
+    for x in from..to.min(code.len()) {
         code[x] = word(saved, x - from);
-        x += 1;
     }
 }
 
 // Ends the pass over a slice where all that is kept is gathered. `new_length` is that of the shorter code, and `saved` holds the entries from there to
 // the split as they came.
 pub fn close_up(code: &mut [u32], places: &Places, new_length: usize, saved: &[u32])
-    ensures { (C : List ℕ) → Placed C places.now.begins.now places.now.news.now places.now.stride places.now.split places.now.front → new_length ≡ length (shorter C) → Gathered C code.old places.now.split (length C) → Saved C new_length places.now.split saved.now → code.new ≡ shorter C ++ drop new_length C }
+    ensures { (C : List ℕ) → PlacedBy C places.now → new_length ≡ length (shorter C) → Gathered C code.old places.now.split (length C) → Saved C new_length places.now.split saved.now → code.new ≡ shorter C ++ drop new_length C }
 {
     move_targets(code, places, new_length);
     make_plain(code, 0, new_length);

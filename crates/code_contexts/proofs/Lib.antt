@@ -1,3 +1,4 @@
 pub mod EndLaws
 pub mod OffsetLaws
 pub mod PlacesLaws
+pub mod TurnLaws

@@ -207,6 +207,24 @@ module _ (ns names : List ℕ) (b : ℕ) (r : Ready ns names b) where
 
   -- The turns.
   module _ (i : ℕ) (hb : b < i) (hc : i < count ns) (levels offsets follows : List ℕ) (c : Places ns names b i levels offsets follows) where
+    pub places_skip : in_unit ns b i ≡ false → Places ns names b (i + 1) levels offsets follows
+    places_skip e =
+        record {
+          level = λ j l m u. c.level j l (less j u m) u;
+          offset = λ j l m u. c.offset j l (less j u m) u;
+          follow = λ j l m u. c.follow j l (less j u m) u;
+          unit = λ j l m. c.unit j (omega arith) m;
+          after = λ j l m u. c.after j (omega arith) m u;
+          other = c.other;
+        }
+      where
+        less : (j : ℕ) → in_unit ns b j ≡ true → j < i + 1 → j < i
+        less j u m = go (eq-or-lt_of_le {n = suc j} {m = i + 1} m)
+          where
+            go : (suc j ≡ i + 1) ⊎ (suc j < i + 1) → j < i
+            go (inl q) = never (sym u ∙ ap (in_unit ns b) (let z : j ≡ i = omega arith in z) ∙ e)
+            go (inr q) = omega arith
+
     pub places_turn : in_unit ns b i ≡ true → (l o f : ℕ) → i < length levels → i < length offsets → i < length follows → l ≡ suc (depth_at ns names b i) → o ≡ offset_at ns names b i → Follow ns names b i f
         → Places ns names b (i + 1) (set levels i l) (set offsets i o) (set follows i f)
     places_turn e l o f hl ho hf el eo ef =

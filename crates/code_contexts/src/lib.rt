@@ -10,11 +10,22 @@ ghost use Rattle.code_layout.specs.Widths.{has_role, is_try, sum, in_unit, own_w
 ghost use Rattle.code_layout.specs.Context.{offset_at};
 ghost use Rattle.code_widths.specs.Widths.{Units, Widths, counted};
 ghost use Rattle.code_contexts.specs.Contexts.{Ready, Wide, goes_by, Follow, Places};
+ghost use Rattle.code_contexts.specs.Turn.{Room, Turn};
 
 use code_shapes::{is_try, shape_of, up_of};
 use code_tree::Shape;
 use table_children::Part;
 use table_records::{NodeId, kinds, roles};
+
+// A layout in the making: the arrays of the code maker, which have a place for each node. In the first passes the levels are marks of the unit's nodes, and the
+// offsets the words behind each.
+#[derive(Drop)]
+pub struct Draft<'a> {
+    pub widths: &'a mut [u32],
+    pub levels: &'a mut [u32],
+    pub offsets: &'a mut [u32],
+    pub follows: &'a mut [u32],
+}
 
 // Whether the Try p has a finally.
 pub fn has_finally(nodes: &[u32], names: &[u8], b: NodeId, p: NodeId) -> bool
@@ -38,6 +49,7 @@ pub fn has_catch(nodes: &[u32], names: &[u8], b: NodeId, p: NodeId) -> bool
 }
 
 // The words of the Try p itself: OPEN's, where it has a finally.
+#[tactic(auto, using(crate::proofs::EndLaws::try_own))]
 pub fn own_of_try(nodes: &[u32], names: &[u8], b: NodeId, p: NodeId) -> u32
     requires ready { Ready nodes.now names.now b.0 }
     requires b_lt_p { b.0 < p.0 }
@@ -52,29 +64,17 @@ pub fn own_of_try(nodes: &[u32], names: &[u8], b: NodeId, p: NodeId) -> u32
     0
 }
 
-// Where the words of a part of the Try p stand: the Block's first, then the catch's, the finally's last. o is where those of p stand.
-fn offset_in_try(
-    nodes: &[u32],
-    names: &[u8],
-    b: NodeId,
-    widths: &[u32],
-    p: NodeId,
-    o: u32,
-    n: NodeId,
-) -> u32
-    requires ready { Ready nodes.now names.now b.0 }
-    requires wide { Wide nodes.now b.0 widths.now }
-    requires b_lt_n { b.0 < n.0 }
-    requires n_bound { n.0 < count nodes.now }
-    requires n_value { in_unit nodes.now b.0 n.0 ≡ true }
+// Where the words of n stand, a part of the Try p: the Block's first, then the catch's, the finally's last.
+fn offset_in_try(nodes: &[u32], names: &[u8], b: NodeId, draft: &Draft, p: NodeId, n: NodeId) -> u32
+    requires turn { Turn nodes.now names.now b.0 n.0 draft.now }
     requires p_value { p.0 ≡ up_of nodes.now n.0 }
     requires p_value_2 { shape_at nodes.now p.0 ≡ Try }
-    requires o_value { o ≡ offset_at nodes.now names.now b.0 p.0 }
     ensures { result ≡ offset_at nodes.now names.now b.0 n.0 }
 {
+    let o = draft.offsets[p.0 as usize];
     let r = table_records::role(nodes, n);
     if r == roles::FINALLY {
-        return o + widths[p.0 as usize] - widths[n.0 as usize];
+        return o + draft.widths[p.0 as usize] - draft.widths[n.0 as usize];
     }
     let start = o + own_of_try(nodes, names, b, p);
     if r == roles::HELD {
@@ -84,34 +84,22 @@ fn offset_in_try(
     else {
         return 0;
     };
-    start + widths[block.0 as usize]
+    start + draft.widths[block.0 as usize]
 }
 
-// Where the words of n stand: where its holder's end, less its own width and the words behind it. o is where those of its holder p stand.
-fn offset_of(
-    nodes: &[u32],
-    names: &[u8],
-    b: NodeId,
-    widths: &[u32],
-    p: NodeId,
-    o: u32,
-    behind: u32,
-    n: NodeId,
-) -> u32
-    requires ready { Ready nodes.now names.now b.0 }
-    requires wide { Wide nodes.now b.0 widths.now }
-    requires b_lt_n { b.0 < n.0 }
-    requires n_bound { n.0 < count nodes.now }
-    requires n_value { in_unit nodes.now b.0 n.0 ≡ true }
+// Where the words of n stand: where the end of its holder p stands, less its own width and the words behind it.
+#[tactic(auto, using(crate::proofs::OffsetLaws::up_room, crate::proofs::OffsetLaws::plain_room, crate::proofs::OffsetLaws::plain_less, crate::proofs::OffsetLaws::plain_is_lem, crate::proofs::TurnLaws::holder_offset, crate::proofs::TurnLaws::behind_is))]
+fn offset_of(nodes: &[u32], names: &[u8], b: NodeId, draft: &Draft, p: NodeId, n: NodeId) -> u32
+    requires turn { Turn nodes.now names.now b.0 n.0 draft.now }
     requires p_value { p.0 ≡ up_of nodes.now n.0 }
-    requires o_value { o ≡ offset_at nodes.now names.now b.0 p.0 }
-    requires behind_value { behind ≡ sum (counted nodes.now b.0) (parts nodes.now p.0 (n.0 + 1)) }
     ensures { result ≡ offset_at nodes.now names.now b.0 n.0 }
 {
     if is_try(shape_of(nodes, p)) {
-        return offset_in_try(nodes, names, b, widths, p, o, n);
+        return offset_in_try(nodes, names, b, draft, p, n);
     }
-    o + widths[p.0 as usize] - behind - widths[n.0 as usize]
+    let o = draft.offsets[p.0 as usize];
+    let behind = draft.offsets[n.0 as usize];
+    o + draft.widths[p.0 as usize] - behind - draft.widths[n.0 as usize]
 }
 
 // Whether a part of a holder of the shape s goes on by itself; x says whether a further part follows, r is its role.
@@ -126,25 +114,13 @@ fn goes_by(s: Shape, x: bool, r: u32) -> bool
     }
 }
 
-// From which node's end control goes on where n falls through: its own, or as for its holder p (f).
-fn follow_of(
-    nodes: &[u32],
-    names: &[u8],
-    b: NodeId,
-    p: NodeId,
-    behind: u32,
-    f: u32,
-    n: NodeId,
-) -> u32
-    requires ready { Ready nodes.now names.now b.0 }
-    requires b_lt_n { b.0 < n.0 }
-    requires n_bound { n.0 < count nodes.now }
-    requires n_value { in_unit nodes.now b.0 n.0 ≡ true }
+// From which node's end control goes on where n falls through: its own, or as for its holder p.
+fn follow_of(nodes: &[u32], names: &[u8], b: NodeId, draft: &Draft, p: NodeId, n: NodeId) -> u32
+    requires turn { Turn nodes.now names.now b.0 n.0 draft.now }
     requires p_value { p.0 ≡ up_of nodes.now n.0 }
-    requires behind_value { behind ≡ sum (counted nodes.now b.0) (parts nodes.now p.0 (n.0 + 1)) }
-    requires follow { Follow nodes.now names.now b.0 p.0 f }
     ensures { Follow nodes.now names.now b.0 n.0 result }
 {
+    let behind = draft.offsets[n.0 as usize];
     if goes_by(
         shape_of(nodes, p),
         behind != 0,
@@ -152,7 +128,7 @@ fn follow_of(
     ) {
         return n.0;
     }
-    f
+    draft.follows[p.0 as usize]
 }
 
 // One more than the depth of the pending ends at a part of p; l is that of p.
@@ -169,86 +145,53 @@ fn level_of(nodes: &[u32], names: &[u8], b: NodeId, p: NodeId, l: u32) -> u32
 }
 
 // One node of the unit.
-fn lay_node(
-    nodes: &[u32],
-    names: &[u8],
-    b: NodeId,
-    widths: &[u32],
-    n: NodeId,
-    levels: &mut [u32],
-    offsets: &mut [u32],
-    follows: &mut [u32],
-)
-    requires ready { Ready nodes.now names.now b.0 }
-    requires wide { Wide nodes.now b.0 widths.now }
-    requires b_lt_n { b.0 < n.0 }
-    requires n_bound { n.0 < count nodes.now }
-    requires n_value { in_unit nodes.now b.0 n.0 ≡ true }
-    requires nodes_in_bounds { count nodes.now ≤ length levels.old }
-    requires nodes_in_bounds_2 { count nodes.now ≤ length offsets.old }
-    requires nodes_in_bounds_3 { count nodes.now ≤ length follows.old }
-    requires places { Places nodes.now names.now b.0 n.0 levels.old offsets.old follows.old }
-    ensures { Places nodes.now names.now b.0 (n.0 + 1) levels.new offsets.new follows.new }
+#[tactic(auto, using(crate::proofs::PlacesLaws::level_is_lem, crate::proofs::PlacesLaws::places_turn, crate::proofs::TurnLaws::holder_lt, crate::proofs::TurnLaws::holder_level, crate::proofs::TurnLaws::level_small))]
+fn lay_node(nodes: &[u32], names: &[u8], b: NodeId, n: NodeId, draft: &mut Draft)
+    requires { Turn nodes.now names.now b.0 n.0 draft.old }
+    ensures room { Room nodes.now draft.new }
+    ensures widths { draft.new.widths.now ≡ draft.old.widths.now }
+    ensures places { Places nodes.now names.now b.0 (n.0 + 1) draft.new.levels.now draft.new.offsets.now draft.new.follows.now }
 {
     let p = up_of(nodes, n);
-    let behind = offsets[n.0 as usize];
-    let level = level_of(nodes, names, b, p, levels[p.0 as usize]);
-    let offset = offset_of(nodes, names, b, widths, p, offsets[p.0 as usize], behind, n);
-    let follow = follow_of(nodes, names, b, p, behind, follows[p.0 as usize], n);
-    levels[n.0 as usize] = level;
-    offsets[n.0 as usize] = offset;
-    follows[n.0 as usize] = follow;
+    let level = level_of(nodes, names, b, p, draft.levels[p.0 as usize]);
+    let offset = offset_of(nodes, names, b, draft, p, n);
+    let follow = follow_of(nodes, names, b, draft, p, n);
+    draft.levels[n.0 as usize] = level;
+    draft.offsets[n.0 as usize] = offset;
+    draft.follows[n.0 as usize] = follow;
 }
 
 // One turn: a node that isn't the unit's changes nothing.
-fn lay_at(
-    nodes: &[u32],
-    names: &[u8],
-    b: NodeId,
-    widths: &[u32],
-    n: NodeId,
-    levels: &mut [u32],
-    offsets: &mut [u32],
-    follows: &mut [u32],
-)
+fn lay_at(nodes: &[u32], names: &[u8], b: NodeId, n: NodeId, draft: &mut Draft)
     requires ready { Ready nodes.now names.now b.0 }
-    requires wide { Wide nodes.now b.0 widths.now }
     requires b_lt_n { b.0 < n.0 }
     requires n_bound { n.0 < count nodes.now }
-    requires nodes_in_bounds { count nodes.now ≤ length levels.old }
-    requires nodes_in_bounds_2 { count nodes.now ≤ length offsets.old }
-    requires nodes_in_bounds_3 { count nodes.now ≤ length follows.old }
-    requires places { Places nodes.now names.now b.0 n.0 levels.old offsets.old follows.old }
-    ensures { Places nodes.now names.now b.0 (n.0 + 1) levels.new offsets.new follows.new }
+    requires room { Room nodes.now draft.old }
+    requires wide { Wide nodes.now b.0 draft.old.widths.now }
+    requires places { Places nodes.now names.now b.0 n.0 draft.old.levels.now draft.old.offsets.now draft.old.follows.now }
+    ensures room { Room nodes.now draft.new }
+    ensures widths { draft.new.widths.now ≡ draft.old.widths.now }
+    ensures places { Places nodes.now names.now b.0 (n.0 + 1) draft.new.levels.now draft.new.offsets.now draft.new.follows.now }
 {
-    if levels[n.0 as usize] == 0 {
+    if draft.levels[n.0 as usize] == 0 {
         return;
     }
-    lay_node(nodes, names, b, widths, n, levels, offsets, follows);
+    lay_node(nodes, names, b, n, draft);
 }
 
-// Gives each node of the unit its place. The levels come in as marks of the unit's nodes, the offsets as the words behind each.
-pub fn fill_places(
-    nodes: &[u32],
-    names: &[u8],
-    b: NodeId,
-    widths: &[u32],
-    levels: &mut [u32],
-    offsets: &mut [u32],
-    follows: &mut [u32],
-)
+// Gives each node of the unit its place.
+pub fn fill_places(nodes: &[u32], names: &[u8], b: NodeId, draft: &mut Draft)
     requires ready { Ready nodes.now names.now b.0 }
-    requires nodes_in_bounds { count nodes.now ≤ length widths.now }
-    requires units { Units nodes.now b.0 (count nodes.now) levels.old }
-    requires widths { Widths nodes.now b.0 widths.now offsets.old }
-    requires nodes_in_bounds_2 { count nodes.now ≤ length levels.old }
-    requires nodes_in_bounds_3 { count nodes.now ≤ length offsets.old }
-    requires nodes_in_bounds_4 { count nodes.now ≤ length follows.old }
-    ensures { Places nodes.now names.now b.0 (count nodes.now) levels.new offsets.new follows.new }
+    requires room { Room nodes.now draft.old }
+    requires units { Units nodes.now b.0 (count nodes.now) draft.old.levels.now }
+    requires widths { Widths nodes.now b.0 draft.old.widths.now draft.old.offsets.now }
+    ensures room { Room nodes.now draft.new }
+    ensures widths { draft.new.widths.now ≡ draft.old.widths.now }
+    ensures places { Places nodes.now names.now b.0 (count nodes.now) draft.new.levels.now draft.new.offsets.now draft.new.follows.now }
 {
-    offsets[b.0 as usize] = 0;
-    follows[b.0 as usize] = b.0;
+    draft.offsets[b.0 as usize] = 0;
+    draft.follows[b.0 as usize] = b.0;
     for j in b.0 + 1..table_records::size(nodes) {
-        lay_at(nodes, names, b, widths, NodeId(j), levels, offsets, follows);
+        lay_at(nodes, names, b, NodeId(j), draft);
     }
 }

@@ -8,17 +8,15 @@ use mathlib.Core.List.{List}
 use Rattle.std.proofs.Math.ListN.{length, get_or}
 use native.Mathlib.Omega.{arith}
 use Rattle.route_completion.specs.Sem.{pick, elem}
-use Rattle.code_flat.specs.Machine.{Instr, NONE, LIST, LEAVE, ASK, SELECT, OPEN, END, CASE}
 use Rattle.code_valid.specs.Instrs.{len, words, parse, find}
 use Rattle.code_valid.specs.Valid.{Valid}
 use Rattle.code_shorten.specs.Sound.{Begin, len_pos}
 use Rattle.code_shorten.specs.Closes.{In}
 use Rattle.code_put.specs.Put.{Put}
 use Rattle.code_pass.specs.Stages.{kept_places, new_place, kept_to, sent_on, mark, Split, Fronted, Gathered}
-use Rattle.code_pass.proofs.KeptLaws.{sent_len}
+use Rattle.code_pass.proofs.KeptLaws.{sent_len, kept_parse}
 use Rattle.code_mark.specs.Read.{standing_in}
-use Rattle.code_shorten.proofs.PlaceLaws.{len_most}
-use Rattle.code_mark.proofs.PlaceLaws.{first_low, kept_begin}
+use Rattle.code_mark.proofs.PlaceLaws.{first_low}
 use Rattle.code_mark.proofs.KeptLaws.{kept_new}
 use Rattle.code_gather.specs.Gather.{Saved, Behind, Freed, Gathering}
 use Rattle.code_gather.proofs.BackLaws.{needed_fits}
@@ -27,22 +25,6 @@ use Rattle.code_gather.proofs.EnteredLaws.{At, at_begin, at_more, size_is}
 use Rattle.code_gather.proofs.StepLaws.{old_low, begins_before, kept_sum}
 use Rattle.code_gather.proofs.FreeLaws.{slot_same, free_none}
 use Rattle.code_gather.proofs.NowLaws.{fronted_behind}
-
-len_two : (i : Instr) → len i ≢ 0 → 2 ≤ len i
-len_two NONE h = absurd (omega arith)
-len_two (LIST n) h = omega arith
-len_two (LEAVE t d) h = omega arith
-len_two (ASK n y z) h = omega arith
-len_two (SELECT n c e) h = omega arith
-len_two (OPEN f) h = omega arith
-len_two (END e) h = omega arith
-len_two (CASE c t d) h = omega arith
-
-pub size_two : (f : List ℕ) (p n : ℕ) → n ≡ len (standing_in f p) → n ≢ 0 → 2 ≤ n
-size_two f p n e z = omega (arith, e, len_two (standing_in f p) (λ q. z (e ∙ q)))
-
-pub size_four : (f : List ℕ) (p n : ℕ) → n ≡ len (standing_in f p) → n ≤ 4
-size_four f p n e = omega (arith, e, len_most (standing_in f p))
 
 -- The walk has come to p, and q numbers are kept before it; the slots begin at the block.
 pub record Going (C f : List ℕ) (split p q block : ℕ) : Type 0 where
@@ -112,7 +94,7 @@ module _ (C : List ℕ) (v : Valid C) (split : ℕ) (cut : Split C split) where
           value = sym (sum n e ∙ ap (λ c. q + pick c n 0) (going_out a) ∙ (let z : q + 0 ≡ q = omega arith in z));
           gathered = record {
             fronted = g.gathered.fronted;
-            back = λ o j k r t u. new o j k r u (only n o e (kept_begin C v o k) t);
+            back = λ o j k r t u. new o j k r u (only n o e (kept_parse C v o k) t);
           };
           freed = free_none C v split p going_begin f h l block g.freed.count n g.freed.ends g.freed.all_saved (going_size n e) (sym (entry_unmarked f split p a));
         }
@@ -135,7 +117,7 @@ module _ (C : List ℕ) (v : Valid C) (split : ℕ) (cut : Split C split) where
               front = λ o j k r t. keeps (new_place C o + j) (omega (arith, old_low C v p o j k (omega arith) t, g.value)) ∙ g.gathered.fronted.front o j k r t;
               behind = λ x r. u.elsewhere x (inr (omega (arith, fits_in, d.ends))) ∙ outside x (inr r) ∙ h.behind x r;
             };
-            back = λ o j k r t y. new o j k r y (only n o e (kept_begin C v o k) t);
+            back = λ o j k r t y. new o j k r y (only n o e (kept_parse C v o k) t);
           };
           freed = record {
             count = d.count;

@@ -17,9 +17,9 @@ use Rattle.code_shorten.specs.Sound.{Begin, len_pos}
 use Rattle.code_shorten.specs.Closes.{In}
 use Rattle.code_put.specs.Put.{Put}
 use Rattle.code_pass.specs.Stages.{kept_places, new_place, kept_to, sent_on, mark, cycle, sent_word, tagged, Split, Sent}
-use Rattle.code_pass.proofs.KeptLaws.{sent_len}
+use Rattle.code_pass.proofs.KeptLaws.{sent_len, kept_parse}
 use Rattle.code_mark.specs.Read.{read_at, standing_in}
-use Rattle.code_mark.proofs.PlaceLaws.{sound, place_in, fits, no_overlap, sent_find, kept_begin}
+use Rattle.code_mark.proofs.PlaceLaws.{sound, place_in, fits, no_overlap, sent_find}
 use Rattle.code_mark.proofs.KeptLaws.{kept_none, kept_new}
 use Rattle.code_gather.specs.Gather.{is_jump, dropped, entered, needed, Slot, Slots, Says, Behind, Pushed, Gathering}
 use Rattle.code_gather.proofs.BackLaws.{below, below_more, below_one, below_all, needed_entered, needed_dropped}
@@ -152,7 +152,7 @@ module _ (C : List ℕ) (v : Valid C) (split : ℕ) (cut : Split C split) (f₀ 
           same = u.same ∙ g.same;
           value = sym (sum n e ∙ ap (λ c. kept + pick c n 0) k);
           few = omega (arith, g.few, below_more p (p + n) N (omega arith));
-          front = λ o j q m r. new o j q r (only n o e (kept_begin C v o q) m);
+          front = λ o j q m r. new o j q r (only n o e (kept_parse C v o q) m);
           slots = λ j m.
               slot_same C f f' split (kept + 3 * j) (kept + n + 3 * j)
               (λ y r. ap (λ z. get_or f' z 0) (let z : kept + n + 3 * j + y ≡ kept + n + (3 * j + y) = omega arith in z) ∙ u.moved (3 * j + y) (omega arith)
@@ -199,7 +199,7 @@ module _ (C : List ℕ) (v : Valid C) (split : ℕ) (cut : Split C split) (f₀ 
           same = g.same;
           value = sym (sum n e ∙ ap (λ c. kept + pick c n 0) (front_out h) ∙ (let z : kept + 0 ≡ kept = omega arith in z));
           few = omega (arith, g.few, below_more p (p + n) N (omega arith));
-          front = λ o j q m r. new o j q r (only n o e (kept_begin C v o q) m);
+          front = λ o j q m r. new o j q r (only n o e (kept_parse C v o q) m);
           slots = g.slots;
           all = λ x q m. old x q (only n x e (dropped_begin C split x (needed_dropped C split x split (parse C) 0 q)) m);
           rest = λ x m. g.rest x (omega arith);
@@ -248,7 +248,7 @@ module _ (C : List ℕ) (v : Valid C) (split : ℕ) (cut : Split C split) (f₀ 
           same = u.same ∙ g.same;
           value = sym (sum n e ∙ ap (λ c. kept + pick c n 0) (front_out h) ∙ (let z : kept + 0 ≡ kept = omega arith in z));
           few = omega (arith, g.few, below_one p (p + n) N (omega arith) need);
-          front = λ o j k m r. new o j k r (only n o e (kept_begin C v o k) m);
+          front = λ o j k m r. new o j k r (only n o e (kept_parse C v o k) m);
           slots = λ j m. slot j m (dec_lt j saved);
           all = λ x k m. old x k (only n x e (dropped_begin C split x (needed_dropped C split x split (parse C) 0 k)) m);
           rest = λ x m. u.elsewhere x (inr (omega arith)) ∙ g.rest x (omega arith);

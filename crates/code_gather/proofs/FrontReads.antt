@@ -14,13 +14,13 @@ use Rattle.code_valid.specs.Instrs.{len, words, parse, find}
 use Rattle.code_valid.specs.Valid.{Valid}
 use Rattle.code_shorten.specs.declared.Aim.{Aim}
 use Rattle.code_shorten.specs.Short.{aim_of}
-use Rattle.code_pass.proofs.KeptLaws.{sent_len}
+use Rattle.code_pass.proofs.KeptLaws.{sent_len, sent_none, kept_parse}
 use Rattle.code_shorten.specs.Sound.{Begin, len_pos, and_left, and_right, not_true}
 use Rattle.code_shorten.specs.Threads.{aim_some}
 use Rattle.code_shorten.specs.Closes.{In}
 use Rattle.code_pass.specs.Stages.{kept_places, new_place, sent_on, mark, cycle, sent_word, Fronted}
 use Rattle.code_mark.specs.Read.{read_at, standing_in}
-use Rattle.code_mark.proofs.PlaceLaws.{sent_begin, kept_begin, fits}
+use Rattle.code_mark.proofs.PlaceLaws.{fits}
 use Rattle.code_mark.proofs.ReadLaws.{raised_plain, marked_plain, standing_whole}
 use Rattle.code_gather.specs.Gather.{is_jump, dropped}
 
@@ -75,7 +75,7 @@ module _ (C : List ℕ) (v : Valid C) where
     i = find (sent_on C) 0 o
 
     some : is_none i ≡ false
-    some = sent_begin C v o ∙ b
+    some = sent_none C v o ∙ b
 
     pub sent_first : get_or f o 0 ≡ get_or (words i) 0 0 + pick (elem o (kept_places C)) mark 0
     sent_first = ap (λ x. get_or f x 0) (let z : o ≡ o + 0 = omega arith in z) ∙ s 0 (len_pos i some)
@@ -106,7 +106,7 @@ module _ (C : List ℕ) (v : Valid C) where
     there = find (sent_on C) 0 o
 
     there_some : is_none there ≡ false
-    there_some = sent_begin C v o ∙ kept_begin C v o k
+    there_some = sent_none C v o ∙ kept_parse C v o k
 
     there_first : get_or f (new_place C o) 0 % mark ≡ get_or (words there) 0 0
     there_first =

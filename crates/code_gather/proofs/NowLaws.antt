@@ -13,14 +13,15 @@ use Rattle.code_flat.specs.Machine.{is_zero}
 use Rattle.code_valid.specs.Instrs.{parse, find}
 use Rattle.code_valid.specs.Valid.{Valid}
 use Rattle.code_shorten.specs.declared.Aim.{Aim}
-use Rattle.code_shorten.specs.Short.{to, aim_of, hop}
+use Rattle.code_shorten.specs.Short.{aim_of, hop}
 use Rattle.code_shorten.specs.Sound.{Begin, len_pos}
 use Rattle.code_shorten.specs.Closes.{In}
 use Rattle.code_pass.specs.Stages.{kept_places, new_place, sent_on, Fronted}
+use Rattle.code_pass.proofs.KeptLaws.{sent_none, kept_parse}
 use Rattle.code_mark.specs.Read.{read_at}
-use Rattle.code_mark.proofs.PlaceLaws.{sent_find, sent_begin, kept_begin}
+use Rattle.code_mark.proofs.PlaceLaws.{sent_find}
 use Rattle.code_places.specs.Placing.{kept_place, Tagged}
-use Rattle.code_gather.specs.Gather.{is_jump, dropped, hop_sent, place_in, Slots, Says, Found, Behind}
+use Rattle.code_gather.specs.Gather.{is_jump, dropped, hop_sent, place_in, Says, Found, Behind}
 use Rattle.code_gather.proofs.WayLaws.{read}
 use Rattle.code_gather.proofs.TargetLaws.{thread_aim}
 use Rattle.code_gather.proofs.FrontReads.{fronted_read}
@@ -38,7 +39,7 @@ fronted_tagged C f split v s =
       same = s.same;
       firsts = λ o k l.
           ap (λ x. get_or f x 0) (let z : new_place C o ≡ new_place C o + 0 = omega arith in z)
-          ∙ s.front o 0 k l (len_pos (find (sent_on C) 0 o) (sent_begin C v o ∙ kept_begin C v o k));
+          ∙ s.front o 0 k l (len_pos (find (sent_on C) 0 o) (sent_none C v o ∙ kept_parse C v o k));
       behind = s.behind;
     }
 
@@ -110,30 +111,12 @@ module _ (C : List ℕ) (v : Valid C) (f : List ℕ) (split : ℕ) (s : Fronted 
       go zero m = absurd (omega arith)
       go (suc u) m = refl
 
-  pub sent_start : t ≡ 0 → None ≡ hop_sent C split t
-  sent_start e = go (ltb t split)
-    where
-      go : (c : Bool) → None ≡ pick c (pick (is_zero t) None (aim_of (find (sent_on C) 0 t))) None
-      go true = sym (ap (λ u. pick (is_zero u) None (aim_of (find (sent_on C) 0 t))) e)
-      go false = refl
-
-  pub sent_behind : split ≤ t → None ≡ hop_sent C split t
-  sent_behind l = sym (ap (λ c. pick c (pick (is_zero t) None (aim_of (find (sent_on C) 0 t))) None) (le-ltb t split l))
-
   pub sent_kept : (x : ℕ) → t < split → t ≢ 0 → Some x ≡ kept_place C t → aim_of (read_at f x) ≡ hop_sent C split t
   sent_kept x l n e =
       let k = kept_some x e in
       ap (λ y. aim_of (read_at f y)) k.1 ∙ ap aim_of (fronted_read C v f split s t k.0 l) ∙ sym (sent_is l n)
 
   module _ (block n : ℕ) (fits : block + 3 * n ≡ split) (l : t < split) (nz : t ≢ 0) where
-    pub sent_slot : Slots C f split block n → (x : ℕ) → Found f block split t (Some x) → to (get_or f (x + 1) 0) (get_or f (x + 2) 0) ≡ hop_sent C split t
-    sent_slot k x h =
-        let j : ℕ = h.0 in
-        let q : x ≡ block + 3 * j = h.1 in
-        let i = k j (omega (arith, h.2)) in
-        sym (sent_is l nz ∙ ap (λ y. aim_of (find (sent_on C) 0 y)) (sym h.3) ∙ ap (λ y. aim_of (find (sent_on C) 0 (get_or f y 0))) q ∙ i.leads
-        ∙ ap (λ y. to (get_or f (y + 1) 0) (get_or f (y + 2) 0)) (sym q))
-
     pub sent_lost : None ≡ kept_place C t → Found f block split t None → (dropped C split t ≡ true → Says f block n t) → None ≡ hop_sent C split t
     sent_lost e h k = sym (sent_is l nz ∙ go (aim_of (find (sent_on C) 0 t)) refl)
       where

@@ -12,14 +12,14 @@ use Rattle.code_valid.specs.Valid.{Valid}
 use Rattle.code_shorten.specs.Sound.{Begin, dec_eq, len_pos}
 use Rattle.code_shorten.specs.Closes.{In}
 use Rattle.code_pass.specs.Stages.{kept_places, new_place, kept_to, sent_on}
-use Rattle.code_pass.proofs.KeptLaws.{kept_less}
-use Rattle.code_mark.proofs.PlaceLaws.{no_overlap, kept_begin}
+use Rattle.code_pass.proofs.KeptLaws.{kept_less, kept_parse}
+use Rattle.code_mark.proofs.PlaceLaws.{no_overlap}
 use Rattle.code_mark.proofs.KeptLaws.{kept_new, kept_more}
 
 module _ (C : List ℕ) (v : Valid C) where
   -- The numbers of a kept instruction before p come to stand before what is kept from p on.
   pub old_low : (p o j : ℕ) → In (kept_places C) o → o < p → j < len (find (sent_on C) 0 o) → new_place C o + j < kept_to C p
-  old_low p o j k l m = omega (arith, kept_less C v o p k l, kept_new C v o (kept_begin C v o k))
+  old_low p o j k l m = omega (arith, kept_less C v o p k l, kept_new C v o (kept_parse C v o k))
 
   module _ (p : ℕ) (b : Begin (parse C) p) (n : ℕ) (e : n ≡ len (find (parse C) 0 p)) where
     pub begins_before : (o : ℕ) → Begin (parse C) o → o < p + n → (o < p) ⊎ (o ≡ p)

@@ -23,7 +23,8 @@ use Rattle.code_shorten.specs.Rings.{Ring, ring, ring_next, last_up}
 use Rattle.code_shorten.specs.Twice.{ring_stays}
 use Rattle.code_shorten.specs.Laws.{Hops, last_is, is_last}
 use Rattle.code_pass.specs.Stages.{sent_on, kept_places}
-use Rattle.code_mark.proofs.PlaceLaws.{sound, total_is, sent_sound, sent_find, sent_begin}
+use Rattle.code_pass.proofs.KeptLaws.{sent_sound, sent_none}
+use Rattle.code_mark.proofs.PlaceLaws.{sound, total_is, sent_find}
 use Rattle.code_gather.specs.Gather.{way, follow, hop_behind, hop_sent, entry, is_jump, dropped, with_entry, target}
 use Rattle.code_gather.proofs.WayLaws.{behind_hop, hop_begin}
 
@@ -181,7 +182,7 @@ module _ (C : List ℕ) (v : Valid C) (split : ℕ) where
   ring_kept : (o t d : ℕ) → Begin is o → In S o → aim_of (find is 0 o) ≡ to t d → Ring is t → In S t
   ring_kept o t d b k h r =
       let s : find (sent_on C) 0 o ≡ find is 0 o = sent_find C v o ∙ ring_stays is (find is 0 o) t d h r in
-      aim_leads (In S) o (find (sent_on C) 0 o) t d (ap aim_of s ∙ h) (reached_closed (sent_on C) (sent_sound C v) o (sent_begin C v o ∙ b) k)
+      aim_leads (In S) o (find (sent_on C) 0 o) t d (ap aim_of s ∙ h) (reached_closed (sent_on C) (sent_sound C v) o (sent_none C v o ∙ b) k)
 
   kept_on : (n t d u e : ℕ) → Hops is n t d u e → Begin is t → (Ring is t → In S t) → Ring is u → In S u
   kept_on zero t d u e h b k r = subst (In S) h.0 (k (subst (Ring is) (sym h.0) r))
@@ -216,9 +217,9 @@ module _ (C : List ℕ) (v : Valid C) (split : ℕ) where
           let r = at (is_zero t) (sym (ap (λ c. pick c (pick (is_zero t) None (aim_of (find (sent_on C) 0 t))) None) (lt-ltb t split l)) ∙ h) in
           (l, (λ q. let w : None ≡ to r.0 r.1 = sym q ∙ r.2 in let z : ◌≡◌ {A = ℕ} 0 1 = cc in omega arith), r)
 
-  sent_none : (t : ℕ) → hop_sent C split t ≡ None → hop_behind C split t ≡ None → hop is t ≡ None
+  sent_nowhere : (t : ℕ) → hop_sent C split t ≡ None → hop_behind C split t ≡ None → hop is t ≡ None
   unfolding hop
-  sent_none t h g = go (dec_lt t split)
+  sent_nowhere t h g = go (dec_lt t split)
     where
       i : Instr
       i = find is 0 t
@@ -278,7 +279,7 @@ module _ (C : List ℕ) (v : Valid C) (split : ℕ) where
     pub target_end : (t d : ℕ) → entry C split p jump ≡ to t d → hop_sent C split t ≡ None → target C jump ≡ to t d
     target_end t d h g =
         let w : Way t d = entry_way t d h in
-        target_by t d w ∙ last_is is w.hops.0 w.from w.at t d w.hops.1 (sent_none t g w.ends)
+        target_by t d w ∙ last_is is w.hops.0 w.from w.at t d w.hops.1 (sent_nowhere t g w.ends)
 
     pub entry_begin : (t d : ℕ) → entry C split p jump ≡ to t d → Begin is t
     entry_begin t d h = let w : Way t d = entry_way t d h in begins_on w.hops.0 w.from w.at t d w.hops.1 w.begun

@@ -13,43 +13,28 @@ ghost use Rattle.code_shorten.specs.Closes.{In};
 ghost use Rattle.code_put.specs.Put.{Put};
 ghost use Rattle.code_pass.specs.Stages.{sent_on, kept_places, kept_to, cycle, mark, Split, Sent, Fronted, Gathered};
 ghost use Rattle.code_mark.specs.Read.{read_at};
-ghost use Rattle.code_places.specs.Placing.{Placed, Tagged};
+ghost use Rattle.code_places.specs.Placing.{PlacedBy, Tagged};
 ghost use Rattle.code_gather.specs.Gather.{way, place_in, Freed, hop_read, hop_sent, entry_read, comes, entered, is_jump, dropped, needed, Slots, Says, Saved, Behind, Pushed, Found, Gathering, target};
 
 use code_machine::{opcodes, word};
-use code_mark::{RAISE, opcode_at, size_at};
-use code_places::{CYCLE, Places};
+use code_mark::{RAISE, aim_at, hop, opcode_at, size_at};
+use code_places::CYCLE;
+use code_places::index::Places;
 use code_shorten::Aim;
 
 // A saved jump takes three numbers: its old place, and where it leads: a place, and a depth.
 const SAVED: usize = 3;
 
-// Where the jump at p goes; none where no jump stands. The number that begins it may be raised.
-fn aim_at(code: &[u32], p: usize) -> Option<Aim>
-    ensures { result ≡ aim_of (read_at code.now p) }
-{
-    match opcode_at(code, p) {
-        opcodes::LEAVE => Some(Aim {
-            place: word(code, p + 1),
-            depth: word(code, p + 2),
-        }),
-        opcodes::CASE => Some(Aim {
-            place: word(code, p + 2),
-            depth: word(code, p + 3),
-        }),
-        _ => None,
-    }
-}
-
 // The jump that stands at t behind the split.
+#[tactic(auto, using(crate::proofs::JumpLaws::hop_front, crate::proofs::JumpLaws::hop_on))]
 fn hop_behind(code: &[u32], split: usize, t: u32) -> Option<Aim>
     ensures { result ≡ hop_read code.now split t }
 {
-    let p = t as usize;
-    if p < split || t == 0 {
-        return None;
+    if (t as usize) < split {
+        None
+    } else {
+        hop(code, t)
     }
-    aim_at(code, p)
 }
 
 // Where jumps behind the split lead from a place on, with the least depth on the way: to a place where none stands, or to the front. None in a ring:
@@ -237,7 +222,7 @@ fn slot_of(code: &[u32], block: usize, split: usize, t: u32) -> Option<usize>
 
 // Where the instruction stands now that stood at t; none where it was dropped.
 fn place_now(code: &[u32], places: &Places, t: u32) -> Option<usize>
-    ensures { (C : List ℕ) → Placed C places.now.begins.now places.now.news.now places.now.stride places.now.split places.now.front → Fronted C code.now places.now.split → result ≡ place_in C places.now.split t }
+    ensures { (C : List ℕ) → PlacedBy C places.now → Fronted C code.now places.now.split → result ≡ place_in C places.now.split t }
 {
     if (t as usize) < places.split {
         return places.front_place(code, t);
@@ -248,7 +233,7 @@ fn place_now(code: &[u32], places: &Places, t: u32) -> Option<usize>
 // The jump of the front that stood at t, which is sent on.
 fn hop_front(code: &[u32], places: &Places, block: usize, t: u32) -> Option<Aim>
     requires { places.now.split ≤ length code.now }
-    ensures { (C : List ℕ) → Placed C places.now.begins.now places.now.news.now places.now.stride places.now.split places.now.front → Fronted C code.now places.now.split → (n : ℕ) → block + 3 * n ≡ places.now.split → Slots C code.now places.now.split block n → Begin (parse C) t → (dropped C places.now.split t ≡ true → Says code.now block n t) → result ≡ hop_sent C places.now.split t }
+    ensures { (C : List ℕ) → PlacedBy C places.now → Fronted C code.now places.now.split → (n : ℕ) → block + 3 * n ≡ places.now.split → Slots C code.now places.now.split block n → Begin (parse C) t → (dropped C places.now.split t ≡ true → Says code.now block n t) → result ≡ hop_sent C places.now.split t }
 {
     if t == 0 || places.split <= t as usize {
         return None;
@@ -267,7 +252,7 @@ fn hop_front(code: &[u32], places: &Places, block: usize, t: u32) -> Option<Aim>
 
 // A jump stood at t, and is kept.
 fn is_kept_jump(code: &[u32], places: &Places, t: u32) -> bool
-    ensures { (C : List ℕ) → Placed C places.now.begins.now places.now.news.now places.now.stride places.now.split places.now.front → Fronted C code.now places.now.split → Begin (parse C) t → (is_jump (hop (parse C) t) ≡ true → In (kept_places C) t) → result ≡ is_jump (hop (parse C) t) }
+    ensures { (C : List ℕ) → PlacedBy C places.now → Fronted C code.now places.now.split → Begin (parse C) t → (is_jump (hop (parse C) t) ≡ true → In (kept_places C) t) → result ≡ is_jump (hop (parse C) t) }
 {
     if t == 0 {
         return false;
@@ -282,7 +267,7 @@ fn is_kept_jump(code: &[u32], places: &Places, t: u32) -> bool
 // place where no jump stands, unless to a ring.
 fn sent_at(code: &[u32], places: &Places, block: usize, p: usize) -> Option<Aim>
     requires { places.now.split ≤ length code.now }
-    ensures { (C : List ℕ) → Placed C places.now.begins.now places.now.news.now places.now.stride places.now.split places.now.front → Fronted C code.now places.now.split → (n : ℕ) → block + 3 * n ≡ places.now.split → Saved C code.now places.now.split p block n → places.now.split ≤ p → Begin (parse C) p → In (kept_places C) p → result ≡ target C (find (parse C) 0 p) }
+    ensures { (C : List ℕ) → PlacedBy C places.now → Fronted C code.now places.now.split → (n : ℕ) → block + 3 * n ≡ places.now.split → Saved C code.now places.now.split p block n → places.now.split ≤ p → Begin (parse C) p → In (kept_places C) p → result ≡ target C (find (parse C) 0 p) }
 {
     let Some(last) = entry_of(code, places.split, p) else {
         return None;
@@ -305,7 +290,7 @@ fn words_at(code: &[u32], places: &Places, block: usize, p: usize, size: usize) 
     requires p_bound { p + size ≤ length code.now }
     requires size_lower { 2 ≤ size }
     requires size_upper { size ≤ 4 }
-    ensures { (C : List ℕ) → Placed C places.now.begins.now places.now.news.now places.now.stride places.now.split places.now.front → Fronted C code.now places.now.split → (n : ℕ) → block + 3 * n ≡ places.now.split → Saved C code.now places.now.split p block n → places.now.split ≤ p → Begin (parse C) p → In (kept_places C) p → size ≡ len (find (parse C) 0 p) → (j : ℕ) → j < size → get_or result j 0 ≡ get_or (words (find (sent_on C) 0 p)) j 0 }
+    ensures { (C : List ℕ) → PlacedBy C places.now → Fronted C code.now places.now.split → (n : ℕ) → block + 3 * n ≡ places.now.split → Saved C code.now places.now.split p block n → places.now.split ≤ p → Begin (parse C) p → In (kept_places C) p → size ≡ len (find (parse C) 0 p) → (j : ℕ) → j < size → get_or result j 0 ≡ get_or (words (find (sent_on C) 0 p)) j 0 }
 {
     let mut words: [u32; 4] = [
         opcode_at(code, p),
@@ -350,7 +335,7 @@ fn free(code: &mut [u32], split: usize, block: usize, p: usize, size: usize) -> 
 // Gathers what is kept behind the split. What is saved stands from `block` to the split.
 fn gather_behind(code: &mut [u32], places: &Places, kept: usize, block: usize)
     requires { kept ≤ places.now.split }
-    ensures { (C : List ℕ) → Placed C places.now.begins.now places.now.news.now places.now.stride places.now.split places.now.front → Fronted C code.old places.now.split → kept ≡ kept_to C places.now.split → (n : ℕ) → block + 3 * n ≡ places.now.split → Saved C code.old places.now.split places.now.split block n → Gathered C code.new places.now.split (length C) }
+    ensures { (C : List ℕ) → PlacedBy C places.now → Fronted C code.old places.now.split → kept ≡ kept_to C places.now.split → (n : ℕ) → block + 3 * n ≡ places.now.split → Saved C code.old places.now.split places.now.split block n → Gathered C code.new places.now.split (length C) }
 {
     let mut p = places.split;
     let mut q = kept;
@@ -372,7 +357,7 @@ fn gather_behind(code: &mut [u32], places: &Places, kept: usize, block: usize)
 
 // Gathers what is kept of the whole code.
 pub fn gather(code: &mut [u32], places: &Places)
-    ensures { (C : List ℕ) → Placed C places.now.begins.now places.now.news.now places.now.stride places.now.split places.now.front → Sent C code.old places.now.split → Gathered C code.new places.now.split (length C) }
+    ensures { (C : List ℕ) → PlacedBy C places.now → Sent C code.old places.now.split → Gathered C code.new places.now.split (length C) }
 {
     let front = gather_front(code, places.split);
     let end = front.kept + SAVED * front.saved;

@@ -1,18 +1,16 @@
 -- What the widths and offsets say of a node's parts: whether it has any, which is the last, where each begins.
-use Rattle.std.specs.Prelude.{ℕ, zero, suc, ◌+◌, ◌-◌, ◌≤◌, ◌<◌, ◌≡◌, ◌⊎◌, Bool, true, false, not, ◌&&◌, eqb, Option, Some, None}
+use Rattle.std.specs.Prelude.{ℕ, zero, suc, ◌+◌, ◌-◌, ◌≤◌, ◌<◌, ◌≡◌, ◌⊎◌, Bool, true, false, not, eqb, Option, Some, None}
 use Rattle.std.proofs.Math.Path.{refl, ap, sym}
 use Rattle.std.proofs.Common.{◌∙◌, subst, inl, inr, arith, eq-eqb, ne_eqb, eqb-true}
 use mathlib.Core.List.{List, [], ◌∷◌}
 use Rattle.std.proofs.Math.Bool.{cond}
 use Rattle.std.proofs.Math.ListN.{get_or}
-use Rattle.std.proofs.Math.Decide.{dec_lt}
 use Rattle.base_common.proofs.Bools.{never}
-use Rattle.base_common.proofs.UptoLaws.{and_left_lem, and_right_lem}
 use Rattle.table_records.specs.Table.{role_of, count}
 use Rattle.table_records.specs.Roles as role
 use Rattle.table_children.specs.Children.{first_child}
-use Rattle.code_tree.specs.Parts.{up_of, shape_at, is_part, parts, order}
-use Rattle.code_tree.proofs.PartsLaws.{All, parts_end, parts_turn, order_all_lem}
+use Rattle.code_tree.specs.Parts.{up_of, shape_at, parts, order}
+use Rattle.code_tree.proofs.PartsLaws.{All, order_all_lem}
 use Rattle.code_tree.specs.Parts.{Part}
 use Rattle.code_tree.specs.Statements.{default_at}
 use Rattle.code_tree.specs.declared.Shape.{Shape}
@@ -30,6 +28,7 @@ use Rattle.code_widths.specs.Widths.{counted}
 use Rattle.code_widths.proofs.WidthsLaws.{width_turn}
 use Rattle.code_contexts.proofs.EndLaws.{order_plain, end_part, behind_some, parts_some, parts_none, child_part, has_found, try_own}
 use Rattle.code_contexts.proofs.PlacesLaws.{part, above_in_lem, above_low, above_lt}
+use Rattle.code_shapes.proofs.SearchLaws.{number_of, Next, next_is}
 use Rattle.code_branch.specs.Branch.{Arrays}
 use Rattle.code_tree.specs.First.{first_of}
 use Rattle.std.specs.Option.{is_some}
@@ -47,54 +46,12 @@ some_not : (m : ℕ) → some m ≡ false → m ≡ 0
 some_not zero e = refl
 some_not (suc m) e = never e
 
-abbrev pub number_of : ℕ → Option NodeId → ℕ
-number_of z None = z
-number_of z (Some c) = c.0
-
 pub first_head : (l : List ℕ) (c : ℕ) → Some (record { 0 = c }) ≡ first_of l → c ≡ head0 l
 first_head [] c q = never (ap is_some q)
 first_head (x ∷ xs) c q = ap (number_of c) q
 
--- The first part of p from i on.
+-- What a search goes on with.
 module _ (ns : List ℕ) (p : ℕ) where
-  pub part_stop : (i : ℕ) → i < count ns → (eqb (up_of ns i) p && is_part ns i) ≡ true → Some (record { 0 = i }) ≡ first_of (parts ns p i)
-  part_stop i l q = sym (ap first_of (parts_turn ns p i l ∙ ap (λ x. cond x (i ∷ parts ns p (i + 1)) (parts ns p (i + 1))) q))
-
-  pub part_on : (i : ℕ) → i < count ns → (eqb (up_of ns i) p && is_part ns i) ≡ false → first_of (parts ns p (i + 1)) ≡ first_of (parts ns p i)
-  part_on i l q = sym (ap first_of (parts_turn ns p i l ∙ ap (λ x. cond x (i ∷ parts ns p (i + 1)) (parts ns p (i + 1))) q))
-
-  pub part_none : (i : ℕ) → count ns ≤ i → None ≡ first_of (parts ns p i)
-  part_none i l = sym (ap first_of (parts_end ns p i l))
-
-  pub record Next (i c : ℕ) : Type 0 where
-    pub part : Part ns p c
-    pub from : i ≤ c
-    pub is : parts ns p i ≡ c ∷ parts ns p (c + 1)
-
-  next_from : (f i c : ℕ) → count ns ≤ i + f → p < i → Some (record { 0 = c }) ≡ first_of (parts ns p i) → Next i c
-  next_from zero i c g h q = never (ap is_some (q ∙ sym (part_none i (omega arith))))
-  next_from (suc f) i c g h q = go (dec_lt i (count ns)) (λ u. next_from f (i + 1) c (omega arith) (omega arith) u)
-    where
-      by : i < count ns → (x : Bool) → (eqb (up_of ns i) p && is_part ns i) ≡ x → (Some (record { 0 = c }) ≡ first_of (parts ns p (i + 1)) → Next (i + 1) c) → Next i c
-      by u true t ih =
-          let y : i ≡ c = ap (number_of i) (part_stop i u t ∙ sym q) in
-          subst (Next i) y
-          (record {
-            part = record { behind = h; inside = u; parent = eqb-true (up_of ns i) p (and_left_lem (eqb (up_of ns i) p) (is_part ns i) t); part = and_right_lem (eqb (up_of ns i) p) (is_part ns i) t };
-            from = omega arith;
-            is = parts_turn ns p i u ∙ ap (λ x. cond x (i ∷ parts ns p (i + 1)) (parts ns p (i + 1))) t;
-          })
-      by u false t ih =
-          let r = ih (q ∙ sym (part_on i u t)) in
-          record { part = r.part; from = omega (arith, r.from); is = parts_turn ns p i u ∙ ap (λ x. cond x (i ∷ parts ns p (i + 1)) (parts ns p (i + 1))) t ∙ r.is }
-
-      go : Dec (i < count ns) → (Some (record { 0 = c }) ≡ first_of (parts ns p (i + 1)) → Next (i + 1) c) → Next i c
-      go (yes u) ih = by u (eqb (up_of ns i) p && is_part ns i) refl ih
-      go (no u) ih = never (ap is_some (q ∙ sym (part_none i (omega arith))))
-
-  pub next_is : (i c : ℕ) → p < i → Some (record { 0 = c }) ≡ first_of (parts ns p i) → Next i c
-  next_is i c h q = next_from (count ns) i c (omega arith) h q
-
   -- What a search has before it: the part that it found, and those behind.
   abbrev pub rest_of : Option NodeId → List ℕ
   rest_of None = []
@@ -114,17 +71,17 @@ module _ (ns : List ℕ) (p : ℕ) where
       go : (l : List ℕ) → None ≡ first_of l → [] ≡ l
       go [] z = refl
       go (c ∷ cs) z = never (sym (ap is_some z))
-  rest_is i (Some c) h q = sym (next_is i c.0 h q).is
+  rest_is i (Some c) h q = sym (next_is ns p i c.0 h q).is
 
   pub found_is : (i : ℕ) (m : Option NodeId) → p < i → m ≡ first_of (parts ns p i) → IsFound m
   found_is i None h q = tt
-  found_is i (Some c) h q = (next_is i c.0 h q).part
+  found_is i (Some c) h q = (next_is ns p i c.0 h q).part
 
   pub left_less : (c : ℕ) → Part ns p c → (m : Option NodeId) → m ≡ first_of (parts ns p (c + 1)) → left_of m < count ns - c
   left_less c w None q = let l = w.inside in omega arith
   left_less c w (Some d) q =
       let b = w.behind in
-      let x = next_is (c + 1) d.0 (omega arith) q in
+      let x = next_is ns p (c + 1) d.0 (omega arith) q in
       omega (arith, w.inside, x.from, x.part.inside)
 
 module _ {ns names : List ℕ} {b : ℕ} {widths levels offsets follows : List ℕ} (A : Arrays ns names b widths levels offsets follows) (n : ℕ) (h : b < n) (l : n < count ns) (e : in_unit ns b n ≡ true) where

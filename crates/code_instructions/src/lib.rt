@@ -1,14 +1,13 @@
 // The words of one node of the unit, by its shape: at most ten, in an array with zeros behind them.
 #![tactic(auto)]
 
-ghost use Rattle.std.specs.Prelude.{◌≡◌, true, false, ◌&&◌, ◌∷◌, [], ◌+◌, ◌<◌, ◌≤◌, eqb};
+ghost use Rattle.std.specs.Prelude.{◌≡◌, true, false, ◌∷◌, [], ◌+◌, ◌<◌, ◌≤◌, eqb};
 ghost use Rattle.table_records.specs.Table.{count};
-ghost use Rattle.table_records.specs.Facts.{Tree};
 ghost use Rattle.route_completion.specs.Sem.{normal, pick};
 ghost use Rattle.code_flat.specs.Code.{at};
 ghost use Rattle.code_flat.specs.Has.{Has};
 ghost use Rattle.code_flat.specs.Opcodes as op;
-ghost use Rattle.code_tree.specs.Parts.{up_of, shape_at, is_part, parts, order, Part};
+ghost use Rattle.code_tree.specs.Parts.{up_of, shape_at, parts, order, Part};
 ghost use Rattle.code_tree.specs.declared.Shape.TheVariants.{Leaf, Class, If, With, Block, Loop, Switch, Case, Try};
 ghost use Rattle.code_layout.specs.Widths.{sum, is_try, number_by, in_unit, own_width};
 ghost use Rattle.code_layout.specs.Context.{ifz, head0, offset_at};
@@ -21,7 +20,7 @@ ghost use Rattle.code_tree.specs.First.{first_of};
 
 use code_branch::{Layout, Target, leaf_target, normal_target};
 use code_machine::opcodes;
-use code_shapes::{is_part, is_try, number_by, shape_of, up_of};
+use code_shapes::{is_try, next_part, number_by, shape_of, up_of};
 use code_tree::Shape;
 use table_records::{NodeId, kinds, roles};
 
@@ -72,6 +71,7 @@ fn asking(code: u32, n: NodeId, x: u32, y: u32, t: Target) -> [u32; 10]
 }
 
 // Where a node that holds a list goes first: into its first part, which begins behind its own words; on, if it has none.
+#[tactic(auto, using(crate::proofs::PartLaws::ifz_none, crate::proofs::PartLaws::ifz_some, crate::proofs::PartLaws::number_fits, crate::proofs::PartLaws::head_none, crate::proofs::PartLaws::head_has, code_branch::proofs::JumpLaws::depth_is, code_branch::proofs::JumpLaws::end_small, code_branch::proofs::JumpLaws::offset_is))]
 fn entry_of(laid: &Layout, n: NodeId, own: u32) -> Target
     requires arrays { Laid laid.now }
     requires b_lt_n { laid.now.body.0 < n.0 }
@@ -90,34 +90,8 @@ fn entry_of(laid: &Layout, n: NodeId, own: u32) -> Target
     }
 }
 
-// Whether n is a part of p.
-fn is_part_of(nodes: &[u32], p: NodeId, n: NodeId) -> bool
-    requires tree { Tree nodes.now }
-    requires n_nonzero { 0 < n.0 }
-    requires n_bound { n.0 < count nodes.now }
-    ensures { result ≡ (eqb (up_of nodes.now n.0) p.0 && is_part nodes.now n.0) }
-{
-    up_of(nodes, n) == p && is_part(nodes, n)
-}
-
-// The first part of p from a node on.
-fn next_part(nodes: &[u32], p: NodeId, from: u32) -> Option<NodeId>
-    requires tree { Tree nodes.now }
-    requires from_nonzero { 0 < from }
-    ensures { result ≡ first_of (parts nodes.now p.0 from) }
-{
-    let mut i = from;
-    // `while`, since a range asks for the table's size: nothing that a walk up calls divides.
-    while table_records::is_node(nodes, i) {
-        if is_part_of(nodes, p, NodeId(i)) {
-            return Some(NodeId(i));
-        }
-        i += 1;
-    }
-    None
-}
-
 // Whether no part of p stands behind its part n: their words end at the same place.
+#[tactic(auto, using(crate::proofs::PartLaws::holder_small, crate::proofs::PartLaws::last_is_lem, code_branch::proofs::JumpLaws::end_small))]
 fn is_last(laid: &Layout, p: NodeId, n: NodeId) -> bool
     requires arrays { Laid laid.now }
     requires b_lt_n { laid.now.body.0 < n.0 }
@@ -159,6 +133,7 @@ fn class_words(laid: &Layout, n: NodeId) -> [u32; 10]
 }
 
 // An If without an alternate goes to its own jump on no. An alternate may stand before the held statement.
+#[tactic(auto, using(code_branch::proofs::JumpLaws::end_small))]
 fn if_words(laid: &Layout, n: NodeId) -> [u32; 10]
     requires arrays { Laid laid.now }
     requires b_lt_n { laid.now.body.0 < n.0 }
@@ -183,6 +158,7 @@ fn if_words(laid: &Layout, n: NodeId) -> [u32; 10]
     asking(opcodes::ASK, n, o + IF_WORDS, second, t)
 }
 
+#[tactic(auto, using(crate::proofs::WordsLaws::with_has))]
 fn with_words(laid: &Layout, n: NodeId) -> [u32; 10]
     requires b_lt_n { laid.now.body.0 < n.0 }
     requires n_value { shape_at laid.now.nodes.now n.0 ≡ With }
@@ -257,6 +233,7 @@ fn next_case(laid: &Layout, n: NodeId, c: NodeId) -> Option<NodeId>
 }
 
 // Where the `default` of the Switch n begins; its own jump, if it has none.
+#[tactic(auto, using(crate::proofs::PartLaws::default_of, crate::proofs::PartLaws::default_yes, crate::proofs::PartLaws::default_no, crate::proofs::PartLaws::default_end, crate::proofs::PartLaws::default_is_lem, crate::proofs::PartLaws::case_in, crate::proofs::PartLaws::rest_of, crate::proofs::PartLaws::IsFound, crate::proofs::PartLaws::left_of, crate::proofs::PartLaws::rest_is, crate::proofs::PartLaws::found_is, crate::proofs::PartLaws::left_less, code_branch::proofs::JumpLaws::end_small, code_branch::proofs::JumpLaws::offset_is))]
 fn default_at(laid: &Layout, n: NodeId) -> u32
     requires arrays { Laid laid.now }
     requires b_lt_n { laid.now.body.0 < n.0 }
@@ -276,6 +253,7 @@ fn default_at(laid: &Layout, n: NodeId) -> u32
 }
 
 // A Switch without cases goes to its own jump.
+#[tactic(auto, using(code_branch::proofs::JumpLaws::end_small))]
 fn switch_words(laid: &Layout, n: NodeId) -> [u32; 10]
     requires arrays { Laid laid.now }
     requires b_lt_n { laid.now.body.0 < n.0 }
@@ -294,6 +272,7 @@ fn switch_words(laid: &Layout, n: NodeId) -> [u32; 10]
 }
 
 // A case names the next one, and jumps into its statements.
+#[tactic(auto, using(code_branch::proofs::JumpLaws::end_small))]
 fn case_words(laid: &Layout, n: NodeId) -> [u32; 10]
     requires arrays { Laid laid.now }
     requires b_lt_n { laid.now.body.0 < n.0 }
@@ -343,6 +322,7 @@ fn try_words(laid: &Layout, n: NodeId) -> [u32; 10]
 }
 
 // The words of n.
+#[tactic(auto, using(crate::proofs::WordsLaws::label_has, crate::proofs::WordsLaws::clause_has))]
 pub fn words_of(laid: &Layout, n: NodeId) -> [u32; 10]
     requires arrays { Laid laid.now }
     requires b_lt_n { laid.now.body.0 < n.0 }
@@ -365,6 +345,7 @@ pub fn words_of(laid: &Layout, n: NodeId) -> [u32; 10]
 }
 
 // How many words n has.
+#[tactic(auto, using(code_layout::proofs::LayoutLaws::own_width_on, code_contexts::proofs::PlacesLaws::try_is))]
 pub fn own_of(nodes: &[u32], names: &[u8], b: NodeId, n: NodeId) -> u32
     requires ready { Ready nodes.now names.now b.0 }
     requires b_lt_n { b.0 < n.0 }

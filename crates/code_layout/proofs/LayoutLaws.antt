@@ -18,7 +18,7 @@ use Rattle.code_tree.specs.Parts.{Part}
 use Rattle.code_tree.proofs.BoundLaws.{all_map}
 use Rattle.code_tree.specs.declared.Shape.{Shape}
 use Rattle.code_tree.specs.declared.Shape.TheVariants.{Leaf as Single, Class, If, With, Block, Label, Loop, Switch, Case, Try, Catch}
-use Rattle.code_layout.specs.Opcodes as op
+use Rattle.code_flat.specs.Opcodes as op
 use Rattle.code_layout.specs.Widths.{has_role, sum, open_words, own_width_by, in_unit, own_width, width_by, width_at}
 use Rattle.code_layout.specs.Context.{behind, Context, part_context_at, root_context, context_at}
 use Rattle.code_layout.specs.Words.{last_from, words_by, words_at, flat, code_by, code_at}

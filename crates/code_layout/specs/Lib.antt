@@ -1,4 +1,3 @@
-pub mod Opcodes
 pub mod Widths
 pub mod Context
 pub mod Words

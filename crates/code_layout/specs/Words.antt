@@ -4,11 +4,11 @@ use Rattle.table_records.specs.Table.{role_of, count}
 use Rattle.table_records.specs.Roles as role
 use Rattle.route_completion.specs.Sem.{normal, pick, comp_of}
 use Rattle.code_flat.specs.Code.{at, goto, case_to}
+use Rattle.code_flat.specs.Opcodes as op
 use Rattle.code_tree.specs.Parts.{up_of, shape_at, order}
 use Rattle.code_tree.specs.Statements.{leaf_at, before_at, test_at, default_at}
 use Rattle.code_tree.specs.declared.Shape.{Shape}
 use Rattle.code_tree.specs.declared.Shape.TheVariants.{Leaf, Class, If, With, Block, Label, Loop, Switch, Case, Try, Catch}
-use Rattle.code_layout.specs.Opcodes as op
 use Rattle.code_layout.specs.Widths.{has_role, width_at}
 use Rattle.code_layout.specs.Context.{ifz, head0, behind, Context, context_at}
 

@@ -167,21 +167,21 @@ pub low_or : (x y : Bool) (l l' l₀ : ℕ) → l + bit x ≤ l₀ → l' + bit 
 low_or true y l l' l₀ h k = omega arith
 low_or false y l l' l₀ h k = omega arith
 
-elem_other : (o t : ℕ) (S : List ℕ) → (o ≡ t → ⊥) → elem o (t ∷ S) ≡ elem o S
+pub elem_other : (o t : ℕ) (S : List ℕ) → (o ≡ t → ⊥) → elem o (t ∷ S) ≡ elem o S
 elem_other o t S h = ap (λ b. b || elem o S) (ne_eqb o t h)
 
-elem_here : (t : ℕ) (S : List ℕ) → elem t (t ∷ S) ≡ true
+pub elem_here : (t : ℕ) (S : List ℕ) → elem t (t ∷ S) ≡ true
 elem_here t S = ap (λ b. b || elem t S) (eq-eqb t t refl)
 
-or_true : (x y : Bool) → y ≡ true → (x || y) ≡ true
+pub or_true : (x y : Bool) → y ≡ true → (x || y) ≡ true
 or_true true y h = refl
 or_true false y h = h
 
-or_left : (x y : Bool) → (x || y) ≡ false → x ≡ false
+pub or_left : (x y : Bool) → (x || y) ≡ false → x ≡ false
 or_left true y h = h
 or_left false y h = refl
 
-or_right : (x y : Bool) → (x || y) ≡ false → y ≡ false
+pub or_right : (x y : Bool) → (x || y) ≡ false → y ≡ false
 or_right true y h = absurd (true≢false h)
 or_right false y h = h
 
@@ -410,9 +410,6 @@ module _ (C : List ℕ) (v : Valid C) where
 pub record Marks (C f : List ℕ) (again : Bool) : Type 0 where
   pub started : Started C f
   pub shut : again ≡ false → Reached C f
-
-pub marks_first : (C f : List ℕ) → Started C f → Marks C f true
-marks_first C f h = record { started = h; shut = λ e. absurd (true≢false e) }
 
 pub marks_next : (C : List ℕ) (v : Valid C) (f f' : List ℕ) (news : Bool) → Started C f → ((S : List ℕ) → Inked C S f → Rounded C S f' news) → Marks C f' news
 marks_next C v f f' news h r =

@@ -26,7 +26,7 @@ use Rattle.code_pass.proofs.KeptLaws.{sent_none, sent_sound}
 use Rattle.code_mark.proofs.PlaceLaws.{sound, total_is, sent_find}
 
 -- More jumps than there are instructions come to no other end.
-last_more : (is : List Instr) (f t d : ℕ) → suc (length is) ≤ f → last is f t d ≡ last is (suc (length is)) t d
+pub last_more : (is : List Instr) (f t d : ℕ) → suc (length is) ≤ f → last is f t d ≡ last is (suc (length is)) t d
 last_more is f t d l = go (last is (suc (length is)) t d) refl
   where
     go : (a : Option Aim) → last is (suc (length is)) t d ≡ a → last is f t d ≡ a
@@ -91,13 +91,6 @@ module _ (C : List ℕ) (v : Valid C) (split : ℕ) where
           → (find (now C split) 0 o ≡ find (parse C) 0 o) ⊎ (find (now C split) 0 o ≡ thread (parse C) (find (parse C) 0 o))
       go o true e = inr e
       go o false e = inl e
-
-  pub now_begin : (o : ℕ) → is_none (find (now C split) 0 o) ≡ is_none (find (parse C) 0 o)
-  now_begin o = ap is_none (now_find o) ∙ go (ltb o split)
-    where
-      go : (b : Bool) → is_none (pick b (find (sent_on C) 0 o) (find (parse C) 0 o)) ≡ is_none (find (parse C) 0 o)
-      go true = sent_none C v o
-      go false = refl
 
   -- Its jumps lead to instructions.
   now_shut : (o t d : ℕ) → Begin (parse C) o → aim_of (find (now C split) 0 o) ≡ to t d → Begin (parse C) t

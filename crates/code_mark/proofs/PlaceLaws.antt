@@ -21,7 +21,6 @@ use Rattle.code_shorten.specs.Sound.{Begin, Sound, flat_parse, valid_sound}
 use Rattle.code_shorten.specs.Threads.{threaded_find}
 use Rattle.code_shorten.proofs.PlaceLaws.{find_inside, next_place}
 use Rattle.code_pass.specs.Stages.{sent_on, mark}
-pub use Rattle.code_pass.proofs.KeptLaws.{sent_sound, sent_none as sent_begin, kept_parse as kept_begin}
 
 module _ (C : List ℕ) (v : Valid C) where
   abbrev is : List Instr

@@ -106,8 +106,5 @@ module _ (C : List ℕ) (v : Valid C) (f : List ℕ) where
 
   -- In the first state.
   module _ (m : Marked C f) where
-    pub marked_read : (o : ℕ) → Begin (parse C) o → read_at f o ≡ find (parse C) 0 o
-    marked_read o b = behind_read 0 (λ x l. m.each x) o b (omega arith)
-
     pub marked_standing : (o : ℕ) → Begin (parse C) o → standing_in f o ≡ find (parse C) 0 o
     marked_standing o b = behind_standing 0 (λ x l. m.each x) m.same o b (omega arith)

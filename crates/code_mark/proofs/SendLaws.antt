@@ -34,7 +34,7 @@ use Rattle.code_mark.proofs.NowLaws.{now_find, sent_is}
 use Rattle.code_shorten.proofs.PlaceLaws.{len_most}
 
 -- What the functions read.
-aim_not : (x a b c : ℕ) → x ≢ op.Leave → x ≢ op.Case → aim_of (decode x a b c) ≡ None
+pub aim_not : (x a b c : ℕ) → x ≢ op.Leave → x ≢ op.Case → aim_of (decode x a b c) ≡ None
 aim_not x a b c h k = rw (ne_eqb x op.Leave h, ne_eqb x op.Case k) (go (eqb x op.List) (eqb x op.Ask) (eqb x op.Select) (eqb x op.Open) (eqb x op.End))
   where
     go : (p q r s t : Bool) → aim_of (pick p (LIST a) (pick q (ASK a b c) (pick r (SELECT a b c) (pick s (OPEN a) (pick t (END a) NONE))))) ≡ None
@@ -45,29 +45,31 @@ aim_not x a b c h k = rw (ne_eqb x op.Leave h, ne_eqb x op.Case k) (go (eqb x op
     go false false false false true = refl
     go false false false false false = refl
 
+pub not_zero : (u : ℕ) → u ≢ 0 → is_zero u ≡ false
+not_zero zero z = absurd (z refl)
+not_zero (suc u) z = refl
+
+module _ (f : List ℕ) (p : ℕ) where
+  pub aim_leave : get_or f p 0 % mark ≡ op.Leave → aim_of (read_at f p) ≡ to (get_or f (p + 1) 0) (get_or f (p + 2) 0)
+  unfolding read_at
+  aim_leave e = ap (λ x. aim_of (decode x (get_or f (p + 1) 0) (get_or f (p + 2) 0) (get_or f (p + 3) 0))) e
+
+  pub aim_case : get_or f p 0 % mark ≡ op.Case → aim_of (read_at f p) ≡ to (get_or f (p + 2) 0) (get_or f (p + 3) 0)
+  unfolding read_at
+  aim_case e = ap (λ x. aim_of (decode x (get_or f (p + 1) 0) (get_or f (p + 2) 0) (get_or f (p + 3) 0))) e
+
+  pub aim_none : get_or f p 0 % mark ≢ op.Leave → get_or f p 0 % mark ≢ op.Case → aim_of (read_at f p) ≡ None
+  unfolding read_at
+  aim_none l k = aim_not (get_or f p 0 % mark) (get_or f (p + 1) 0) (get_or f (p + 2) 0) (get_or f (p + 3) 0) l k
+
 module _ (f : List ℕ) (t : ℕ) where
   pub hop_zero : t ≡ 0 → hop_in f t ≡ None
   unfolding hop_in
   hop_zero z = ap (λ x. pick (is_zero x) None (aim_of (read_at f t))) z
 
-  module _ (n : t ≢ 0) where
-    not_zero : (u : ℕ) → u ≢ 0 → is_zero u ≡ false
-    not_zero zero z = absurd (z refl)
-    not_zero (suc u) z = refl
-
-    hop_by : (x : ℕ) → get_or f t 0 % mark ≡ x → hop_in f t ≡ aim_of (decode x (get_or f (t + 1) 0) (get_or f (t + 2) 0) (get_or f (t + 3) 0))
-    unfolding hop_in read_at
-    hop_by x e =
-        ap (λ z. pick z None (aim_of (read_at f t))) (not_zero t n) ∙ ap (λ y. aim_of (decode y (get_or f (t + 1) 0) (get_or f (t + 2) 0) (get_or f (t + 3) 0))) e
-
-    pub hop_leave : get_or f t 0 % mark ≡ op.Leave → hop_in f t ≡ to (get_or f (t + 1) 0) (get_or f (t + 2) 0)
-    hop_leave e = hop_by op.Leave e
-
-    pub hop_case : get_or f t 0 % mark ≡ op.Case → hop_in f t ≡ to (get_or f (t + 2) 0) (get_or f (t + 3) 0)
-    hop_case e = hop_by op.Case e
-
-    pub hop_other : get_or f t 0 % mark ≢ op.Leave → get_or f t 0 % mark ≢ op.Case → hop_in f t ≡ None
-    hop_other h k = hop_by (get_or f t 0 % mark) refl ∙ aim_not (get_or f t 0 % mark) (get_or f (t + 1) 0) (get_or f (t + 2) 0) (get_or f (t + 3) 0) h k
+  pub hop_on : t ≢ 0 → hop_in f t ≡ aim_of (read_at f t)
+  unfolding hop_in
+  hop_on n = ap (λ z. pick z None (aim_of (read_at f t))) (not_zero t n)
 
 module _ (f : List ℕ) (n t d : ℕ) where
   last_step : last_in f (n + 1) t d ≡ further (last_in f n) (hop_in f t) t d
@@ -413,16 +415,6 @@ module _ (C : List ℕ) (v : Valid C) where
         go : (c : Bool) → ltb o split ≡ c → read_at f o ≡ pick c i (find (parse C) 0 o)
         go true e = let l : o < split = ltb-true o split e in words_read f o i (sent_none C v o ∙ b) (first l) (rest l)
         go false e = behind_read C v f split s.behind o b (ltb-false o split e)
-
-    -- How many numbers it takes.
-    pub sent_standing : (o : ℕ) → Begin (parse C) o → standing_in f o ≡ find (now C split) 0 o
-    sent_standing o b =
-        standing_whole f o (find (now C split) 0 o) (sent_read o b)
-        (omega (arith, ap len (now_find C v split o), size (ltb o split), fits C v o b, s.same))
-      where
-        size : (c : Bool) → len (pick c (find (sent_on C) 0 o) (find (parse C) 0 o)) ≡ len (find (parse C) 0 o)
-        size true = ap len (sent_find C v o) ∙ thread_length (parse C) (find (parse C) 0 o)
-        size false = refl
 
 -- The walk over the front, which has come to p.
 pub record Sending (C f : List ℕ) (split p : ℕ) : Type 0 where

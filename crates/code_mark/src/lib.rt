@@ -5,10 +5,10 @@ ghost use Rattle.std.specs.Prelude.{◌≡◌, ◌≢◌, List, [], ◌∷◌, �
 ghost use Rattle.route_completion.specs.Sem.{pick};
 ghost use Rattle.code_valid.specs.Instrs.{len};
 ghost use Rattle.code_valid.specs.Valid.{Valid};
-ghost use Rattle.code_shorten.specs.Short.{shorter};
+ghost use Rattle.code_shorten.specs.Short.{aim_of, shorter};
 ghost use Rattle.code_shorten.specs.Marking.{marked_at, new_at, marks_at, news_at, low, bit};
 ghost use Rattle.code_pass.specs.Stages.{mark, Marked, Split, Sent, kept_to};
-ghost use Rattle.code_mark.specs.Read.{standing_in, hop_in, rule_in, sent_in, threaded_in};
+ghost use Rattle.code_mark.specs.Read.{read_at, standing_in, hop_in, rule_in, sent_in, threaded_in};
 ghost use Rattle.code_mark.specs.Marks.{leads_in, target_in, Inked, Rounded, Started, Reached};
 
 use code_machine::{opcodes, word};
@@ -47,25 +47,32 @@ pub fn kept_at(code: &[u32], p: usize, size: usize) -> usize
     if word(code, p) < RAISE { 0 } else { size }
 }
 
+// Where the jump at p goes; none where no jump stands. The number that begins it may be raised.
+pub fn aim_at(code: &[u32], p: usize) -> Option<Aim>
+    ensures { result ≡ aim_of (read_at code.now p) }
+{
+    match opcode_at(code, p) {
+        opcodes::LEAVE => Some(Aim {
+            place: word(code, p + 1),
+            depth: word(code, p + 2),
+        }),
+        opcodes::CASE => Some(Aim {
+            place: word(code, p + 2),
+            depth: word(code, p + 3),
+        }),
+        _ => None,
+    }
+}
+
 // The jump that stands at t. The place 0 stands for what is pending, and no jump is there.
+#[tactic(auto, using(crate::proofs::SendLaws::hop_zero, crate::proofs::SendLaws::hop_on))]
 pub fn hop(code: &[u32], t: u32) -> Option<Aim>
     ensures { result ≡ hop_in code.now t }
 {
     if t == 0 {
         return None;
     }
-    let o = t as usize;
-    match opcode_at(code, o) {
-        opcodes::LEAVE => Some(Aim {
-            place: word(code, o + 1),
-            depth: word(code, o + 2),
-        }),
-        opcodes::CASE => Some(Aim {
-            place: word(code, o + 2),
-            depth: word(code, o + 3),
-        }),
-        _ => None,
-    }
+    aim_at(code, t as usize)
 }
 
 // The last target from a place on, with the least depth on the way. In a ring there is none: more jumps than the code has numbers come to no end.
@@ -96,6 +103,7 @@ fn target_of(code: &[u32], place: u32, depth: u32) -> usize
 }
 
 // Marks the number at t, and tells whether it was not marked before.
+#[tactic(auto, unfolding(code_shorten::specs::Marking::marked_at, code_shorten::specs::Marking::new_at))]
 fn mark(code: &mut [u32], t: usize) -> bool
     ensures news { result ≡ new_at code.old t }
     ensures marks { code.new ≡ marked_at code.old t }

@@ -4,9 +4,11 @@ use Rattle.std.specs.Prelude.{ℕ, ◌+◌, ◌*◌, ◌^◌, ◌%◌, ◌/◌, 
 use Rattle.route_completion.specs.Sem.{pick, elem}
 use Rattle.code_flat.specs.Machine.{Instr}
 use Rattle.code_valid.specs.Instrs.{len, words, parse, find}
-use Rattle.code_shorten.specs.Short.{threaded, reached, moved, shorter}
+use Rattle.code_shorten.specs.Short.{threaded, reached, shorter}
 use Rattle.code_shorten.specs.Sound.{Begin}
 use Rattle.code_shorten.specs.Closes.{In}
+-- Where the kept instruction at o comes to stand: `new_place`.
+pub use Rattle.code_shorten.specs.Claims.{new_place}
 
 -- The instructions with their jumps sent on, and the places of those that a path reaches then, which are kept.
 abbrev pub sent_on : List ℕ → List Instr
@@ -14,10 +16,6 @@ sent_on C = threaded (parse C)
 
 abbrev pub kept_places : List ℕ → List ℕ
 kept_places C = reached (sent_on C)
-
--- Where the kept instruction at o comes to stand.
-abbrev pub new_place : List ℕ → ℕ → ℕ
-new_place C o = moved (kept_places C) (sent_on C) 0 0 o
 
 -- How many numbers of the instructions before o are kept; the list begins at p.
 unfoldable pub kept_before : List ℕ → List Instr → ℕ → ℕ → ℕ

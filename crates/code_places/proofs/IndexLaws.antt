@@ -4,7 +4,8 @@ use Rattle.std.specs.Prelude.{◌≡◌, ◌≢◌, ◌⊎◌, length, set, min,
 use Rattle.std.proofs.Math.Path.{sym, ap, subst}
 use Rattle.std.proofs.Common.{◌∙◌, inl, inr, add-mul, get_or-set_same, get_or-set_other}
 use Rattle.std.proofs.Math.Nat.{div-lt_iff_lt-mul, mul-le-mul_right}
-use Rattle.std.proofs.Math.ListN.{get_or}
+use Rattle.std.proofs.Math.ListN.{get_or, get_or-map}
+use Rattle.std.proofs.lemmas.List.{map-set, length-map}
 use mathlib.Core.List.{List}
 use native.Mathlib.Omega.{arith}
 use Rattle.std.proofs.Math.Decide.{dec_lt}
@@ -16,7 +17,8 @@ use Rattle.code_shorten.specs.Sound.{Begin, len_pos}
 use Rattle.code_pass.specs.Stages.{sent_on, kept_places, kept_to, cycle, Marked, Index}
 use Rattle.code_pass.proofs.KeptLaws.{At, begin_apart, kept_low, kept_next, sent_sound, sent_none, sent_begin, at_next, at_begin, begin_fits}
 use Rattle.code_mark.specs.Read.{standing_in}
-use Rattle.code_places.specs.Placing.{strides, stride_for}
+use Rattle.code_places.specs.declared.index.Stride.{Stride}
+use Rattle.code_places.specs.Placing.{begins, news, stride_in, strides, stride_for}
 use Rattle.code_places.proofs.PlacingLaws.{marked_len, marked_kept}
 
 -- Each place that a target can name stands before the last entry.
@@ -177,3 +179,33 @@ module _ (C f : List ℕ) (v : Valid C) (m : Marked C f) (stride : ℕ) (wide : 
         new' : (j : ℕ) → j < length b' → Dec (j < k) → get_or n' j 0 ≡ kept_to C (get_or b' j 0)
         new' j x (yes y) = en j y ∙ (g.rows j y).new ∙ ap (kept_to C) (sym (eb j y))
         new' j x (no y) = rn j (omega arith) (omega arith) ∙ g.count ∙ ap (kept_to C) (sym (rb j (omega arith) (omega arith)))
+
+-- The index, both in one.
+pub begin_in : (index : List Stride) (k : ℕ) → get_or (begins index) k 0 ≡ (stride_in index k).begin
+begin_in index k = get_or-map (λ s. s.begin) index k (record { begin = 0; new = 0 })
+
+pub new_in : (index : List Stride) (k : ℕ) → get_or (news index) k 0 ≡ (stride_in index k).new
+new_in index k = get_or-map (λ s. s.new) index k (record { begin = 0; new = 0 })
+
+module _ (C f : List ℕ) (v : Valid C) (m : Marked C f) (stride : ℕ) (wide : 4 ≤ stride) (index : List Stride) (p kept k next : ℕ)
+    (g : Filling C (begins index) (news index) stride p kept k next) where
+  abbrev entry : Stride
+  entry = record { begin = p; new = kept }
+
+  pub filling_put : (h : p < length f) (w n : ℕ) → w ≡ len (standing_in f p) → n ≡ pick (ltb (get_or f p 0) 8) 0 w → k < strides → next ≤ p → k < length index
+      → Filling C (begins (set index k entry)) (news (set index k entry)) stride (p + w) (kept + n) (k + 1) (next + stride)
+  filling_put h w n e d l a inside =
+      subst (λ b. Filling C b (news (set index k entry)) stride (p + w) (kept + n) (k + 1) (next + stride)) (sym (map-set (λ s. s.begin) index k entry))
+      (subst (λ c. Filling C (set (begins index) k p) c stride (p + w) (kept + n) (k + 1) (next + stride)) (sym (map-set (λ s. s.new) index k entry))
+      (filling_set C f v m stride wide (begins index) (news index) p kept k next g h w n e d l a (omega (arith, length-map index (λ s. s.begin))) (omega (arith, length-map index (λ s. s.new)))))
+
+  pub filling_rest : length f ≤ p → stride ≡ stride_for (length C) → stride < cycle → (index' : List Stride) → length index' ≡ strides
+      → ((j : ℕ) → j < k → stride_in index' j ≡ stride_in index j) → ((j : ℕ) → k ≤ j → j < length index' → stride_in index' j ≡ entry)
+      → Index C (begins index') (news index') stride
+  filling_rest h s small index' same before rest =
+      filling_end C f v m stride wide (begins index) (news index) p kept k next g h s small (begins index') (news index')
+      (length-map index' (λ s. s.begin) ∙ same) (length-map index' (λ s. s.new) ∙ same)
+      (λ j x. begin_in index' j ∙ ap (λ s. s.begin) (before j x) ∙ sym (begin_in index j))
+      (λ j x. new_in index' j ∙ ap (λ s. s.new) (before j x) ∙ sym (new_in index j))
+      (λ j x y. begin_in index' j ∙ ap (λ s. s.begin) (rest j x (omega (arith, same))))
+      (λ j x y. new_in index' j ∙ ap (λ s. s.new) (rest j x (omega (arith, same))))

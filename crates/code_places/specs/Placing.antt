@@ -1,9 +1,22 @@
 -- Where kept instructions come to stand, looked up in a slice whose front is gathered (code_pass, Stages.antt).
-use Rattle.std.specs.Prelude.{ℕ, ◌+◌, ◌/◌, ◌^◌, min, ◌≤◌, ◌<◌, ◌≡◌, List, Option, Some, None, length, get_or}
+use Rattle.std.specs.Prelude.{ℕ, ◌+◌, ◌/◌, ◌^◌, min, ◌≤◌, ◌<◌, ◌≡◌, List, Option, Some, None, length, get_or, map}
 use Rattle.route_completion.specs.Sem.{pick, elem}
 use Rattle.code_valid.specs.Valid.{Valid}
 use Rattle.code_shorten.specs.Closes.{In}
 use Rattle.code_pass.specs.Stages.{kept_places, new_place, kept_to, marked, tagged, Split, Index}
+use Rattle.code_places.specs.declared.index.Stride.{Stride}
+use Rattle.code_places.specs.declared.index.Places.{Places}
+
+-- What the entries of an index tell, each for itself.
+abbrev pub begins : List Stride → List ℕ
+begins index = map (λ s. s.begin) index
+
+abbrev pub news : List Stride → List ℕ
+news index = map (λ s. s.new) index
+
+-- The k-th entry, of nothing past the end.
+abbrev pub stride_in : List Stride → ℕ → Stride
+stride_in index k = get_or index k (record { begin = 0; new = 0 })
 
 -- How many entries the index has, and its stride for a code of so many numbers: all places that a target can name stand before the last entry.
 abbrev pub strides : ℕ
@@ -28,3 +41,6 @@ pub record Placed (C begins news : List ℕ) (stride split front : ℕ) : Type 0
   pub index : Index C begins news stride
   pub cut : Split C split
   pub count : front ≡ kept_to C split
+
+abbrev pub PlacedBy : List ℕ → Places → Type 0
+PlacedBy C p = Placed C (begins p.index.now) (news p.index.now) p.stride p.split p.front

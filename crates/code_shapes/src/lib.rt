@@ -1,12 +1,13 @@
 // What a node is to the code, whose part it is, and what holds a unit's statements, read from the node table.
 #![tactic(auto)]
 
-ghost use Rattle.std.specs.Prelude.{◌≡◌, ◌+◌, ◌<◌, ◌≤◌, eqb};
+ghost use Rattle.std.specs.Prelude.{◌≡◌, ◌&&◌, ◌+◌, ◌<◌, ◌≤◌, eqb};
 ghost use Rattle.table_records.specs.Table.{count};
 ghost use Rattle.table_records.specs.Facts.{Tree, Named};
 ghost use Rattle.table_children.specs.Children.{below};
 ghost use Rattle.code_tree.specs.Labels.{name_id, id_at};
-ghost use Rattle.code_tree.specs.Parts.{entered_by, up_of, shape_at, is_labeled, part_by, is_part};
+ghost use Rattle.code_tree.specs.First.{first_of};
+ghost use Rattle.code_tree.specs.Parts.{entered_by, up_of, shape_at, is_labeled, part_by, is_part, parts};
 ghost use Rattle.code_tree.specs.Statements.{before_at, test_at, default_at, holder_of};
 ghost use Rattle.code_layout.specs.Widths.{is_try, number_by};
 ghost use Rattle.code_layout.specs.Exact.{open_at};
@@ -64,6 +65,7 @@ pub fn is_labeled(s: Shape) -> bool
 }
 
 // Whether the label of p has the name of the label l.
+#[tactic(auto, using(code_tree::proofs::LabelLaws::id_test))]
 pub fn has_same_label(nodes: &[u32], names: &[u8], p: NodeId, l: NodeId) -> bool
     requires tree { Tree nodes.now }
     requires named { Named nodes.now names.now }
@@ -143,6 +145,33 @@ pub fn is_part(nodes: &[u32], n: NodeId) -> bool
         table_records::kind(nodes, n),
         table_records::role(nodes, n),
     )
+}
+
+// Whether n is a part of p.
+fn is_part_of(nodes: &[u32], p: NodeId, n: NodeId) -> bool
+    requires tree { Tree nodes.now }
+    requires n_nonzero { 0 < n.0 }
+    requires n_bound { n.0 < count nodes.now }
+    ensures { result ≡ (eqb (up_of nodes.now n.0) p.0 && is_part nodes.now n.0) }
+{
+    up_of(nodes, n) == p && is_part(nodes, n)
+}
+
+// The first part of p from a node on.
+pub fn next_part(nodes: &[u32], p: NodeId, from: u32) -> Option<NodeId>
+    requires tree { Tree nodes.now }
+    requires from_nonzero { 0 < from }
+    ensures { result ≡ first_of (parts nodes.now p.0 from) }
+{
+    let mut i = from;
+    // `while`, since a range asks for the table's size: nothing that a walk up calls divides.
+    while table_records::is_node(nodes, i) {
+        if is_part_of(nodes, p, NodeId(i)) {
+            return Some(NodeId(i));
+        }
+        i += 1;
+    }
+    None
 }
 
 // OPEN's words, counted at the finally block.

@@ -24,8 +24,8 @@ use Rattle.code_shorten.specs.Units.{unit_valid}
 use Rattle.code_shorten.specs.Twice.{second_pass, shorter_valid, ring_stays}
 
 -- "Room that it frees is reported as old length less new length."
-abbrev pub freed : List ℕ → ℕ
-freed C = length C - length (shorter C)
+abbrev pub freed : ℕ → ℕ → ℕ
+freed old new = old - new
 
 -- Where the instruction at o comes to stand.
 abbrev pub new_place : List ℕ → ℕ → ℕ

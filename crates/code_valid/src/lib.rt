@@ -47,7 +47,7 @@ fn begins_from(code: &[u32], start: usize, to: usize) -> bool
     p == to && size_at(code, p) != 0
 }
 
-// How many places the table names. A code of 655,358 numbers, the longest that a unit has, is searched in steps of 164 numbers.
+// How many places the table names. A code of 655,358 numbers, the longest that a unit has, is searched in steps of 163 numbers.
 const PLACES: usize = 4096;
 
 // The stride of a table for so many numbers: no instruction is longer.

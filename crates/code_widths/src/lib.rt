@@ -11,6 +11,7 @@ use code_shapes::{is_part, up_of};
 use table_records::NodeId;
 
 // Whether n is the unit's (1) or not (0), from what is known of the nodes before it.
+#[tactic(auto, using(crate::proofs::WidthsLaws::unit_low, crate::proofs::WidthsLaws::unit_root_lem, crate::proofs::WidthsLaws::unit_no, crate::proofs::WidthsLaws::unit_part))]
 fn unit_at(nodes: &[u32], names: &[u8], b: NodeId, units: &[u32], n: NodeId) -> u32
     requires held { Held nodes.now names.now b.0 }
     requires n_bound { n.0 < count nodes.now }
@@ -73,33 +74,8 @@ fn add_node(
     widths[p.0 as usize] = rest + own + open;
 }
 
-// One turn: a node that isn't the unit's changes nothing.
-fn add_at(
-    nodes: &[u32],
-    names: &[u8],
-    b: NodeId,
-    units: &[u32],
-    n: NodeId,
-    widths: &mut [u32],
-    behinds: &mut [u32],
-)
-    requires held { Held nodes.now names.now b.0 }
-    requires units { Units nodes.now b.0 (count nodes.now) units.now }
-    requires nodes_in_bounds { count nodes.now ≤ length units.now }
-    requires b_lt_n { b.0 < n.0 }
-    requires n_bound { n.0 < count nodes.now }
-    requires nodes_in_bounds_2 { count nodes.now ≤ length widths.old }
-    requires nodes_in_bounds_3 { count nodes.now ≤ length behinds.old }
-    requires counts { Counts nodes.now b.0 (n.0 + 1) widths.old behinds.old }
-    ensures { Counts nodes.now b.0 n.0 widths.new behinds.new }
-{
-    if units[n.0 as usize] == 0 {
-        return;
-    }
-    add_node(nodes, names, b, n, widths, behinds);
-}
-
 // The width of each node of the unit, and the words of its holder's parts behind it.
+#[tactic(auto, using(crate::proofs::WidthsLaws::counts_start, crate::proofs::WidthsLaws::counts_skip, crate::proofs::WidthsLaws::counts_end, crate::proofs::WidthsLaws::unit_test))]
 pub fn fill_widths(
     nodes: &[u32],
     names: &[u8],
@@ -117,6 +93,9 @@ pub fn fill_widths(
     ensures { Widths nodes.now b.0 widths.new behinds.new }
 {
     for j in (b.0 + 1..table_records::size(nodes)).rev() {
-        add_at(nodes, names, b, units, NodeId(j), widths, behinds);
+        // A node that isn't the unit's changes nothing.
+        if units[j as usize] != 0 {
+            add_node(nodes, names, b, NodeId(j), widths, behinds);
+        }
     }
 }

@@ -7,7 +7,7 @@ use Rattle.base_common.specs.Wrote.{Wrote, put}
 use Rattle.base_common.proofs.WroteLaws.{wrote_start, wrote_put, length_put}
 use Rattle.table_put.proofs.Writes.{put_put}
 use Rattle.line_print.specs.Print.{line_of}
-use Rattle.line_print.specs.PrintLaws.{line_numbers}
+use Rattle.line_print.proofs.PrintLaws.{line_numbers}
 use Rattle.refusal_verdict.specs.declared.Refused.{Refused}
 use Rattle.line_answers.specs.Answer.{refusal_line, finding_lines, findings_text, refusal_text, answer_text, Counted}
 

@@ -1,7 +1,7 @@
 // What a check's answer prints: the findings' lines and the line of their count, or the refusal's line.
 #![tactic(auto)]
 
-ghost use Rattle.std.specs.Prelude.{◌≡◌, ◌+◌, ◌*◌, ◌≤◌, ◌<◌, length, take, drop};
+ghost use Rattle.std.specs.Prelude.{◌≡◌, ◌+◌, ◌*◌, ◌^◌, ◌≤◌, ◌<◌, length, take, drop};
 ghost use Rattle.base_common.specs.Wrote.{put};
 ghost use Rattle.line_print.specs.Print.{line_of};
 ghost use Rattle.line_answers.specs.Answer.{finding_lines, findings_text, refusal_line, refusal_text, answer_text, Counted, findings_room, text_room};
@@ -24,6 +24,7 @@ fn put_finding(findings: &[u32], at: usize, out: &mut [u8], w: usize) -> usize
 }
 
 // Writes the lines of `count` findings. Says where they end.
+#[tactic(auto, using(crate::proofs::AnswerLaws::lines_start))]
 fn put_findings(findings: &[u32], count: usize, out: &mut [u8]) -> usize
     requires count_in_bounds { 7 * count ≤ length findings.now }
     requires findings_in_bounds { length (finding_lines count findings.now) ≤ length out.old }
@@ -37,8 +38,9 @@ fn put_findings(findings: &[u32], count: usize, out: &mut [u8]) -> usize
 }
 
 // The same with the line of their count.
+#[tactic(auto, using(crate::proofs::AnswerLaws::count_room))]
 fn findings_text(findings: &[u32], count: usize, out: &mut [u8]) -> usize
-    requires count_in_bounds { (7 * count ≤ length findings.now) × (count < 4294967296) }
+    requires count_in_bounds { (7 * count ≤ length findings.now) × (count < 2 ^ 32) }
     requires findings_in_bounds { length (findings_text count findings.now) ≤ length out.old }
     ensures { (result ≡ length (findings_text count findings.now)) × (out.new ≡ put out.old 0 (findings_text count findings.now)) }
 {
@@ -48,7 +50,8 @@ fn findings_text(findings: &[u32], count: usize, out: &mut [u8]) -> usize
     line_print::line(b'E', &e, out, at)
 }
 
-// Writes the line of a refusal's number and place. Says where it ends.
+// Writes the line of a refusal's number and place: up to 24 bytes, with two numbers of up to ten digits. Says where it ends.
+#[tactic(auto, using(line_print::proofs::PrintLaws::line_numbers, crate::proofs::AnswerLaws::numbers_two))]
 pub fn refusal_line(number: u32, place: u32, out: &mut [u8]) -> usize
     requires { 24 ≤ length out.old }
     ensures { (result ≡ length (refusal_line «number» «place»)) × (out.new ≡ put out.old 0 (refusal_line «number» «place»)) }
@@ -66,6 +69,7 @@ pub fn refusal_text(refused: Refused, out: &mut [u8]) -> usize
 }
 
 // Writes what an answer of `check` prints, with the findings that it wrote. Says where that ends.
+#[tactic(auto, using(crate::proofs::AnswerLaws::length_findings, crate::proofs::AnswerLaws::counted_findings, crate::proofs::AnswerLaws::text_findings, crate::proofs::AnswerLaws::text_refused))]
 pub fn answer_text(answer: Result<usize, Refused>, findings: &[u32], out: &mut [u8]) -> usize
     requires counted { Counted answer (length findings.now) }
     requires findings_len_bound { (length findings.now ≤ findings_room) × (text_room ≤ length out.old) }

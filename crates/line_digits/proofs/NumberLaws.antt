@@ -6,7 +6,7 @@ use Rattle.std.proofs.Common.{arith}
 use borrow.Author.Tests.{le-leb, lt-leb}
 use Rattle.std.specs.Option.{is_some}
 use Rattle.base_common.specs.Upto.{all}
-use Rattle.line_digits.specs.Lists.{drop_step, drop_end}
+use Rattle.line_digits.proofs.Lists.{drop_step, drop_end}
 use Rattle.line_digits.specs.Number.{is_digit, value_from, value_of, is_number, number_of}
 
 -- the number of digits that stand behind others, which stand for v

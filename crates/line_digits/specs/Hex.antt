@@ -1,5 +1,5 @@
 -- Bytes in hexadecimal, two digits of either case to a byte.
-use Rattle.std.specs.Prelude.{ℕ, ◌+◌, ◌-◌, ◌*◌, ◌%◌, Bool, cond, ◌&&◌, ◌||◌, List, [], ◌∷◌, leb, eqb, length}
+use Rattle.std.specs.Prelude.{ℕ, ◌+◌, ◌-◌, ◌*◌, ◌%◌, ◌≤◌, ◌<◌, Bool, cond, ◌&&◌, ◌||◌, List, [], ◌∷◌, leb, eqb, length}
 use Rattle.base_common.specs.Tests.{within}
 use Rattle.base_common.specs.Upto.{all}
 
@@ -10,6 +10,13 @@ is_hex_digit c = within c 48 57 || (within c 65 70 || within c 97 102)
 -- what such a digit stands for
 unfoldable pub nibble_of : ℕ → ℕ
 nibble_of c = cond (leb c 57) (c - 48) (cond (leb c 70) (c - 55) (c - 87))
+
+-- each of the three ways to a digit's worth is safe, and the worth is below 16
+pub record Nibble (c : ℕ) : Type 0 where
+  pub low : 48 ≤ c
+  pub mid : 57 < c → 55 ≤ c
+  pub high : 70 < c → 87 ≤ c
+  pub least : nibble_of c < 16
 
 -- hexadecimal digits alone, an even number of them
 unfoldable pub is_hex : List ℕ → Bool

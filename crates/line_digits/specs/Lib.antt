@@ -1,4 +1,2 @@
 pub mod Number
 pub mod Hex
-pub mod Lists
-pub mod HexLaws

@@ -1,6 +1,6 @@
 -- Laws of lines and fields as code finds them: what stands before the first byte d, and what from it on.
 use borrow.Author.Tests.{eq-eqb, ne_eqb}
-use Rattle.line_digits.specs.Lists.{drop_step, drop_end}
+use Rattle.line_digits.proofs.Lists.{drop_step, drop_end}
 use Rattle.std.specs.Prelude.{Some, None, ℕ, ◌+◌, ◌≤◌, ◌<◌, ◌≡◌, Bool, cond, length, get_or, take, drop}
 use Rattle.std.proofs.Math.Path.{refl}
 use Rattle.std.proofs.Common.{ap, sym, ◌∙◌, arith}

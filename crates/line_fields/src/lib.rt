@@ -18,12 +18,14 @@ fn to_first(s: &[u8], d: u8) -> usize
     s.iter().position(|x| *x == d).unwrap_or(s.len())
 }
 
+#[tactic(auto, using(crate::proofs::SplitLaws::take_before))]
 pub fn before(s: &[u8], d: u8) -> &[u8]
     ensures { result.now ≡ before d s.now }
 {
     &s[..to_first(s, d)]
 }
 
+#[tactic(auto, using(crate::proofs::SplitLaws::drop_onward, line_digits::proofs::Lists::part_from))]
 pub fn onward(s: &[u8], d: u8) -> &[u8]
     ensures { result.now ≡ onward d s.now }
 {
@@ -48,12 +50,14 @@ pub fn field(tail: &[u8]) -> &[u8]
 }
 
 // The tail behind that field.
+#[tactic(auto, using(crate::proofs::FieldLaws::next_short))]
 pub fn next(tail: &[u8]) -> &[u8]
     ensures { (result.now ≡ next_of tail.now) × (length result.now ≤ length tail.now - 1) }
 {
     onward(behind(tail), COMMA)
 }
 
+#[tactic(auto, using(crate::proofs::FieldLaws::count_turn, crate::proofs::FieldLaws::count_end))]
 pub fn count(tail: &[u8]) -> usize
     ensures { result ≡ length (fields_in tail.now) }
 {
@@ -67,6 +71,7 @@ pub fn count(tail: &[u8]) -> usize
 }
 
 // Are the first n fields numbers?
+#[tactic(auto, using(crate::proofs::FieldLaws::numbers_on, crate::proofs::FieldLaws::numbers_bad, crate::proofs::FieldLaws::numbers_end, crate::proofs::FieldLaws::numbers_none))]
 pub fn are_numbers(tail: &[u8], n: usize) -> bool
     ensures { result ≡ all is_number (firsts n tail.now) }
 {
@@ -97,6 +102,7 @@ pub fn skip(tail: &[u8], n: usize) -> &[u8]
 }
 
 // The first line; empty, if there is none.
+#[tactic(auto, using(crate::proofs::SplitLaws::line_first))]
 pub fn line(b: &[u8]) -> &[u8]
     ensures { result.now ≡ get_or (lines_of b.now) 0 [] }
 {
@@ -104,6 +110,7 @@ pub fn line(b: &[u8]) -> &[u8]
 }
 
 // The bytes after the first line.
+#[tactic(auto, using(crate::proofs::SplitLaws::lines_after))]
 pub fn after(b: &[u8]) -> &[u8]
     ensures { lines_of result.now ≡ drop 1 (lines_of b.now) }
 {

@@ -13,7 +13,7 @@ use Rattle.base_common.proofs.UptoLaws.{and_left_lem, and_right_lem}
 use Rattle.line_digits.specs.Number.{is_number}
 use Rattle.line_digits.specs.Hex.{is_hex}
 use lib.Pointwise.{pointwise}
-use Rattle.line_digits.specs.HexLaws.{length_bytes}
+use Rattle.line_digits.proofs.HexLaws.{length_bytes}
 use Rattle.line_fields.specs.Split.{fields_of, before, fields_in, field_of, firsts}
 use Rattle.line_fields.proofs.SplitLaws.{fields_first, fields_turn, joined_tail}
 use Rattle.line_fields.proofs.FieldLaws.{tail_some}

@@ -16,6 +16,7 @@ pub const MOST: usize = 1024;
 pub const NODE_NUMBERS: usize = 8;
 
 // A line that isn't too long, whose first field is the letter.
+#[tactic(auto, using(crate::proofs::FormLaws::lettered_is_tested), unfolding(crate::specs::Forms::lettered))]
 pub fn lettered(l: &[u8], c: u8) -> bool
     ensures { result ≡ lettered c l.now }
 {
@@ -23,6 +24,7 @@ pub fn lettered(l: &[u8], c: u8) -> bool
 }
 
 // The letter and n numbers.
+#[tactic(auto, using(crate::proofs::FormLaws::numbers_letter, crate::proofs::FormLaws::numbers_count_tested, crate::proofs::FormLaws::numbers_is_tested))]
 pub fn is_numbers(l: &[u8], c: u8, n: usize) -> bool
     ensures { result ≡ is_numbers c n l.now }
 {
@@ -30,6 +32,7 @@ pub fn is_numbers(l: &[u8], c: u8, n: usize) -> bool
     lettered(l, c) && line_fields::count(tail) == n && line_fields::are_numbers(tail, n)
 }
 
+#[tactic(auto, using(crate::proofs::FormLaws::node_letter, crate::proofs::FormLaws::node_few_tested, crate::proofs::FormLaws::node_is_tested))]
 pub fn is_node(l: &[u8]) -> bool
     ensures { result ≡ is_n l.now }
 {
@@ -40,12 +43,14 @@ pub fn is_node(l: &[u8]) -> bool
 }
 
 // The rest of a node's line, behind its eight numbers.
+#[tactic(auto, using(crate::proofs::FormLaws::name_is_lem))]
 pub fn name(l: &[u8]) -> &[u8]
     ensures { result.now ≡ name_of l.now }
 {
     line_fields::behind(line_fields::skip(line_fields::onward(l, COMMA), NODE_NUMBERS))
 }
 
+#[tactic(auto, unfolding(crate::specs::Forms::fits))]
 pub fn fits(n: usize, each: usize, room: usize) -> bool
     requires { each ≤ 10 }
     ensures { result ≡ fits n each room }
@@ -53,6 +58,7 @@ pub fn fits(n: usize, each: usize, room: usize) -> bool
     n <= MOST && n * each <= room
 }
 
+#[tactic(auto, using(crate::proofs::FormLaws::source_letter, crate::proofs::FormLaws::source_count_tested, crate::proofs::FormLaws::source_is_tested))]
 pub fn is_source(l: &[u8], room: usize) -> bool
     ensures { result ≡ is_x room l.now }
 {

@@ -1,7 +1,8 @@
 -- The lines that `rulecheck` reads (document 01, "The reader program"), in their order, and what they give.
-use Rattle.std.specs.Prelude.{Result, Ok, Err, ℕ, ◌+◌, ◌-◌, min, ◌≡◌, Bool, cond, List, [], ◌∷◌, ◌++◌, leb, eqb, length, get_or, take, drop}
+use Rattle.std.specs.Prelude.{Option, Some, None, Result, Ok, Err, ℕ, ◌+◌, ◌-◌, min, ◌≡◌, Bool, cond, List, [], ◌∷◌, ◌++◌, leb, eqb, length, get_or, take, drop}
 use Rattle.line_fields.specs.Split.{lines_of}
 use Rattle.line_forms.specs.Forms.{rest, numbers_of, kind_in, nodes_in, scopes_in, is_j, is_s, is_n, name_of, source_of, is_x}
+use Rattle.line_input.specs.declared.Head.{Head}
 use Rattle.line_input.specs.declared.Tables.{Tables}
 use Rattle.line_input.specs.declared.Unread.{Unread}
 
@@ -87,6 +88,10 @@ room_of nodes scopes source names = record { nodes = length nodes; scopes = leng
 abbrev pub lent : Room
 lent = record { nodes = 10240; scopes = 3072; source = 1024; names = 1024 }
 
+-- the first of some lines; a missing line is empty, and can't be read
+abbrev pub first_of : List (List ℕ) → List ℕ
+first_of ls = get_or ls 0 []
+
 -- What stands behind the J line: as many S lines and then N lines as it says, and the X line. What follows isn't read. A missing line is
 -- taken as an empty one, which can't be read.
 module _ (room : Room) (kind nodes scopes : ℕ) (ls : List (List ℕ)) where
@@ -107,6 +112,13 @@ module _ (room : Room) (kind nodes scopes : ℕ) (ls : List (List ℕ)) where
       (stopped (2 + scopes + length ns_in) ss_in ns_in))
       (stopped (2 + length ss_in) ss_in [])
 
+-- what the J line says
+abbrev pub head_in : List ℕ → Head
+head_in l = record { kind = kind_in l; nodes = nodes_in l; scopes = scopes_in l }
+
+unfoldable pub head_of : ℕ → ℕ → List ℕ → Option Head
+head_of nodes scopes l = cond (is_j nodes scopes l) (Some (head_in l)) None
+
 unfoldable pub read_lines : Room → List (List ℕ) → Reading
 read_lines room [] = stopped 1 [] []
 read_lines room (j ∷ ls) = cond (is_j room.nodes room.scopes j) (read_behind room (kind_in j) (nodes_in j) (scopes_in j) ls) (stopped 1 [] [])
@@ -124,3 +136,18 @@ pub record Given (d : Reading) (n₀ s₀ x₀ m₀ n s x m : List ℕ) : Type 0
   pub scopes : s ≡ front d.scopes s₀
   pub source : x ≡ front d.source x₀
   pub names : m ≡ front d.names m₀
+
+-- what the answer and the slices must be
+pub record Gives (d : Reading) (r : Result Tables Unread) (n₀ s₀ x₀ m₀ n s x m : List ℕ) : Type 0 where
+  pub answer : r ≡ d.answer
+  pub nodes : n ≡ front d.nodes n₀
+  pub scopes : s ≡ front d.scopes s₀
+  pub source : x ≡ front d.source x₀
+  pub names : m ≡ front d.names m₀
+
+-- all that is read of node lines: how many there are, their names' bytes, and both slices
+pub record NodesRead (ns : List (List ℕ)) (n₀ m₀ : List ℕ) (lines bytes : ℕ) (n m : List ℕ) : Type 0 where
+  pub count : lines ≡ length ns
+  pub size : bytes ≡ length (names_of ns)
+  pub nodes : n ≡ front (nodes_of 0 ns) n₀
+  pub names : m ≡ front (names_of ns) m₀

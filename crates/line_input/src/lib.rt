@@ -4,18 +4,15 @@
 ghost use Rattle.std.specs.Prelude.{◌≡◌, ◌+◌, ◌*◌, ◌^◌, ◌<◌, ◌≤◌, min, true, length};
 ghost use Rattle.base_common.specs.Wrote.{put};
 ghost use Rattle.line_fields.specs.Split.{lines_of};
-ghost use Rattle.line_input.specs.ReadLaws.{NodesRead};
-ghost use Rattle.line_input.specs.InputLaws.{head_of, Gives};
-ghost use Rattle.line_input.specs.Route.{is_a, unit_in, asked_by, read_route};
-ghost use Rattle.line_input.specs.RouteLaws.{two_of, two_answers};
+ghost use Rattle.line_input.specs.Route.{is_a, unit_in, two_of, two_answers, asked_by, read_route};
 ghost use Rattle.line_forms.specs.Forms.{rest, numbers_of, is_numbers, is_n, name_of, is_x, source_of};
-ghost use Rattle.line_input.specs.Format.{unread, node_of, scope_lines, node_lines, scopes_of, room_of, read_behind, read_input, front, Given};
+ghost use Rattle.line_input.specs.Format.{unread, node_of, scope_lines, node_lines, scopes_of, room_of, read_behind, head_of, read_input, front, Given, Gives, NodesRead};
 
 use line_fields::COMMA;
 use line_forms::{LONGEST, MOST, NODE_NUMBERS};
 
 // So many bytes of an input are read at most: 2,052 lines (J, 1,024 scopes, 1,024 nodes, X, U, A) of up to 2,100 bytes, each with its
-// end. `specs/Whole` proves that what follows them changes nothing.
+// end. `proofs/Whole` proves that what follows them changes nothing.
 pub const ENOUGH: usize = (2 * MOST + 4) * (LONGEST + 1);
 
 // So many numbers a node takes in its table, and so many a scope.
@@ -87,6 +84,7 @@ fn write_node(l: &[u8], nodes: &mut [u32], w: usize, start: u32, len: u32)
 }
 
 // Reads n scope lines, or those before the first that can't be read. Says how many.
+#[tactic(auto, using(crate::proofs::ReadLaws::scoping_done, crate::proofs::ReadLaws::scopes_bad, crate::proofs::ReadLaws::scopes_none, line_forms::proofs::FormLaws::numbers_told))]
 fn read_scopes(b: &[u8], n: usize, scopes: &mut [u32]) -> usize
     requires { n * 3 ≤ length scopes.old }
     ensures { (result ≡ length (scope_lines n (lines_of b.now))) × (scopes.new ≡ front (scopes_of (scope_lines n (lines_of b.now))) scopes.old) }
@@ -105,13 +103,13 @@ fn read_scopes(b: &[u8], n: usize, scopes: &mut [u32]) -> usize
 
 // How many lines were read, and how many bytes their names have.
 #[derive(Clone, Copy)]
-struct Named {
+struct NodeLines {
     lines: usize,
     bytes: usize,
 }
 
-// Reads n node lines, or those before the first that can't be read.
-fn read_nodes(b: &[u8], n: usize, nodes: &mut [u32], names: &mut [u8]) -> Named
+// Reads n node lines, or those before the first that can't be read. Names have 1,024 bytes at most, also where their slice is longer.
+fn read_nodes(b: &[u8], n: usize, nodes: &mut [u32], names: &mut [u8]) -> NodeLines
     requires { n * 10 ≤ length nodes.old }
     ensures { NodesRead (node_lines (min 1024 (length names.old)) n (lines_of b.now)) nodes.old names.old result.lines result.bytes nodes.new names.new }
 {
@@ -121,21 +119,22 @@ fn read_nodes(b: &[u8], n: usize, nodes: &mut [u32], names: &mut [u8]) -> Named
     for lines in 0..n {
         let l = line_fields::line(t);
         if !line_forms::is_node(l) {
-            return Named { lines, bytes };
+            return NodeLines { lines, bytes };
         }
         let text = line_forms::name(l);
         let len = text.len();
         if room - bytes < len {
-            return Named { lines, bytes };
+            return NodeLines { lines, bytes };
         }
         write_node(l, nodes, lines * NODE, bytes as u32, len as u32);
         table_put::copy(text, names, bytes);
         t = line_fields::after(t);
         bytes += len;
     }
-    Named { lines: n, bytes }
+    NodeLines { lines: n, bytes }
 }
 
+#[tactic(auto, using(crate::proofs::InputLaws::source_told))]
 fn write_source(l: &[u8], source: &mut [u8]) -> usize
     requires { is_x (length source.old) l.now ≡ true }
     ensures { (result ≡ length (source_of l.now)) × (source.new ≡ front (source_of l.now) source.old) }
@@ -144,6 +143,7 @@ fn write_source(l: &[u8], source: &mut [u8]) -> usize
 }
 
 // The J line: at most 1,024 nodes and scopes, for which there is room.
+#[tactic(auto, using(crate::proofs::InputLaws::head_numbers, line_forms::proofs::FormLaws::numbers_told))]
 fn read_head(l: &[u8], nodes: usize, scopes: usize) -> Option<Head>
     ensures { result ≡ head_of nodes scopes l.now }
 {
@@ -164,7 +164,8 @@ fn read_head(l: &[u8], nodes: usize, scopes: usize) -> Option<Head>
     })
 }
 
-// The lines behind the J line.
+// The lines behind the J line, which says at most 1,024 nodes and scopes; there is room for ten numbers a node and three a scope.
+#[tactic(auto, using(crate::proofs::InputLaws::gives_stopped, crate::proofs::InputLaws::gives_tables, crate::proofs::InputLaws::behind_nodes, crate::proofs::InputLaws::behind_source, crate::proofs::InputLaws::behind_all, crate::proofs::ReadLaws::scopes_sized, crate::proofs::ReadLaws::nodes_sized))]
 fn read_behind(
     b: &[u8],
     head: Head,
@@ -204,6 +205,7 @@ fn read_behind(
 
 // All of it. A line that can't be read or is missing gives its number; what the lines before it gave is written.
 // The four slices are lent one by one, as everywhere: a struct of them is no plainer, since each has its own clause, before and after.
+#[tactic(auto, using(crate::proofs::InputLaws::head_some_lem, crate::proofs::InputLaws::head_room))]
 pub fn read(
     input: &[u8],
     nodes: &mut [u32],
@@ -227,6 +229,7 @@ pub fn read(
     )
 }
 
+#[tactic(auto, using(crate::proofs::RouteLaws::answers_letter, crate::proofs::RouteLaws::answers_bad, crate::proofs::RouteLaws::answers_is))]
 fn is_answers(l: &[u8], room: usize) -> bool
     ensures { result ≡ is_a room l.now }
 {
@@ -237,6 +240,7 @@ fn is_answers(l: &[u8], room: usize) -> bool
         && line_forms::fits(n, 1, room)
 }
 
+#[tactic(auto, using(crate::proofs::RouteLaws::unit_told))]
 fn unit(l: &[u8]) -> u32
     requires { is_numbers 85 1 l.now ≡ true }
     ensures { result ≡ unit_in l.now }
@@ -244,6 +248,7 @@ fn unit(l: &[u8]) -> u32
     line_digits::value(line_fields::field(line_fields::onward(l, COMMA)))
 }
 
+#[tactic(auto, using(crate::proofs::RouteLaws::answers_told, crate::proofs::RouteLaws::answers_put, line_forms::proofs::FormLaws::rest_tail))]
 fn write_answers(l: &[u8], answers: &mut [u32]) -> usize
     requires { is_a (length answers.old) l.now ≡ true }
     ensures { (result ≡ length (rest l.now)) × (answers.new ≡ front (numbers_of (rest l.now)) answers.old) }
@@ -271,7 +276,7 @@ fn read_two(b: &[u8], answers: &mut [u32]) -> Result<Two, Missing>
     })
 }
 
-// The U and A lines, behind tables that were read.
+// The U and A lines, behind tables that were read: ten numbers for each of up to 1,024 nodes, three for each of up to 1,024 scopes.
 fn read_asked(input: &[u8], tables: Tables, answers: &mut [u32]) -> Result<Asked, Unread>
     requires { (tables.nodes ≤ 10240) × (tables.scopes ≤ 3072) }
     ensures { (result ≡ (asked_by (length answers.old) (lines_of input.now) (Ok tables)).answer) × (answers.new ≡ front (asked_by (length answers.old) (lines_of input.now) (Ok tables)).answers answers.old) }
@@ -289,6 +294,7 @@ fn read_asked(input: &[u8], tables: Tables, answers: &mut [u32]) -> Result<Asked
 }
 
 // All that ruleroute reads: rulecheck's lines, the unit and the answers.
+#[tactic(auto, using(crate::proofs::RouteLaws::tables_small, crate::proofs::RouteLaws::asked_none))]
 pub fn read_route(
     input: &[u8],
     nodes: &mut [u32],

@@ -11,5 +11,14 @@ spelled (suc f) n = cond (ltb n 10) ((48 + n) ∷ []) (spelled f (n / 10) ++ (48
 unfoldable pub decimal : ℕ → List ℕ
 decimal n = spelled (suc n) n
 
+-- fields behind the first, each with its comma
+unfoldable pub tails : List (List ℕ) → List ℕ
+tails [] = []
+tails (f ∷ fs) = 44 ∷ f ++ tails fs
+
+-- numbers, each behind a comma
+unfoldable pub fields_for : List ℕ → List ℕ
+fields_for ns = tails (map decimal ns)
+
 unfoldable pub line_of : ℕ → List ℕ → List ℕ
 line_of letter ns = joined ((letter ∷ []) ∷ map decimal ns) ++ 10 ∷ []

@@ -3,8 +3,7 @@
 
 ghost use Rattle.std.specs.Prelude.{◌≡◌, ◌+◌, ◌≤◌, ◌<◌, ◌∷◌, ℕ, length, map, take};
 ghost use Rattle.base_common.specs.Wrote.{put};
-ghost use Rattle.line_print.specs.Print.{decimal, line_of};
-ghost use Rattle.line_print.specs.PrintLaws.{fields_for};
+ghost use Rattle.line_print.specs.Print.{decimal, fields_for, line_of};
 
 // A number that is printed in decimal digits.
 trait Decimal: Copy {
@@ -31,6 +30,7 @@ impl Decimal for u64 {
 }
 
 // How many decimal digits n has. Digits are counted and written by hand here, since `to_string` takes its text from the heap.
+#[tactic(auto, using(crate::proofs::PrintLaws::length_more, crate::proofs::PrintLaws::length_less, crate::proofs::PrintLaws::length_word))]
 fn places(n: u64) -> usize
     ensures { (result ≡ length (decimal n)) × (result ≤ 20) }
 {
@@ -51,6 +51,7 @@ fn glyph(d: u64) -> u8
 }
 
 // Writes n's decimal digits from place w on, the last one first. Says where they end.
+#[tactic(auto, using(crate::proofs::PrintLaws::length_more, crate::proofs::PrintLaws::length_less, crate::proofs::PrintLaws::digit_last))]
 fn put_number(n: u64, out: &mut [u8], w: usize) -> usize
     requires { w + length (decimal n) ≤ length out.old }
     ensures { (result ≡ w + length (decimal n)) × (out.new ≡ put out.old w (decimal n)) }
@@ -90,6 +91,7 @@ fn put_fields<T: Decimal>(numbers: &[T], out: &mut [u8], w: usize) -> usize
 }
 
 // Writes a line of numbers or words from place w on, and says where it ends.
+#[tactic(auto, using(crate::proofs::PrintLaws::line_put, crate::proofs::PrintLaws::length_line))]
 fn put_line<T: Decimal>(letter: u8, numbers: &[T], out: &mut [u8], w: usize) -> usize
     requires { w + length (line_of letter (map T.number numbers.now)) ≤ length out.old }
     ensures { (result ≡ w + length (line_of letter (map T.number numbers.now))) × (out.new ≡ put out.old w (line_of letter (map T.number numbers.now))) }

@@ -29,6 +29,7 @@ fn from(line: &[u8], at: usize) -> &[u8]
 }
 
 // The work: the step from a place of a line, if the field behind it is a number.
+#[tactic(auto, using(crate::proofs::StepLaws::past_is, crate::proofs::StepLaws::step_number, crate::proofs::StepLaws::step_stop, line_digits::proofs::NumberLaws::told_value, line_digits::proofs::NumberLaws::told_none))]
 pub fn step_at(line: &[u8], at: usize) -> Option<Number>
     ensures { result ≡ step_at line.now at }
 {
@@ -58,6 +59,7 @@ pub fn next_from(line: &[u8], at: usize) -> Option<Number>
 
 // Writes the first n fields of a line's tail, all numbers, from place w on. A tail is what follows a line's letter: nothing, or a
 // comma and more.
+#[tactic(auto, using(line_fields::proofs::FieldLaws::firsts_none, line_fields::proofs::FieldLaws::length_values, table_put::proofs::Writes::put_start, table_put::proofs::Writes::put_end))]
 pub fn write_numbers(tail: &[u8], n: usize, out: &mut [u32], w: usize)
     requires { (n ≤ length (fields_in tail.now)) × (w + n ≤ length out.old) × (all is_number (firsts n tail.now) ≡ true) }
     ensures { out.new ≡ put out.old w (map value_of (firsts n tail.now)) }

@@ -1,13 +1,22 @@
 // Refusals 1, 2 and 4: sizes, listed numbers, spans and names within their bytes.
 #![tactic(auto)]
 
-ghost use Rattle.std.specs.Prelude.{◌≡◌, ◌&&◌, ◌||◌, not, ◌+◌, ◌<◌, ◌≤◌, length, ltb, leb};
-ghost use Rattle.table_records.specs.Table.{count, count_scopes, IsTableSize};
+ghost use Rattle.std.specs.Prelude.{◌≡◌, ◌&&◌, ◌||◌, ◌+◌, ◌<◌, ◌≤◌, ltb};
+ghost use Rattle.table_records.specs.Table.{count, IsTableSize};
+ghost use Rattle.check_class_table.specs.Elements.{NoFixedName};
 ghost use Rattle.refusal_verdict.specs.First.{first};
 ghost use Rattle.refusal_fields.specs.Fields.{wrong_table, wrong_sizes, own_flag, listed_flags, most_extra, listed_extra, unlisted_at, stray_at};
 
 use table_records::{NodeId, extras, kinds, roles};
 use table_source::{TYPESCRIPT, is_typescript};
+
+// A table has at most so many records, and source and names so many bytes.
+const MOST_RECORDS: usize = 65535;
+
+const MOST_BYTES: usize = 1048576;
+
+// The flags 2, 4, .., 4096 together.
+const ALL_FLAGS: u32 = 8190;
 
 // Whether a table of so many numbers, `width` to a record, is empty, not whole or too long.
 #[tactic(auto, unfolding(crate::specs::Fields::wrong_table))]
@@ -15,7 +24,7 @@ fn wrong_table(len: usize, width: usize) -> bool
     requires { 0 < width }
     ensures { result ≡ wrong_table len width }
 {
-    len == 0 || len % width != 0 || 65535 < len / width
+    len == 0 || len % width != 0 || MOST_RECORDS < len / width
 }
 
 // Whether a size is wrong.
@@ -31,8 +40,8 @@ pub fn wrong_sizes(
 {
     wrong_table(nodes.len(), 10)
         || wrong_table(scopes.len(), 3)
-        || 1048576 < source.len()
-        || 1048576 < names.len()
+        || MOST_BYTES < source.len()
+        || MOST_BYTES < names.len()
         || TYPESCRIPT < source_type
 }
 
@@ -40,7 +49,7 @@ pub fn wrong_sizes(
 #[tactic(auto, unfolding(crate::specs::Fields::own_flag))]
 fn own_flag(source_type: u32, k: u32) -> u32
     ensures value { result ≡ own_flag source_type k }
-    ensures upper_bound { result ≤ 16384 }
+    ensures upper_bound { result ≤ NoFixedName }
 {
     if k == kinds::FUNCTION {
         return check_bodies::ASYNC_OR_GENERATOR;
@@ -59,7 +68,7 @@ fn listed_flags(source_type: u32, k: u32, sum: u32) -> bool
     ensures { result ≡ listed_flags source_type k sum }
 {
     let own = own_flag(source_type, k);
-    sum % 2 == 0 && (sum <= 8190 || (own <= sum && sum <= own + 8190))
+    sum % 2 == 0 && (sum <= ALL_FLAGS || (own <= sum && sum <= own + ALL_FLAGS))
 }
 
 // The largest extra of a kind.

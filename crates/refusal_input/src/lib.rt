@@ -13,6 +13,7 @@ use refusal_verdict::{Refusal, Refused};
 use table_records::NodeId;
 
 // The lowest Super whose search the Rust ends in a failure.
+#[tactic(auto, using(refusal_verdict::proofs::FirstLaws::first_on, refusal_verdict::proofs::FirstLaws::first_stop, refusal_verdict::proofs::FirstLaws::first_end))]
 fn failing(nodes: &[u32], scopes: &[u32]) -> Option<u32>
     requires tree { Tree nodes.now }
     requires chained { Chained scopes.now }
@@ -28,6 +29,7 @@ fn failing(nodes: &[u32], scopes: &[u32]) -> Option<u32>
 }
 
 // 13, 14, 6 and 15, each over the whole tree.
+#[tactic(auto, using(refusal_verdict::proofs::VerdictLaws::handed, refusal_verdict::proofs::VerdictLaws::stopped, refusal_verdict::proofs::VerdictLaws::went_on), unfolding(crate::specs::Input::shape_refusal))]
 fn shape_refusal(nodes: &[u32], scopes: &[u32]) -> Result<(), Refused>
     requires tree { Tree nodes.now }
     requires chained { Chained scopes.now }
@@ -41,6 +43,7 @@ fn shape_refusal(nodes: &[u32], scopes: &[u32]) -> Result<(), Refused>
 }
 
 // The refusal of the input.
+#[tactic(auto, using(refusal_verdict::proofs::VerdictLaws::handed, refusal_verdict::proofs::VerdictLaws::stopped, refusal_verdict::proofs::VerdictLaws::cleared, refusal_verdict::proofs::VerdictLaws::went_on, refusal_fields::proofs::FieldsLaws::sizes_of, refusal_scopes::proofs::ScopesLaws::chained_of, refusal_scopes::proofs::ScopesLaws::scoped_of, refusal_tree::proofs::TreeLaws::tree_of), unfolding(crate::specs::Input::input_refusal, crate::specs::Input::tables_or))]
 pub fn refusal(
     source_type: u32,
     nodes: &[u32],

@@ -25,8 +25,9 @@ use Rattle.refusal_return.specs.Return.{is_static, return_in_static}
 use Rattle.refusal_input.specs.Input.{tables_or, shape_refusal, input_refusal}
 use Rattle.refusal_input.proofs.InputLaws.{input_well_formed}
 use Rattle.table_renamed.specs.Renamed.{Renamed}
-use Rattle.table_renamed.specs.RenamedLaws.{Fields, everywhere}
-use Rattle.table_renamed.specs.TableLaws.{parent, parents, tables}
+use Rattle.table_renamed.specs.Alike.{Fields}
+use Rattle.table_renamed.proofs.RenamedLaws.{everywhere}
+use Rattle.table_renamed.proofs.TableLaws.{parent, parents, tables}
 use Rattle.check_renamed.proofs.SuperLaws.{reach}
 
 module _ (ns ms : List ℕ) (a : Fields ns ms) where

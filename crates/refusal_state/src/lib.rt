@@ -34,6 +34,7 @@ pub fn unit_refusal(nodes: &[u32], u: u32) -> Result<(), Refused>
 }
 
 // The place of refusal 9. Where there are no findings each jump has its target, so that none is sought.
+#[tactic(auto, using(crate::proofs::TargetsLaws::place_none, crate::proofs::TargetsLaws::place_some))]
 pub fn state_place(rule: &Rule) -> Option<u32>
     requires input { Input rule.now.nodes.now rule.now.scopes.now rule.now.names.now }
     requires sourced { Sourced rule.now.nodes.now rule.now.source.now }

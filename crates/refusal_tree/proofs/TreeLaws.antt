@@ -29,13 +29,20 @@ module _ (ns : List ℕ) where
       let h : on (parent_of ns) p at ≡ true = sym e ∙ subst (λ (x : ℕ). on (parent_of ns) p x ≡ true) (sym q) (on_self (parent_of ns) p) in
       rw (h, q)
 
-  pub from_miss : (n at p a : ℕ) → Falls (parent_of ns) n → a < n → on (parent_of ns) p a ≡ on (parent_of ns) p at → a < p → depth_from ns at p ≡ None
-  unfolding depth_from
-  from_miss n at p a t hc e l = go (on (parent_of ns) p at) refl
+  -- p is neither a node below it nor above that
+  pub on_low : (n p a : ℕ) → Falls (parent_of ns) n → a < n → a < p → on (parent_of ns) p a ≡ false
+  on_low n p a t hc l = go (on (parent_of ns) p a) refl
     where
-      go : (x : Bool) → on (parent_of ns) p at ≡ x → cond (on (parent_of ns) p at) (Some (depth_of ns p)) None ≡ None
-      go true h = absurd (omega (arith, on_le (parent_of ns) n t p a hc (e ∙ h)))
-      go false h = rw h
+      go : (x : Bool) → on (parent_of ns) p a ≡ x → on (parent_of ns) p a ≡ false
+      go true h = absurd (omega (arith, on_le (parent_of ns) n t p a hc h))
+      go false h = h
+
+  pub from_none : (at p : ℕ) → on (parent_of ns) p at ≡ false → depth_from ns at p ≡ None
+  unfolding depth_from
+  from_none at p h = rw h
+
+  pub from_miss : (n at p a : ℕ) → Falls (parent_of ns) n → a < n → on (parent_of ns) p a ≡ on (parent_of ns) p at → a < p → depth_from ns at p ≡ None
+  from_miss n at p a t hc e l = from_none at p (sym e ∙ on_low n p a t hc l)
 
 -- two answers are no number
 of_off : {A : Type 0} → (d : ℕ) → Some d ≡ None → A

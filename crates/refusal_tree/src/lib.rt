@@ -1,16 +1,16 @@
 // Refusal 3: the nodes are a tree in preorder, not too deep.
 #![tactic(auto)]
 
-ghost use Rattle.std.specs.Prelude.{◌≡◌, ◌+◌, ◌-◌, ◌<◌, ◌≤◌};
+ghost use Rattle.std.specs.Prelude.{◌≡◌, ◌+◌, ◌-◌, ◌<◌};
 ghost use Rattle.table_records.specs.Table.{count, parent_of, depth_of, IsTableSize};
 ghost use Rattle.base_walk.specs.Above.{Falls};
-ghost use Rattle.base_walk.specs.On.{on};
 ghost use Rattle.refusal_verdict.specs.First.{first};
 ghost use Rattle.refusal_tree.specs.Tree.{misplaced_at, depth_from, depth_if};
 
 use table_records::{NodeId, kinds};
 
 // The depth of p, which is `at` or an ancestor of it: from that of `at`, `depth`, one less for each step up.
+#[tactic(auto, using(base_walk::proofs::OnLaws::on_miss, crate::proofs::TreeLaws::depth_up, crate::proofs::TreeLaws::from_hit, crate::proofs::TreeLaws::on_low, crate::proofs::TreeLaws::from_none))]
 fn depth_from(nodes: &[u32], at: NodeId, depth: u32, p: u32) -> Option<u32>
     requires falls { Falls (parent_of nodes.now) (at.0 + 1) }
     requires at_bound { at.0 < count nodes.now }
@@ -27,6 +27,7 @@ fn depth_from(nodes: &[u32], at: NodeId, depth: u32, p: u32) -> Option<u32>
 }
 
 // The depth of node i, where `depth` is that of the node before.
+#[tactic(auto, using(crate::proofs::TreeLaws::at_program, crate::proofs::TreeLaws::at_stray))]
 fn depth_at(nodes: &[u32], i: NodeId, depth: u32) -> Option<u32>
     requires falls { Falls (parent_of nodes.now) i.0 }
     requires i_nonzero { 0 < i.0 }
@@ -46,6 +47,7 @@ fn depth_at(nodes: &[u32], i: NodeId, depth: u32) -> Option<u32>
 }
 
 // The lowest node that is out of place.
+#[tactic(auto, using(refusal_verdict::proofs::FirstLaws::first_on, refusal_verdict::proofs::FirstLaws::first_stop, refusal_verdict::proofs::FirstLaws::first_end, crate::proofs::TreeLaws::depth_root, crate::proofs::TreeLaws::root_kind_lem, crate::proofs::TreeLaws::root_parent, crate::proofs::TreeLaws::root_fine, crate::proofs::TreeLaws::if_off))]
 pub fn misplaced(nodes: &[u32]) -> Option<u32>
     requires { IsTableSize (count nodes.now) }
     ensures { result ≡ first (misplaced_at nodes.now) 0 (count nodes.now) }

@@ -83,6 +83,7 @@ pub fn begins(code: &[u32], place: u32) -> bool
 }
 
 // Reads so many pending ends of the array from a place on.
+#[tactic(auto, using(crate::proofs::MarksLaws::read_first, crate::proofs::MarksLaws::read_more))]
 fn load(marks: &Marks, at: usize, pending: usize, ends: &mut [u64])
     requires pending_bound { at + pending * 2 ≤ 8208 }
     requires pending_in_bounds { pending ≤ length ends.old }
@@ -111,6 +112,7 @@ fn taken_up(marks: &Marks, mark: u32, ends: &mut [u64]) -> Landing
 }
 
 // Where a route begins, with the pending ends there.
+#[tactic(auto, unfolding(code_machine::specs::Pending::stack))]
 fn begin_at(marks: &Marks, begin: Begin, ends: &mut [u64]) -> Landing
     requires ready { Ready marks.now begin }
     requires ends_len { length ends.old ≡ room }
@@ -127,6 +129,7 @@ fn begin_at(marks: &Marks, begin: Begin, ends: &mut [u64]) -> Landing
 }
 
 // Writes so many pending ends to the array from a place on.
+#[tactic(auto, using(crate::proofs::MarksLaws::write_first, crate::proofs::MarksLaws::write_more))]
 fn save(marks: &mut Marks, at: usize, pending: usize, ends: &[u64])
     requires pending_bound { at + pending * 2 ≤ 8208 }
     requires pending_in_bounds { pending ≤ length ends.now }
@@ -141,6 +144,7 @@ fn save(marks: &mut Marks, at: usize, pending: usize, ends: &[u64])
 }
 
 // Sets a mark where a route stands.
+#[tactic(auto, using(crate::proofs::MarksLaws::mark_written))]
 fn set_mark(marks: &mut Marks, mark: u32, place: u32, pending: usize, ends: &[u64])
     requires mark_lt_marks_many { mark < marksMany }
     requires pending_le_room { pending ≤ room }
@@ -174,6 +178,7 @@ fn run_from(
 }
 
 // Counts the route up to the stop, writes it where it fits, and sets the mark if the stop was reached.
+#[tactic(auto, using(crate::proofs::TakenLaws::short_marks, crate::proofs::TakenLaws::held_marks, crate::proofs::TakenLaws::over_marks, route_viewer::proofs::ShownLaws::short_answer, route_viewer::proofs::ShownLaws::short_slice, route_viewer::proofs::ShownLaws::whole_answer, route_viewer::proofs::ShownLaws::whole_slice))]
 pub fn show(
     marks: &mut Marks,
     begin: Begin,

@@ -93,6 +93,7 @@ fn unlabelled(nodes: &[u32], names: &[u8], p: NodeId, how: Completion) -> Comple
 }
 
 // Whether a Labeled of the name of l is p, or stands right above it.
+#[tactic(auto, using(route_steps::proofs::StatementLaws::labels_hit, route_steps::proofs::StatementLaws::labels_next, route_steps::proofs::StatementLaws::labels_stop, route_steps::proofs::StatementLaws::labeled_inner))]
 fn has_label(nodes: &[u32], names: &[u8], p: NodeId, l: NodeId) -> bool
     requires walkable { Walkable nodes.now names.now }
     requires p_bound { p.0 < count nodes.now }
@@ -125,6 +126,7 @@ fn loop_continues(nodes: &[u32], names: &[u8], n: NodeId, how: Completion) -> bo
 }
 
 // How a statement without parts completes.
+#[tactic(auto, using(route_steps::proofs::StatementLaws::comp_return, route_steps::proofs::StatementLaws::comp_throw, route_steps::proofs::StatementLaws::comp_normal))]
 fn completion_of(nodes: &[u32], names: &[u8], n: NodeId) -> Completion
     requires walkable { Walkable nodes.now names.now }
     requires n_bound { n.0 < count nodes.now }
@@ -147,23 +149,15 @@ fn completion_of(nodes: &[u32], names: &[u8], n: NodeId) -> Completion
     }
 }
 
-// The first part of p from a node on.
+// The first part of p from a node on, and with it those behind it.
+#[tactic(auto, using(crate::proofs::PartLaws::first_is))]
 fn next_part(nodes: &[u32], p: NodeId, from: u32) -> Option<NodeId>
     requires tree { Tree nodes.now }
     requires p_lt_from { p.0 < from }
     requires from_bound { from ≤ count nodes.now }
     ensures { First nodes.now p.0 (parts nodes.now p.0 from) result }
 {
-    let mut i = from;
-    // `while`, since a range asks for the table's size: nothing that a walk up calls divides.
-    while table_records::is_node(nodes, i) {
-        let n = NodeId(i);
-        if up_of(nodes, n) == p && code_shapes::is_part(nodes, n) {
-            return Some(n);
-        }
-        i += 1;
-    }
-    None
+    code_shapes::next_part(nodes, p, from)
 }
 
 // The a-th part of p.
@@ -179,8 +173,10 @@ fn nth_part(nodes: &[u32], p: NodeId, a: u32) -> Option<NodeId>
     next_part(nodes, p, from)
 }
 
-// This walk and that of `part_with_role` differ in one test: the contract of a closure for it would be as long as either.
+// This walk and that of `part_with_role` differ in one test. One function over a closure for it has six clauses and a ghost test, and both of these would keep
+// their own beside it, with a law each.
 // The `default` among the parts of p.
+#[tactic(auto, using(route_steps::proofs::StepsLaws::first_low_lem))]
 fn default_part(nodes: &[u32], p: NodeId) -> Option<NodeId>
     requires tree { Tree nodes.now }
     requires p_bound { p.0 < count nodes.now }
@@ -197,6 +193,7 @@ fn default_part(nodes: &[u32], p: NodeId) -> Option<NodeId>
 }
 
 // The case of the switch p that the answer picks.
+#[tactic(auto, using(route_steps::proofs::StepsLaws::case_nth, route_steps::proofs::StepsLaws::case_default))]
 fn case_of(nodes: &[u32], p: NodeId, a: u32) -> Option<NodeId>
     requires tree { Tree nodes.now }
     requires p_bound { p.0 < count nodes.now }
@@ -227,6 +224,7 @@ fn branch_of(nodes: &[u32], p: NodeId, a: u32) -> Option<NodeId>
 }
 
 // The first part of p with the role r.
+#[tactic(auto, using(route_steps::proofs::StepsLaws::first_low_lem, route_steps::proofs::StepsLaws::role_start, route_steps::proofs::StepsLaws::role_on, route_steps::proofs::StepsLaws::role_hit, route_steps::proofs::StepsLaws::role_none))]
 fn part_with_role(nodes: &[u32], p: NodeId, r: u32) -> Option<NodeId>
     requires tree { Tree nodes.now }
     requires p_bound { p.0 < count nodes.now }
@@ -292,6 +290,7 @@ fn left(run: Run) -> Run
 }
 
 // What the Labeled p leaves: a break to its label ends there.
+#[tactic(auto, using(crate::proofs::WalkLaws::ends_as))]
 fn left_label(nodes: &[u32], names: &[u8], p: NodeId, run: Run) -> Run
     requires walkable { Walkable nodes.now names.now }
     requires p_bound { p.0 < count nodes.now }

@@ -21,8 +21,9 @@ use Rattle.line_fields.specs.Split.{lines_of}
 use Rattle.line_input.specs.declared.Tables.{Tables}
 use Rattle.line_input.specs.declared.Unread.{Unread}
 use Rattle.line_input.specs.Format.{Room, Reading, lent, read_input, front, Given}
-use Rattle.line_input.specs.Sizes.{Sized, lines_told, part}
-use Rattle.line_input.specs.Whole.{enough, input_whole}
+use Rattle.line_input.proofs.Sizes.{Sized, lines_told, part}
+use Rattle.line_input.proofs.Whole.{input_whole}
+use Rattle.line_input.specs.Route.{enough}
 use Rattle.line_print.specs.Print.{line_of}
 use Rattle.line_answers.specs.Answer.{finding_lines, answer_text, Counted, refusal_text, findings_room}
 use Rattle.rulecheck.specs.Response.{lines_for, verdict_text, check_text, input_text, response}

@@ -5,7 +5,7 @@ use Rattle.std.proofs.Math.Seq.{take-append_seam}
 use Rattle.std.specs.declared.option.Option.{Option}
 use Rattle.std.specs.Io.KnownBytes.{Appends}
 use Rattle.line_input.specs.Format.{front}
-use Rattle.line_input.specs.Whole.{enough}
+use Rattle.line_input.specs.Route.{enough}
 use Rattle.rulecheck.specs.Response.{response}
 use Rattle.rulecheck.proofs.ResponseLaws.{response_whole}
 

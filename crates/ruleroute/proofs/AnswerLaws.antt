@@ -14,9 +14,9 @@ use Rattle.line_input.specs.declared.Tables.{Tables}
 use Rattle.line_input.specs.declared.Asked.{Asked}
 use Rattle.line_input.specs.declared.Unread.{Unread}
 use Rattle.line_input.specs.Format.{Room, Reading, lent, read_input, front, Given}
-use Rattle.line_input.specs.Route.{read_route}
-use Rattle.line_input.specs.Sizes.{Sized, lines_told, asked_told, part}
-use Rattle.line_input.specs.Whole.{enough, input_whole, route_whole}
+use Rattle.line_input.specs.Route.{read_route, enough}
+use Rattle.line_input.proofs.Sizes.{Sized, lines_told, asked_told, part}
+use Rattle.line_input.proofs.Whole.{input_whole, route_whole}
 use Rattle.line_print.specs.Print.{line_of}
 use Rattle.line_answers.specs.Answer.{refusal_line, refusal_text}
 use Rattle.ruleroute.specs.Answer.{entry_line, last_line, lines_for, answers_room, code_room, routed_by, entries_by, routed_of, entries_of}

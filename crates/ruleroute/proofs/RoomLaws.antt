@@ -20,8 +20,8 @@ use Rattle.line_input.specs.declared.Asked.{Asked}
 use Rattle.line_input.specs.declared.Unread.{Unread}
 use Rattle.line_input.specs.Format.{Reading, lent, read_input}
 use Rattle.line_input.specs.Route.{read_route}
-use Rattle.line_input.specs.RouteLaws.{tables_small}
-use Rattle.line_input.specs.Sizes.{Sized, lines_told, asked_told}
+use Rattle.line_input.proofs.RouteLaws.{tables_small}
+use Rattle.line_input.proofs.Sizes.{Sized, lines_told, asked_told}
 use Rattle.ruleroute.specs.Answer.{answers_room, code_room, routed_by, routed_of}
 
 -- What is shown of a route is no such answer.

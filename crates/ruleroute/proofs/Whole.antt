@@ -4,7 +4,7 @@ use Rattle.std.proofs.Common.{ap, subst, ◌∙◌}
 use Rattle.std.specs.declared.option.Option.{Option}
 use Rattle.std.specs.Io.KnownBytes.{Appends}
 use Rattle.route_viewer.specs.Shown.{Routed}
-use Rattle.line_input.specs.Whole.{enough}
+use Rattle.line_input.specs.Route.{enough}
 use Rattle.ruleroute.specs.Answer.{entries_of, printed, routed_of, text_of}
 use Rattle.ruleroute.proofs.AnswerLaws.{entries_whole, routed_whole}
 

@@ -22,6 +22,10 @@ unfoldable pub last_line : Routed → List ℕ
 last_line (Ok r) = line_of 90 (r.end ∷ r.entries ∷ r.taken ∷ [])
 last_line (Err e) = refusal_text e
 
+-- room for a line: a letter, three numbers of at most 20 digits, each behind a comma, and the line's end take 65 bytes
+abbrev pub line_room : ℕ
+line_room = 256
+
 -- "up to 1,024 answers"
 abbrev pub answers_room : ℕ
 answers_room = 1024

@@ -1,13 +1,13 @@
 // ruleroute: reads the lines of a rule's tables, a unit and answers from standard input, and prints the unit's route or the refusal.
 #![tactic(auto)]
 
-ghost use Rattle.std.specs.Prelude.{◌≡◌, ◌≤◌, [], ◌∷◌, ◌++◌, IfSome, OnOk, length, take};
+ghost use Rattle.std.specs.Prelude.{◌≡◌, [], ◌∷◌, IfSome, OnOk, length, take};
 ghost use Rattle.std.specs.Io.KnownBytes.{Appends};
 ghost use Rattle.base_common.specs.Wrote.{put};
 ghost use Rattle.line_print.specs.Print.{line_of};
 ghost use Rattle.check_dispatch.specs.Rule.{rule};
 ghost use Rattle.call_routes.specs.Calls.{route_answer, route_slice};
-ghost use Rattle.ruleroute.specs.Answer.{entry_line, last_line, answers_room, code_room, routed_of, entries_of, lines_for, listed, text_of, printed};
+ghost use Rattle.ruleroute.specs.Answer.{entry_line, last_line, line_room, answers_room, code_room, routed_of, entries_of, lines_for, listed, text_of, printed};
 
 use check_dispatch::Rule;
 use line_input::{Asked, ENOUGH};
@@ -33,7 +33,7 @@ const ROUTE: usize = 655360;
 
 // Writes the line of an entry. Says where it ends.
 fn entry_line(node: u32, out: &mut [u8]) -> usize
-    requires { length out.old ≡ 256 }
+    requires { length out.old ≡ line_room }
     ensures { (result ≡ length (entry_line node)) × (out.new ≡ put out.old 0 (entry_line node)) }
 {
     let l = [node];
@@ -42,7 +42,7 @@ fn entry_line(node: u32, out: &mut [u8]) -> usize
 
 // Writes the line of a route's end. Says where it ends.
 fn end_line(end: u64, entries: u64, taken: u64, out: &mut [u8]) -> usize
-    requires { length out.old ≡ 256 }
+    requires { length out.old ≡ line_room }
     ensures { (result ≡ length (line_of 90 (end ∷ entries ∷ taken ∷ []))) × (out.new ≡ put out.old 0 (line_of 90 (end ∷ entries ∷ taken ∷ []))) }
 {
     let z = [end, entries, taken];
@@ -51,7 +51,7 @@ fn end_line(end: u64, entries: u64, taken: u64, out: &mut [u8]) -> usize
 
 // Writes the last line that is printed. Says where it ends.
 fn last_line(answer: Result<Route, Refused>, out: &mut [u8]) -> usize
-    requires { length out.old ≡ 256 }
+    requires { length out.old ≡ line_room }
     ensures { (result ≡ length (last_line answer)) × (out.new ≡ put out.old 0 (last_line answer)) }
 {
     match answer {
@@ -87,7 +87,8 @@ fn routed(
     call_routes::route(&rule, asked.unit, given, code, out)
 }
 
-// The answer for the bytes `input`, with slices for the tables and for the code; `out` holds the route then.
+// The answer for the bytes `input`, with slices for the tables and for the code; `out` holds the route then. The tables' have room for
+// 1,024 nodes of ten numbers, 1,024 scopes of three, and 1,024 bytes of source and of names: the most that are read.
 fn respond_by(
     input: &[u8],
     nodes: &mut [u32],
@@ -133,7 +134,7 @@ fn respond(input: &[u8], out: &mut [u32]) -> Result<Route, Refused>
 
 // Prints the line of an entry by way of `text`.
 fn print_entry<O: Write>(writer: &mut O, node: u32, text: &mut [u8]) -> io::Result<()>
-    requires { length text.old ≡ 256 }
+    requires { length text.old ≡ line_room }
     ensures { OnOk result (Appends (O.contents writer.old) (O.contents writer.new) (entry_line node)) }
 {
     let end = entry_line(node, text);
@@ -141,7 +142,7 @@ fn print_entry<O: Write>(writer: &mut O, node: u32, text: &mut [u8]) -> io::Resu
 }
 
 fn print_entries<O: Write>(writer: &mut O, entries: &[u32], text: &mut [u8]) -> io::Result<()>
-    requires { length text.old ≡ 256 }
+    requires { length text.old ≡ line_room }
     ensures { OnOk result (Appends (O.contents writer.old) (O.contents writer.new) (lines_for entries.now)) }
 {
     for entry in entries {
@@ -167,7 +168,7 @@ fn print_route<O: Write>(
     out: &[u32],
     text: &mut [u8],
 ) -> io::Result<()>
-    requires { length text.old ≡ 256 }
+    requires { length text.old ≡ line_room }
     ensures { OnOk result (Appends (O.contents writer.old) (O.contents writer.new) (lines_for (take (listed answer) out.now))) }
 {
     print_entries(writer, line_print::front(out, listed(answer)), text)
@@ -180,7 +181,7 @@ fn print_routed<O: Write>(
     out: &[u32],
     text: &mut [u8],
 ) -> io::Result<()>
-    requires { length text.old ≡ 256 }
+    requires { length text.old ≡ line_room }
     ensures { OnOk result (Appends (O.contents writer.old) (O.contents writer.new) (text_of answer out.now)) }
 {
     print_route(writer, answer, out, text)?;

@@ -1,4 +1,2 @@
 pub mod Renamed
-pub mod RenamedLaws
-pub mod TableLaws
-pub mod NameLaws
+pub mod Alike

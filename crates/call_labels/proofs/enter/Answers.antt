@@ -1,13 +1,12 @@
 use Rattle.call_labels.specs.Order.{seen_before, place_in}
-use Rattle.call_labels.proofs.UnfitLaws.{other_fit, reserved_unfit, nameless_fit, known_fit, many_unfit, new_fit}
+use Rattle.call_labels.proofs.UnfitLaws.{other_fit, nameless_fit, known_fit, new_fit}
 use Rattle.call_labels.specs.Firsts.{Firsts}
 use Rattle.call_labels.proofs.FirstsLaws.{firsts_length, firsts_add}
 use Rattle.table_names.specs.Name.{name_of}
 use Rattle.table_names.proofs.NameLaws.{name_length}
-use borrow.Author.Tests.{not-true, not-false}
 use lib.ListN.{length, set}
 use native.Mathlib.Omega.{arith}
-use mathlib.Core.Path.{◌≡◌, refl, ap, sym, subst, ◌∙◌}
+use mathlib.Core.Path.{◌≡◌, ap, sym, subst, ◌∙◌}
 use Prim.Native.Nat.{◌+◌}
 use Rattle.call_labels.proofs.enter.Goals as goal
 
@@ -20,17 +19,6 @@ returns-then-not-is_label c =
     let h = c.requires.i_bound in
     let w = other_fit ns names a.i (sym c.is_label.ensures ∙ c.if-not-is_label.true) in
     (w.0, subst (Firsts ns names a.kept.now.nodes a.kept.now.size) (sym w.1) f)
-
-pub returns-then-is_reserved : goal.returns-then-is_reserved
-returns-then-is_reserved c =
-    let a = c.args in
-    let ns = a.nodes.now in
-    let names = a.names.now in
-    let f = c.requires.firsts in
-    let h = c.requires.i_bound in
-    let e = sym c.is_label.ensures ∙ c.if-not-is_label.false in
-    let q = sym c.is_reserved.ensures ∙ c.if-is_reserved.true in
-    (refl, reserved_unfit ns names a.i e q)
 
 pub returns-then-name_len-eq0 : goal.returns-then-name_len-eq0
 returns-then-name_len-eq0 c =
@@ -45,15 +33,6 @@ returns-then-name_len-eq0 c =
     let w = nameless_fit ns names a.i e q z in
     (w.0, subst (Firsts ns names a.kept.now.nodes a.kept.now.size) (sym w.1) f)
 
-pub place_in-requires : goal.place_in-requires
-place_in-requires c =
-    let a = c.args in
-    let ns = a.nodes.now in
-    let names = a.names.now in
-    let f = c.requires.firsts in
-    let h = c.requires.i_bound in
-    record { named = c.requires.named; nodes = f.nodes; n_bound = h }
-
 pub returns-then-place_in-kept : goal.returns-then-place_in-kept
 returns-then-place_in-kept c =
     let a = c.args in
@@ -67,29 +46,6 @@ returns-then-place_in-kept c =
     let l = firsts_length ns names a.kept.now.nodes a.kept.now.size (seen_before ns names a.i) f in
     let w = known_fit ns names a.i e q (omega (arith, p, l, c.if-place_in-kept.true)) in
     (w.0, subst (Firsts ns names a.kept.now.nodes a.kept.now.size) (sym w.1) f)
-
-pub returns-then-kept-eq-MOST : goal.returns-then-kept-eq-MOST
-returns-then-kept-eq-MOST c =
-    let a = c.args in
-    let ns = a.nodes.now in
-    let names = a.names.now in
-    let f = c.requires.firsts in
-    let h = c.requires.i_bound in
-    let e = sym c.is_label.ensures ∙ c.if-not-is_label.false in
-    let q = sym c.is_reserved.ensures ∙ c.if-is_reserved.false in
-    let n : length (name_of ns names a.i) ≡ 0 → ⊥ = λ z. c.if-name_len-eq0.false (c.name_len.ensures ∙ sym (name_length ns names c.requires.named a.i h) ∙ z) in
-    let p = c.place_in.ensures ∙ ap (λ s. place_in s (name_of ns names a.i)) f.named in
-    let l = firsts_length ns names a.kept.now.nodes a.kept.now.size (seen_before ns names a.i) f in
-    (refl, many_unfit ns names a.i e q n (omega (arith, p, l, c.if-place_in-kept.false)) (omega (arith, l, c.if-kept-eq-MOST.true)))
-
-pub bounds-kept-kept : goal.bounds-kept-kept
-bounds-kept-kept c =
-    let a = c.args in
-    let ns = a.nodes.now in
-    let names = a.names.now in
-    let f = c.requires.firsts in
-    let h = c.requires.i_bound in
-    let w = f.nodes in omega (arith, w.few, w.room, c.if-kept-eq-MOST.false)
 
 pub returns : goal.returns
 returns c =

@@ -1,4 +1,4 @@
-use Rattle.code_assemble.proofs.WrittenLaws.{length_whole, write_start, write_turn, write_end}
+use Rattle.code_assemble.proofs.WrittenLaws.{write_start, write_end}
 use Prim.Native.Nat.{◌+◌}
 use native.Mathlib.Omega.{arith}
 use mathlib.Core.Path.{◌≡◌, refl}
@@ -12,16 +12,6 @@ pub loop-j-init : goal.loop-j-init
 loop-j-init c = let a = c.args in
     let b = a.laid.now.body.0 in
     (write_start c.requires.arrays.ready (b + 1) refl a.code.now)
-
-pub loop-j-preserved : goal.loop-j-preserved
-loop-j-preserved c = let a = c.args in
-    (write_turn c.requires.arrays.ready c.loop-j.j a.code.now c.loop-j.code _ c.loop-j.invariant c.emit_at.ensures)
-
-pub put_ends-requires : goal.put_ends-requires
-put_ends-requires c = let a = c.args in
-    let ns = a.laid.now.nodes.now in
-    let b = a.laid.now.body.0 in
-    let x : get_or a.laid.now.widths.now b 0 ≡ width_at ns b b = array.width_is_lem c.requires.arrays b c.requires.arrays.ready.held.root (in_root ns b) in let w = length_whole c.requires.arrays.ready in omega (arith, x, w, c.loop-j.invariant.same, c.requires.b_in_bounds)
 
 pub returns : goal.returns
 returns c = let a = c.args in

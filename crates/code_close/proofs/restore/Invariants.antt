@@ -10,6 +10,3 @@ invariant-loop-x l = record {
   inside : (y : ℕ) → l.from ≤ y → y < l.x → get_or l.code y 0 ≡ get_or l.saved (y - l.from) 0;
   outside : (y : ℕ) → (y < l.from) ⊎ (l.x ≤ y) → get_or l.code y 0 ≡ get_or l.initial.code y 0;
 }
-
-abbrev pub decreases-loop-x : goal.decreases-loop-x
-decreases-loop-x l = l.to - l.x

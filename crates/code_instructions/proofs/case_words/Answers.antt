@@ -1,7 +1,6 @@
 use Rattle.code_instructions.proofs.PartLaws.{ifz_none, ifz_some, behind_none, behind_has, case_holder}
 use Rattle.code_instructions.proofs.WordsLaws.{case_has}
 use Prim.Native.Nat.{◌+◌}
-use native.Mathlib.Omega.{arith}
 use mathlib.Core.Path.{refl, sym, ap, ◌∙◌}
 use lib.Dec.{eqb}
 use lib.ListN.{get_or}
@@ -29,11 +28,6 @@ returns-then-is_last c = let a = c.args in
     let b = a.laid.now.body.0 in
     let n = a.n.0 in
     case_has ns nm b n c.requires.b_lt_n c.requires.n_value_2 (stat_of c.entry_of-t.result) (c.entry_of-t.ensures ∙ ap (λ k. ifz (head0 (order ns n)) (target ns nm b n normal) (at (offset_at ns nm b n + k) (depth_at ns nm b n))) c.number_by-own.ensures.value) 0 (ifz_none (behind (order ns (up_of ns n)) n) 0 (offset_at ns nm b n + width_at ns b n) (behind_none c.requires.arrays n c.requires.b_lt_n c.requires.n_bound c.requires.n_value (up_of ns n) refl (case_holder c.requires.arrays n c.requires.b_lt_n c.requires.n_bound c.requires.n_value c.requires.n_value_2) (ap (λ k. eqb (sum (counted ns b) (parts ns k (n + 1))) 0) (sym c.up_of-p.ensures.result_value) ∙ sym c.is_last.ensures ∙ c.if-is_last.true)))
-
-pub overflow_add-next : goal.overflow_add-next
-overflow_add-next c = let a = c.args in
-    let n = a.n.0 in
-    let s = array.end_small c.requires.arrays n c.requires.n_bound c.requires.n_value in omega (arith, s)
 
 pub returns : goal.returns
 returns c = let a = c.args in

@@ -25,21 +25,6 @@ overflow_add-second-2 c = let a = c.args in
     let n = a.n.0 in
     let w = if_part c.requires.arrays n c.requires.b_lt_n c.requires.n_bound c.requires.n_value c.requires.n_value_2 c.in-Some.c.0 (first_head _ _ (sym c.in-Some.is ∙ c.next_part.ensures)) in let t = array.end_small c.requires.arrays c.in-Some.c.0 w.inside (if_in c.requires.arrays n c.requires.b_lt_n c.requires.n_bound c.requires.n_value c.requires.n_value_2 c.in-Some.c.0 (first_head _ _ (sym c.in-Some.is ∙ c.next_part.ensures))) in let s = array.end_small c.requires.arrays n c.requires.n_bound c.requires.n_value in omega (arith, s, t)
 
-pub overflow_add-o : goal.overflow_add-o
-overflow_add-o c = let a = c.args in
-    let n = a.n.0 in
-    let s = array.end_small c.requires.arrays n c.requires.n_bound c.requires.n_value in omega (arith, s)
-
-pub overflow_add-o-then-second-o : goal.overflow_add-o-then-second-o
-overflow_add-o-then-second-o c = let a = c.args in
-    let n = a.n.0 in
-    let s = array.end_small c.requires.arrays n c.requires.n_bound c.requires.n_value in omega (arith, s)
-
-pub overflow_add-o-then-second-o-2 : goal.overflow_add-o-then-second-o-2
-overflow_add-o-then-second-o-2 c = let a = c.args in
-    let n = a.n.0 in
-    let s = array.end_small c.requires.arrays n c.requires.n_bound c.requires.n_value in omega (arith, s)
-
 pub returns-then-second-o : goal.returns-then-second-o
 returns-then-second-o c = let a = c.args in
     let ns = a.laid.now.nodes.now in
@@ -59,11 +44,6 @@ role-requires c = let a = c.args in
     let n = a.n.0 in
     (if_part c.requires.arrays n c.requires.b_lt_n c.requires.n_bound c.requires.n_value c.requires.n_value_2 c.in-Some.c.0 (first_head _ _ (sym c.in-Some.is ∙ c.next_part.ensures))).inside
 
-pub overflow_add-o-then-role-eq-ALTERNATE : goal.overflow_add-o-then-role-eq-ALTERNATE
-overflow_add-o-then-role-eq-ALTERNATE c = let a = c.args in
-    let n = a.n.0 in
-    let s = array.end_small c.requires.arrays n c.requires.n_bound c.requires.n_value in omega (arith, s)
-
 pub returns-then-role-eq-ALTERNATE : goal.returns-then-role-eq-ALTERNATE
 returns-then-role-eq-ALTERNATE c = let a = c.args in
     let ns = a.laid.now.nodes.now in
@@ -81,11 +61,6 @@ returns-then-role-eq-ALTERNATE c = let a = c.args in
     let ex = ap (λ t. cond t (o + 7 + get_or ws cc' 0) (o + 7)) (sym k) ∙ w.0 in
     let ey = ap (λ t. cond t (o + 7) (o + 7 + get_or ws cc' 0)) (sym k) ∙ w.1 in
     subst (λ r. Has r 0 (words_at ns nm b n)) (sym c.asking-then-role-eq-ALTERNATE.ensures) (if_has ns nm b n c.requires.b_lt_n c.requires.n_value_2 (stat_of c.normal_target-t.result) c.normal_target-t.ensures second (o + 7) ex ey)
-
-pub overflow_add-o-2 : goal.overflow_add-o-2
-overflow_add-o-2 c = let a = c.args in
-    let n = a.n.0 in
-    let s = array.end_small c.requires.arrays n c.requires.n_bound c.requires.n_value in omega (arith, s)
 
 pub returns : goal.returns
 returns c = let a = c.args in

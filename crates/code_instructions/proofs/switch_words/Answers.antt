@@ -1,7 +1,6 @@
 use Rattle.code_instructions.proofs.PartLaws.{ifz_none, ifz_some, head_none, head_has, default_none}
 use Rattle.code_instructions.proofs.WordsLaws.{switch_has}
 use Prim.Native.Nat.{◌+◌}
-use native.Mathlib.Omega.{arith}
 use mathlib.Core.Path.{◌≡◌, sym, ap, ◌∙◌, subst}
 use lib.ListN.{get_or}
 use Rattle.code_tree.specs.Parts.{order}
@@ -12,11 +11,6 @@ use Rattle.code_flat.specs.Has.{Has}
 use Rattle.code_branch.specs.Branch.{stat_of}
 use Rattle.code_branch.proofs.JumpLaws as array
 use Rattle.code_instructions.proofs.switch_words.Goals as goal
-
-pub overflow_add-o : goal.overflow_add-o
-overflow_add-o c = let a = c.args in
-    let n = a.n.0 in
-    let s = array.end_small c.requires.arrays n c.requires.n_bound c.requires.n_value in omega (arith, s)
 
 pub returns-then-laid-n-eq-SWITCH_WORDS : goal.returns-then-laid-n-eq-SWITCH_WORDS
 returns-then-laid-n-eq-SWITCH_WORDS c = let a = c.args in
@@ -29,11 +23,6 @@ returns-then-laid-n-eq-SWITCH_WORDS c = let a = c.args in
     let eo : o ≡ offset_at ns nm b n = array.offset_is c.requires.arrays n c.requires.n_bound c.requires.n_value in
     let m = head_none c.requires.arrays n c.requires.b_lt_n c.requires.n_bound c.requires.n_value (ap is_try c.requires.n_value_2) (c.if-laid-n-eq-SWITCH_WORDS.true ∙ sym (ap number_by c.requires.n_value_2)) in
     subst (λ r. Has r 0 (words_at ns nm b n)) (sym c.asking.ensures) (switch_has ns nm b n c.requires.b_lt_n c.requires.n_value_2 (stat_of c.normal_target-t.result) c.normal_target-t.ensures 0 (o + 4) (ifz_none (head0 (order ns n)) 0 (offset_at ns nm b n + 7) m) (ap (λ k. k + 4) eo ∙ default_none c.requires.arrays n c.requires.b_lt_n c.requires.n_bound c.requires.n_value c.requires.n_value_2 m (offset_at ns nm b n + 4)))
-
-pub overflow_add-o-2 : goal.overflow_add-o-2
-overflow_add-o-2 c = let a = c.args in
-    let n = a.n.0 in
-    let s = array.end_small c.requires.arrays n c.requires.n_bound c.requires.n_value in omega (arith, s)
 
 pub returns : goal.returns
 returns c = let a = c.args in

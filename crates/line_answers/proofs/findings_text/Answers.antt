@@ -1,25 +1,11 @@
 -- `answers::findings_text` meets its contract.
 use mathlib.Core.Path.{◌∙◌, sym}
 use mathlib.Core.List.{[], ◌∷◌}
-use native.Mathlib.Omega.{arith}
 use lib.ListN.{length-append}
 use Rattle.line_print.specs.Print.{line_of}
 use Rattle.line_answers.specs.Answer.{finding_lines}
-use Rattle.line_answers.proofs.AnswerLaws.{count_room, count_put}
+use Rattle.line_answers.proofs.AnswerLaws.{count_put}
 use Rattle.line_answers.proofs.findings_text.Goals as goal
-
-pub put_findings-at-requires : goal.put_findings-at-requires
-put_findings-at-requires c =
-    let a = c.args in
-    let p = c.requires.count_in_bounds.0 in
-    let q = c.requires.findings_in_bounds in
-    record { count_in_bounds = omega arith; findings_in_bounds = omega (arith, length-append (finding_lines a.count a.findings.now) (line_of 69 (a.count ∷ []))) }
-
-pub line-requires : goal.line-requires
-line-requires c =
-    let a = c.args in
-    let e = c.put_findings-at.ensures in
-    rw e.0 (count_room a.out.now c.put_findings-at.new.out a.count a.findings.now c.requires.findings_in_bounds e.1)
 
 pub returns : goal.returns
 returns c =

@@ -1,11 +1,8 @@
 use native.Mathlib.Omega.{arith}
-use Rattle.line_print.specs.PrintLaws.{put_done}
+use Rattle.line_print.proofs.PrintLaws.{put_done}
 use Rattle.line_answers.specs.Answer.{finding_lines}
-use Rattle.line_answers.proofs.AnswerLaws.{lines_start, lines_turn, lines_room, lines_end}
+use Rattle.line_answers.proofs.AnswerLaws.{lines_turn, lines_room, lines_end}
 use Rattle.line_answers.proofs.put_findings.Goals as goal
-
-pub loop-i-init : goal.loop-i-init
-loop-i-init c = lines_start c.args.out.now c.args.findings.now c.args.count c.requires.findings_in_bounds
 
 pub put_finding-at-requires : goal.put_finding-at-requires
 put_finding-at-requires c =

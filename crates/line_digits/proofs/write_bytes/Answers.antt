@@ -1,16 +1,7 @@
-use Rattle.line_digits.specs.HexLaws.{byte_room, byte_turn, bytes_done, hex_pair, hex_nibble}
+use Rattle.line_digits.proofs.HexLaws.{byte_turn, bytes_done}
 use Rattle.line_digits.specs.Hex.{bytes_of}
 use native.Mathlib.Omega.{arith}
 use Rattle.line_digits.proofs.write_bytes.Goals as goal
-
-pub nibble-requires : goal.nibble-requires
-nibble-requires c = hex_nibble _ (hex_pair c.loop-t.t.now c.loop-t.invariant.0 (omega arith)).first
-
-pub nibble-requires-in-len2-up : goal.nibble-requires-in-len2-up
-nibble-requires-in-len2-up c = hex_nibble _ (hex_pair c.loop-t.t.now c.loop-t.invariant.0 (omega arith)).second
-
-pub bounds-out-k : goal.bounds-out-k
-bounds-out-k c = byte_room c.args.out.now c.loop-t.out c.loop-t.k c.loop-t.t.now (bytes_of c.args.s.now) c.loop-t.invariant.0 (omega arith) c.loop-t.invariant.1
 
 pub loop-t-preserved : goal.loop-t-preserved
 loop-t-preserved c = byte_turn c.args.out.now c.loop-t.out c.loop-t.k c.loop-t.t.now (bytes_of c.args.s.now) c.loop-t.invariant.0 (omega arith) c.loop-t.invariant.1 c.nibble.result c.nibble-in-len2-up.result c.nibble.ensures.0 c.nibble-in-len2-up.ensures.0

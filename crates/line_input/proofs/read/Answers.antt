@@ -1,7 +1,6 @@
 -- `lines::read` meets its contract.
-use Rattle.line_input.specs.InputLaws.{head_of, head_none, head_some_lem, head_room, gives_parts, none_read, lines_behind, lines_no}
-use Rattle.line_input.specs.ReadLaws.{first_of}
-use Rattle.line_input.specs.Format.{unread, Room, room_of, read_behind, read_lines}
+use Rattle.line_input.proofs.InputLaws.{head_none, gives_parts, none_read, lines_behind, lines_no}
+use Rattle.line_input.specs.Format.{head_of, first_of, unread, Room, room_of, read_behind, read_lines}
 use Rattle.line_input.specs.declared.Head.{Head}
 use Rattle.line_input.specs.declared.Tables.{Tables}
 use Rattle.line_input.specs.declared.Unread.{Unread}
@@ -12,15 +11,6 @@ use lib.ListN.{length}
 use native.Mathlib.Omega.{arith}
 use mathlib.Core.Path.{◌≡◌, ◌∙◌, ap, sym}
 use Rattle.line_input.proofs.read.Goals as goal
-
-pub read_behind-requires : goal.read_behind-requires
-read_behind-requires c =
-    let a = c.args in
-    let o = c.ok_or.ensures.value in
-    let w = c.in_ok-head.was in
-    let s : ◌≡◌ {A = Option Head} c.read_head.result (Some c.in_ok-head.head) = grind arith in
-    let t = head_some_lem (length a.nodes.now) (length a.scopes.now) c.line.result.now c.in_ok-head.head (sym c.read_head.ensures ∙ s) in
-    rw t.1 (head_room (length a.nodes.now) (length a.scopes.now) c.line.result.now t.0)
 
 pub returns : goal.returns
 returns c =

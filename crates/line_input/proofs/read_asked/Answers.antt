@@ -1,5 +1,5 @@
 -- `lines::read_asked` meets its contract.
-use Rattle.line_input.specs.RouteLaws.{route_by, asked_as}
+use Rattle.line_input.proofs.RouteLaws.{route_by, asked_as}
 use Rattle.line_input.specs.Route.{lines_before}
 use Rattle.line_fields.specs.Split.{lines_of}
 use lib.ListN.{length}

@@ -1,24 +1,13 @@
 -- `lines::read_head` meets its contract.
-use Rattle.line_input.specs.InputLaws.{head_array, head_numbers, head_nodes, head_scopes, head_is_lem}
-use Rattle.line_forms.proofs.FormLaws.{numbers_told}
+use Rattle.line_input.proofs.InputLaws.{head_array, head_nodes, head_scopes, head_is_lem}
 use Rattle.line_forms.specs.Forms.{is_numbers, nodes_in, scopes_in, kind_in}
 use lib.ListN.{get_or}
-use native.Mathlib.Omega.{arith}
 use mathlib.Core.List.{List}
 use mathlib.Core.Bool.{true}
 use mathlib.Core.Path.{◌≡◌, ap, sym, refl}
 use Prim.Native.Nat.{ℕ}
 use Rattle.line_input.proofs.read_head.Goals as goal
 use Rattle.line_input.proofs.read_head.Goals.{then-not-fits-via-then-not-fits, then-not-fits-via-else-not-fits+then-not-fits-2}
-
-pub returns-then-not-is_numbers : goal.returns-then-not-is_numbers
-returns-then-not-is_numbers c = sym (head_numbers c.args.nodes c.args.scopes c.args.l.now (cc (c.if-not-is_numbers.true)))
-
-pub write_numbers-requires : goal.write_numbers-requires
-write_numbers-requires c =
-    let t = numbers_told 74 3 c.args.l.now (cc (c.if-not-is_numbers.false)) in
-    let n = t.0 in
-    rw c.onward.ensures (omega arith, omega arith, t.1)
 
 pub returns-then-not-fits : goal.returns-then-not-fits
 returns-then-not-fits c =

@@ -1,6 +1,6 @@
-use Rattle.line_input.specs.ReadLaws.{noding_again, NodesRead, noding_start, noding_done, nodes_bad, nodes_full, nodes_none, first_of}
+use Rattle.line_input.proofs.ReadLaws.{noding_again, noding_start, noding_done, nodes_bad, nodes_full, nodes_none}
+use Rattle.line_input.specs.Format.{NodesRead, first_of, node_of, node_lines}
 use Rattle.line_forms.specs.Forms.{name_of}
-use Rattle.line_input.specs.Format.{node_of, node_lines}
 use Rattle.line_fields.specs.Split.{lines_of}
 use Rattle.base_common.specs.Wrote.{put}
 use lib.ListN.{length}

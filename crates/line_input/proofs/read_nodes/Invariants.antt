@@ -1,5 +1,5 @@
 -- `lines::read_nodes` meets its contract. The loop keeps: what is left of the work, with what is done, is the whole.
-use Rattle.line_input.specs.ReadLaws.{Noding}
+use Rattle.line_input.proofs.ReadLaws.{Noding}
 use Rattle.line_input.specs.Format.{node_lines}
 use Rattle.line_fields.specs.Split.{lines_of}
 use Rattle.line_input.proofs.read_nodes.Given as goal

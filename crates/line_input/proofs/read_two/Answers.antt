@@ -1,10 +1,9 @@
 -- `lines::read_two` meets its contract.
 use Prim.Native.Nat.{ℕ}
-use Rattle.line_input.specs.RouteLaws.{two_unit, two_answers_lem, two_both}
+use Rattle.line_input.proofs.RouteLaws.{two_unit, two_answers_lem, two_both}
 use Rattle.line_input.specs.Route.{unit_in}
-use Rattle.line_input.specs.ReadLaws.{first_of}
+use Rattle.line_input.specs.Format.{first_of, front}
 use Rattle.line_forms.specs.Forms.{rest, numbers_of}
-use Rattle.line_input.specs.Format.{front}
 use Rattle.line_fields.specs.Split.{lines_of}
 use lib.ListN.{length, drop}
 use mathlib.Core.List.{List}

@@ -4,7 +4,7 @@ use Rattle.base_common.specs.Wrote.{put}
 use lib.ListN.{set, take}
 use mathlib.Core.List.{List, [], ◌∷◌, ◌++◌, map}
 use Prim.Native.Nat.{ℕ, ◌+◌}
-use Rattle.line_input.specs.ReadLaws.{node_put_on, eight}
+use Rattle.line_input.proofs.ReadLaws.{node_put_on, eight}
 use Rattle.line_forms.proofs.FormLaws.{node_told}
 use Rattle.line_digits.specs.Number.{value_of}
 use native.Mathlib.Omega.{arith}

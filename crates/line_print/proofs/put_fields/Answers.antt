@@ -1,4 +1,5 @@
-use Rattle.line_print.specs.PrintLaws.{put_done, fields_for, fields_turn, fields_room, fields_end}
+use Rattle.line_print.proofs.PrintLaws.{put_done, fields_turn, fields_room, fields_end}
+use Rattle.line_print.specs.Print.{fields_for}
 use Rattle.std.proofs.lemmas.List.{get_or-map, length-map}
 use native.Mathlib.Omega.{arith}
 use mathlib.Core.List.{map}

@@ -1,5 +1,5 @@
 -- `print::put_fields` meets its contract. The loop keeps: what is left of the work, with what is done, is the whole.
-use Rattle.line_print.specs.PrintLaws.{fields_for}
+use Rattle.line_print.specs.Print.{fields_for}
 use Rattle.base_common.specs.Wrote.{Wrote}
 use lib.ListN.{take, drop}
 use mathlib.Core.List.{◌++◌, map}

@@ -1,21 +1,13 @@
 use Rattle.line_reader.proofs.StepLaws.{step_number, past_drop}
 use Rattle.line_reader.specs.Step.{number_at}
-use Rattle.line_fields.specs.Split.{field_of, next_of, firsts}
-use Rattle.line_fields.proofs.FieldLaws.{firsts_none, values_turn, length_values, count_turn, tail_some, number_first, numbers_rest}
-use Rattle.table_put.proofs.Writes.{put_start, put_end}
+use Rattle.line_fields.specs.Split.{field_of, next_of}
+use Rattle.line_fields.proofs.FieldLaws.{values_turn, count_turn, tail_some, number_first, numbers_rest}
 use Rattle.line_digits.specs.Number.{value_of}
 use lib.ListN.{length, drop}
 use native.Mathlib.Omega.{arith}
-use mathlib.Core.List.{map}
 use mathlib.Core.Path.{◌≡◌, ◌∙◌, ap}
 use Prim.Native.Nat.{◌<◌, ◌-◌, ◌+◌}
 use Rattle.line_reader.proofs.write_numbers.Goals as goal
-
-pub loop-k-init : goal.loop-k-init
-loop-k-init c =
-    let p = c.requires in
-    let e : c.args.w + c.args.n - c.args.w ≡ c.args.n = omega arith in
-    rw e (p.0, p.2, put_start c.args.out.now c.args.w (map value_of (firsts c.args.n c.args.tail.now)) (omega (arith, length_values c.args.n c.args.tail.now p.0)))
 
 pub unwrap-number-requires : goal.unwrap-number-requires
 unwrap-number-requires c =
@@ -46,11 +38,3 @@ loop-k-preserved c =
     let m = count_turn t s in
     let k : c.args.w + c.args.n - (o.k + 1) ≡ left - 1 = omega arith in
     rw (d, v, k) (omega arith, numbers_rest left t h s i.1, values_turn c.args.out.now o.out o.k left t _ h s i.2)
-
-pub returns : goal.returns
-returns c =
-    let i = c.loop-k.invariant in
-    let p = c.requires in
-    let left = c.args.w + c.args.n - c.loop-k.k in
-    put_end c.args.out.now c.args.w (map value_of (firsts c.args.n c.args.tail.now)) (omega (arith, length_values c.args.n c.args.tail.now p.0)) c.loop-k.out c.loop-k.k
-    (rw (firsts_none left (drop c.loop-k.at c.args.tail.now) (omega arith)) at i.2)

@@ -1,15 +1,6 @@
 use Rattle.std.proofs.Common.{sym, ◌∙◌, arith}
-use Rattle.refusal_tree.proofs.TreeLaws.{at_program, at_stray, at_deep, at_fine}
+use Rattle.refusal_tree.proofs.TreeLaws.{at_deep, at_fine}
 use Rattle.refusal_tree.proofs.depth_at.Goals as goal
-
-pub returns-then-kind-eq-PROGRAM : goal.returns-then-kind-eq-PROGRAM
-returns-then-kind-eq-PROGRAM c =
-    cc (at_program c.args.nodes.now c.args.i.0 (omega arith) (cc))
-
-pub returns-in_err-d : goal.returns-in_err-d
-returns-in_err-d c = let a = c.args in
-    let e = rw c.parent-p.ensures at (sym c.depth_from.ensures ∙ c.in_err-d.was) in
-    c.from_residual.ensures ∙ sym (at_stray a.nodes.now a.i.0 (omega arith) (λ q. c.if-kind-eq-PROGRAM.false (cc)) e)
 
 pub returns-then-d-gt511 : goal.returns-then-d-gt511
 returns-then-d-gt511 c = let a = c.args in

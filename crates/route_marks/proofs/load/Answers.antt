@@ -1,11 +1,8 @@
-use mathlib.Core.Path.{refl, ◌∙◌}
+use mathlib.Core.Path.{◌∙◌}
 use lib.ListN.{length-set}
 use native.Mathlib.Omega.{arith}
-use Rattle.route_marks.proofs.MarksLaws.{read_first, read_more}
+use Rattle.route_marks.proofs.MarksLaws.{read_more}
 use Rattle.route_marks.proofs.load.Goals as goal
-
-pub loop-i-init : goal.loop-i-init
-loop-i-init c = (refl, read_first _ _ _)
 
 pub loop-i-preserved : goal.loop-i-preserved
 loop-i-preserved c =

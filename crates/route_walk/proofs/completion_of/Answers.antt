@@ -1,7 +1,7 @@
 use Rattle.std.specs.Prelude.{Some, None}
 use native.Mathlib.Omega.{arith}
 use mathlib.Core.Path.{sym, ◌∙◌}
-use Rattle.route_steps.proofs.StatementLaws.{comp_break, comp_continue, comp_return, comp_throw, comp_normal}
+use Rattle.route_steps.proofs.StatementLaws.{comp_break, comp_continue}
 use Rattle.route_walk.proofs.completion_of.Goals as goal
 
 pub returns-in-None-clause-result_value : goal.returns-in-None-clause-result_value
@@ -15,12 +15,3 @@ returns-in-None-label-clause-result_value c = let a = c.args in comp_continue a.
 
 pub returns-in-Some-label-clause-result_value : goal.returns-in-Some-label-clause-result_value
 returns-in-Some-label-clause-result_value c = let a = c.args in comp_continue a.nodes.now a.names.now a.n.0 c.kind.result c.kind.ensures (Some c.in-Some-label.l) (sym c.in-Some-label.is ∙ c.label_of-label.ensures.value) (omega arith) (omega arith)
-
-pub returns-in-20-clause-result_value : goal.returns-in-20-clause-result_value
-returns-in-20-clause-result_value c = let a = c.args in comp_return a.nodes.now a.names.now a.n.0 c.kind.result c.kind.ensures (omega arith) (omega arith) (omega arith)
-
-pub returns-in-21-clause-result_value : goal.returns-in-21-clause-result_value
-returns-in-21-clause-result_value c = let a = c.args in comp_throw a.nodes.now a.names.now a.n.0 c.kind.result c.kind.ensures (omega arith) (omega arith) (omega arith) (omega arith)
-
-pub returns-in_default-clause-result_value : goal.returns-in_default-clause-result_value
-returns-in_default-clause-result_value c = let a = c.args in comp_normal a.nodes.now a.names.now a.n.0 c.kind.result c.kind.ensures (omega arith) (omega arith) (omega arith) (omega arith)

@@ -1,7 +1,7 @@
 -- `rulecheck::respond_by` meets its contract.
 use mathlib.Core.Path.{sym}
 use Rattle.line_input.specs.Format.{room_of}
-use Rattle.line_input.specs.Sizes.{room_lent}
+use Rattle.line_input.proofs.Sizes.{room_lent}
 use Rattle.rulecheck.proofs.ResponseLaws.{text_unread, text_tables, front_put, front_same}
 use Rattle.rulecheck.proofs.respond_by.Goals as goal
 

@@ -1,7 +1,7 @@
 -- `ruleroute::end_line` meets its contract.
 use mathlib.Core.List.{[], ◌∷◌}
 use native.Mathlib.Omega.{arith}
-use Rattle.line_print.specs.PrintLaws.{line_words}
+use Rattle.line_print.proofs.PrintLaws.{line_words}
 use Rattle.ruleroute.proofs.AnswerLaws.{words_three}
 use Rattle.ruleroute.proofs.end_line.Goals as goal
 

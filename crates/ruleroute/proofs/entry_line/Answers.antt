@@ -1,7 +1,7 @@
 -- `ruleroute::entry_line` meets its contract.
 use mathlib.Core.List.{[], ◌∷◌}
 use native.Mathlib.Omega.{arith}
-use Rattle.line_print.specs.PrintLaws.{line_numbers}
+use Rattle.line_print.proofs.PrintLaws.{line_numbers}
 use Rattle.ruleroute.proofs.AnswerLaws.{number_one}
 use Rattle.ruleroute.proofs.entry_line.Goals as goal
 

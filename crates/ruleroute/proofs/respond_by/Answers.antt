@@ -2,7 +2,7 @@
 use mathlib.Core.Path.{◌∙◌}
 use lib.ListN.{length}
 use Rattle.line_input.specs.Format.{room_of}
-use Rattle.line_input.specs.Sizes.{room_lent}
+use Rattle.line_input.proofs.Sizes.{room_lent}
 use Rattle.ruleroute.proofs.AnswerLaws.{routed_unasked, routed_asked}
 use Rattle.ruleroute.proofs.respond_by.Goals as goal
 

@@ -1,0 +1,23 @@
+-- A layout in the making, at the turn of a node.
+use Rattle.std.specs.Prelude.{ℕ, ◌≤◌, ◌<◌, ◌≡◌, List, true, length}
+use Rattle.table_records.specs.Table.{count}
+use Rattle.code_layout.specs.Widths.{in_unit}
+use Rattle.code_contexts.specs.declared.Draft.{Draft}
+use Rattle.code_contexts.specs.Contexts.{Ready, Wide, Places}
+
+-- Each array has a place for each node.
+pub record Room (ns : List ℕ) (d : Draft) : Type 0 where
+  pub widths : count ns ≤ length d.widths.now
+  pub levels : count ns ≤ length d.levels.now
+  pub offsets : count ns ≤ length d.offsets.now
+  pub follows : count ns ≤ length d.follows.now
+
+-- n, behind b, is the unit's, and the unit's nodes before it have their places.
+pub record Turn (ns names : List ℕ) (b n : ℕ) (d : Draft) : Type 0 where
+  pub ready : Ready ns names b
+  pub behind : b < n
+  pub inside : n < count ns
+  pub member : in_unit ns b n ≡ true
+  pub room : Room ns d
+  pub wide : Wide ns b d.widths.now
+  pub places : Places ns names b n d.levels.now d.offsets.now d.follows.now

@@ -1,0 +1,4 @@
+pub mod MarkingLaws
+pub mod ThreadingLaws
+pub mod ClosingLaws
+pub mod PassLaws

@@ -1,0 +1,3 @@
+pub mod RenamedLaws
+pub mod TableLaws
+pub mod NameLaws
