@@ -1,24 +1,22 @@
 -- Laws of counting, and what is known where no node has a wrong number of children.
-use Rattle.std.specs.Prelude.{ℕ, zero, suc, ◌+◌, ◌≤◌, ◌<◌, ◌≡◌, List, ◌∷◌, Bool, not, ◌||◌, eqb, ltb, None}
+use Rattle.std.specs.Prelude.{ℕ, ◌+◌, ◌≤◌, ◌<◌, ◌≡◌, List, ◌∷◌, Bool, not, ◌&&◌, ◌||◌, eqb, ltb, None}
 use Rattle.std.proofs.Math.Path.{refl}
-use Rattle.std.proofs.Common.{◌∙◌, ⊎_elim}
 use Rattle.std.proofs.Math.Bool.{true, false, cond}
 use native.Mathlib.Omega.{arith}
-use borrow.Author.Tests.{eq-eqb, ne_eqb, eqb-true, eqb-false, ltb-false, not-false}
+use borrow.Author.Tests.{eq-eqb, ne_eqb, eqb-true, eqb-false, leb-true, ltb-false, not-false}
+use Rattle.std.proofs.Math.Dec.{leb}
+use Rattle.base_common.specs.Tests.{within}
 use Rattle.std.proofs.Math.ListN.{length}
 use Rattle.base_common.specs.Upto.{upto}
 use Rattle.base_common.proofs.UptoLaws.{upto_nil, upto_cons}
 use Rattle.base_common.proofs.Bools.{or_first, or_second, or3, or4, in_range_lem}
-use Rattle.base_walk.proofs.PreorderLaws.{no_child}
-use Rattle.table_records.specs.Table.{kind_of, parent_of, count}
-use Rattle.table_records.specs.Facts.{Tree}
+use Rattle.table_records.specs.Table.{kind_of, count}
 use Rattle.table_records.specs.Kinds as k
 use Rattle.table_records.specs.Roles as r
 use Rattle.refusal_verdict.specs.First.{first}
-use Rattle.refusal_verdict.proofs.FirstLaws.{first_none, le_or_lt}
+use Rattle.refusal_verdict.proofs.FirstLaws.{first_none}
 use Rattle.table_children.specs.Children.{keep, how_many}
-use Rattle.table_children.proofs.ChildrenLaws.{child_other}
-use Rattle.refusal_counts.specs.Counts.{with_role, with_kind, labels, is_default, defaults, wrong_body, wrong_alternate, wrong_default, wrong_try, wrong_clause, wrong_label, wrong_function, wrong_class, wrong_value, wrong_element, wrong_statement, wrong_part, wrong_home, wrong_count_at, Counted}
+use Rattle.refusal_counts.specs.Counts.{with_role, with_kind, labels, defaults, wrong_body, wrong_alternate, wrong_default, wrong_try, wrong_clause, wrong_label, wrong_function, wrong_class, wrong_value, wrong_element, wrong_statement, wrong_part, wrong_home, wrong_count_at, Counted}
 
 -- how many of the numbers from i up to n pass a test, as a loop meets them
 unfoldable pub tally_by : (ℕ → Bool) → ℕ → ℕ → ℕ
@@ -37,26 +35,26 @@ module _ (q : ℕ → Bool) (n : ℕ) where
   unfolding tally_by keep
   by_end i h = rw (upto_nil i n h)
 
-  none_by : (f i : ℕ) → n ≤ i + f → ((j : ℕ) → i ≤ j → j < n → q j ≡ false) → tally_by q i n ≡ 0
-  none_by zero i hf w = by_end i (omega arith)
-  none_by (suc f) i hf w =
-      ⊎_elim (λ (h : n ≤ i). by_end i h)
-      (λ (h : i < n). by_turn i h ∙ rw (w i (omega arith) h) (omega (arith, none_by f (i + 1) (omega arith) (λ j x y. w j (omega arith) y))))
-      (le_or_lt n i)
+pub outside : (k lo hi : ℕ) → (lo ≤ k → k ≤ hi → ⊥) → within k lo hi ≡ false
+outside k lo hi n = go (leb lo k) (leb k hi) refl refl
+  where
+    go : (x y : Bool) → leb lo k ≡ x → leb k hi ≡ y → (x && y) ≡ false
+    go true true e f = absurd (n (leb-true lo k e) (leb-true k hi f))
+    go true false e f = refl
+    go false y e f = refl
 
-  pub by_none : (i : ℕ) → ((j : ℕ) → i ≤ j → j < n → q j ≡ false) → tally_by q i n ≡ 0
-  by_none i w = none_by n i (omega arith) w
+-- no sentence counts the children of a kind past AccessorProperty
+module _ (ns : List ℕ) (i : ℕ) (h : k.AccessorProperty < kind_of ns i) where
+  past : (lo hi : ℕ) → hi ≤ 30 → within (kind_of ns i) lo hi ≡ false
+  past lo hi l = outside (kind_of ns i) lo hi (λ x y. omega arith)
 
-module _ (ns : List ℕ) (p : ℕ) where
-  pub defaults_all : defaults ns p ≡ tally_by (is_default ns p) (p + 1) (count ns)
-  unfolding defaults tally_by
-  defaults_all = refl
+  other : (j : ℕ) → j ≤ 30 → eqb (kind_of ns i) j ≡ false
+  other j l = ne_eqb (kind_of ns i) j (λ e. omega arith)
 
-  -- past the nodes below p there is no case of p
-  pub defaults_out : Tree ns → (i : ℕ) → p < i → i < count ns → parent_of ns i < p → tally_by (is_default ns p) i (count ns) ≡ 0
-  unfolding is_default
-  defaults_out t i h l u = by_none (is_default ns p) (count ns) i
-      (λ j x y. rw (child_other ns p 15 15 3 3 j (λ e. no_child (parent_of ns) (count ns) t.order p i j h u x y e)))
+  pub uncounted : wrong_count_at ns i ≡ false
+  unfolding wrong_count_at wrong_statement wrong_part wrong_home wrong_body wrong_alternate wrong_label wrong_default wrong_try wrong_clause wrong_function wrong_class wrong_element
+  uncounted =
+      rw (past 6 13 (omega arith), other 12 (omega arith), other 6 (omega arith), past 18 19 (omega arith), other 14 (omega arith), other 16 (omega arith), other 17 (omega arith), past 1 2 (omega arith), other 26 (omega arith), past 28 30 (omega arith))
 
 one_of_lem : (n : ℕ) → not (eqb n 1) ≡ false → n ≡ 1
 one_of_lem n e = eqb-true n 1 (not-false (eqb n 1) e)

@@ -1,1 +1,2 @@
 pub mod CountsLaws
+pub mod TallyLaws

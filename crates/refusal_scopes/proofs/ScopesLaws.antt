@@ -1,22 +1,23 @@
 -- Laws of scopes, and what is known where refusal 5 does not apply.
 use borrow.Author.Tests.{le-leb, lt-leb}
-use Rattle.std.specs.Prelude.{ℕ, zero, suc, ◌+◌, ◌≤◌, ◌<◌, ◌≡◌, refl, List, Bool, true, false, cond, not, ◌&&◌, ◌||◌, eqb, ltb, length, get_or, set, None}
+use Rattle.std.specs.Prelude.{ℕ, zero, suc, ◌+◌, ◌≤◌, ◌<◌, ◌≡◌, refl, List, [], ◌∷◌, Bool, true, false, cond, not, ◌&&◌, ◌||◌, eqb, ltb, length, get_or, set, None}
 use Rattle.std.proofs.Common.{sym, subst, ◌∙◌, ⊎_elim, eq-or-lt_of_le, arith, get_or-set_same, get_or-set_other}
 use Rattle.std.proofs.Math.Bool.{and-true, and-false}
-use borrow.Author.Tests.{eq-eqb, ne_eqb, eqb-true, ltb-false, leb-false, not-false}
+use borrow.Author.Tests.{eq-eqb, ne_eqb, eqb-true, ltb-true, ltb-false, leb-false, not-true, not-false}
 use Rattle.std.proofs.Math.Dec.{leb}
+use Rattle.base_common.specs.Upto.{all}
 use Rattle.base_common.proofs.UptoLaws.{and_left_lem, and_right_lem}
 use Rattle.base_common.proofs.Bools.{never, or_first, or_second, or3}
 use Rattle.base_walk.proofs.AboveLaws.{above_up, above_root}
 use Rattle.base_walk.specs.On.{on}
-use Rattle.base_walk.proofs.OnLaws.{on_cases, on_le, on_trans, on_linear}
+use Rattle.base_walk.proofs.OnLaws.{on_step, on_cases, on_le, on_trans, on_linear}
 use Rattle.base_walk.proofs.PreorderLaws.{lt_or_ge}
-use Rattle.table_records.specs.Table.{kind_of, parent_of, scope_of, extra_of, count, count_scopes, scope_parent_of, scope_flags_of, scope_node_of, IsTableSize}
+use Rattle.table_records.specs.Table.{kind_of, parent_of, scope_of, extra_of, count, count_scopes, scope_parent_of, scope_flags_of, scope_node_of, outer, IsTableSize}
 use Rattle.table_records.specs.Facts.{Tree, Chained, Scoped}
 use Rattle.refusal_verdict.specs.First.{first}
 use Rattle.refusal_verdict.proofs.FirstLaws.{first_none}
 use Rattle.refusal_scopes.specs.Scopes.{broken_at, chain_on, misscoped_at}
-use Rattle.refusal_scopes.specs.OwnScopes.{Meets, Deep}
+use Rattle.refusal_scopes.specs.OwnScopes.{Meets, Deep, shares_scope}
 
 module _ (ns ss : List ℕ) where
   pub chain_up : Chained ss → (s i : ℕ) → 0 < s → s < count_scopes ss → chain_on ns ss s i ≡ (on (parent_of ns) (scope_node_of ss s) i && chain_on ns ss (scope_parent_of ss s) i)
@@ -150,3 +151,32 @@ module _ (ns ss : List ℕ) (i : ℕ) where
   pub mis_chain : scope_of ns i < count_scopes ss → (eqb (kind_of ns i) 26 && leb (count_scopes ss) (extra_of ns i)) ≡ false → misscoped_at ns ss i ≡ not (chain_on ns ss (scope_of ns i) i)
   unfolding misscoped_at
   mis_chain h e = rw (lt-leb (count_scopes ss) (scope_of ns i) h, e)
+
+-- a node that stands in its parent's scope, where that fits the parent
+all_more : (p q : ℕ → Bool) → ((t : ℕ) → p t ≡ true → q t ≡ true) → (l : List ℕ) → all p l ≡ true → all q l ≡ true
+all_more p q h [] e = refl
+all_more p q h (t ∷ l) e = rw (h t (and_left_lem (p t) (all p l) e), all_more p q h l (and_right_lem (p t) (all p l) e))
+
+module _ (ns ss : List ℕ) (t : Tree ns) (i : ℕ) (l : i < count ns) where
+  pub chain_below : 0 < i → (s : ℕ) → chain_on ns ss s (parent_of ns i) ≡ true → chain_on ns ss s i ≡ true
+  unfolding chain_on on
+  chain_below h s e =
+      all_more (λ x. on (parent_of ns) (scope_node_of ss x) (parent_of ns i)) (λ x. on (parent_of ns) (scope_node_of ss x) i)
+      (λ x. on_step (parent_of ns) (count ns) t.falls (scope_node_of ss x) i h l)
+      (s ∷ outer ss s) e
+
+  pub shares_fits : shares_scope ns i ≡ true → misscoped_at ns ss (parent_of ns i) ≡ false → misscoped_at ns ss i ≡ false
+  unfolding shares_scope misscoped_at
+  shares_fits e d =
+      let w = and_right_lem (ltb 0 i) _ e in
+      let apart = not-true (eqb (kind_of ns i) 26) (and_left_lem (not (eqb (kind_of ns i) 26)) _ w) in
+      let same = eqb-true (scope_of ns i) (scope_of ns (parent_of ns i)) (and_right_lem (not (eqb (kind_of ns i) 26)) _ w) in
+      let u = or3 (leb (count_scopes ss) (scope_of ns (parent_of ns i))) (eqb (kind_of ns (parent_of ns i)) 26 && leb (count_scopes ss) (extra_of ns (parent_of ns i))) (not (chain_on ns ss (scope_of ns (parent_of ns i)) (parent_of ns i))) d in
+      let above = not-false (chain_on ns ss (scope_of ns (parent_of ns i)) (parent_of ns i)) u.2 in
+      let here = chain_below (ltb-true 0 i (and_left_lem (ltb 0 i) _ e)) (scope_of ns (parent_of ns i)) above in
+      rw (same, u.0, apart, here)
+
+module _ (ns : List ℕ) (i : ℕ) where
+  pub shares_inside : shares_scope ns i ≡ true → 0 < i
+  unfolding shares_scope
+  shares_inside e = ltb-true 0 i (and_left_lem (ltb 0 i) _ e)

@@ -6,7 +6,7 @@ ghost use Rattle.table_records.specs.Table.{count, count_scopes, IsTableSize};
 ghost use Rattle.refusal_verdict.specs.First.{first};
 ghost use Rattle.table_records.specs.Facts.{Tree, Chained};
 ghost use Rattle.refusal_scopes.specs.Scopes.{broken_at, misscoped_at};
-ghost use Rattle.refusal_scopes.specs.OwnScopes.{Meets, Deep};
+ghost use Rattle.refusal_scopes.specs.OwnScopes.{Meets, Deep, shares_scope};
 
 use table_ancestry::is_on_path;
 use table_records::{NodeId, ScopeId, kinds};
@@ -92,6 +92,17 @@ fn misscoped_at(nodes: &[u32], scopes: &[u32], deep: &[u32], n: NodeId) -> bool
         || !is_on_path(nodes, deep[s.0 as usize], n)
 }
 
+// Whether node n stands in its parent's scope and has no scope of its own: where its parent's fits, so does its.
+#[tactic(auto, unfolding(crate::specs::OwnScopes::shares_scope))]
+fn shares_scope(nodes: &[u32], n: NodeId) -> bool
+    requires tree { Tree nodes.now }
+    requires n_bound { n.0 < count nodes.now }
+    ensures { result ≡ shares_scope nodes.now n.0 }
+{
+    let s = table_records::scope(nodes, table_records::parent(nodes, n));
+    0 < n.0 && table_records::kind(nodes, n) != kinds::CLASS && table_records::scope(nodes, n) == s
+}
+
 // The lowest node whose scope is missing or does not fit it, over the filled array.
 fn misscoped_by(nodes: &[u32], scopes: &[u32], deep: &[u32]) -> Option<u32>
     requires tree { Tree nodes.now }
@@ -100,10 +111,17 @@ fn misscoped_by(nodes: &[u32], scopes: &[u32], deep: &[u32]) -> Option<u32>
     requires deep { Deep nodes.now scopes.now deep.now (count_scopes scopes.now) }
     ensures { result ≡ first (misscoped_at nodes.now scopes.now) 0 (count nodes.now) }
 {
-    (0..table_records::size(nodes)).find(|&i| misscoped_at(nodes, scopes, deep, NodeId(i)))
+    for i in 0..table_records::size(nodes) {
+        let n = NodeId(i);
+        if !shares_scope(nodes, n) && misscoped_at(nodes, scopes, deep, n) {
+            return Some(i);
+        }
+    }
+    None
 }
 
-// With an array of N numbers.
+// With an array of N numbers, which is on the stack while this function runs alone.
+#[inline(never)]
 fn misscoped_in<const N: usize>(nodes: &[u32], scopes: &[u32]) -> Option<u32>
     requires tree { Tree nodes.now }
     requires chained { Chained scopes.now }
@@ -122,9 +140,13 @@ pub fn misscoped(nodes: &[u32], scopes: &[u32]) -> Option<u32>
     requires chained { Chained scopes.now }
     ensures { result ≡ first (misscoped_at nodes.now scopes.now) 0 (count nodes.now) }
 {
-    // an array that serves few scopes costs less to clear
-    if table_records::scopes_size(scopes) <= 256 {
+    // an array that serves few scopes costs less to clear, and less of the stack
+    let size = table_records::scopes_size(scopes);
+    if size <= 256 {
         return misscoped_in::<256>(nodes, scopes);
+    }
+    if size <= 1024 {
+        return misscoped_in::<1024>(nodes, scopes);
     }
     misscoped_in::<65536>(nodes, scopes)
 }

@@ -2,7 +2,7 @@ use Rattle.std.proofs.Common.{ap, ◌∙◌, rules}
 use Rattle.refusal_verdict.specs.First.{first}
 use Rattle.refusal_verdict.proofs.FirstLaws.{first_found}
 use Rattle.refusal_counts.specs.Counts.{wrong_count_at}
-use Rattle.refusal_counts.proofs.wrong_count.Goals as goal
+use Rattle.refusal_counts.proofs.wrong_count_by.Goals as goal
 
 pub returns : goal.returns
 returns c = let p = wrong_count_at c.args.nodes.now in
