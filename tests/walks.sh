@@ -9,7 +9,7 @@ needs node
 known() {
     local w ok=0 found
     found=$(tools/walks --list)
-    for w in table_ancestry::nearest table_scoping::in_static_block check_class_table::is_declared check_super_search::reach refusal_ code_; do
+    for w in table_ancestry::nearest table_scoping::in_static_block check_element_index::is_declared check_super_search::reach refusal_ code_; do
         grep -q "^$w" <<<"$found" || { echo "not found: $w"; ok=1; }
     done
     return $ok

@@ -1,6 +1,7 @@
 //! class/table.rs and class/builder.rs: the classes of a tree, their elements and their private references.
 
 use crate::tables::*;
+use std::collections::{HashMap, HashSet};
 
 #[derive(Clone, Copy, Debug, PartialEq, Eq)]
 pub enum ElementKind {
@@ -33,6 +34,8 @@ pub struct Class<'a> {
     /// The class around it.
     pub parent: Option<usize>,
     pub elements: Vec<Element<'a>>,
+    /// The names of its private elements.
+    pub privates: HashSet<&'a [u8]>,
     /// The PrivateIdentifiers used in it, in node order.
     pub references: Vec<usize>,
 }
@@ -43,17 +46,22 @@ pub struct Classes<'a> {
     /// For each node the class of the nearest ClassBody at or above it. A Class, its heritage and its decorators
     /// are so outside of it.
     pub current: Vec<Option<usize>>,
+    /// For each Class node the class that it declares.
+    pub declared: HashMap<usize, usize>,
 }
 
 impl<'a> Classes<'a> {
     pub fn of(t: &Tables<'a>) -> Classes<'a> {
-        let mut all = Classes { classes: Vec::new(), current: Vec::new() };
+        let mut all = Classes { classes: Vec::new(), current: Vec::new(), declared: HashMap::new() };
         for n in 0..t.node_count() {
             let outer = if n == 0 { None } else { all.current[t.parent(n)] };
             if t.kind(n) == CLASS_BODY {
                 all.current.push(Some(all.classes.len()));
-                let elements = t.children(n).filter_map(|c| element(t, c)).collect();
-                all.classes.push(Class { node: t.parent(n), parent: outer, elements, references: Vec::new() });
+                let elements: Vec<Element> = t.children(n).filter_map(|c| element(t, c)).collect();
+                let privates = elements.iter().filter(|e| e.is_private).map(|e| e.name).collect();
+                let node = t.parent(n);
+                all.declared.entry(node).or_insert(all.classes.len());
+                all.classes.push(Class { node, parent: outer, elements, privates, references: Vec::new() });
             } else {
                 all.current.push(outer);
             }
@@ -69,7 +77,7 @@ impl<'a> Classes<'a> {
 
     /// The class that a Class node declares.
     pub fn declared_by(&self, node: usize) -> Option<usize> {
-        self.classes.iter().position(|c| c.node == node)
+        self.declared.get(&node).copied()
     }
 
     /// The class and those around it, nearest first.
@@ -78,7 +86,7 @@ impl<'a> Classes<'a> {
     }
 
     pub fn has_private_definition(&self, class: usize, name: &[u8]) -> bool {
-        self.classes[class].elements.iter().any(|e| e.is_private && e.name == name)
+        self.classes[class].privates.contains(name)
     }
 }
 

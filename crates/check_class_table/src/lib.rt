@@ -6,7 +6,7 @@ ghost use Rattle.table_records.specs.Table.{count, parent_of};
 ghost use Rattle.table_records.specs.Facts.{Tree, Named};
 ghost use Rattle.table_children.specs.Children.{below};
 ghost use Rattle.check_class_table.specs.Classes.{class_at, current_class, parent_class, in_table, before};
-ghost use Rattle.check_class_table.specs.Elements.{span_at, element_name, element_span, is_static, is_private, is_method_of, is_getter, is_setter, is_constructor, is_definition, has_name, has_body, fixed_name, enters, has_private, is_declared, is_compared_definition, is_compared_element, is_keyed, is_definition_in, is_named};
+ghost use Rattle.check_class_table.specs.Elements.{span_at, element_name, element_span, is_static, is_private, is_method_of, is_getter, is_setter, is_constructor, is_definition, has_name, has_body, fixed_name, enters, is_compared_definition, is_compared_element};
 
 use table_ancestry::nearest;
 use table_records::{ClassId, ElementId, NodeId, extras, kinds, node_flag};
@@ -240,92 +240,4 @@ pub fn is_compared_element(source_type: u32, nodes: &[u32], c: ClassId, e: Eleme
     ensures { result ≡ is_compared_element source_type nodes.now c.0 e.0 }
 {
     is_compared_definition(source_type, nodes, c, e) && enters(source_type, nodes, e)
-}
-
-// Public and private names belong to separate namespaces: whether an element is of the one that is asked for.
-fn is_keyed(nodes: &[u32], private: bool, e: ElementId) -> bool
-    requires { e.0 < count nodes.now }
-    ensures { result ≡ is_keyed nodes.now private e.0 }
-{
-    is_private(nodes, e) == private
-}
-
-// Whether a node is a definition in the body of class c, private or not.
-#[tactic(auto, unfolding(crate::specs::Elements::is_definition_in))]
-fn is_definition_in(nodes: &[u32], c: ClassId, private: bool, e: ElementId) -> bool
-    requires { e.0 < count nodes.now }
-    ensures { result ≡ is_definition_in nodes.now c.0 private e.0 }
-{
-    table_records::parent(nodes, NodeId::from(e)) == NodeId::from(c)
-        && is_keyed(nodes, private, e)
-        && is_definition(nodes, e)
-}
-
-// Whether a node is an element of class c with this name, private or not: whether it enters is asked last, since that costs most.
-#[tactic(auto, unfolding(crate::specs::Elements::is_named))]
-pub fn is_named(
-    source_type: u32,
-    nodes: &[u32],
-    names: &[u8],
-    c: ClassId,
-    private: bool,
-    name: &[u8],
-    e: ElementId,
-) -> bool
-    requires tree { Tree nodes.now }
-    requires named { Named nodes.now names.now }
-    requires e_bound { e.0 < count nodes.now }
-    ensures { result ≡ is_named source_type nodes.now names.now c.0 private name.now e.0 }
-{
-    is_definition_in(nodes, c, private, e)
-        && table_names::same(element_name(nodes, names, e), name)
-        && enters(source_type, nodes, e)
-}
-
-// Whether a class has a private element of this name.
-#[tactic(auto, using(crate::proofs::ElementsLaws::has_start, crate::proofs::ElementsLaws::has_stop, crate::proofs::ElementsLaws::has_on, crate::proofs::ElementsLaws::has_end, crate::proofs::ElementsLaws::has_out))]
-pub fn has_private_definition(
-    source_type: u32,
-    nodes: &[u32],
-    names: &[u8],
-    c: ClassId,
-    name: &[u8],
-) -> bool
-    requires tree { Tree nodes.now }
-    requires named { Named nodes.now names.now }
-    requires c_bound { c.0 < count nodes.now }
-    ensures { result ≡ has_private source_type nodes.now names.now c.0 name.now }
-{
-    for i in c.0 + 1.. {
-        if !table_records::is_node(nodes, i) {
-            break;
-        }
-        if table_records::parent(nodes, NodeId(i)).0 < c.0 {
-            break;
-        }
-        if is_named(source_type, nodes, names, c, true, name, ElementId(i)) {
-            return true;
-        }
-    }
-    false
-}
-
-// Whether a class or a class around it has a private element of this name.
-#[tactic(auto, using(crate::proofs::ElementsLaws::declared_here, crate::proofs::ElementsLaws::declared_outer, crate::proofs::ElementsLaws::declared_none, crate::proofs::ClassesLaws::class_found, crate::proofs::ClassesLaws::class_none))]
-pub fn is_declared(source_type: u32, nodes: &[u32], names: &[u8], c: ClassId, name: &[u8]) -> bool
-    requires tree { Tree nodes.now }
-    requires named { Named nodes.now names.now }
-    requires c_bound { c.0 < count nodes.now }
-    ensures { result ≡ is_declared source_type nodes.now names.now c.0 name.now }
-{
-    let mut at = c;
-    loop {
-        if has_private_definition(source_type, nodes, names, at, name) {
-            return true;
-        }
-        let Some(outer) = parent_class(nodes, at) else {
-            return false;
-        };
-        at = outer;
-    }
 }

@@ -6,11 +6,13 @@ ghost use Rattle.table_records.specs.Table.{count, span_start_of};
 ghost use Rattle.table_records.specs.Facts.{Tree, Named};
 ghost use Rattle.table_children.specs.Children.{below};
 ghost use Rattle.check_diagnostics.specs.Raises.{Adds};
+ghost use Rattle.check_element_index.specs.Index.{Indexed};
 ghost use Rattle.check_classes.specs.ClassChecks.{private_outside, is_reference, undeclared_at, undeclared_in, private_undeclared, has_id, require_class_name, constructor_span, duplicate_constructor, second_constructor, check_class};
 ghost use Rattle.check_classes.specs.ClassChecksLaws.{is_reference_of, raised_at, is_constructor_of, next_constructor};
 
 use check_class_table::Span;
 use check_diagnostics::{Finding, Findings, codes, contexts};
+use check_element_index::Index;
 use table_children::Part;
 use table_records::{ClassId, ElementId, NodeId, kinds, node_flag};
 
@@ -60,20 +62,23 @@ fn undeclared_at(
     source_type: u32,
     nodes: &[u32],
     names: &[u8],
+    index: &Index,
     n: NodeId,
     c: ClassId,
     m: NodeId,
 ) -> Option<Finding>
     requires tree { Tree nodes.now }
     requires named { Named nodes.now names.now }
+    requires indexed { Indexed source_type nodes.now names.now index.now.last.now index.now.earlier.now index.now.keys.now }
     requires c_bound { c.0 < count nodes.now }
     requires m_bound { m.0 < count nodes.now }
     ensures { result ≡ undeclared_at source_type nodes.now names.now n.0 c.0 m.0 }
 {
-    if check_class_table::is_declared(
+    if check_element_index::is_declared(
         source_type,
         nodes,
         names,
+        index,
         c,
         table_names::name(nodes, names, m),
     ) {
@@ -88,18 +93,20 @@ fn raised_at(
     source_type: u32,
     nodes: &[u32],
     names: &[u8],
+    index: &Index,
     n: NodeId,
     c: ClassId,
     m: NodeId,
 ) -> Option<Finding>
     requires tree { Tree nodes.now }
     requires named { Named nodes.now names.now }
+    requires indexed { Indexed source_type nodes.now names.now index.now.last.now index.now.earlier.now index.now.keys.now }
     requires c_bound { c.0 < count nodes.now }
     requires m_bound { m.0 < count nodes.now }
     ensures { result ≡ raised_at source_type nodes.now names.now n.0 c.0 m.0 }
 {
     if is_reference_of(nodes, c, m) {
-        return undeclared_at(source_type, nodes, names, n, c, m);
+        return undeclared_at(source_type, nodes, names, index, n, c, m);
     }
     None
 }
@@ -109,12 +116,14 @@ fn undeclared_in(
     source_type: u32,
     nodes: &[u32],
     names: &[u8],
+    index: &Index,
     n: NodeId,
     c: ClassId,
     findings: &mut Findings,
 )
     requires tree { Tree nodes.now }
     requires named { Named nodes.now names.now }
+    requires indexed { Indexed source_type nodes.now names.now index.now.last.now index.now.earlier.now index.now.keys.now }
     requires c_bound { c.0 < count nodes.now }
     requires raised_bound { findings.old.raised ≤ 999999000000 }
     ensures adds { Adds findings.old findings.new (undeclared_in source_type nodes.now names.now n.0 c.0) }
@@ -124,7 +133,7 @@ fn undeclared_in(
         if table_records::parent(nodes, NodeId(i)).0 < c.0 {
             return;
         }
-        findings.raise(raised_at(source_type, nodes, names, n, c, NodeId(i)));
+        findings.raise(raised_at(source_type, nodes, names, index, n, c, NodeId(i)));
     }
 }
 
@@ -133,11 +142,13 @@ fn check_private_identifier(
     source_type: u32,
     nodes: &[u32],
     names: &[u8],
+    index: &Index,
     n: NodeId,
     findings: &mut Findings,
 )
     requires tree { Tree nodes.now }
     requires named { Named nodes.now names.now }
+    requires indexed { Indexed source_type nodes.now names.now index.now.last.now index.now.earlier.now index.now.keys.now }
     requires n_bound { n.0 < count nodes.now }
     requires raised_bound { findings.old.raised ≤ 999999000000 }
     ensures adds { Adds findings.old findings.new (private_undeclared source_type nodes.now names.now n.0) }
@@ -146,7 +157,7 @@ fn check_private_identifier(
     let Some(c) = check_class_table::current_class(nodes, n) else {
         return;
     };
-    undeclared_in(source_type, nodes, names, n, c, findings);
+    undeclared_in(source_type, nodes, names, index, n, c, findings);
 }
 
 fn has_id(nodes: &[u32], n: NodeId) -> bool
@@ -282,18 +293,20 @@ pub fn check_class(
     source_type: u32,
     nodes: &[u32],
     names: &[u8],
+    index: &Index,
     n: NodeId,
     findings: &mut Findings,
 )
     requires tree { Tree nodes.now }
     requires named { Named nodes.now names.now }
+    requires indexed { Indexed source_type nodes.now names.now index.now.last.now index.now.earlier.now index.now.keys.now }
     requires n_bound { n.0 < count nodes.now }
     requires n_bound_2 { span_start_of nodes.now n.0 ≤ 1048576 }
     requires raised_bound { findings.old.raised ≤ 999999000000 }
     ensures adds { Adds findings.old findings.new (check_class source_type nodes.now names.now n.0) }
     ensures upper_bound { findings.new.raised ≤ findings.old.raised + 458759 }
 {
-    check_private_identifier(source_type, nodes, names, n, findings);
+    check_private_identifier(source_type, nodes, names, index, n, findings);
     findings.raise(require_class_name(nodes, n));
     findings.raise(second_constructor(source_type, nodes, n));
 }

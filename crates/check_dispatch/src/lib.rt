@@ -5,11 +5,13 @@ ghost use Rattle.std.specs.Prelude.{◌≡◌, ◌+◌, ◌<◌, ◌≤◌};
 ghost use Rattle.table_records.specs.Table.{count};
 ghost use Rattle.table_records.specs.Facts.{Input, Sourced};
 ghost use Rattle.check_diagnostics.specs.Raises.{Adds, Raises};
+ghost use Rattle.check_element_index.specs.Index.{Indexed};
 ghost use Rattle.check_dispatch.specs.Findings.{findings_at};
 ghost use Rattle.check_dispatch.specs.Lent.{rule_of};
 ghost use Rattle.check_dispatch.specs.Reported.{reported_at, reported};
 
 use check_diagnostics::Findings;
+use check_element_index::Index;
 use table_records::{NodeId, kinds};
 
 // What a call is given of a rule, as it is lent: the source type, the option on async and generator bodies, and the tables.
@@ -30,11 +32,13 @@ fn check_node(
     scopes: &[u32],
     source: &[u8],
     names: &[u8],
+    index: &Index,
     n: NodeId,
     findings: &mut Findings,
 )
     requires input { Input nodes.now scopes.now names.now }
     requires sourced { Sourced nodes.now source.now }
+    requires indexed { Indexed source_type nodes.now names.now index.now.last.now index.now.earlier.now index.now.keys.now }
     requires n_bound { n.0 < count nodes.now }
     requires raised_bound { findings.old.raised ≤ 800000000000 }
     ensures adds { Adds findings.old findings.new (findings_at source_type nodes.now scopes.now source.now names.now n.0) }
@@ -116,7 +120,7 @@ fn check_node(
             let b = check_statements::check_alternate(nodes, scopes, n);
             findings.raise_all(&[a, b]);
         }
-        kinds::CLASS => check_classes::check_class(source_type, nodes, names, n, findings),
+        kinds::CLASS => check_classes::check_class(source_type, nodes, names, index, n, findings),
         kinds::SUPER => findings.raise(check_super_search::check_super(nodes, scopes, n)),
         kinds::AWAIT => check_expressions::check_await_expression(nodes, scopes, n, findings),
         kinds::OBJECT => check_expressions::check_object_expression(nodes, names, n, findings),
@@ -132,9 +136,10 @@ fn check_node(
 }
 
 // The findings of a node, and with the option on those of async bodies behind them.
-fn check_node_and_bodies(rule: &Rule, n: NodeId, findings: &mut Findings)
+fn check_node_and_bodies(rule: &Rule, index: &Index, n: NodeId, findings: &mut Findings)
     requires input { Input rule.now.nodes.now rule.now.scopes.now rule.now.names.now }
     requires sourced { Sourced rule.now.nodes.now rule.now.source.now }
+    requires indexed { Indexed rule.now.source_type rule.now.nodes.now rule.now.names.now index.now.last.now index.now.earlier.now index.now.keys.now }
     requires n_bound { n.0 < count rule.now.nodes.now }
     requires raised_bound { findings.old.raised ≤ 800000000000 }
     ensures adds { Adds findings.old findings.new (reported_at (rule_of rule.now) n.0) }
@@ -146,6 +151,7 @@ fn check_node_and_bodies(rule: &Rule, n: NodeId, findings: &mut Findings)
         rule.scopes,
         rule.source,
         rule.names,
+        index,
         n,
         findings,
     );
@@ -155,10 +161,11 @@ fn check_node_and_bodies(rule: &Rule, n: NodeId, findings: &mut Findings)
     check_bodies::check_async_bodies(rule.nodes, rule.scopes, n, findings);
 }
 
-// The findings of the tree, each written where there is room for it; answers how many numbers they are.
-pub fn check_tree(rule: &Rule, findings: &mut [u32]) -> usize
+// The findings of the tree, over the index of its class elements.
+fn check_tree_by(rule: &Rule, index: &Index, findings: &mut [u32]) -> usize
     requires input { Input rule.now.nodes.now rule.now.scopes.now rule.now.names.now }
     requires sourced { Sourced rule.now.nodes.now rule.now.source.now }
+    requires indexed { Indexed rule.now.source_type rule.now.nodes.now rule.now.names.now index.now.last.now index.now.earlier.now index.now.keys.now }
     ensures { Raises findings.old findings.new 0 result (reported (rule_of rule.now)) }
 {
     let mut all = Findings::new(findings);
@@ -166,10 +173,58 @@ pub fn check_tree(rule: &Rule, findings: &mut [u32]) -> usize
         rule.source_type,
         rule.nodes,
         rule.names,
+        index,
         &mut all,
     );
     for i in 0..table_records::size(rule.nodes) {
-        check_node_and_bodies(rule, NodeId(i), &mut all);
+        check_node_and_bodies(rule, index, NodeId(i), &mut all);
     }
     all.raised
+}
+
+// With an index of N buckets, and room for N nodes in it. It stands by itself, so that no call makes room for larger arrays than its own.
+#[inline(never)]
+fn check_tree_within<const N: usize>(rule: &Rule, findings: &mut [u32]) -> usize
+    requires input { Input rule.now.nodes.now rule.now.scopes.now rule.now.names.now }
+    requires sourced { Sourced rule.now.nodes.now rule.now.source.now }
+    requires nodes_bound { count rule.now.nodes.now ≤ N }
+    requires size_bound { N ≤ 65536 }
+    ensures { Raises findings.old findings.new 0 result (reported (rule_of rule.now)) }
+{
+    let mut last: [u16; N] = [0; N];
+    let mut earlier: [u16; N] = [0; N];
+    let mut keys: [u16; N] = [0; N];
+    check_element_index::build(
+        rule.source_type,
+        rule.nodes,
+        rule.names,
+        &mut last,
+        &mut earlier,
+        &mut keys,
+    );
+    let index = Index {
+        last: &last,
+        earlier: &earlier,
+        keys: &keys,
+    };
+    check_tree_by(rule, &index, findings)
+}
+
+// The findings of the tree, each written where there is room for it; answers how many numbers they are.
+pub fn check_tree(rule: &Rule, findings: &mut [u32]) -> usize
+    requires input { Input rule.now.nodes.now rule.now.scopes.now rule.now.names.now }
+    requires sourced { Sourced rule.now.nodes.now rule.now.source.now }
+    ensures { Raises findings.old findings.new 0 result (reported (rule_of rule.now)) }
+{
+    // the smallest arrays with room, since they are cleared
+    if table_records::is_node(rule.nodes, 8192) {
+        return check_tree_within::<65536>(rule, findings);
+    }
+    if table_records::is_node(rule.nodes, 1024) {
+        return check_tree_within::<8192>(rule, findings);
+    }
+    if table_records::is_node(rule.nodes, 128) {
+        return check_tree_within::<1024>(rule, findings);
+    }
+    check_tree_within::<128>(rule, findings)
 }

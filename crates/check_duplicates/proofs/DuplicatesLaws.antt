@@ -128,10 +128,10 @@ shut true d = refl
 shut false d = refl
 
 module _ (t : ℕ) (ns names : List ℕ) (c e : ℕ) (h : e ≤ count ns) where
-  abbrev key : ℕ → Bool
+  abbrev pub key : ℕ → Bool
   key d = is_named t ns names c (is_private ns e) (element_name ns names e) d
 
-  side_scan : (s : ℕ) → previous_on t ns names c e s ≡ foldl (step (λ d. key d && eqb (side_of ns d) s)) nowhere (upto (c + 1) e)
+  pub side_scan : (s : ℕ) → previous_on t ns names c e s ≡ foldl (step (λ d. key d && eqb (side_of ns d) s)) nowhere (upto (c + 1) e)
   unfolding previous_on last_of is_named is_definition_in
   side_scan s =
       ap (foldl (step (is_earlier ns names e s)) nowhere) (elements_scan t ns c)

@@ -1,1 +1,2 @@
 pub mod DuplicatesLaws
+pub mod PreviousLaws

@@ -1,16 +1,20 @@
 -- Duplicate elements node by node, as contracts say it: the two places of a name after a node, and what a node raises.
-use Rattle.std.specs.Prelude.{ℕ, ◌-◌, Bool, get_or, set, Option, None}
+use Rattle.std.specs.Prelude.{ℕ, ◌-◌, Bool, not, ◌&&◌, get_or, set, Option, None}
 use mathlib.Core.List.{List, []}
 use Rattle.std.proofs.Math.Bool.{cond}
 use Rattle.check_diagnostics.specs.declared.Finding.{Finding}
 use Rattle.check_class_table.specs.Classes.{is_class_body}
 use Rattle.check_class_table.specs.Elements.{is_named, is_compared_element}
 use Rattle.check_duplicates.specs.declared.Place.{Place}
-use Rattle.check_duplicates.specs.Duplicates.{nowhere, here, side_of, or_else, duplicate_at, duplicates_in}
+use Rattle.check_duplicates.specs.Duplicates.{nowhere, here, there, side_of, or_else, duplicate_at, duplicates_in}
 
 -- the two places after node d, which is one of the nodes before an element with this key
 unfoldable pub see : ℕ → List ℕ → List ℕ → ℕ → Bool → List ℕ → List Place → ℕ → List Place
 see t ns names c private name ps d = cond (is_named t ns names c private name d) (set ps (side_of ns d) (here d)) ps
+
+-- .. where the nodes are met from the last to the first: what is there stays
+unfoldable pub seen : ℕ → List ℕ → List ℕ → ℕ → Bool → List ℕ → List Place → ℕ → List Place
+seen t ns names c private name ps d = cond (is_named t ns names c private name d && not (there (get_or ps (side_of ns d) nowhere))) (set ps (side_of ns d) (here d)) ps
 
 -- the place to go by, of the two
 abbrev pub prev_of : List Place → ℕ → Place

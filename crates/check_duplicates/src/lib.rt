@@ -1,15 +1,18 @@
-// Names declared twice in a class: check_duplicate_class_elements, of private names and in TypeScript of all. For each element the earlier ones of its class are
-// gone over, so a class costs the number of its compared elements times that of its nodes.
+// Names declared twice in a class: check_duplicate_class_elements, of private names and in TypeScript of all. For each element the earlier ones of its key are
+// looked up in the index of elements.
 #![tactic(auto)]
 
-ghost use Rattle.std.specs.Prelude.{◌≡◌, true, ◌∷◌, [], ◌+◌, ◌<◌, ◌≤◌};
+ghost use Rattle.std.specs.Prelude.{◌≡◌, true, ◌+◌, ◌<◌, ◌≤◌};
 ghost use Rattle.table_records.specs.Table.{count};
 ghost use Rattle.table_records.specs.Facts.{Tree, Named};
 ghost use Rattle.check_diagnostics.specs.Raises.{Adds};
-ghost use Rattle.check_duplicates.specs.Duplicates.{side_of, previous_on, is_pair, is_apart, clashes, clash_code, redeclaration, duplicate_at, duplicates_in, duplicate_elements};
-ghost use Rattle.check_duplicates.specs.Scans.{see, prev_of, raised_at, class_at};
+ghost use Rattle.check_class_table.specs.Elements.{is_compared_element};
+ghost use Rattle.check_element_index.specs.Index.{is_element, Indexed};
+ghost use Rattle.check_duplicates.specs.Duplicates.{side_of, previous_of, is_pair, is_apart, clashes, clash_code, redeclaration, duplicate_at, duplicates_in, duplicate_elements};
+ghost use Rattle.check_duplicates.specs.Scans.{seen, prev_of, raised_at, class_at};
 
 use check_diagnostics::{Finding, Findings, codes, contexts};
+use check_element_index::Index;
 use table_records::{ClassId, ElementId, NodeId, kinds};
 use table_source::is_typescript;
 
@@ -34,63 +37,77 @@ fn side(nodes: &[u32], e: ElementId) -> usize
     usize::from(own_side)
 }
 
-// The two places of a key after node d.
-#[tactic(auto, unfolding(crate::specs::Scans::see))]
+// The two places of a key after element d, where the elements are met from the last to the first: what is there stays.
+#[tactic(auto, using(check_element_index::proofs::IndexLaws::key_named), unfolding(crate::specs::Scans::seen))]
 fn see(
     source_type: u32,
     nodes: &[u32],
     names: &[u8],
+    index: &Index,
     c: ClassId,
     private: bool,
     name: &[u8],
     previous: [Place; 2],
     d: ElementId,
 ) -> [Place; 2]
-    requires tree { Tree nodes.now }
     requires named { Named nodes.now names.now }
+    requires indexed { Indexed source_type nodes.now names.now index.now.last.now index.now.earlier.now index.now.keys.now }
     requires d_bound { d.0 < count nodes.now }
-    ensures { result ≡ see source_type nodes.now names.now c.0 private name.now previous d.0 }
+    requires element { is_element source_type nodes.now d.0 ≡ true }
+    ensures { result ≡ seen source_type nodes.now names.now c.0 private name.now previous d.0 }
 {
-    if check_class_table::is_named(source_type, nodes, names, c, private, name, d) {
+    if check_element_index::has_key(source_type, nodes, names, index, c, private, name, d) {
         let i = side(nodes, d);
-        let mut seen = previous;
-        seen[i] = Place { element: Some(d) };
-        return seen;
+        if previous[i].element.is_none() {
+            let mut seen = previous;
+            seen[i] = Place { element: Some(d) };
+            return seen;
+        }
     }
     previous
 }
 
-// The two places of the key of element e of class c, where e is met.
-#[tactic(auto, using(crate::proofs::DuplicatesLaws::scan_turn, crate::proofs::DuplicatesLaws::scan_end, crate::proofs::DuplicatesLaws::scan_places))]
+// The two places of the key of element e of class c, where e is met, as far as `prev_element` reads them: the place of e's own side, and where none is there the other.
 fn previous_of(
     source_type: u32,
     nodes: &[u32],
     names: &[u8],
+    index: &Index,
     c: ClassId,
     e: ElementId,
 ) -> [Place; 2]
     requires tree { Tree nodes.now }
     requires named { Named nodes.now names.now }
+    requires indexed { Indexed source_type nodes.now names.now index.now.last.now index.now.earlier.now index.now.keys.now }
     requires e_bound { e.0 < count nodes.now }
     requires c_lt_e { c.0 < e.0 }
-    ensures { result ≡ previous_on source_type nodes.now names.now c.0 e.0 0 ∷ previous_on source_type nodes.now names.now c.0 e.0 1 ∷ [] }
+    requires compared { is_compared_element source_type nodes.now c.0 e.0 ≡ true }
+    ensures { prev_of result (side_of nodes.now e.0) ≡ previous_of source_type nodes.now names.now c.0 e.0 }
 {
     let private = check_class_table::is_private(nodes, e);
     let name = check_class_table::element_name(nodes, names, e);
+    let own = side(nodes, e);
     let mut previous = [Place { element: None }; 2];
-    for i in c.0 + 1..e.0 {
+    let mut at = check_element_index::earlier(index, e);
+    while c.0 + 1 < at {
+        let d = ElementId(at - 1);
         // A call whose array goes straight into `previous` was tried: the check covers none.
         let seen = see(
             source_type,
             nodes,
             names,
+            index,
             c,
             private,
             name,
             previous,
-            ElementId(i),
+            d,
         );
         previous = seen;
+        if previous[own].element.is_some() {
+            return previous;
+        }
+        at = check_element_index::earlier(index, d);
     }
     previous
 }
@@ -190,16 +207,19 @@ fn duplicate_at(
     source_type: u32,
     nodes: &[u32],
     names: &[u8],
+    index: &Index,
     c: ClassId,
     e: ElementId,
 ) -> Option<Finding>
     requires tree { Tree nodes.now }
     requires named { Named nodes.now names.now }
+    requires indexed { Indexed source_type nodes.now names.now index.now.last.now index.now.earlier.now index.now.keys.now }
     requires e_bound { e.0 < count nodes.now }
     requires c_lt_e { c.0 < e.0 }
+    requires compared { is_compared_element source_type nodes.now c.0 e.0 ≡ true }
     ensures { result ≡ duplicate_at source_type nodes.now names.now c.0 e.0 }
 {
-    let previous = previous_of(source_type, nodes, names, c, e);
+    let previous = previous_of(source_type, nodes, names, index, c, e);
     let d = prev_element(nodes, e, previous).element?;
     if clashes(nodes, d, e) {
         return redeclaration(source_type, nodes, d, e);
@@ -213,25 +233,35 @@ fn raised_at(
     source_type: u32,
     nodes: &[u32],
     names: &[u8],
+    index: &Index,
     c: ClassId,
     i: ElementId,
 ) -> Option<Finding>
     requires tree { Tree nodes.now }
     requires named { Named nodes.now names.now }
+    requires indexed { Indexed source_type nodes.now names.now index.now.last.now index.now.earlier.now index.now.keys.now }
     requires i_bound { i.0 < count nodes.now }
     requires c_lt_i { c.0 < i.0 }
     ensures { result ≡ raised_at source_type nodes.now names.now c.0 i.0 }
 {
     if check_class_table::is_compared_element(source_type, nodes, c, i) {
-        return duplicate_at(source_type, nodes, names, c, i);
+        return duplicate_at(source_type, nodes, names, index, c, i);
     }
     None
 }
 
 // The findings of one class.
-fn duplicates_in(source_type: u32, nodes: &[u32], names: &[u8], c: ClassId, findings: &mut Findings)
+fn duplicates_in(
+    source_type: u32,
+    nodes: &[u32],
+    names: &[u8],
+    index: &Index,
+    c: ClassId,
+    findings: &mut Findings,
+)
     requires tree { Tree nodes.now }
     requires named { Named nodes.now names.now }
+    requires indexed { Indexed source_type nodes.now names.now index.now.last.now index.now.earlier.now index.now.keys.now }
     requires c_bound { c.0 < count nodes.now }
     requires raised_bound { findings.old.raised ≤ 999999000000 }
     ensures adds { Adds findings.old findings.new (duplicates_in source_type nodes.now names.now c.0) }
@@ -241,22 +271,30 @@ fn duplicates_in(source_type: u32, nodes: &[u32], names: &[u8], c: ClassId, find
         if table_records::parent(nodes, NodeId(i)).0 < c.0 {
             return;
         }
-        findings.raise(raised_at(source_type, nodes, names, c, ElementId(i)));
+        findings.raise(raised_at(source_type, nodes, names, index, c, ElementId(i)));
     }
 }
 
 // The findings of node i as a class.
 #[tactic(auto, using(check_diagnostics::proofs::RaisesLaws::adds_none), unfolding(crate::specs::Scans::class_at))]
-fn duplicates_at(source_type: u32, nodes: &[u32], names: &[u8], i: NodeId, findings: &mut Findings)
+fn duplicates_at(
+    source_type: u32,
+    nodes: &[u32],
+    names: &[u8],
+    index: &Index,
+    i: NodeId,
+    findings: &mut Findings,
+)
     requires tree { Tree nodes.now }
     requires named { Named nodes.now names.now }
+    requires indexed { Indexed source_type nodes.now names.now index.now.last.now index.now.earlier.now index.now.keys.now }
     requires i_bound { i.0 < count nodes.now }
     requires raised_bound { findings.old.raised ≤ 999999000000 }
     ensures adds { Adds findings.old findings.new (class_at source_type nodes.now names.now i.0) }
     ensures upper_bound { findings.new.raised ≤ findings.old.raised + 458745 }
 {
     if table_records::kind(nodes, i) == kinds::CLASS_BODY {
-        duplicates_in(source_type, nodes, names, ClassId::from(i), findings);
+        duplicates_in(source_type, nodes, names, index, ClassId::from(i), findings);
     }
 }
 
@@ -265,15 +303,17 @@ pub fn check_duplicate_class_elements(
     source_type: u32,
     nodes: &[u32],
     names: &[u8],
+    index: &Index,
     findings: &mut Findings,
 )
     requires tree { Tree nodes.now }
     requires named { Named nodes.now names.now }
+    requires indexed { Indexed source_type nodes.now names.now index.now.last.now index.now.earlier.now index.now.keys.now }
     requires raised_bound { findings.old.raised ≤ 900000000000 }
     ensures adds { Adds findings.old findings.new (duplicate_elements source_type nodes.now names.now) }
     ensures upper_bound { findings.new.raised ≤ findings.old.raised + 30100000000 }
 {
     for i in 0..table_records::size(nodes) {
-        duplicates_at(source_type, nodes, names, NodeId(i), findings);
+        duplicates_at(source_type, nodes, names, index, NodeId(i), findings);
     }
 }

@@ -14,7 +14,7 @@ pub duplicates_at-requires : goal.duplicates_at-requires
 duplicates_at-requires c = let h : c.loop-i.i < count c.args.nodes.now = omega arith in
     let s = c.requires.tree.small in
     let p = c.requires.raised_bound in
-    record { tree = c.requires.tree; named = c.requires.named; i_bound = h; raised_bound = omega arith }
+    record { tree = c.requires.tree; named = c.requires.named; indexed = c.requires.indexed; i_bound = h; raised_bound = omega arith }
 
 pub loop-i-preserved : goal.loop-i-preserved
 loop-i-preserved c = let a = c.args in

@@ -22,7 +22,7 @@ returns-then-parent-c c = let a = c.args in
     record { adds = left_end _ _ _ _ c.loop-i.invariant.1 o; upper_bound = omega arith }
 
 pub raised_at-requires : goal.raised_at-requires
-raised_at-requires c = let h : c.loop-i.i < count c.args.nodes.now = omega arith in record { tree = c.requires.tree; named = c.requires.named; i_bound = h; c_lt_i = omega arith }
+raised_at-requires c = let h : c.loop-i.i < count c.args.nodes.now = omega arith in record { tree = c.requires.tree; named = c.requires.named; indexed = c.requires.indexed; i_bound = h; c_lt_i = omega arith }
 
 pub raise-requires : goal.raise-requires
 raise-requires c = let s = c.requires.tree.small in

@@ -13,7 +13,7 @@ use Rattle.check_diagnostics.specs.declared.Finding.{Finding}
 use Rattle.check_diagnostics.specs.declared.Findings.{Findings}
 use mathlib.Core.List.{List, ◌++◌, flat_map}
 use mathlib.Core.Path.{◌≡◌, refl, ◌∙◌}
-use Rattle.check_dispatch.proofs.check_tree.Goals as goal
+use Rattle.check_dispatch.proofs.check_tree_by.Goals as goal
 
 pub loop-i-init : goal.loop-i-init
 loop-i-init c = (omega arith, left_start _ _ _ refl)
@@ -21,7 +21,7 @@ loop-i-init c = (omega arith, left_start _ _ _ refl)
 pub check_node_and_bodies-requires : goal.check_node_and_bodies-requires
 check_node_and_bodies-requires c = let h : c.loop-i.i < count c.args.rule.now.nodes.now = omega arith in
     let z = c.requires.input.tree.small in
-    record { input = c.requires.input; sourced = c.requires.sourced; n_bound = h; raised_bound = omega (arith, c.loop-i.invariant.0, c.check_duplicate_class_elements.ensures.upper_bound, c.new-all.ensures.raised) }
+    record { input = c.requires.input; sourced = c.requires.sourced; indexed = c.requires.indexed; n_bound = h; raised_bound = omega (arith, c.loop-i.invariant.0, c.check_duplicate_class_elements.ensures.upper_bound, c.new-all.ensures.raised) }
 
 pub loop-i-preserved : goal.loop-i-preserved
 loop-i-preserved c = let a = c.args in

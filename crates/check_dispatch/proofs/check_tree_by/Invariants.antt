@@ -5,7 +5,7 @@ use Rattle.table_records.specs.Table.{count}
 use Rattle.base_common.specs.Upto.{upto}
 use mathlib.Core.List.{flat_map}
 use Prim.Native.Nat.{◌+◌, ◌*◌, ◌≤◌}
-use Rattle.check_dispatch.proofs.check_tree.Given as goal
+use Rattle.check_dispatch.proofs.check_tree_by.Given as goal
 
 abbrev pub invariant-loop-i : goal.invariant-loop-i
 invariant-loop-i l = (l.all.raised ≤ l.initial.all.raised + 458794 * l.i)

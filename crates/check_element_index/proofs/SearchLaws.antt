@@ -1,0 +1,126 @@
+-- Laws of searches down a chain: what is left out has another key.
+use Rattle.std.specs.Prelude.{ℕ, ◌+◌, ◌≤◌, ◌<◌, ◌≡◌, refl, List, [], ◌∷◌, ◌++◌, Bool, true, false, ◌||◌, get_or}
+use Rattle.std.proofs.Common.{ap, ◌∙◌, ⊎_elim, true≢false, arith}
+use Rattle.std.proofs.Math.Path.{sym}
+use Rattle.base_common.specs.Upto.{upto, any}
+use Rattle.base_common.proofs.UptoLaws.{upto_nil, upto_snoc}
+use Rattle.base_walk.proofs.PreorderLaws.{lt_or_ge}
+use Rattle.table_records.specs.Table.{count}
+use Rattle.check_class_table.specs.Elements.{has_private, is_named}
+use Rattle.check_class_table.proofs.ElementsLaws.{has_private_from, has_start}
+use Rattle.check_element_index.specs.Index.{hash, bucket, is_element, in_bucket, last_below, Entered, has_key}
+use Rattle.check_element_index.proofs.IndexLaws.{skip, last_last, last_le, last_here, named_in, key_named, chain_start, chain_element, chain_step}
+
+-- a test of some number from lo on, as the end moves on
+module _ (q : ℕ → Bool) where
+  any_snoc : (l : List ℕ) (n : ℕ) → any q (l ++ n ∷ []) ≡ (any q l || q n)
+  any_snoc [] n = go (q n)
+    where
+      go : (b : Bool) → (b || false) ≡ b
+      go true = refl
+      go false = refl
+  any_snoc (i ∷ l) n = go (q i) (any_snoc l n)
+    where
+      go : (b : Bool) → any q (l ++ n ∷ []) ≡ (any q l || q n) → (b || any q (l ++ n ∷ [])) ≡ ((b || any q l) || q n)
+      go true h = refl
+      go false h = h
+
+  module _ (lo : ℕ) where
+    pub any_none : (n : ℕ) → n ≤ lo → any q (upto lo n) ≡ false
+    any_none n h = ap (any q) (upto_nil lo n h)
+
+    pub any_hit : (n : ℕ) → lo ≤ n → q n ≡ true → any q (upto lo (n + 1)) ≡ true
+    any_hit n h e = ap (any q) (upto_snoc lo n h) ∙ any_snoc (upto lo n) n ∙ go (any q (upto lo n)) (q n) e
+      where
+        go : (a b : Bool) → b ≡ true → (a || b) ≡ true
+        go true b e = refl
+        go false b e = e
+
+    pub any_miss : (n : ℕ) → q n ≡ false → any q (upto lo (n + 1)) ≡ any q (upto lo n)
+    any_miss n e =
+        ⊎_elim (λ (l : n < lo). ap (any q) (upto_nil lo (n + 1) (omega arith)) ∙ sym (any_none n (omega arith)))
+        (λ (l : lo ≤ n). ap (any q) (upto_snoc lo n l) ∙ any_snoc (upto lo n) n ∙ go (any q (upto lo n)) (q n) e) (lt_or_ge n lo)
+      where
+        go : (a b : Bool) → b ≡ false → (a || b) ≡ a
+        go true b e = refl
+        go false b e = e
+
+-- an element in the bucket of a key in class c
+abbrev pub of_key : ℕ → List ℕ → List ℕ → ℕ → ℕ → Bool → List ℕ → ℕ → Bool
+of_key t ns names size c private name = in_bucket t ns names size (bucket size c private (hash name))
+
+-- the chain of a key in class c
+module _ (t : ℕ) (ns names : List ℕ) (size : ℕ) (last earlier keys : List ℕ) (w : Entered t ns names size last earlier keys (count ns)) (c : ℕ) (private : Bool) (name : List ℕ) where
+  abbrev keyed : ℕ → Bool
+  keyed = of_key t ns names size c private name
+
+  -- an element of this key is in the chain
+  pub named_chained : (d : ℕ) → is_named t ns names c private name d ≡ true → last_below keyed (d + 1) ≡ d + 1
+  named_chained d e = last_here keyed d (named_in t ns names size c private name d e)
+
+  -- outside of the bucket there is none of this key
+  pub not_named : (n : ℕ) → keyed n ≡ false → is_named t ns names c private name n ≡ false
+  not_named n e = go (is_named t ns names c private name n) refl
+    where
+      go : (b : Bool) → is_named t ns names c private name n ≡ b → b ≡ false
+      go true q = absurd (true≢false (sym (named_in t ns names size c private name n q) ∙ e))
+      go false q = refl
+
+  module _ (l : bucket size c private (hash name) < size) where
+    start : get_or last (bucket size c private (hash name)) 0 ≡ last_below keyed (count ns)
+    start = chain_start t ns names size last earlier keys w (bucket size c private (hash name)) l
+
+    pub start_bound : get_or last (bucket size c private (hash name)) 0 ≤ count ns
+    start_bound = rw start (last_le keyed (count ns))
+
+    pub start_chained : last_below keyed (get_or last (bucket size c private (hash name)) 0) ≡ get_or last (bucket size c private (hash name)) 0
+    start_chained = rw start (last_last keyed (count ns))
+
+    -- what changes only at elements of this key is at the chain's start as at the table's end
+    pub start_same : {A : Type 0} (f : ℕ → A) → ((n : ℕ) → is_named t ns names c private name n ≡ false → f (n + 1) ≡ f n) → f (get_or last (bucket size c private (hash name)) 0) ≡ f (count ns)
+    start_same f h = ap f start ∙ sym (skip keyed f (λ n e. h n (not_named n e)) (count ns))
+
+  -- one step down, from element d
+  module _ (at d : ℕ) (z : at ≡ d + 1) (l : at ≤ count ns) (e : last_below keyed at ≡ at) where
+    here : last_below keyed (d + 1) ≡ d + 1
+    here = sym (ap (last_below keyed) z) ∙ e ∙ z
+
+    step : get_or earlier d 0 ≡ last_below keyed d
+    step = chain_step t ns names size last earlier keys w (bucket size c private (hash name)) d (omega arith) here
+
+    pub step_key : has_key ns names c private name d ≡ is_named t ns names c private name d
+    step_key = key_named t ns names c private name d (chain_element t ns names size last earlier keys w (bucket size c private (hash name)) d here)
+
+    pub step_element : is_element t ns d ≡ true
+    step_element = chain_element t ns names size last earlier keys w (bucket size c private (hash name)) d here
+
+    pub step_bound : get_or earlier d 0 ≤ d
+    step_bound = rw step (last_le keyed d)
+
+    pub step_chained : last_below keyed (get_or earlier d 0) ≡ get_or earlier d 0
+    step_chained = rw step (last_last keyed d)
+
+    -- .. and as below d
+    pub step_same : {A : Type 0} (f : ℕ → A) → ((n : ℕ) → is_named t ns names c private name n ≡ false → f (n + 1) ≡ f n) → f (get_or earlier d 0) ≡ f d
+    step_same f h = ap f step ∙ sym (skip keyed f (λ n x. h n (not_named n x)) d)
+
+-- the search for a private element of a name, where it stands
+module _ (t : ℕ) (ns names : List ℕ) (c : ℕ) (name : List ℕ) where
+  unfoldable pub has_private_to : ℕ → Bool
+  has_private_to n = any (is_named t ns names c true name) (upto (c + 1) n)
+
+  pub to_end : has_private_to (count ns) ≡ has_private t ns names c name
+  unfolding has_private_to has_private_from
+  to_end = has_start t ns names c name
+
+  pub to_none : (n : ℕ) → n ≤ c + 1 → has_private_to n ≡ false
+  unfolding has_private_to
+  to_none n h = any_none (is_named t ns names c true name) (c + 1) n h
+
+  pub to_hit : (at d : ℕ) → at ≡ d + 1 → c + 1 ≤ d → is_named t ns names c true name d ≡ true → has_private_to at ≡ true
+  unfolding has_private_to
+  to_hit at d z l e = ap has_private_to z ∙ any_hit (is_named t ns names c true name) (c + 1) d l e
+
+  pub to_miss : (d : ℕ) → is_named t ns names c true name d ≡ false → has_private_to (d + 1) ≡ has_private_to d
+  unfolding has_private_to
+  to_miss d e = any_miss (is_named t ns names c true name) (c + 1) d e

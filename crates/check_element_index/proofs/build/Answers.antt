@@ -1,0 +1,8 @@
+use Rattle.std.specs.Prelude.{length}
+use Rattle.std.proofs.Common.{refl}
+use Rattle.check_element_index.proofs.IndexLaws.{entered_start}
+use Rattle.check_element_index.proofs.build.Goals as goal
+
+pub loop-i-init : goal.loop-i-init
+loop-i-init c = let a = c.args in
+    entered_start a.source_type a.nodes.now a.names.now (length a.last.now) a.last.now a.earlier.now a.keys.now c.requires.some refl c.requires.cleared c.requires.room c.requires.keys_room

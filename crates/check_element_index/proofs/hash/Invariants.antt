@@ -1,0 +1,8 @@
+use mathlib.Core.Path.{◌≡◌}
+use Rattle.std.specs.Prelude.{take}
+use Rattle.std.specs.List.{fold}
+use Rattle.check_element_index.specs.Index.{hash_step}
+use Rattle.check_element_index.proofs.hash.Given as goal
+
+abbrev pub invariant-loop-i : goal.invariant-loop-i
+invariant-loop-i l = l.h ≡ fold hash_step 0 (take l.i l.name)
