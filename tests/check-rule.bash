@@ -183,31 +183,33 @@ check "no package is installed unasked" says 'setup: binutils, a package of Debi
 check "and apt-get was not called" eval '[ ! -e "$tried/asked" ]'
 asked_package() { PATH=$bare setsid -w tools/setup objdump; }
 check "the set-up command installs it" eval 'says "installing binutils, once" asked_package && grep -q "install .*binutils" "$tried/asked"'
-# a repository of four crates, with an rt that notes when it works on which
+# a repository of four crates, with an rt that notes its call and goes over them one by one
 copy=$tried/copy
 mkdir -p "$copy/tools" "$copy"/crates/{low,left,right,rulecheck}/src "$tried/rt"
 cp tools/setup "$copy/tools/"
 printf 'low:\nleft: low # one side\nright: low\nrulecheck: left right\n' >"$copy/crates.txt"
 cat >"$tried/rt/rt" <<'END'
 #!/bin/sh
-crate=$(basename "$PWD")
-echo "begin $crate" >>../../order
+echo "$(basename "$PWD"): $*" >>../../order
 echo $$ >../../last
-sleep "$(cat ../../slow)"
-echo "end $crate" >>../../order
-echo "the prover's words on $crate"
-[ "$crate" != "$(cat ../../fails 2>/dev/null)" ] || exit 1
-mkdir -p out && : >"out/$crate"
+for crate in low left right rulecheck; do
+    mkdir -p "../$crate/out/rlib"
+    sleep "$(cat ../../slow)"
+    printf '== %s\nwords on it\n' "$crate"
+    [ "$crate" != "$(cat ../../fails 2>/dev/null)" ] || exit 1
+    : >"../$crate/out/rlib/stamp"
+done
+: >out/rulecheck
 END
 chmod +x "$tried/rt/rt"
 echo 0.5 >"$copy/slow"
 first_run() { (cd "$copy" && rm -rf target crates/*/out order && OMP_NUM_THREADS=2 PATH="$tried/rt:$PATH" tools/setup rulecheck 2>&1 | sed -E 's/in [0-9]+ s/in N s/'; exit "${PIPESTATUS[0]}"); }
-check "the first run tells what it does, and pours nothing out" says 'proving and building rulecheck, once: 4 crates, some minutes; target/log/rulecheck says how far it is
+check "the first run tells what it does, and pours nothing out" says 'proving and building rulecheck, once: 4 crates, some minutes; target/log/rulecheck.log says how far it is
 rulecheck is proved and built, in N s' first_run
-check "crates side by side, each behind what it uses" eval '[ "$(tr "\n" " " <"$copy/order" | sed "s/left/side/g; s/right/side/g")" = "begin low end low begin side begin side end side end side begin rulecheck end rulecheck " ]'
-twice() { (cd "$copy" && rm -rf target crates/*/out order fails && for _ in 1 2; do PATH="$tried/rt:$PATH" tools/setup rulecheck >/dev/null 2>&1 & done && wait && grep -c begin order); }
-check "two set-ups at once prove each crate once" says 4 twice
-# the fake rt that began last is gone soon after its set-up, long before its own end
+check "one rt proves all, as many crates side by side as there are processors" says 'rulecheck: all test --jobs 2' cat "$copy/order"
+twice() { (cd "$copy" && rm -rf target crates/*/out order fails && for _ in 1 2; do PATH="$tried/rt:$PATH" tools/setup rulecheck >/dev/null 2>&1 & done && wait && wc -l <order); }
+check "two set-ups at once prove once" says 1 twice
+# the rt that proves is gone soon after its set-up, long before its own end
 stopped_setup() {
     echo 20 >"$copy/slow"
     (cd "$copy" && rm -rf target crates/*/out order last && exec env PATH="$tried/rt:$PATH" tools/setup rulecheck >/dev/null 2>&1) &
@@ -227,8 +229,8 @@ stopped_setup() {
 }
 check "a set-up that is stopped leaves nobody at work" stopped_setup
 check "a second run has nothing to do" eval 'first_run >/dev/null; cd "$copy" && PATH="$tried/rt:$PATH" says "" tools/setup rulecheck; was=$?; cd "$here" && [ $was -eq 0 ]'
-check "what was not proved is told, with its log" eval 'echo right >"$copy/fails"; says "proving and building rulecheck, once: 4 crates, some minutes; target/log/rulecheck says how far it is
-setup: right was not proved; target/log/rulecheck/right says why" first_run && grep -q "words on right" "$copy/target/log/rulecheck/right"'
+check "what was not proved is told, with its log" eval 'echo right >"$copy/fails"; says "proving and building rulecheck, once: 4 crates, some minutes; target/log/rulecheck.log says how far it is
+setup: rulecheck was not proved; target/log/rulecheck.log says why" first_run && grep -q "== right" "$copy/target/log/rulecheck.log"'
 at_terminal() { (cd "$copy" && rm -rf target crates/*/out fails && PATH="$tried/rt:$PATH" script -qec "tools/setup rulecheck" /dev/null | tr '\r' '\n' | grep -c "of 4 crates, .* s left; now "); }
 check "a line of progress at a terminal: how many crates, which now, time left" eval '[ "$(at_terminal)" -ge 2 ]'
 # without anything proved, and without the parser

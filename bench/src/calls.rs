@@ -28,7 +28,11 @@ impl Input {
         self.tables.nodes.len() / 10
     }
 
-    fn rule(&self) -> Rule<'_> {
+    pub fn answers(&self) -> &[u32] {
+        &self.answers
+    }
+
+    pub fn rule(&self) -> Rule<'_> {
         let t = &self.tables;
         Rule {
             source_type: t.source_type,
@@ -52,6 +56,10 @@ impl Slices {
     pub fn for_all(rules: &[Input]) -> Slices {
         let most = |f: fn(&Input) -> usize| vec![0; rules.iter().map(f).max().unwrap_or(0)];
         Slices { findings: most(room_for_findings), code: most(|r| CODE * r.nodes()), route: most(room_for_route) }
+    }
+
+    pub fn code(&mut self) -> &mut [u32] {
+        &mut self.code
     }
 }
 

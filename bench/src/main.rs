@@ -1,10 +1,11 @@
 //! The calls of the proved library beside the plain Rust version and the crate's own text over its stand-in, in one run.
 //!
-//!     bench [typical | shapes]      both by default
+//!     bench [typical | shapes | stack]      the first two by default
 
 mod calls;
 mod clock;
 mod shapes;
+mod stack;
 
 use calls::{CALLS, Call, Contender, Input, Slices};
 use cases::grammar;
@@ -14,6 +15,9 @@ use shapes::{SHAPES, Shape};
 
 fn main() {
     let which = std::env::args().nth(1);
+    if which.as_deref() == Some("stack") {
+        return stack::print();
+    }
     if which.as_deref() != Some("shapes") {
         CALLS.iter().for_each(typical);
     }

@@ -11,7 +11,7 @@ pub struct Shape {
     pub routes: bool,
 }
 
-pub const SHAPES: [Shape; 18] = [
+pub const SHAPES: [Shape; 19] = [
     Shape { name: "depth 512", sizes: [8_192, 65_535], make: deep, routes: true },
     Shape { name: "one long block", sizes: [8_192, 65_535], make: long_block, routes: true },
     Shape { name: "labels nested", sizes: [8_192, 65_535], make: nested_labels, routes: true },
@@ -46,6 +46,12 @@ pub const SHAPES: [Shape; 18] = [
         name: "long names, last byte differs (references)",
         sizes: [2_500, 20_000],
         make: long_names,
+        routes: false,
+    },
+    Shape {
+        name: "class: private elements, names overlap in 1 MB",
+        sizes: [25, 200],
+        make: overlapping,
         routes: false,
     },
     Shape {
@@ -316,6 +322,17 @@ fn long_names(count: usize) -> OwnedTables {
         m.private_field(name);
     }
     m.references(count, name);
+    m.t
+}
+
+/// Elements whose names are all but the first bytes of one text of a megabyte.
+fn overlapping(count: usize) -> OwnedTables {
+    let mut m = Maker::new();
+    m.class();
+    let (start, length) = m.name(&vec![b'n'; (1 << 20) - 1]);
+    for i in 0..count as u32 {
+        m.private_field((start + i, length - i));
+    }
     m.t
 }
 

@@ -8,21 +8,28 @@ const { spawnSync } = require('child_process');
 
 const MOST_OUTPUT = 1 << 30;
 
+// a shell that lets a program run for so many seconds of processor time, and leaves nothing of its memory behind where it is ended
+const LIMITED = 'ulimit -c 0; ulimit -t "$1"; shift; exec "$@"';
+
 // The lines that a program gives to an input, through pipes. Where it fails, or its last line isn't whole, a last line `C,why`.
-function answerOf(program, input, argument = '') {
-  const run = spawnSync(path.resolve(program), argument === '' ? [] : [argument], { input, maxBuffer: MOST_OUTPUT });
+function answerOf(program, input, argument, seconds) {
+  const called = [path.resolve(program), ...(argument === '' ? [] : [argument])];
+  const [first, ...rest] = seconds ? ['sh', '-c', LIMITED, 'sh', String(seconds), ...called] : called;
+  const run = spawnSync(first, rest, { input, maxBuffer: MOST_OUTPUT });
   const lines = run.stdout ? run.stdout.toString('utf8').split('\n') : [''];
-  const rest = lines.pop();
+  const end = lines.pop();
   // one that ends before it has read all is not at fault
   if (run.error && run.error.code !== 'EPIPE') return [...lines, `C,${run.error.message}`];
+  if (seconds && run.signal === 'SIGKILL') return [...lines, `C,it took more than ${seconds} s of processor time`];
   if (run.status !== 0) return [...lines, `C,${run.status === null ? run.signal : run.status}`];
-  return rest === '' ? lines : [...lines, 'C,its last line has no end'];
+  return end === '' ? lines : [...lines, 'C,its last line has no end'];
 }
 
-// The output lines for each input, in order. A program that fails gives a last line `C,status`. A program may come with an argument.
-function answersOf(program, inputs, argument = '') {
+// The output lines for each input, in order. A program that fails gives a last line `C,status`. A program may come with an argument; with one input it may
+// be told how long it may run.
+function answersOf(program, inputs, argument = '', seconds = 0) {
   if (!fs.existsSync(program)) throw new Error(`no program ${program}: name one that is there`);
-  if (inputs.length === 1) return [answerOf(program, inputs[0], argument)];
+  if (inputs.length === 1) return [answerOf(program, inputs[0], argument, seconds)];
   const dir = fs.mkdtempSync(path.join(os.tmpdir(), 'lines-'));
   try {
     inputs.forEach((input, i) => fs.writeFileSync(path.join(dir, String(i)), input));
@@ -107,4 +114,4 @@ function enginesOf(which, { router, caller }, large = false) {
   return ENGINES[which].map((name) => ({ name, ...(name === 'code' ? code() : call(name)) }));
 }
 
-module.exports = { ENGINES, answersOf, codesOf, enginesOf, findingsOf, routeOf, routesOf, sharedOf, programOf };
+module.exports = { ENGINES, LIMITED, answersOf, codesOf, enginesOf, findingsOf, routeOf, routesOf, sharedOf, programOf };

@@ -23,7 +23,8 @@ const escaped = (s) => s.replace(/[&<>"]/g, (c) => ({ '&': '&amp;', '<': '&lt;',
 // what is seen of a text on one line
 const escape = (s) => escaped(shown(s));
 const code = (s) => `<code>${escape(s)}</code>`;
-const short = (s) => { const text = shown(s.replace(/\s+/g, ' ').trim()); return text.length > MOST_SHOWN ? `${text.slice(0, MOST_SHOWN - 1)}…` : text; };
+// what is cut off is not looked at: it can be very long
+const short = (s) => { const text = shown(s.replace(/\s+/g, ' ').trim().slice(0, 2 * MOST_SHOWN)); return text.length > MOST_SHOWN ? `${text.slice(0, MOST_SHOWN - 1)}…` : text; };
 const link = (href, words, name) => `<a${name ? ` class="${name}"` : ''} href="${escaped(href)}">${words}</a>`;
 
 const partOf = (number) => Math.floor((number - 1) / MOST_ROWS);
@@ -32,7 +33,7 @@ class Page {
   // Of two routes on one page each has a prefix for its places; the first `shared` steps are marked as those of both. Of many steps one part has its rows
   // on a page; `partAt` tells where the others are. `doing` gives the links that stand in a step's row.
   constructor(tree, unit, answers, route, { prefix = '', shared = 0, part = 0, partAt = () => '', doing = null } = {}) {
-    Object.assign(this, { tree, unit, answers, route, prefix, shared, part, partAt, doing, lines: new Lines(tree.source.toString('utf8')) });
+    Object.assign(this, { tree, unit, answers, route, prefix, shared, part, partAt, doing, lines: new Lines(tree.source.toString('utf8')), inShort: new Map() });
     this.children = tree.nodes.map(() => []);
     tree.nodes.forEach((n, i) => { if (i > 0) this.children[n.parent].push(i); });
   }
@@ -215,8 +216,9 @@ class Page {
     const out = [];
     let at = 0;
     for (const head of heads) {
-      const to = head.to - Buffer.byteLength(/\s*$/.exec(this.text(head.from, head.to))[0]);
-      out.push({ text: this.text(at, head.from), steps: null }, { ...head, to, text: this.text(head.from, to) });
+      const text = this.text(head.from, head.to).trimEnd();
+      const to = head.from + Buffer.byteLength(text);
+      out.push({ text: this.text(at, head.from), steps: null }, { ...head, to, text });
       at = to;
     }
     return [...out, { text: this.text(at, this.tree.source.length), steps: null }];
@@ -260,8 +262,11 @@ class Page {
 
   // a step's statement in short, and the line on which it is shown
   shown({ node }) {
-    const [from, to] = this.headOf(node)[0];
-    return { line: this.lineOf(from), text: short(this.text(from, to)) };
+    if (!this.inShort.has(node)) {
+      const [from, to] = this.headOf(node)[0];
+      this.inShort.set(node, { line: this.lineOf(from), text: short(this.text(from, to)) });
+    }
+    return this.inShort.get(node);
   }
 
   row(s, words) {

@@ -55,18 +55,20 @@ class Lines {
     return { line: line + 1, column: 1 + this.cellAt(this.cellsOf(line), byte) };
   }
 
-  // The characters of a line: where they begin and end, how they are shown, and in how many columns. Those of the last line are kept.
+  // The characters of a line: where they begin and end, how they are shown, and in how many columns. They are kept, since findings may go to and fro
+  // between long lines.
   cellsOf(line) {
-    if (this.kept && this.kept.line === line) return this.kept.cells;
-    let byte = this.lines[line].start;
-    const cells = [...this.lines[line].text].map((c) => {
+    const of = this.lines[line];
+    if (of.cells) return of.cells;
+    let byte = of.start;
+    of.cells = [...of.text].map((c) => {
       const from = byte;
       byte += Buffer.byteLength(c);
       const above = shownAs(c);
       return { from, to: byte, above, width: widthOf(above) };
     });
-    this.kept = { line, cells, width: cells.reduce((n, c) => n + c.width, 0) };
-    return cells;
+    of.width = of.cells.reduce((n, c) => n + roomOf(c), 0);
+    return of.cells;
   }
 
   // which of them holds a byte; how many there are, where it is behind them all
@@ -85,30 +87,34 @@ class Lines {
   marked(line, first, second, most = 160) {
     const cells = this.cellsOf(line - 1);
     const starts = [first, second].filter((span) => span && span[1] >= this.lines[line - 1].start).map((span) => this.cellAt(cells, span[0]));
-    const [from, to] = partOf(cells, this.kept.width, Math.min(...starts), most);
+    const [from, to] = partOf(cells, this.lines[line - 1].width, Math.min(...starts), most);
     const within = (span, c) => span && c.from < span[1] && c.to > span[0];
-    const part = cells.slice(from, to).map((c) => ({ ...c, mark: within(second, c) ? '~' : within(first, c) ? '^' : ' ' }));
+    const part = cells.slice(from, to);
+    const marks = part.map((c) => (within(second, c) ? '~' : within(first, c) ? '^' : ' '));
     // a span without bytes, or behind the line's last character
-    if (part.every((c) => c.mark === ' ')) {
+    if (marks.every((mark) => mark === ' ')) {
       const at = this.cellAt(cells, first[0]) - from;
       if (at >= part.length) part.push({ above: ' ', width: 1 });
-      part[at].mark = '^';
+      marks[at] = '^';
     }
     const above = `${from > 0 ? CUT : ''}${part.map((c) => c.above).join('')}${to < cells.length ? ` ${CUT}` : ''}`;
-    const below = `${' '.repeat(from > 0 ? CUT.length : 0)}${part.map((c) => c.mark.repeat(c.width)).join('')}`;
+    const below = `${' '.repeat(from > 0 ? CUT.length : 0)}${part.map((c, i) => marks[i].repeat(c.width)).join('')}`;
     return { above: above.trimEnd(), below: below.trimEnd() };
   }
 }
 
 const CUT = '.. ';
 
+// the room that a character takes where a line is cut: marks over others have no width, and can be very many
+const roomOf = (cell) => Math.max(cell.width, 1);
+
 // from which character to which a line is shown that holds a mark at one of them
 function partOf(cells, width, marked, most) {
   if (width <= most) return [0, cells.length];
   let from = Math.min(marked, cells.length);
-  for (let room = most / 4; from > 0 && room > 0; room -= cells[from].width) from -= 1;
+  for (let room = most / 4; from > 0 && room > 0; room -= roomOf(cells[from])) from -= 1;
   let to = from;
-  for (let room = most; to < cells.length && room > 0; to += 1) room -= cells[to].width;
+  for (let room = most; to < cells.length && room > 0; to += 1) room -= roomOf(cells[to]);
   return [from, to];
 }
 

@@ -11,6 +11,11 @@ const ENGINE = `V8 of Node ${process.versions.node}`;
 const isRefusedElsewhere = ({ why, engine, notes }) => !why && (Boolean(engine) || (notes || []).length > 0);
 const isClean = (result) => !result.why && result.findings.length === 0 && !isRefusedElsewhere(result);
 
+// what of a result the summary and the status are made of, since a call may be about very many files
+function inShort(result) {
+  return { why: result.why, unasked: result.unasked, found: (result.findings || []).length, isRefused: isRefusedElsewhere(result) };
+}
+
 // ---- for people
 
 const BOLD = 1;
@@ -55,11 +60,12 @@ function fileText({ name }, { why, findings, places, notes, unasked, engine }, c
 
 const count = (n, one) => `${n} ${one}${n === 1 ? '' : 's'}`;
 
+// of results in short
 function summary(results) {
   const files = count(results.length, 'file');
-  const found = results.reduce((n, r) => n + (r.findings || []).length, 0);
+  const found = results.reduce((n, r) => n + r.found, 0);
   const none = results.filter((r) => r.why).length;
-  const refused = results.filter((r) => isRefusedElsewhere(r) && r.findings.length === 0).length;
+  const refused = results.filter((r) => r.isRefused && r.found === 0).length;
   if (none === results.length) return `no verdict on ${files}\n`;
   if (found + refused + none > 0) {
     const parts = [`${count(found, 'finding')} in ${files}`];
@@ -98,4 +104,4 @@ function besideLines({ name }, result) {
   return `${said.join('')}${engine ? `${name}: not proved, ${ENGINE} refuses this rule: ${engine.message}\n` : ''}`;
 }
 
-module.exports = { besideLines, fileText, isRefusedElsewhere, jsonText, summary };
+module.exports = { besideLines, fileText, inShort, jsonText, summary };

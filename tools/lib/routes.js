@@ -30,17 +30,19 @@ class Routes {
     throw new Refused(`no route: ${REFUSALS[number] || `refusal ${number}`} (${at})`);
   }
 
+  linesOf(program, input, argument) { return answersOf(program, [input], argument, this.how.seconds)[0]; }
+
   // each engine with the lines that it gives
   byEngines(which, unit, answers) {
     const engines = enginesOf(which, this.how, this.rule.large);
-    return engines.map(({ name, program, argument }) => ({ name, program, lines: answersOf(program, [routeLinesOf(this.tree, unit, answers)], argument)[0] }));
+    return engines.map(({ name, program, argument }) => ({ name, program, lines: this.linesOf(program, routeLinesOf(this.tree, unit, answers), argument) }));
   }
 
   // the route by an engine, or by several, whose lines must be the same
   by(which, unit, answers) {
     const given = this.byEngines(which, unit, answers);
-    // the room that one of them has for the route is no difference of theirs
-    const short = given.find(({ lines }) => lines.join() === ROUTE_TOO_LONG);
+    // the room that one of them has for the route is no difference of theirs, nor that one came to no end
+    const short = given.find(({ lines }) => lines.join() === ROUTE_TOO_LONG || failed(lines));
     if (!short && differ(given)) throw new Refused(`the engines differ: ${given.map(({ name, lines }) => `${name} gives ${lines.join(' ')}`).join('; ')}`);
     const { lines, program } = short || given[0];
     return this.given(routeOf(lines), program);
@@ -55,14 +57,14 @@ class Routes {
 
   // how many entries of two routes are the same from their start on
   shared(unit, first, second) {
-    const [lines] = answersOf(this.caller(), [routeLinesOf(this.tree, unit, first, second)], 'shared');
+    const lines = this.linesOf(this.caller(), routeLinesOf(this.tree, unit, first, second), 'shared');
     return this.given(sharedOf(lines), this.caller()).shared;
   }
 
   // Stopped under a mark behind some answers, and taken up there with each list of further ones; a second time with one more, which tells the next question.
   stopped(unit, answers, stop, lists) {
     const calls = [['T', MARK, stop, ...answers], ...lists.flatMap((more) => [['C', MARK, ...more], ['C', MARK, ...more, 0]])];
-    const [lines] = answersOf(this.caller(), [markLinesOf(this.tree, unit, calls)], 'marks');
+    const lines = this.linesOf(this.caller(), markLinesOf(this.tree, unit, calls), 'marks');
     const [begun, ...routes] = routesOf(lines);
     this.given(begun, this.caller());
     if (begun.end !== STOPPED) throw new Refused(`the route ends before ${stop} answers are taken: there is nothing to stop`);
@@ -94,11 +96,12 @@ class Routes {
 
   // a unit's code, and the shorter one
   codes(unit) {
-    const [lines] = answersOf(this.caller(), [unitLinesOf(this.tree, unit)], 'codes');
+    const lines = this.linesOf(this.caller(), unitLinesOf(this.tree, unit), 'codes');
     return this.given(codesOf(lines), this.caller());
   }
 }
 
+const failed = (lines) => lines.length > 0 && lines[lines.length - 1].startsWith('C,');
 const differ = (given) => given.some(({ lines }) => lines.join() !== given[0].lines.join());
 
 // whether one more answer can be given

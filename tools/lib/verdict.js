@@ -3,9 +3,8 @@
 // The findings are the proved program's; what the parser and the engine say stands beside them and is not proved.
 
 const path = require('path');
-const { refusedAt } = require('./engine.js');
 const read = require('./read.js');
-const { LIBRARY, linesOf, tooLarge, treeIn } = require('./lines.js');
+const { LIBRARY, tooLarge, treeIn } = require('./lines.js');
 const { offsetsOf } = require('./tree.js');
 const { wordsFor } = require('./shape.js');
 const { answersOf, findingsOf, programOf } = require('./batch.js');
@@ -40,7 +39,7 @@ function refusedWords(tree, number, place) {
 function judged(input, tree, how) {
   const { program, argument, why } = checkerOf(tree, how);
   if (why) return { why };
-  const [lines] = answersOf(program, [input], argument);
+  const [lines] = answersOf(program, [input], argument, how.seconds);
   const { findings, refused } = findingsOf(lines);
   if (findings) return { findings, lines };
   const [letter, ...rest] = refused.split(',');
@@ -49,37 +48,44 @@ function judged(input, tree, how) {
   return { lines, refusal: number, place, why: refusedWords(tree, number, place) };
 }
 
+// A message of the parser's without its end `. (1:2)`; it may have a name of any length in it, with any number of blanks.
+function bare(message) {
+  const at = message.lastIndexOf('(');
+  if (at < 0 || !/^\(\d+:\d+\)$/.test(message.slice(at))) return message;
+  const words = message.slice(0, at).trimEnd();
+  return words.endsWith('.') ? words.slice(0, -1) : words;
+}
+
 // The parser reads on after an early error. It is told, unless a finding stands for it.
-function notesOf({ notes, errors }, text, findings, places) {
+function notesOf(errors, text, findings, places) {
   const found = new Set(findings.map((f) => f[0]));
   const isMissed = (e) => CODES_FOR[e.reasonCode] && !CODES_FOR[e.reasonCode].some((code) => found.has(code));
-  const isNote = new Set(notes);
   const byte = offsetsOf(text);
-  return errors.filter((e) => isNote.has(e) || isMissed(e)).map((e) => {
+  return errors.filter((e) => e.isNote || isMissed(e)).map((e) => {
     // where something was filled in for the parser, its place may lie behind the text
-    const at = byte(Math.min(e.loc.index, text.length));
-    return { at, ...places.at(at), message: e.message.replace(/\.? *\(\d+:\d+\)$/, '') };
+    const at = byte(Math.min(e.index, text.length));
+    return { at, ...places.at(at), message: bare(e.message) };
   });
 }
 
-function judgedText(bytes, { file, sort }, how) {
+async function judgedText(bytes, { sort }, how) {
   const { text, why: unread } = textOf(bytes);
   if (unread) return { why: unread };
   const kind = read.howOf(sort);
   const unasked = sort === 'typescript' ? UNASKED.typescript : how.engine ? null : UNASKED.told;
   const places = new Lines(text);
-  const engine = unasked ? null : refusedAt({ text, module: kind.module });
-  const parsed = read.treeIn(text, { ...kind, limits: LIBRARY });
-  if (parsed.why) return { why: parsed.why, places, engine, unasked };
-  const verdict = judged(linesOf(parsed.tree), parsed.tree, how);
-  return { ...verdict, places, notes: notesOf(parsed, text, verdict.findings || [], places), engine, unasked };
+  const { why, lines, errors, engine } = await how.guard.read({ text, ...kind, limits: LIBRARY, isAsked: !unasked });
+  if (why) return { why, places, engine, unasked };
+  const verdict = judged(lines, treeIn(lines), how);
+  return { ...verdict, places, notes: notesOf(errors, text, verdict.findings || [], places), engine, unasked };
 }
 
-function verdictOn(one, how) {
+// how.guard reads the texts
+async function verdictOn(one, how) {
   const why = one.why || read.notRule(one.file);
   if (why) return { why };
   const table = one.sort === 'table';
-  const { bytes, why: unread } = read.bytesOf(one.file, table ? read.LARGEST_TABLE : undefined);
+  const { bytes, why: unread } = read.bytesOf(one.file, { most: table ? read.LARGEST_TABLE : undefined, seconds: how.seconds });
   if (unread) return { why: unread };
   return table ? { ...judged(bytes, treeIn(bytes), how), unasked: UNASKED.table } : judgedText(bytes, one, how);
 }
