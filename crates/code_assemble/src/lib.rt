@@ -137,6 +137,8 @@ fn code_by(
 
 // The code of the statements that b holds, by way of arrays with room for N nodes.
 // Four arrays, and not one of structs: in the first passes they hold marks and sums in place of levels and offsets, one array to a pass.
+// It stands by itself, so that no call makes room for larger arrays than its own.
+#[inline(never)]
 fn code_within<const N: usize>(
     nodes: &[u32],
     names: &[u8],
