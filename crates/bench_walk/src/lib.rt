@@ -4,19 +4,18 @@
 
 ghost use Rattle.std.specs.Prelude.{◌≡◌, ◌<◌};
 ghost use Rattle.table_records.specs.Table.{count};
-ghost use Rattle.table_records.specs.Facts.{Tree};
 ghost use Rattle.table_children.specs.Children.{below};
 ghost use Rattle.table_ancestry.specs.Ancestry.{nearest_of};
 
 use table_records::NodeId;
+use table_records::nodes::Nodes;
 
 // More than any kind: a walk that looks for it goes to the root.
 const NO_KIND: u32 = 100;
 
 // The nearest ancestor with a kind from low to high, by the contract of table_ancestry::nearest. Each step asks whether there
 // is such a node by the table's size, which is a division.
-fn nearest_by_size(nodes: &[u32], n: NodeId, low: u32, high: u32) -> Option<NodeId>
-    requires tree { Tree nodes.now }
+fn nearest_by_size(nodes: &Nodes, n: NodeId, low: u32, high: u32) -> Option<NodeId>
     requires n_bound { n.0 < count nodes.now }
     ensures value { result ≡ nearest_of nodes.now low high n.0 }
     ensures below { below nodes.now result }
@@ -47,9 +46,7 @@ fn walks_by<F: Fn(u32) -> Option<NodeId>>(walk: F, walks: u32) -> u32
     walks
 }
 
-fn walks_from_last(nodes: &[u32], walks: u32, divided: u32) -> u32
-    requires { Tree nodes.now }
-{
+fn walks_from_last(nodes: &Nodes, walks: u32, divided: u32) -> u32 {
     let last = NodeId(table_records::size(nodes) - 1);
     if divided == 0 {
         return walks_by(
@@ -62,6 +59,7 @@ fn walks_from_last(nodes: &[u32], walks: u32, divided: u32) -> u32
 
 // So many walks from the last node to the root, with a division in each step or (0) without, and how many were done: none
 // where the tables are turned down.
+#[tactic(auto, using(refusal_input::proofs::InputLaws::input_well_formed))]
 #[unsafe(no_mangle)]
 pub extern "C" fn bench_walks(
     source_type: u32,
@@ -74,7 +72,10 @@ pub extern "C" fn bench_walks(
 ) -> u32 {
     match refusal_input::refusal(source_type, nodes, scopes, source, names) {
         Err(_) => 0,
-        Ok(()) => walks_from_last(nodes, walks, divided),
+        Ok(()) => {
+            let nodes = &Nodes { numbers: nodes };
+            walks_from_last(nodes, walks, divided)
+        }
     }
 }
 

@@ -17,14 +17,14 @@ unfoldable pub kept_from : List ℕ → List ℕ → List ℕ → ℕ → ℕ �
 kept_from ns names kept size k = map (λ j. name_of ns names (get_or kept j 0)) (upto k size)
 
 -- the first `size` entries are nodes, of which none is the 700th
-pub record Nodes (ns kept : List ℕ) (size : ℕ) : Type 0 where
+pub record AreNodes (ns kept : List ℕ) (size : ℕ) : Type 0 where
   pub few : size ≤ most
   pub room : most ≤ length kept
   pub inside : (k : ℕ) → k < size → get_or kept k 0 < count ns
 
 -- and these are their names
 pub record Firsts (ns names kept : List ℕ) (size : ℕ) (seen : List (List ℕ)) : Type 0 where
-  pub nodes : Nodes ns kept size
+  pub nodes : AreNodes ns kept size
   pub named : kept_from ns names kept size 0 ≡ seen
 
 -- what a node comes to: 19, or the first labels up to it

@@ -4,7 +4,7 @@
 ghost use Rattle.std.specs.Prelude.{◌≡◌, [], ◌∷◌, ◌+◌, ◌*◌, ◌≤◌, ◌<◌, length};
 ghost use Rattle.base_common.specs.Wrote.{put};
 ghost use Rattle.table_records.specs.Table.{count};
-ghost use Rattle.table_records.specs.Facts.{Tree, Named};
+ghost use Rattle.table_records.specs.Facts.{Named};
 ghost use Rattle.table_names.specs.Name.{name_of};
 ghost use Rattle.route_list.specs.Over.{over};
 ghost use Rattle.code_tree.specs.Labels.{is_label};
@@ -12,10 +12,11 @@ ghost use Rattle.call_labels.specs.Reserved.{is_reserved};
 ghost use Rattle.call_labels.specs.Short.{letter_a, letters, most, pair_of, short_name};
 ghost use Rattle.call_labels.specs.Order.{seen_before, place_in};
 ghost use Rattle.call_labels.specs.Written.{most_bytes, new_name_of, record_with, nodes_renamed, names_renamed};
-ghost use Rattle.call_labels.specs.Firsts.{kept_from, Nodes, Firsts, Entered, Listed, Ready};
+ghost use Rattle.call_labels.specs.Firsts.{kept_from, AreNodes, Firsts, Entered, Listed, Ready};
 
 use check_identifiers::is_strict_word;
 use table_names::{name, name_is, same_name};
+use table_records::nodes::Nodes;
 use table_records::{NodeId, kinds, roles};
 
 const LETTER_A: u8 = 97;
@@ -57,7 +58,7 @@ fn is_reserved(nodes: &[u32], names: &[u8], n: NodeId) -> bool
 #[tactic(auto, using(crate::proofs::FirstsLaws::place_stop, crate::proofs::FirstsLaws::place_on, crate::proofs::FirstsLaws::place_end_lem))]
 fn place_in(nodes: &[u32], names: &[u8], kept: &Kept, n: NodeId) -> usize
     requires named { Named nodes.now names.now }
-    requires nodes { Nodes nodes.now kept.now.nodes kept.now.size }
+    requires nodes { AreNodes nodes.now kept.now.nodes kept.now.size }
     requires n_bound { n.0 < count nodes.now }
     ensures { result ≡ place_in (kept_from nodes.now names.now kept.now.nodes kept.now.size 0) (name_of nodes.now names.now n.0) }
 {
@@ -99,8 +100,7 @@ fn enter(nodes: &[u32], names: &[u8], kept: &mut Kept, i: u32) -> Result<(), Nod
 
 // The first label of each different name, in node order; or the first that cannot be renamed.
 #[tactic(auto, using(refusal_verdict::proofs::FirstLaws::first_on, refusal_verdict::proofs::FirstLaws::first_stop, refusal_verdict::proofs::FirstLaws::first_end, refusal_verdict::proofs::VerdictLaws::handed, crate::proofs::FirstsLaws::firsts_start))]
-pub fn first_labels(nodes: &[u32], names: &[u8]) -> Result<Kept, NodeId>
-    requires tree { Tree nodes.now }
+pub fn first_labels(nodes: &Nodes, names: &[u8]) -> Result<Kept, NodeId>
     requires named { Named nodes.now names.now }
     ensures { Listed nodes.now names.now result }
 {

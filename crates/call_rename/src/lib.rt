@@ -8,6 +8,7 @@ ghost use Rattle.call_rename.specs.Sized.{Sized};
 
 use call_labels::Kept;
 use refusal_verdict::{Refusal, Refused};
+use table_records::nodes::Nodes;
 
 // The names of a table, as document 01 bounds them.
 const MOST_BYTES: usize = 1048576;
@@ -53,7 +54,7 @@ fn labels(
     ensures renamed_nodes_after { renamed_nodes.new ≡ (labelled nodes.now names.now renamed_nodes.old renamed_names.old).nodes }
     ensures renamed_names_after { renamed_names.new ≡ (labelled nodes.now names.now renamed_nodes.old renamed_names.old).names }
 {
-    let found = call_labels::first_labels(nodes, names);
+    let found = call_labels::first_labels(&Nodes { numbers: nodes }, names);
     match found {
         Err(n) => Err(Refused::At(Refusal::Label, n.0)),
         Ok(kept) => write_all(nodes, names, &kept, renamed_nodes, renamed_names),

@@ -34,10 +34,10 @@ module _ (C f : List ℕ) (v : Valid C) (m : Marked C f) (n split : ℕ) (e : n 
       each (suc (suc zero)) h = ec ∙ unmarked (n + 2) (omega arith) h
       each (suc (suc (suc k))) h = absurd (omega (arith, cut.near))
 
-  pub placed_first : (begins news : List ℕ) (stride front : ℕ) → Index C begins news (stride_for (length C)) → stride ≡ stride_for (length f) → front ≡ kept_to C split
+  pub placed_first : (begins news : List ℕ) (strides stride front : ℕ) → Index C begins news (stride_for strides (length C)) → stride ≡ stride_for strides (length f) → front ≡ kept_to C split
       → Placed C begins news stride split front
-  placed_first begins news stride front i s k =
-      record { valid = v; index = subst (Index C begins news) (sym (s ∙ ap stride_for m.same)) i; cut = cut; count = k }
+  placed_first begins news strides stride front i s k =
+      record { valid = v; index = subst (Index C begins news) (sym (s ∙ ap (stride_for strides) m.same)) i; cut = cut; count = k }
 
 -- 18 with its place, and nothing is changed.
 pub refused : (C : List ℕ) (p : ℕ) → check C ≡ Err p → (Err p ≡ shorten_answer C) × (C ≡ shorten_slice C)

@@ -1,15 +1,15 @@
 // Async functions and generators as bodies of an If or a label, which the Rust leaves to its parser.
 #![tactic(auto)]
 
-ghost use Rattle.std.specs.Prelude.{◌≡◌, ◌+◌, ◌<◌, ◌≤◌};
+ghost use Rattle.std.specs.Prelude.{◌≡◌, ◌+◌, ◌<◌, ◌≤◌, None};
 ghost use Rattle.table_records.specs.Table.{count};
-ghost use Rattle.table_records.specs.Facts.{Tree, Scoped};
+ghost use Rattle.table_records.specs.Facts.{Scoped};
 ghost use Rattle.check_diagnostics.specs.Raises.{Adds};
-ghost use Rattle.table_children.specs.Children.{below};
-ghost use Rattle.check_statements.specs.Statements.{check_found};
+ghost use Rattle.table_children.specs.Children.{below, when_found};
 ghost use Rattle.check_bodies.specs.Bodies.{check_async_body, async_bodies_at};
 
 use check_diagnostics::{Finding, Findings, contexts, error_at};
+use table_records::nodes::Nodes;
 use table_records::{NodeId, kinds};
 
 // The flag of an async function or a generator.
@@ -22,7 +22,7 @@ pub const ASYNC_BODY: u32 = 34;
 #[tactic(auto, unfolding(crate::specs::Bodies::check_async_body))]
 fn check_async_body(nodes: &[u32], n: NodeId, found: Option<NodeId>) -> Option<Finding>
     requires { below nodes.now found }
-    ensures { result ≡ check_found found (check_async_body nodes.now n.0) }
+    ensures { result ≡ when_found found (check_async_body nodes.now n.0) None }
 {
     let stmt = found?;
     if table_records::kind(nodes, stmt) == kinds::FUNCTION
@@ -34,8 +34,8 @@ fn check_async_body(nodes: &[u32], n: NodeId, found: Option<NodeId>) -> Option<F
 }
 
 // The bodies of an If or a Labeled in sloppy code.
-pub fn check_async_bodies(nodes: &[u32], scopes: &[u32], n: NodeId, findings: &mut Findings)
-    requires tree { Tree nodes.now }
+#[tactic(auto, using(check_diagnostics::proofs::RaisesLaws::of_two, check_diagnostics::proofs::RaisesLaws::adds_none), unfolding(crate::specs::Bodies::async_bodies_at))]
+pub fn check_async_bodies(nodes: &Nodes, scopes: &[u32], n: NodeId, findings: &mut Findings)
     requires scoped { Scoped nodes.now scopes.now }
     requires n_bound { n.0 < count nodes.now }
     requires raised_bound { findings.old.raised ≤ 900000000000 }

@@ -1,6 +1,6 @@
 -- The elements of a class: `Element` and `ClassTableBuilder::declare_class_body`. An element has the number of its node.
 use Rattle.table_records.specs.declared.NodeId.{NodeId}
-use Rattle.std.specs.Prelude.{ℕ, List, [], ◌∷◌, Bool, false, cond, not, ◌&&◌, ◌||◌, eqb, Option, Some, None}
+use Rattle.std.specs.Prelude.{ℕ, List, [], ◌∷◌, Bool, false, cond, not, ◌&&◌, ◌||◌, eqb, Option, Some, None, is_some}
 use Rattle.base_common.specs.Upto.{any}
 use Rattle.base_common.specs.Tests.{within}
 use Rattle.table_source.specs.SourceType.{is_typescript}
@@ -10,7 +10,6 @@ use Rattle.table_records.specs.Extras as extra
 use Rattle.table_records.specs.NodeFlag as flag
 use Rattle.table_names.specs.Name.{same, name_of}
 use Rattle.table_children.specs.Children.{keep, children, key_of, value_of, function_body_of}
-use Rattle.table_ancestry.specs.Ancestry.{is_at}
 use Rattle.check_class_table.specs.declared.Span.{Span}
 use Rattle.check_class_table.specs.Classes.{outer_classes}
 
@@ -35,7 +34,7 @@ has_name ns e = has_name_at ns (key_of ns e)
 
 -- whether a function has a body
 abbrev pub has_body_at : List ℕ → Option NodeId → Bool
-has_body_at ns (Some f) = is_at (function_body_of ns f.0)
+has_body_at ns (Some f) = is_some (function_body_of ns f.0)
 has_body_at ns None = false
 
 -- an element's name, span and tests: "Elements and properties have their name at the key node"

@@ -3,12 +3,13 @@
 
 ghost use Rattle.std.specs.Prelude.{◌≡◌, ◌<◌};
 ghost use Rattle.table_records.specs.Table.{count, parent_of};
-ghost use Rattle.table_records.specs.Facts.{Tree, Named};
+ghost use Rattle.table_records.specs.Facts.{Named};
 ghost use Rattle.table_children.specs.Children.{below};
 ghost use Rattle.check_class_table.specs.Classes.{class_at, current_class, parent_class, in_table, before};
 ghost use Rattle.check_class_table.specs.Elements.{span_at, element_name, element_span, is_static, is_private, is_method_of, is_getter, is_setter, is_constructor, is_definition, has_name, has_body, fixed_name, enters, is_compared_definition, is_compared_element};
 
 use table_ancestry::nearest;
+use table_records::nodes::Nodes;
 use table_records::{ClassId, ElementId, NodeId, extras, kinds, node_flag};
 use table_source::is_typescript;
 
@@ -31,8 +32,7 @@ fn class_at(body: Option<NodeId>) -> Option<ClassId>
 
 // The class that is current where a node is checked.
 #[tactic(auto, unfolding(crate::specs::Classes::current_class))]
-pub fn current_class(nodes: &[u32], n: NodeId) -> Option<ClassId>
-    requires tree { Tree nodes.now }
+pub fn current_class(nodes: &Nodes, n: NodeId) -> Option<ClassId>
     requires n_bound { n.0 < count nodes.now }
     ensures value { result ≡ current_class nodes.now n.0 }
     ensures in_table { in_table nodes.now result }
@@ -48,12 +48,12 @@ pub fn current_class(nodes: &[u32], n: NodeId) -> Option<ClassId>
 }
 
 // The class around a class.
-pub fn parent_class(nodes: &[u32], c: ClassId) -> Option<ClassId>
-    requires tree { Tree nodes.now }
+pub fn parent_class(nodes: &Nodes, c: ClassId) -> Option<ClassId>
     requires c_bound { c.0 < count nodes.now }
     ensures value { result ≡ parent_class nodes.now c.0 }
     ensures before { before c.0 result }
 {
+    let _ = &nodes.numbers; // names the field, so that its invariant is known
     class_at(nearest(nodes, NodeId::from(c), kinds::CLASS_BODY, kinds::CLASS_BODY))
 }
 
@@ -143,8 +143,7 @@ pub fn span_at(nodes: &[u32], part: Option<NodeId>) -> Span
 
 // The span of an element: that of its key.
 #[tactic(auto, unfolding(crate::specs::Elements::element_span))]
-pub fn element_span(nodes: &[u32], e: ElementId) -> Span
-    requires tree { Tree nodes.now }
+pub fn element_span(nodes: &Nodes, e: ElementId) -> Span
     requires e_bound { e.0 < count nodes.now }
     ensures { result ≡ element_span nodes.now e.0 }
 {
@@ -153,8 +152,7 @@ pub fn element_span(nodes: &[u32], e: ElementId) -> Span
 
 // The name of an element: that of its key.
 #[tactic(auto, unfolding(crate::specs::Elements::element_name))]
-pub fn element_name<'a>(nodes: &[u32], names: &'a [u8], e: ElementId) -> &'a [u8]
-    requires tree { Tree nodes.now }
+pub fn element_name<'a>(nodes: &Nodes, names: &'a [u8], e: ElementId) -> &'a [u8]
     requires named { Named nodes.now names.now }
     requires e_bound { e.0 < count nodes.now }
     ensures { result.now ≡ element_name nodes.now names.now e.0 }
@@ -166,8 +164,7 @@ pub fn element_name<'a>(nodes: &[u32], names: &'a [u8], e: ElementId) -> &'a [u8
 }
 
 // Whether an element's key has a name: an IdentifierReference is the expression of a computed key, and gives the element none.
-fn has_name(nodes: &[u32], e: ElementId) -> bool
-    requires tree { Tree nodes.now }
+fn has_name(nodes: &Nodes, e: ElementId) -> bool
     requires e_bound { e.0 < count nodes.now }
     ensures { result ≡ has_name nodes.now e.0 }
 {
@@ -180,8 +177,7 @@ fn has_name(nodes: &[u32], e: ElementId) -> bool
 
 // Whether the function that is a method's value has a body.
 #[tactic(auto, unfolding(crate::specs::Elements::has_body))]
-pub fn has_body(nodes: &[u32], e: ElementId) -> bool
-    requires tree { Tree nodes.now }
+pub fn has_body(nodes: &Nodes, e: ElementId) -> bool
     requires e_bound { e.0 < count nodes.now }
     ensures { result ≡ has_body nodes.now e.0 }
 {
@@ -193,8 +189,7 @@ pub fn has_body(nodes: &[u32], e: ElementId) -> bool
 
 // Whether an element has a fixed name: in TypeScript its flag alone says so.
 #[tactic(auto, unfolding(crate::specs::Elements::fixed_name))]
-pub fn has_fixed_name(source_type: u32, nodes: &[u32], e: ElementId) -> bool
-    requires tree { Tree nodes.now }
+pub fn has_fixed_name(source_type: u32, nodes: &Nodes, e: ElementId) -> bool
     requires e_bound { e.0 < count nodes.now }
     ensures { result ≡ fixed_name source_type nodes.now e.0 }
 {
@@ -209,8 +204,7 @@ pub fn has_fixed_name(source_type: u32, nodes: &[u32], e: ElementId) -> bool
 
 // Constructors, bodiless methods and elements without a fixed name enter no element.
 #[tactic(auto, unfolding(crate::specs::Elements::enters))]
-pub fn enters(source_type: u32, nodes: &[u32], e: ElementId) -> bool
-    requires tree { Tree nodes.now }
+pub fn enters(source_type: u32, nodes: &Nodes, e: ElementId) -> bool
     requires e_bound { e.0 < count nodes.now }
     ensures { result ≡ enters source_type nodes.now e.0 }
 {
@@ -234,8 +228,7 @@ fn is_compared_definition(source_type: u32, nodes: &[u32], c: ClassId, e: Elemen
 
 // Whether a node is a compared element of class c.
 #[tactic(auto, unfolding(crate::specs::Elements::is_compared_element))]
-pub fn is_compared_element(source_type: u32, nodes: &[u32], c: ClassId, e: ElementId) -> bool
-    requires tree { Tree nodes.now }
+pub fn is_compared_element(source_type: u32, nodes: &Nodes, c: ClassId, e: ElementId) -> bool
     requires e_bound { e.0 < count nodes.now }
     ensures { result ≡ is_compared_element source_type nodes.now c.0 e.0 }
 {

@@ -1,7 +1,7 @@
 -- What is checked at a private name and at a Class: `check_private_identifier_outside_class`, `check_private_identifier` and `check_class`.
 use Rattle.table_records.specs.declared.ClassId.{ClassId}
 use Rattle.table_records.specs.declared.NodeId.{NodeId}
-use Rattle.std.specs.Prelude.{ℕ, ◌+◌, Bool, false, cond, not, ◌&&◌, eqb, Option, Some, None}
+use Rattle.std.specs.Prelude.{ℕ, ◌+◌, Bool, false, cond, not, ◌&&◌, eqb, Option, Some, None, is_some}
 use mathlib.Core.List.{List, [], ◌∷◌, ◌++◌, flat_map}
 use Rattle.base_common.specs.Upto.{upto}
 use Rattle.base_common.specs.Tests.{within}
@@ -9,8 +9,7 @@ use Rattle.table_records.specs.Table.{count, kind_of, parent_of, span_start_of, 
 use Rattle.table_records.specs.Kinds as k
 use Rattle.table_records.specs.NodeFlag as flag
 use Rattle.table_names.specs.Name.{name_of}
-use Rattle.table_children.specs.Children.{keep, children, first_child, class_body_of}
-use Rattle.table_ancestry.specs.Ancestry.{is_at}
+use Rattle.table_children.specs.Children.{keep, children, first_child, class_body_of, first_node}
 use Rattle.check_diagnostics.specs.declared.Finding.{Finding}
 use Rattle.check_diagnostics.specs.Finding.{listed, error_at, error_span}
 use Rattle.check_diagnostics.specs.Codes as code
@@ -36,6 +35,10 @@ is_class c None = false
 abbrev pub is_reference : List ℕ → ℕ → Bool
 is_reference ns m = eqb (kind_of ns m) k.PrivateIdentifier && within (kind_of ns (parent_of ns m)) k.OtherMember k.PrivateIn
 
+-- node m is a private reference of class c
+unfoldable pub is_reference_of : List ℕ → ℕ → ℕ → Bool
+is_reference_of ns c m = is_reference ns m && is_class c (current_class ns m)
+
 -- the private references of class c, in node order: those where it is current (what is in a ClassBody comes after it)
 unfoldable pub references : List ℕ → ℕ → List ℕ
 references ns c = keep (λ m. is_reference ns m && is_class c (current_class ns m)) (upto (c + 1) (count ns))
@@ -43,6 +46,10 @@ references ns c = keep (λ m. is_reference ns m && is_class c (current_class ns 
 -- a reference whose name no private element of class c or of a class around it has
 unfoldable pub undeclared_at : ℕ → List ℕ → List ℕ → ℕ → ℕ → ℕ → Option Finding
 undeclared_at source_type ns names n c m = cond (is_declared source_type ns names c (name_of ns names m)) None (error_at ns code.private_field_undeclared n m context.none)
+
+-- what node m raises as a reference of class c
+unfoldable pub raised_at : ℕ → List ℕ → List ℕ → ℕ → ℕ → ℕ → Option Finding
+raised_at source_type ns names n c m = cond (is_reference_of ns c m) (undeclared_at source_type ns names n c m) None
 
 unfoldable pub undeclared_in : ℕ → List ℕ → List ℕ → ℕ → ℕ → List Finding
 undeclared_in source_type ns names n c = flat_map (λ m. listed (undeclared_at source_type ns names n c m)) (references ns c)
@@ -57,7 +64,7 @@ private_undeclared source_type ns names n = undeclared_by source_type ns names n
 
 -- the class has an id: a BindingIdentifier, with any role
 abbrev pub has_id : List ℕ → ℕ → Bool
-has_id ns n = is_at (first_child ns n k.BindingIdentifier k.BindingIdentifier 0 7)
+has_id ns n = is_some (first_child ns n k.BindingIdentifier k.BindingIdentifier 0 7)
 
 -- a class declaration without an id that is no `export default`; the span of the word `class`
 unfoldable pub require_class_name : List ℕ → ℕ → Option Finding
@@ -69,6 +76,14 @@ require_class_name ns n =
 -- the constructors with a body, in order
 unfoldable pub constructors : List ℕ → ℕ → List ℕ
 constructors ns c = keep (λ e. is_constructor ns e && has_body ns e) (children ns c)
+
+-- node e is a constructor of class c with a body
+unfoldable pub is_constructor_of : List ℕ → ℕ → ℕ → Bool
+is_constructor_of ns c e = eqb (parent_of ns e) c && (is_constructor ns e && has_body ns e)
+
+-- the first one from node i on
+abbrev pub next_constructor : List ℕ → ℕ → ℕ → Option NodeId
+next_constructor ns c i = first_node (is_constructor_of ns c) i (count ns)
 
 -- `prop_name` gives the key's span, if the constructor has a fixed name, or else it is the element's
 unfoldable pub constructor_span : ℕ → List ℕ → ℕ → Span

@@ -1,2 +1,1 @@
 pub mod ClassChecks
-pub mod ClassChecksLaws

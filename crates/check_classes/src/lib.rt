@@ -3,21 +3,20 @@
 
 ghost use Rattle.std.specs.Prelude.{◌≡◌, ◌+◌, ◌<◌, ◌≤◌};
 ghost use Rattle.table_records.specs.Table.{count, span_start_of};
-ghost use Rattle.table_records.specs.Facts.{Tree, Named};
+ghost use Rattle.table_records.specs.Facts.{Named};
 ghost use Rattle.table_children.specs.Children.{below};
 ghost use Rattle.check_diagnostics.specs.Raises.{Adds};
 ghost use Rattle.check_element_index.specs.Index.{Indexed};
-ghost use Rattle.check_classes.specs.ClassChecks.{private_outside, is_reference, undeclared_at, undeclared_in, private_undeclared, has_id, require_class_name, constructor_span, duplicate_constructor, second_constructor, check_class};
-ghost use Rattle.check_classes.specs.ClassChecksLaws.{is_reference_of, raised_at, is_constructor_of, next_constructor};
+ghost use Rattle.check_classes.specs.ClassChecks.{private_outside, is_reference, undeclared_at, undeclared_in, private_undeclared, has_id, require_class_name, constructor_span, duplicate_constructor, second_constructor, check_class, is_reference_of, raised_at, is_constructor_of, next_constructor};
 
 use check_class_table::Span;
 use check_diagnostics::{Finding, Findings, codes, contexts};
 use check_element_index::Index;
 use table_children::Part;
+use table_records::nodes::Nodes;
 use table_records::{ClassId, ElementId, NodeId, kinds, node_flag};
 
-pub fn check_private_identifier_outside_class(nodes: &[u32], n: NodeId) -> Option<Finding>
-    requires tree { Tree nodes.now }
+pub fn check_private_identifier_outside_class(nodes: &Nodes, n: NodeId) -> Option<Finding>
     requires n_bound { n.0 < count nodes.now }
     ensures { result ≡ private_outside nodes.now n.0 }
 {
@@ -28,8 +27,7 @@ pub fn check_private_identifier_outside_class(nodes: &[u32], n: NodeId) -> Optio
 }
 
 // Whether a node is a PrivateIdentifier in a member expression or a PrivateIn.
-fn is_reference(nodes: &[u32], m: NodeId) -> bool
-    requires tree { Tree nodes.now }
+fn is_reference(nodes: &Nodes, m: NodeId) -> bool
     requires m_bound { m.0 < count nodes.now }
     ensures { result ≡ is_reference nodes.now m.0 }
 {
@@ -41,9 +39,8 @@ fn is_reference(nodes: &[u32], m: NodeId) -> bool
 }
 
 // Whether a node is a private reference of class c.
-#[tactic(auto, unfolding(crate::specs::ClassChecksLaws::is_reference_of))]
-fn is_reference_of(nodes: &[u32], c: ClassId, m: NodeId) -> bool
-    requires tree { Tree nodes.now }
+#[tactic(auto, unfolding(crate::specs::ClassChecks::is_reference_of))]
+fn is_reference_of(nodes: &Nodes, c: ClassId, m: NodeId) -> bool
     requires m_bound { m.0 < count nodes.now }
     ensures { result ≡ is_reference_of nodes.now c.0 m.0 }
 {
@@ -60,14 +57,13 @@ fn is_reference_of(nodes: &[u32], c: ClassId, m: NodeId) -> bool
 #[tactic(auto, unfolding(crate::specs::ClassChecks::undeclared_at))]
 fn undeclared_at(
     source_type: u32,
-    nodes: &[u32],
+    nodes: &Nodes,
     names: &[u8],
     index: &Index,
     n: NodeId,
     c: ClassId,
     m: NodeId,
 ) -> Option<Finding>
-    requires tree { Tree nodes.now }
     requires named { Named nodes.now names.now }
     requires indexed { Indexed source_type nodes.now names.now index.now.last.now index.now.earlier.now index.now.keys.now }
     requires c_bound { c.0 < count nodes.now }
@@ -88,17 +84,16 @@ fn undeclared_at(
 }
 
 // What a node raises as a private reference of class c.
-#[tactic(auto, unfolding(crate::specs::ClassChecksLaws::raised_at))]
+#[tactic(auto, unfolding(crate::specs::ClassChecks::raised_at))]
 fn raised_at(
     source_type: u32,
-    nodes: &[u32],
+    nodes: &Nodes,
     names: &[u8],
     index: &Index,
     n: NodeId,
     c: ClassId,
     m: NodeId,
 ) -> Option<Finding>
-    requires tree { Tree nodes.now }
     requires named { Named nodes.now names.now }
     requires indexed { Indexed source_type nodes.now names.now index.now.last.now index.now.earlier.now index.now.keys.now }
     requires c_bound { c.0 < count nodes.now }
@@ -114,14 +109,13 @@ fn raised_at(
 // What the private references of class c raise at node n.
 fn undeclared_in(
     source_type: u32,
-    nodes: &[u32],
+    nodes: &Nodes,
     names: &[u8],
     index: &Index,
     n: NodeId,
     c: ClassId,
     findings: &mut Findings,
 )
-    requires tree { Tree nodes.now }
     requires named { Named nodes.now names.now }
     requires indexed { Indexed source_type nodes.now names.now index.now.last.now index.now.earlier.now index.now.keys.now }
     requires c_bound { c.0 < count nodes.now }
@@ -129,6 +123,7 @@ fn undeclared_in(
     ensures adds { Adds findings.old findings.new (undeclared_in source_type nodes.now names.now n.0 c.0) }
     ensures upper_bound { findings.new.raised ≤ findings.old.raised + 458745 }
 {
+    let _ = &nodes.numbers; // names the field, so that its invariant is known
     for i in c.0 + 1..table_records::size(nodes) {
         if table_records::parent(nodes, NodeId(i)).0 < c.0 {
             return;
@@ -140,13 +135,12 @@ fn undeclared_in(
 // Private names of the class that is current at node n which it and the classes around it do not declare.
 fn check_private_identifier(
     source_type: u32,
-    nodes: &[u32],
+    nodes: &Nodes,
     names: &[u8],
     index: &Index,
     n: NodeId,
     findings: &mut Findings,
 )
-    requires tree { Tree nodes.now }
     requires named { Named nodes.now names.now }
     requires indexed { Indexed source_type nodes.now names.now index.now.last.now index.now.earlier.now index.now.keys.now }
     requires n_bound { n.0 < count nodes.now }
@@ -160,8 +154,7 @@ fn check_private_identifier(
     undeclared_in(source_type, nodes, names, index, n, c, findings);
 }
 
-fn has_id(nodes: &[u32], n: NodeId) -> bool
-    requires tree { Tree nodes.now }
+fn has_id(nodes: &Nodes, n: NodeId) -> bool
     requires n_bound { n.0 < count nodes.now }
     ensures { result ≡ has_id nodes.now n.0 }
 {
@@ -171,8 +164,7 @@ fn has_id(nodes: &[u32], n: NodeId) -> bool
 
 // A class declaration needs an id, but for that of an `export default`.
 #[tactic(auto, unfolding(crate::specs::ClassChecks::require_class_name))]
-fn require_class_name(nodes: &[u32], n: NodeId) -> Option<Finding>
-    requires tree { Tree nodes.now }
+fn require_class_name(nodes: &Nodes, n: NodeId) -> Option<Finding>
     requires n_bound { n.0 < count nodes.now }
     requires n_bound_2 { span_start_of nodes.now n.0 ≤ 1048576 }
     ensures { result ≡ require_class_name nodes.now n.0 }
@@ -198,9 +190,8 @@ fn require_class_name(nodes: &[u32], n: NodeId) -> Option<Finding>
 }
 
 // Whether a node is a constructor of class c with a body.
-#[tactic(auto, unfolding(crate::specs::ClassChecksLaws::is_constructor_of))]
-fn is_constructor_of(nodes: &[u32], c: ClassId, e: ElementId) -> bool
-    requires tree { Tree nodes.now }
+#[tactic(auto, unfolding(crate::specs::ClassChecks::is_constructor_of))]
+fn is_constructor_of(nodes: &Nodes, c: ClassId, e: ElementId) -> bool
     requires e_bound { e.0 < count nodes.now }
     ensures { result ≡ is_constructor_of nodes.now c.0 e.0 }
 {
@@ -210,9 +201,8 @@ fn is_constructor_of(nodes: &[u32], c: ClassId, e: ElementId) -> bool
 }
 
 // The first constructor of class c with a body from node `from` on.
-#[tactic(auto, using(crate::specs::ClassChecksLaws::constructor_out, table_children::proofs::ChildrenLaws::node_stop, table_children::proofs::ChildrenLaws::node_on, table_children::proofs::ChildrenLaws::node_end))]
-fn next_constructor(nodes: &[u32], c: ClassId, from: u32) -> Option<NodeId>
-    requires tree { Tree nodes.now }
+#[tactic(auto, using(crate::proofs::ClassChecksLaws::constructor_out, table_children::proofs::ChildrenLaws::node_stop, table_children::proofs::ChildrenLaws::node_on, table_children::proofs::ChildrenLaws::node_end))]
+fn next_constructor(nodes: &Nodes, c: ClassId, from: u32) -> Option<NodeId>
     requires c_lt_from { c.0 < from }
     requires from_bound { from ≤ count nodes.now }
     ensures value { result ≡ next_constructor nodes.now c.0 from }
@@ -231,8 +221,7 @@ fn next_constructor(nodes: &[u32], c: ClassId, from: u32) -> Option<NodeId>
 
 // The span of a constructor: that of its key if its name is fixed.
 #[tactic(auto, unfolding(crate::specs::ClassChecks::constructor_span))]
-fn constructor_span(source_type: u32, nodes: &[u32], e: ElementId) -> Span
-    requires tree { Tree nodes.now }
+fn constructor_span(source_type: u32, nodes: &Nodes, e: ElementId) -> Span
     requires e_bound { e.0 < count nodes.now }
     ensures { result ≡ constructor_span source_type nodes.now e.0 }
 {
@@ -245,12 +234,11 @@ fn constructor_span(source_type: u32, nodes: &[u32], e: ElementId) -> Span
 // The finding that constructor b repeats a.
 fn duplicate_constructor(
     source_type: u32,
-    nodes: &[u32],
+    nodes: &Nodes,
     n: NodeId,
     a: ElementId,
     b: ElementId,
 ) -> Option<Finding>
-    requires tree { Tree nodes.now }
     requires a_bound { a.0 < count nodes.now }
     requires b_bound { b.0 < count nodes.now }
     ensures { result ≡ duplicate_constructor source_type nodes.now n.0 a.0 b.0 }
@@ -271,11 +259,11 @@ fn duplicate_constructor(
 // The first two constructors of a class.
 // > ClassBody : ClassElementList
 // > It is a Syntax Error if PrototypePropertyNameList of ClassElementList contains more than one occurrence of "constructor".
-fn second_constructor(source_type: u32, nodes: &[u32], n: NodeId) -> Option<Finding>
-    requires tree { Tree nodes.now }
+fn second_constructor(source_type: u32, nodes: &Nodes, n: NodeId) -> Option<Finding>
     requires n_bound { n.0 < count nodes.now }
     ensures { result ≡ second_constructor source_type nodes.now n.0 }
 {
+    let _ = &nodes.numbers; // names the field, so that its invariant is known
     let body = table_children::class_body_of(nodes, n)?;
     let c = ClassId::from(body);
     let a = next_constructor(nodes, c, body.0 + 1)?;
@@ -291,13 +279,12 @@ fn second_constructor(source_type: u32, nodes: &[u32], n: NodeId) -> Option<Find
 
 pub fn check_class(
     source_type: u32,
-    nodes: &[u32],
+    nodes: &Nodes,
     names: &[u8],
     index: &Index,
     n: NodeId,
     findings: &mut Findings,
 )
-    requires tree { Tree nodes.now }
     requires named { Named nodes.now names.now }
     requires indexed { Indexed source_type nodes.now names.now index.now.last.now index.now.earlier.now index.now.keys.now }
     requires n_bound { n.0 < count nodes.now }

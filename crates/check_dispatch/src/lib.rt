@@ -12,7 +12,17 @@ ghost use Rattle.check_dispatch.specs.Reported.{reported_at, reported};
 
 use check_diagnostics::Findings;
 use check_element_index::Index;
+use table_records::nodes::Nodes;
 use table_records::{NodeId, kinds};
+
+// For how many nodes the arrays of the index have room: rules of an office have a hundred nodes and less, or some hundreds; the last is room for any table.
+const FEW: usize = 128;
+
+const SMALL: usize = 1024;
+
+const LARGE: usize = 8192;
+
+const MOST: usize = 65536;
 
 // What a call is given of a rule, as it is lent: the source type, the option on async and generator bodies, and the tables.
 #[derive(Clone, Copy)]
@@ -44,6 +54,7 @@ fn check_node(
     ensures adds { Adds findings.old findings.new (findings_at source_type nodes.now scopes.now source.now names.now n.0) }
     ensures upper_bound { findings.new.raised ≤ findings.old.raised + 458780 }
 {
+    let tree = &Nodes { numbers: nodes };
     match table_records::kind(nodes, n) {
         kinds::BINDING_IDENTIFIER => {
             let a = check_identifiers::check_identifier(source_type, nodes, scopes, names, n);
@@ -75,57 +86,57 @@ fn check_node(
             n,
         )),
         kinds::PRIVATE_IDENTIFIER => findings.raise(
-            check_classes::check_private_identifier_outside_class(nodes, n),
+            check_classes::check_private_identifier_outside_class(tree, n),
         ),
         kinds::NUMERIC_LITERAL => findings.raise(check_literals::check_number_literal(
             nodes, scopes, source, n,
         )),
         kinds::STRING_LITERAL => findings.raise(check_literals::check_string_literal(
-            nodes, scopes, source, n,
+            tree, scopes, source, n,
         )),
         kinds::DIRECTIVE => findings.raise(check_identifiers::check_directive(
             nodes, scopes, names, n,
         )),
         kinds::WITH => {
-            let a = check_statements::check_body(nodes, scopes, n);
+            let a = check_statements::check_body(tree, scopes, n);
             let b = check_statements::check_with_statement(source_type, nodes, scopes, n);
             findings.raise_all(&[a, b]);
         }
-        kinds::BREAK => findings.raise(check_jumps::check_break_statement(nodes, names, n)),
-        kinds::CONTINUE => findings.raise(check_jumps::check_continue_statement(nodes, names, n)),
+        kinds::BREAK => findings.raise(check_jumps::check_break_statement(tree, names, n)),
+        kinds::CONTINUE => findings.raise(check_jumps::check_continue_statement(tree, names, n)),
         kinds::LABELED => {
-            let a = check_jumps::check_labeled_statement(nodes, names, n);
+            let a = check_jumps::check_labeled_statement(tree, names, n);
             let b = check_statements::check_function_declaration_in_labeled_statement(
-                nodes, scopes, n,
+                tree, scopes, n,
             );
             findings.raise_all(&[a, b]);
         }
         kinds::FOR_IN => {
-            let a = check_statements::check_body(nodes, scopes, n);
-            let b = check_statements::check_for_statement_left(nodes, scopes, n, true);
+            let a = check_statements::check_body(tree, scopes, n);
+            let b = check_statements::check_for_statement_left(tree, scopes, n, true);
             findings.raise_all(&[a, b]);
         }
         kinds::FOR_OF => {
-            let a = check_statements::check_body(nodes, scopes, n);
+            let a = check_statements::check_body(tree, scopes, n);
             let b = check_statements::check_for_of_statement(nodes, scopes, n);
-            let d = check_statements::check_for_statement_left(nodes, scopes, n, false);
+            let d = check_statements::check_for_statement_left(tree, scopes, n, false);
             findings.raise_all(&[a, b, d]);
         }
         // Three arms: one arm for the three kinds was tried, and its proof did not close.
-        kinds::WHILE => findings.raise(check_statements::check_body(nodes, scopes, n)),
-        kinds::DO_WHILE => findings.raise(check_statements::check_body(nodes, scopes, n)),
-        kinds::FOR => findings.raise(check_statements::check_body(nodes, scopes, n)),
+        kinds::WHILE => findings.raise(check_statements::check_body(tree, scopes, n)),
+        kinds::DO_WHILE => findings.raise(check_statements::check_body(tree, scopes, n)),
+        kinds::FOR => findings.raise(check_statements::check_body(tree, scopes, n)),
         kinds::IF => {
-            let a = check_statements::check_consequent(nodes, scopes, n);
-            let b = check_statements::check_alternate(nodes, scopes, n);
+            let a = check_statements::check_consequent(tree, scopes, n);
+            let b = check_statements::check_alternate(tree, scopes, n);
             findings.raise_all(&[a, b]);
         }
-        kinds::CLASS => check_classes::check_class(source_type, nodes, names, index, n, findings),
-        kinds::SUPER => findings.raise(check_super_search::check_super(nodes, scopes, n)),
-        kinds::AWAIT => check_expressions::check_await_expression(nodes, scopes, n, findings),
-        kinds::OBJECT => check_expressions::check_object_expression(nodes, names, n, findings),
-        kinds::UNARY => findings.raise(check_expressions::check_unary_expression(nodes, scopes, n)),
-        kinds::YIELD => findings.raise(check_expressions::check_yield_expression(nodes, n)),
+        kinds::CLASS => check_classes::check_class(source_type, tree, names, index, n, findings),
+        kinds::SUPER => findings.raise(check_super_search::check_super(tree, scopes, n)),
+        kinds::AWAIT => check_expressions::check_await_expression(tree, scopes, n, findings),
+        kinds::OBJECT => check_expressions::check_object_expression(tree, names, n, findings),
+        kinds::UNARY => findings.raise(check_expressions::check_unary_expression(tree, scopes, n)),
+        kinds::YIELD => findings.raise(check_expressions::check_yield_expression(tree, n)),
         kinds::VARIABLE_DECLARATION => {
             let a = check_statements::check_using(source_type, nodes, scopes, n);
             let b = check_statements::check_await_using(nodes, scopes, n);
@@ -158,7 +169,10 @@ fn check_node_and_bodies(rule: &Rule, index: &Index, n: NodeId, findings: &mut F
     if rule.async_bodies == 0 {
         return;
     }
-    check_bodies::check_async_bodies(rule.nodes, rule.scopes, n, findings);
+    let tree = &Nodes {
+        numbers: rule.nodes,
+    };
+    check_bodies::check_async_bodies(tree, rule.scopes, n, findings);
 }
 
 // The findings of the tree, over the index of its class elements.
@@ -168,10 +182,13 @@ fn check_tree_by(rule: &Rule, index: &Index, findings: &mut [u32]) -> usize
     requires indexed { Indexed rule.now.source_type rule.now.nodes.now rule.now.names.now index.now.last.now index.now.earlier.now index.now.keys.now }
     ensures { Raises findings.old findings.new 0 result (reported (rule_of rule.now)) }
 {
+    let tree = &Nodes {
+        numbers: rule.nodes,
+    };
     let mut all = Findings::new(findings);
     check_duplicates::check_duplicate_class_elements(
         rule.source_type,
-        rule.nodes,
+        tree,
         rule.names,
         index,
         &mut all,
@@ -191,12 +208,15 @@ fn check_tree_within<const N: usize>(rule: &Rule, findings: &mut [u32]) -> usize
     requires size_bound { N ≤ 65536 }
     ensures { Raises findings.old findings.new 0 result (reported (rule_of rule.now)) }
 {
+    let tree = &Nodes {
+        numbers: rule.nodes,
+    };
     let mut last: [u16; N] = [0; N];
     let mut earlier: [u16; N] = [0; N];
     let mut keys: [u16; N] = [0; N];
     check_element_index::build(
         rule.source_type,
-        rule.nodes,
+        tree,
         rule.names,
         &mut last,
         &mut earlier,
@@ -217,14 +237,14 @@ pub fn check_tree(rule: &Rule, findings: &mut [u32]) -> usize
     ensures { Raises findings.old findings.new 0 result (reported (rule_of rule.now)) }
 {
     // the smallest arrays with room, since they are cleared
-    if table_records::is_node(rule.nodes, 8192) {
-        return check_tree_within::<65536>(rule, findings);
+    if table_records::is_node(rule.nodes, LARGE as u32) {
+        return check_tree_within::<MOST>(rule, findings);
     }
-    if table_records::is_node(rule.nodes, 1024) {
-        return check_tree_within::<8192>(rule, findings);
+    if table_records::is_node(rule.nodes, SMALL as u32) {
+        return check_tree_within::<LARGE>(rule, findings);
     }
-    if table_records::is_node(rule.nodes, 128) {
-        return check_tree_within::<1024>(rule, findings);
+    if table_records::is_node(rule.nodes, FEW as u32) {
+        return check_tree_within::<SMALL>(rule, findings);
     }
-    check_tree_within::<128>(rule, findings)
+    check_tree_within::<FEW>(rule, findings)
 }

@@ -1,5 +1,5 @@
--- Laws of duplicate elements: the two places of a name as a scan of the earlier nodes fills them, and the findings as scans meet them.
-use Rattle.std.specs.Prelude.{ℕ, zero, suc, ◌+◌, ◌-◌, ◌≤◌, ◌<◌, Bool, not, ◌&&◌, ltb, set, Some, None, is_some}
+-- Laws of duplicate elements: each of the two places of a name as a fold over the earlier nodes, and the findings as scans meet them.
+use Rattle.std.specs.Prelude.{ℕ, zero, suc, ◌+◌, ◌-◌, ◌≤◌, ◌<◌, Bool, not, ◌&&◌, ltb, Some, None, is_some}
 use Rattle.std.proofs.Math.Path.{◌≡◌, refl, ap, sym}
 use Rattle.std.proofs.Common.{◌∙◌, ⊎_elim, arith}
 use mathlib.Core.List.{List, [], ◌∷◌, ◌++◌, foldl, flat_map}
@@ -22,21 +22,8 @@ use Rattle.check_class_table.specs.Elements.{element_name, is_definition, is_pri
 use Rattle.check_class_table.proofs.ElementsLaws.{elements_scan, compared_scan, compared_out}
 use Rattle.check_diagnostics.proofs.Gather.{flat_turn, flat_end, flat_none, flat_keep, flat_same_lem, listed_cond}
 use Rattle.check_duplicates.specs.declared.Place.{Place}
-use Rattle.check_duplicates.specs.Duplicates.{nowhere, here, number_or, there, number, step, last_of, side_of, is_earlier, previous_on, or_else, previous_of, clashes, redeclaration, duplicate_by, duplicate_at, duplicates_in, duplicate_elements}
-use Rattle.check_duplicates.specs.Scans.{see, prev_of, raised_at, class_at}
-
--- .. after the nodes from i up to e
-unfoldable pub scan : ℕ → List ℕ → List ℕ → ℕ → Bool → List ℕ → ℕ → List Place → ℕ → List Place
-scan t ns names c private name e ps i = foldl (see t ns names c private name) ps (upto i e)
-
-module _ (t : ℕ) (ns names : List ℕ) (c : ℕ) (private : Bool) (name : List ℕ) (e : ℕ) (ps : List Place) (i : ℕ) where
-  pub scan_turn : i < e → scan t ns names c private name e ps i ≡ scan t ns names c private name e (see t ns names c private name ps i) (i + 1)
-  unfolding scan
-  scan_turn h = ap (foldl (see t ns names c private name) ps) (upto_cons i e h)
-
-  pub scan_end : e ≤ i → scan t ns names c private name e ps i ≡ ps
-  unfolding scan
-  scan_end h = ap (foldl (see t ns names c private name) ps) (upto_nil i e h)
+use Rattle.check_duplicates.specs.Duplicates.{nowhere, here, number_or, there, number, step, last_of, side_of, is_earlier, previous_on, previous_of, clashes, redeclaration, duplicate_by, duplicate_at, duplicates_in, duplicate_elements}
+use Rattle.check_duplicates.specs.Scans.{raised_at, class_at}
 
 pub side_two : (ns : List ℕ) (e : ℕ) → side_of ns e ≤ 1
 unfolding side_of
@@ -86,31 +73,6 @@ last_cut q r e n h x y (suc g) i p hg =
     (ap (λ (b : Bool). foldl (step q) (cond b (here i) p) (upto (i + 1) n)) (y i l) ∙ last_cut q r e n h x y g (i + 1) p (omega arith) ∙ rw (upto_nil (i + 1) e (omega arith), upto_nil i e l)))
     (λ (m : n ≤ i). rw (upto_nil i n m, upto_nil i e l)) (lt_or_ge i n)) (lt_or_ge i e)
 
--- two places filled by one scan are the two that a scan for each side gives
-module _ (t st : ℕ → Bool) (e : ℕ) where
-  abbrev side : ℕ → ℕ
-  side d = cond (st d) 1 0
-
-  abbrev sees : List Place → ℕ → List Place
-  sees ps d = cond (t d) (set ps (side d) (here d)) ps
-
-  abbrev on_side : ℕ → ℕ → Bool
-  on_side s d = t d && eqb (side d) s
-
-  two : (g i : ℕ) (a b : Place) → e ≤ i + g → foldl sees (a ∷ b ∷ []) (upto i e) ≡ foldl (step (on_side 0)) a (upto i e) ∷ foldl (step (on_side 1)) b (upto i e) ∷ []
-  two zero i a b hg = rw (upto_nil i e (omega arith))
-  two (suc g) i a b hg =
-      ⊎_elim (λ (l : i < e). rw (upto_cons i e l) (go (t i) (st i) (λ (a b : Place). two g (i + 1) a b (omega arith))))
-      (λ (l : e ≤ i). rw (upto_nil i e l)) (lt_or_ge i e)
-    where
-      go : (x y : Bool)
-          → ((a b : Place) → foldl sees (a ∷ b ∷ []) (upto (i + 1) e) ≡ foldl (step (on_side 0)) a (upto (i + 1) e) ∷ foldl (step (on_side 1)) b (upto (i + 1) e) ∷ [])
-          → foldl sees (cond x (set (a ∷ b ∷ []) (cond y 1 0) (here i)) (a ∷ b ∷ [])) (upto (i + 1) e)
-          ≡ foldl (step (on_side 0)) (cond (x && eqb (cond y 1 0) 0) (here i) a) (upto (i + 1) e) ∷ foldl (step (on_side 1)) (cond (x && eqb (cond y 1 0) 1) (here i) b) (upto (i + 1) e) ∷ []
-      go true true r = r a (here i)
-      go true false r = r (here i) b
-      go false y r = r a b
-
 -- the tests of an earlier element, in the order that costs least
 regroup : (p d n k s o : Bool) → (((p && d) && n) && (true && ((k && s) && o))) ≡ (((p && (k && d)) && (s && n)) && o)
 regroup false d n k s o = refl
@@ -141,24 +103,11 @@ module _ (t : ℕ) (ns names : List ℕ) (c e : ℕ) (h : e ≤ count ns) where
       (λ d l. rw (le-ltb d e l) (shut ((eqb (parent_of ns d) c && is_definition ns d) && enters t ns d) ((is_keyed ns (is_private ns e) d && same (element_name ns names d) (element_name ns names e)) && eqb (side_of ns d) s)))
       (count ns) (c + 1) nowhere (omega arith)
 
-  -- THE TWO PLACES OF THE NAME OF e
-  pub scan_places : scan t ns names c (is_private ns e) (element_name ns names e) e (nowhere ∷ nowhere ∷ []) (c + 1) ≡ previous_on t ns names c e 0 ∷ previous_on t ns names c e 1 ∷ []
-  unfolding scan see side_of
-  scan_places = two key (λ d. is_private ns d && is_setter ns d) e e (c + 1) nowhere nowhere (omega arith) ∙ rw (side_scan 0, side_scan 1)
-
   pub on_before : (s : ℕ) → there (previous_on t ns names c e s) ≡ true → number (previous_on t ns names c e s) < e
   unfolding previous_on last_of
   on_before s x = ltb-true _ e (and_left_lem (ltb (number (last_of (is_earlier ns names e s) (elements t ns c))) e) _ (last_by_lem (is_earlier ns names e s) (elements t ns c) nowhere (λ z. let z : ◌≡◌ {A = ℕ} 0 1 = cc in absurd (omega arith)) x))
 
 module _ (t : ℕ) (ns names : List ℕ) (c e : ℕ) where
-  pub prev_two : prev_of (previous_on t ns names c e 0 ∷ previous_on t ns names c e 1 ∷ []) (side_of ns e) ≡ previous_of t ns names c e
-  unfolding previous_of side_of
-  prev_two = go (is_private ns e && is_setter ns e)
-    where
-      go : (b : Bool) → prev_of (previous_on t ns names c e 0 ∷ previous_on t ns names c e 1 ∷ []) (cond b 1 0) ≡ or_else (previous_on t ns names c e (cond b 1 0)) (previous_on t ns names c e (1 - cond b 1 0))
-      go true = refl
-      go false = refl
-
   pub prev_before : e ≤ count ns → there (previous_of t ns names c e) ≡ true → number (previous_of t ns names c e) < e
   unfolding previous_of
   prev_before h = go (there (previous_on t ns names c e (side_of ns e))) refl
@@ -221,14 +170,6 @@ module _ (t : ℕ) (ns names : List ℕ) where
   unfolding classes_from duplicate_elements class_at classes_of
   all_start = sym (flat_keep (duplicates_in t ns names) (is_class_body ns) (upto 0 (count ns)))
 
-  pub class_here : (i : ℕ) → is_class_body ns i ≡ true → class_at t ns names i ≡ duplicates_in t ns names i
-  unfolding class_at
-  class_here i e = rw e
-
-  pub class_other : (i : ℕ) → is_class_body ns i ≡ false → class_at t ns names i ≡ []
-  unfolding class_at
-  class_other i e = rw e
-
   pub all_turn : (i : ℕ) → i < count ns → classes_from t ns names i ≡ class_at t ns names i ++ classes_from t ns names (i + 1)
   unfolding classes_from
   all_turn i h = flat_turn (class_at t ns names) i (count ns) h
@@ -236,13 +177,3 @@ module _ (t : ℕ) (ns names : List ℕ) where
   pub all_end : (i : ℕ) → count ns ≤ i → classes_from t ns names i ≡ []
   unfolding classes_from
   all_end i h = flat_end (class_at t ns names) i (count ns) h
-
-pub differ_true : (b : Bool) → not b ≡ xor true b
-unfolding xor
-differ_true true = refl
-differ_true false = refl
-
-pub differ_false : (b : Bool) → b ≡ xor false b
-unfolding xor
-differ_false true = refl
-differ_false false = refl

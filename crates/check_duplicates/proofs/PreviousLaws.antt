@@ -1,7 +1,7 @@
 -- Laws of the search for the two places of a key, from the last earlier element on.
 use Rattle.std.specs.Prelude.{ℕ, zero, suc, ◌+◌, ◌-◌, ◌≤◌, ◌<◌, Bool, not, ◌&&◌, set, length, get_or, Option, Some, None}
 use Rattle.std.proofs.Math.Path.{◌≡◌, refl, ap, sym}
-use Rattle.std.proofs.Common.{◌∙◌, ◌⊎◌, inl, inr, ⊎_elim, eq-eqb, eqb-true, arith}
+use Rattle.std.proofs.Common.{◌∙◌, ◌⊎◌, inl, inr, ⊎_elim, eq-eqb, arith}
 use Rattle.std.proofs.lemmas.List.{length-set, get_or-set_same, get_or-set_other}
 use Rattle.std.proofs.lemmas.Bool.Decides.{eqb_tells}
 use mathlib.Core.List.{List, [], ◌∷◌, ◌++◌, foldl}
@@ -150,8 +150,3 @@ compared_named t ns names c e h =
     go : (x : Bool) → ((true && (cond x x (not x) && true)) && (true && true)) ≡ true
     go true = refl
     go false = refl
-
-pub compared_after : (t : ℕ) (ns : List ℕ) (c e : ℕ) → is_compared_element t ns c e ≡ true → parent_of ns e ≡ c
-unfolding is_compared_element is_compared_definition
-compared_after t ns c e h =
-    eqb-true (parent_of ns e) c (and_left_lem (eqb (parent_of ns e) c) (is_compared t ns e && is_definition ns e) (and_left_lem (eqb (parent_of ns e) c && (is_compared t ns e && is_definition ns e)) (enters t ns e) h))

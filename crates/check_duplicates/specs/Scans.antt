@@ -8,11 +8,7 @@ use Rattle.check_class_table.specs.Elements.{is_named, is_compared_element}
 use Rattle.check_duplicates.specs.declared.Place.{Place}
 use Rattle.check_duplicates.specs.Duplicates.{nowhere, here, there, side_of, or_else, duplicate_at, duplicates_in}
 
--- the two places after node d, which is one of the nodes before an element with this key
-unfoldable pub see : ℕ → List ℕ → List ℕ → ℕ → Bool → List ℕ → List Place → ℕ → List Place
-see t ns names c private name ps d = cond (is_named t ns names c private name d) (set ps (side_of ns d) (here d)) ps
-
--- .. where the nodes are met from the last to the first: what is there stays
+-- The two places after node d, which is one of the nodes before an element with this key. They are met from the last to the first: what is there stays.
 unfoldable pub seen : ℕ → List ℕ → List ℕ → ℕ → Bool → List ℕ → List Place → ℕ → List Place
 seen t ns names c private name ps d = cond (is_named t ns names c private name d && not (there (get_or ps (side_of ns d) nowhere))) (set ps (side_of ns d) (here d)) ps
 

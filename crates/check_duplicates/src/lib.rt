@@ -4,7 +4,7 @@
 
 ghost use Rattle.std.specs.Prelude.{◌≡◌, true, ◌+◌, ◌<◌, ◌≤◌};
 ghost use Rattle.table_records.specs.Table.{count};
-ghost use Rattle.table_records.specs.Facts.{Tree, Named};
+ghost use Rattle.table_records.specs.Facts.{Named};
 ghost use Rattle.check_diagnostics.specs.Raises.{Adds};
 ghost use Rattle.check_class_table.specs.Elements.{is_compared_element};
 ghost use Rattle.check_element_index.specs.Index.{is_element, Indexed};
@@ -13,6 +13,7 @@ ghost use Rattle.check_duplicates.specs.Scans.{seen, prev_of, raised_at, class_a
 
 use check_diagnostics::{Finding, Findings, codes, contexts};
 use check_element_index::Index;
+use table_records::nodes::Nodes;
 use table_records::{ClassId, ElementId, NodeId, kinds};
 use table_source::is_typescript;
 
@@ -70,13 +71,12 @@ fn see(
 // The two places of the key of element e of class c, where e is met, as far as `prev_element` reads them: the place of e's own side, and where none is there the other.
 fn previous_of(
     source_type: u32,
-    nodes: &[u32],
+    nodes: &Nodes,
     names: &[u8],
     index: &Index,
     c: ClassId,
     e: ElementId,
 ) -> [Place; 2]
-    requires tree { Tree nodes.now }
     requires named { Named nodes.now names.now }
     requires indexed { Indexed source_type nodes.now names.now index.now.last.now index.now.earlier.now index.now.keys.now }
     requires e_bound { e.0 < count nodes.now }
@@ -182,8 +182,7 @@ fn clash_code(source_type: u32, nodes: &[u32], d: ElementId, e: ElementId) -> u3
 
 // The finding that element e repeats d.
 #[tactic(auto, unfolding(crate::specs::Duplicates::redeclaration))]
-fn redeclaration(source_type: u32, nodes: &[u32], d: ElementId, e: ElementId) -> Option<Finding>
-    requires tree { Tree nodes.now }
+fn redeclaration(source_type: u32, nodes: &Nodes, d: ElementId, e: ElementId) -> Option<Finding>
     requires d_bound { d.0 < count nodes.now }
     requires e_bound { e.0 < count nodes.now }
     ensures { result ≡ redeclaration source_type nodes.now d.0 e.0 }
@@ -205,13 +204,12 @@ fn redeclaration(source_type: u32, nodes: &[u32], d: ElementId, e: ElementId) ->
 // What element e of class c raises.
 fn duplicate_at(
     source_type: u32,
-    nodes: &[u32],
+    nodes: &Nodes,
     names: &[u8],
     index: &Index,
     c: ClassId,
     e: ElementId,
 ) -> Option<Finding>
-    requires tree { Tree nodes.now }
     requires named { Named nodes.now names.now }
     requires indexed { Indexed source_type nodes.now names.now index.now.last.now index.now.earlier.now index.now.keys.now }
     requires e_bound { e.0 < count nodes.now }
@@ -231,13 +229,12 @@ fn duplicate_at(
 #[tactic(auto, unfolding(crate::specs::Scans::raised_at))]
 fn raised_at(
     source_type: u32,
-    nodes: &[u32],
+    nodes: &Nodes,
     names: &[u8],
     index: &Index,
     c: ClassId,
     i: ElementId,
 ) -> Option<Finding>
-    requires tree { Tree nodes.now }
     requires named { Named nodes.now names.now }
     requires indexed { Indexed source_type nodes.now names.now index.now.last.now index.now.earlier.now index.now.keys.now }
     requires i_bound { i.0 < count nodes.now }
@@ -253,13 +250,12 @@ fn raised_at(
 // The findings of one class.
 fn duplicates_in(
     source_type: u32,
-    nodes: &[u32],
+    nodes: &Nodes,
     names: &[u8],
     index: &Index,
     c: ClassId,
     findings: &mut Findings,
 )
-    requires tree { Tree nodes.now }
     requires named { Named nodes.now names.now }
     requires indexed { Indexed source_type nodes.now names.now index.now.last.now index.now.earlier.now index.now.keys.now }
     requires c_bound { c.0 < count nodes.now }
@@ -267,6 +263,7 @@ fn duplicates_in(
     ensures adds { Adds findings.old findings.new (duplicates_in source_type nodes.now names.now c.0) }
     ensures upper_bound { findings.new.raised ≤ findings.old.raised + 458745 }
 {
+    let _ = &nodes.numbers; // names the field, so that its invariant is known
     for i in c.0 + 1..table_records::size(nodes) {
         if table_records::parent(nodes, NodeId(i)).0 < c.0 {
             return;
@@ -279,13 +276,12 @@ fn duplicates_in(
 #[tactic(auto, using(check_diagnostics::proofs::RaisesLaws::adds_none), unfolding(crate::specs::Scans::class_at))]
 fn duplicates_at(
     source_type: u32,
-    nodes: &[u32],
+    nodes: &Nodes,
     names: &[u8],
     index: &Index,
     i: NodeId,
     findings: &mut Findings,
 )
-    requires tree { Tree nodes.now }
     requires named { Named nodes.now names.now }
     requires indexed { Indexed source_type nodes.now names.now index.now.last.now index.now.earlier.now index.now.keys.now }
     requires i_bound { i.0 < count nodes.now }
@@ -301,12 +297,11 @@ fn duplicates_at(
 // The findings of all classes, in the order of their bodies.
 pub fn check_duplicate_class_elements(
     source_type: u32,
-    nodes: &[u32],
+    nodes: &Nodes,
     names: &[u8],
     index: &Index,
     findings: &mut Findings,
 )
-    requires tree { Tree nodes.now }
     requires named { Named nodes.now names.now }
     requires indexed { Indexed source_type nodes.now names.now index.now.last.now index.now.earlier.now index.now.keys.now }
     requires raised_bound { findings.old.raised ≤ 900000000000 }

@@ -14,7 +14,7 @@ wrap n = n % 4294967296
 
 -- the hash of a name: nothing rests on it but that it depends on the bytes alone
 abbrev pub hash_step : ℕ → ℕ → ℕ
-hash_step h byte = wrap (wrap (h * 16777619) + byte)
+hash_step h byte = wrap (wrap (h * 33) + byte)
 
 unfoldable pub hash : List ℕ → ℕ
 hash name = fold hash_step 0 name

@@ -3,11 +3,12 @@
 
 ghost use Rattle.std.specs.Prelude.{◌≡◌, true, ◌+◌, ◌<◌, ◌≤◌, length, get_or, replicate};
 ghost use Rattle.table_records.specs.Table.{count};
-ghost use Rattle.table_records.specs.Facts.{Tree, Named};
+ghost use Rattle.table_records.specs.Facts.{Named};
 ghost use Rattle.table_children.specs.Children.{below};
 ghost use Rattle.check_class_table.specs.Elements.{element_name, has_private, is_declared};
 ghost use Rattle.check_element_index.specs.Index.{hash, seed, bucket, bucket_of, is_element, key_number, Entered, Indexed, has_key};
 
+use table_records::nodes::Nodes;
 use table_records::{ClassId, ElementId, NodeId};
 
 // The elements of the table, in buckets. A node is told by its number plus one, and 0 is none: there are at most 65,535 nodes.
@@ -22,13 +23,13 @@ pub struct Index<'a> {
     pub keys: &'a [u16],
 }
 
-// What the bytes of a name are hashed to.
+// What the bytes of a name are hashed to. A shift and two additions a byte, since long names are read whole for each reference to them.
 pub fn hash(name: &[u8]) -> u32
     ensures { result ≡ hash name.now }
 {
     let mut h: u32 = 0;
     for i in 0..name.len() {
-        h = h.wrapping_mul(16777619).wrapping_add(name[i] as u32);
+        h = h.wrapping_mul(33).wrapping_add(name[i] as u32);
     }
     h
 }
@@ -53,8 +54,7 @@ fn bucket(size: usize, c: ClassId, private: bool, hash: u32) -> usize
 
 // The bucket of element e.
 #[tactic(auto, unfolding(crate::specs::Index::bucket_of))]
-fn bucket_of(nodes: &[u32], names: &[u8], size: usize, e: ElementId) -> usize
-    requires tree { Tree nodes.now }
+fn bucket_of(nodes: &Nodes, names: &[u8], size: usize, e: ElementId) -> usize
     requires named { Named nodes.now names.now }
     requires e_bound { e.0 < count nodes.now }
     requires some { 0 < size }
@@ -68,8 +68,7 @@ fn bucket_of(nodes: &[u32], names: &[u8], size: usize, e: ElementId) -> usize
 }
 
 // Whether a node is an element of its class.
-fn is_element(source_type: u32, nodes: &[u32], e: ElementId) -> bool
-    requires tree { Tree nodes.now }
+fn is_element(source_type: u32, nodes: &Nodes, e: ElementId) -> bool
     requires e_bound { e.0 < count nodes.now }
     ensures { result ≡ is_element source_type nodes.now e.0 }
 {
@@ -77,11 +76,11 @@ fn is_element(source_type: u32, nodes: &[u32], e: ElementId) -> bool
 }
 
 // The node of a key plus one.
-fn key_number(nodes: &[u32], key: Option<NodeId>) -> u16
-    requires tree { Tree nodes.now }
+fn key_number(nodes: &Nodes, key: Option<NodeId>) -> u16
     requires below { below nodes.now key }
     ensures { result ≡ key_number key }
 {
+    let _ = &nodes.numbers; // names the field, so that its invariant is known
     let Some(m) = key else {
         return 0;
     };
@@ -91,19 +90,19 @@ fn key_number(nodes: &[u32], key: Option<NodeId>) -> u16
 // Node e is entered, if it is an element.
 fn enter(
     source_type: u32,
-    nodes: &[u32],
+    nodes: &Nodes,
     names: &[u8],
     last: &mut [u16],
     earlier: &mut [u16],
     keys: &mut [u16],
     e: ElementId,
 )
-    requires tree { Tree nodes.now }
     requires named { Named nodes.now names.now }
     requires e_bound { e.0 < count nodes.now }
     requires entered { Entered source_type nodes.now names.now (length last.old) last.old earlier.old keys.old e.0 }
     ensures { Entered source_type nodes.now names.now (length last.old) last.new earlier.new keys.new (e.0 + 1) }
 {
+    let _ = &nodes.numbers; // names the field, so that its invariant is known
     if is_element(source_type, nodes, e) {
         let b = bucket_of(nodes, names, last.len(), e);
         keys[e.0 as usize] = key_number(nodes, table_children::key_of(nodes, NodeId::from(e)));
@@ -115,13 +114,12 @@ fn enter(
 // Enters all elements of the table, in arrays that come cleared.
 pub fn build(
     source_type: u32,
-    nodes: &[u32],
+    nodes: &Nodes,
     names: &[u8],
     last: &mut [u16],
     earlier: &mut [u16],
     keys: &mut [u16],
 )
-    requires tree { Tree nodes.now }
     requires named { Named nodes.now names.now }
     requires some { 0 < length last.old }
     requires cleared { last.old ≡ replicate (length last.old) 0 }
@@ -197,20 +195,20 @@ pub fn has_key(
 // Whether a class has a private element of this name, which is hashed to `hashed`.
 pub fn has_private_definition(
     source_type: u32,
-    nodes: &[u32],
+    nodes: &Nodes,
     names: &[u8],
     index: &Index,
     c: ClassId,
     name: &[u8],
     hashed: u32,
 ) -> bool
-    requires tree { Tree nodes.now }
     requires named { Named nodes.now names.now }
     requires indexed { Indexed source_type nodes.now names.now index.now.last.now index.now.earlier.now index.now.keys.now }
     requires c_bound { c.0 < count nodes.now }
     requires hashed { hashed ≡ hash name.now }
     ensures { result ≡ has_private source_type nodes.now names.now c.0 name.now }
 {
+    let _ = &nodes.numbers; // names the field, so that its invariant is known
     let mut at = last_in(index, bucket(index.last.len(), c, true, hashed));
     while c.0 + 1 < at {
         let e = ElementId(at - 1);
@@ -226,18 +224,18 @@ pub fn has_private_definition(
 #[tactic(auto, using(check_class_table::proofs::ElementsLaws::declared_here, check_class_table::proofs::ElementsLaws::declared_outer, check_class_table::proofs::ElementsLaws::declared_none, check_class_table::proofs::ClassesLaws::class_found, check_class_table::proofs::ClassesLaws::class_none))]
 pub fn is_declared(
     source_type: u32,
-    nodes: &[u32],
+    nodes: &Nodes,
     names: &[u8],
     index: &Index,
     c: ClassId,
     name: &[u8],
 ) -> bool
-    requires tree { Tree nodes.now }
     requires named { Named nodes.now names.now }
     requires indexed { Indexed source_type nodes.now names.now index.now.last.now index.now.earlier.now index.now.keys.now }
     requires c_bound { c.0 < count nodes.now }
     ensures { result ≡ is_declared source_type nodes.now names.now c.0 name.now }
 {
+    let _ = &nodes.numbers; // names the field, so that its invariant is known
     let hashed = hash(name);
     let mut at = c;
     loop {

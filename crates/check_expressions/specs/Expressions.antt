@@ -51,6 +51,17 @@ unfoldable pub repeats : List ℕ → ℕ → List ℕ → List Finding
 repeats ns n [] = []
 repeats ns n (a ∷ l) = repeats_after ns n a l
 
+-- a key is raised where one came before it ..
+abbrev pub repeated : List ℕ → ℕ → Option NodeId → Option NodeId → Option Finding
+repeated ns n None b = None
+repeated ns n (Some a) None = None
+repeated ns n (Some a) (Some b) = error_between ns code.redeclaration n a.0 b.0
+
+-- .. and is the last one from there on
+abbrev pub later : Option NodeId → Option NodeId → Option NodeId
+later a None = a
+later a (Some b) = Some b
+
 -- "duplicate entries for "__proto__" and at least two of those entries were obtained from" plain properties
 unfoldable pub check_object_expression : List ℕ → List ℕ → ℕ → List Finding
 check_object_expression ns names n = repeats ns n (proto_keys ns names n)

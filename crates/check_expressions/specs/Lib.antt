@@ -1,2 +1,1 @@
 pub mod Expressions
-pub mod ExpressionLaws

@@ -3,20 +3,19 @@
 
 ghost use Rattle.std.specs.Prelude.{◌≡◌, ◌+◌, ◌<◌, ◌≤◌};
 ghost use Rattle.table_records.specs.Table.{count};
-ghost use Rattle.table_records.specs.Facts.{Tree, Chained, Scoped, Spanned, Named};
+ghost use Rattle.table_records.specs.Facts.{Chained, Scoped, Spanned, Named};
 ghost use Rattle.table_children.specs.Children.{inner_of, below};
 ghost use Rattle.check_diagnostics.specs.Raises.{Adds};
-ghost use Rattle.check_expressions.specs.Expressions.{proto_key, check_object_expression, is_parenthesis, inner_expression, chain_finding, delete_of, check_unary_expression, is_parameter, in_formal_parameters, in_parameter, in_block, check_await_expression, check_yield_expression};
-ghost use Rattle.check_expressions.specs.ExpressionLaws.{repeated, later};
+ghost use Rattle.check_expressions.specs.Expressions.{proto_key, check_object_expression, is_parenthesis, inner_expression, chain_finding, delete_of, check_unary_expression, is_parameter, in_formal_parameters, in_parameter, in_block, check_await_expression, check_yield_expression, repeated, later};
 
 use check_diagnostics::{Finding, Findings, codes, contexts, error_at};
 use table_children::Part;
+use table_records::nodes::Nodes;
 use table_records::{NodeId, extras, kinds, node_flag};
 
 // The key of a property, where it is written `__proto__: value`.
 #[tactic(auto, unfolding(crate::specs::Expressions::proto_key))]
-fn proto_key(nodes: &[u32], names: &[u8], p: NodeId) -> Option<NodeId>
-    requires tree { Tree nodes.now }
+fn proto_key(nodes: &Nodes, names: &[u8], p: NodeId) -> Option<NodeId>
     requires named { Named nodes.now names.now }
     requires p_bound { p.0 < count nodes.now }
     ensures value { result ≡ proto_key nodes.now names.now p.0 }
@@ -40,7 +39,7 @@ fn proto_key(nodes: &[u32], names: &[u8], p: NodeId) -> Option<NodeId>
 }
 
 // The finding for a key b, where a came before it.
-fn repeated(nodes: &[u32], n: NodeId, a: Option<NodeId>, b: Option<NodeId>) -> Option<Finding>
+fn repeated(nodes: &Nodes, n: NodeId, a: Option<NodeId>, b: Option<NodeId>) -> Option<Finding>
     requires below { below nodes.now a }
     requires below_2 { below nodes.now b }
     ensures { result ≡ repeated nodes.now n.0 a b }
@@ -61,14 +60,14 @@ fn later(a: Option<NodeId>, b: Option<NodeId>) -> Option<NodeId>
 // Of the keys `__proto__` of an object each but the first repeats the one before it.
 // > It is a Syntax Error if PropertyNameList of PropertyDefinitionList contains any duplicate entries for "__proto__" and at least two of those entries
 // > were obtained from productions of the form PropertyDefinition : PropertyName : AssignmentExpression.
-pub fn check_object_expression(nodes: &[u32], names: &[u8], n: NodeId, findings: &mut Findings)
-    requires tree { Tree nodes.now }
+pub fn check_object_expression(nodes: &Nodes, names: &[u8], n: NodeId, findings: &mut Findings)
     requires named { Named nodes.now names.now }
     requires n_bound { n.0 < count nodes.now }
     requires raised_bound { findings.old.raised ≤ 900000000000 }
     ensures adds { Adds findings.old findings.new (check_object_expression nodes.now names.now n.0) }
     ensures upper_bound { findings.new.raised ≤ findings.old.raised + 458745 }
 {
+    let _ = &nodes.numbers; // names the field, so that its invariant is known
     let mut from = n.0 + 1;
     let mut previous = None;
     loop {
@@ -97,9 +96,8 @@ fn is_parenthesis(nodes: &[u32], n: NodeId) -> bool
 }
 
 // An expression without the parentheses around it.
-#[tactic(auto, using(crate::specs::ExpressionLaws::inner_bare, crate::specs::ExpressionLaws::inner_empty, crate::specs::ExpressionLaws::inner_on, table_children::proofs::ChildrenLaws::found_child))]
-fn get_inner_expression(nodes: &[u32], n: NodeId) -> NodeId
-    requires tree { Tree nodes.now }
+#[tactic(auto, using(crate::proofs::ExpressionLaws::inner_bare, crate::proofs::ExpressionLaws::inner_empty, crate::proofs::ExpressionLaws::inner_on, table_children::proofs::ChildrenLaws::found_child))]
+fn get_inner_expression(nodes: &Nodes, n: NodeId) -> NodeId
     requires n_bound { n.0 < count nodes.now }
     ensures result_value { result.0 ≡ inner_expression nodes.now n.0 }
     ensures result_bound { result.0 < count nodes.now }
@@ -115,8 +113,7 @@ fn get_inner_expression(nodes: &[u32], n: NodeId) -> NodeId
 }
 
 // `delete` of the chain e: a private field that it ends in is reported by its name.
-fn delete_of_chain(nodes: &[u32], n: NodeId, e: NodeId) -> Option<Finding>
-    requires tree { Tree nodes.now }
+fn delete_of_chain(nodes: &Nodes, n: NodeId, e: NodeId) -> Option<Finding>
     requires e_bound { e.0 < count nodes.now }
     ensures { result ≡ chain_finding nodes.now n.0 (inner_of nodes.now e.0) }
 {
@@ -136,8 +133,7 @@ fn delete_of_chain(nodes: &[u32], n: NodeId, e: NodeId) -> Option<Finding>
 
 // `delete` of the expression e.
 #[tactic(auto, unfolding(crate::specs::Expressions::delete_of))]
-fn delete_of(nodes: &[u32], scopes: &[u32], n: NodeId, e: NodeId) -> Option<Finding>
-    requires tree { Tree nodes.now }
+fn delete_of(nodes: &Nodes, scopes: &[u32], n: NodeId, e: NodeId) -> Option<Finding>
     requires scoped { Scoped nodes.now scopes.now }
     requires n_bound { n.0 < count nodes.now }
     requires e_bound { e.0 < count nodes.now }
@@ -163,8 +159,7 @@ fn delete_of(nodes: &[u32], scopes: &[u32], n: NodeId, e: NodeId) -> Option<Find
 // > PrimaryExpression : CoverParenthesizedExpressionAndArrowParameterList and [it] ultimately derives a phrase that, if used in place of UnaryExpression,
 // > would produce a Syntax Error according to these rules. This rule is recursively applied.
 #[tactic(auto, unfolding(crate::specs::Expressions::check_unary_expression))]
-pub fn check_unary_expression(nodes: &[u32], scopes: &[u32], n: NodeId) -> Option<Finding>
-    requires tree { Tree nodes.now }
+pub fn check_unary_expression(nodes: &Nodes, scopes: &[u32], n: NodeId) -> Option<Finding>
     requires scoped { Scoped nodes.now scopes.now }
     requires n_bound { n.0 < count nodes.now }
     ensures { result ≡ check_unary_expression nodes.now scopes.now n.0 }
@@ -179,8 +174,7 @@ pub fn check_unary_expression(nodes: &[u32], scopes: &[u32], n: NodeId) -> Optio
 
 // Whether a is a parameter, or the binding of a rest parameter.
 #[tactic(auto, unfolding(crate::specs::Expressions::is_parameter))]
-fn is_parameter(nodes: &[u32], a: NodeId) -> bool
-    requires tree { Tree nodes.now }
+fn is_parameter(nodes: &Nodes, a: NodeId) -> bool
     requires a_bound { a.0 < count nodes.now }
     ensures { result ≡ is_parameter nodes.now a.0 }
 {
@@ -191,9 +185,8 @@ fn is_parameter(nodes: &[u32], a: NodeId) -> bool
 }
 
 // Whether a parameter comes before a function on the way up.
-#[tactic(auto, using(crate::specs::ExpressionLaws::parameter_found, crate::specs::ExpressionLaws::parameter_stop, crate::specs::ExpressionLaws::parameter_on, crate::specs::ExpressionLaws::parameter_root))]
-fn is_in_formal_parameters(nodes: &[u32], n: NodeId) -> bool
-    requires tree { Tree nodes.now }
+#[tactic(auto, using(crate::proofs::ExpressionLaws::parameter_found, crate::proofs::ExpressionLaws::parameter_stop, crate::proofs::ExpressionLaws::parameter_on, crate::proofs::ExpressionLaws::parameter_root))]
+fn is_in_formal_parameters(nodes: &Nodes, n: NodeId) -> bool
     requires n_bound { n.0 < count nodes.now }
     ensures { result ≡ in_formal_parameters nodes.now n.0 }
 {
@@ -213,8 +206,7 @@ fn is_in_formal_parameters(nodes: &[u32], n: NodeId) -> bool
 }
 
 #[tactic(auto, unfolding(crate::specs::Expressions::in_parameter))]
-fn in_parameter(nodes: &[u32], n: NodeId) -> Option<Finding>
-    requires tree { Tree nodes.now }
+fn in_parameter(nodes: &Nodes, n: NodeId) -> Option<Finding>
     requires n_bound { n.0 < count nodes.now }
     ensures { result ≡ in_parameter nodes.now n.0 }
 {
@@ -232,7 +224,7 @@ fn in_parameter(nodes: &[u32], n: NodeId) -> Option<Finding>
 
 // `await` in a static block: the span is that of the word.
 #[tactic(auto, unfolding(crate::specs::Expressions::in_block))]
-fn in_block(nodes: &[u32], scopes: &[u32], n: NodeId) -> Option<Finding>
+fn in_block(nodes: &Nodes, scopes: &[u32], n: NodeId) -> Option<Finding>
     requires chained { Chained scopes.now }
     requires scoped { Scoped nodes.now scopes.now }
     requires spanned { Spanned nodes.now }
@@ -255,8 +247,7 @@ fn in_block(nodes: &[u32], scopes: &[u32], n: NodeId) -> Option<Finding>
 // `await` in parameters, and in a static block.
 // > It is a Syntax Error if FormalParameters Contains AwaitExpression is true.
 // > It is a Syntax Error if ClassStaticBlockStatementList Contains await is true.
-pub fn check_await_expression(nodes: &[u32], scopes: &[u32], n: NodeId, findings: &mut Findings)
-    requires tree { Tree nodes.now }
+pub fn check_await_expression(nodes: &Nodes, scopes: &[u32], n: NodeId, findings: &mut Findings)
     requires chained { Chained scopes.now }
     requires scoped { Scoped nodes.now scopes.now }
     requires spanned { Spanned nodes.now }
@@ -271,8 +262,7 @@ pub fn check_await_expression(nodes: &[u32], scopes: &[u32], n: NodeId, findings
 
 // `yield` in parameters.
 // > It is a Syntax Error if FormalParameters Contains YieldExpression is true.
-pub fn check_yield_expression(nodes: &[u32], n: NodeId) -> Option<Finding>
-    requires tree { Tree nodes.now }
+pub fn check_yield_expression(nodes: &Nodes, n: NodeId) -> Option<Finding>
     requires n_bound { n.0 < count nodes.now }
     ensures { result ≡ check_yield_expression nodes.now n.0 }
 {

@@ -3,20 +3,20 @@
 
 ghost use Rattle.std.specs.Prelude.{◌≡◌, ◌<◌};
 ghost use Rattle.table_records.specs.Table.{count, scope_of, scope_node_of};
-ghost use Rattle.table_records.specs.Facts.{Tree, Scoped, Named, Input};
+ghost use Rattle.table_records.specs.Facts.{Scoped, Named, Input};
 ghost use Rattle.check_identifiers.specs.Identifiers.{strict_context, await_finding, is_strict_word, check_identifier, is_eval_or_arguments, let_bound, let_from, check_binding_identifier, is_field_value, arguments_from, is_invalid_target, check_identifier_reference, is_not_simple, check_directive};
 
 use check_diagnostics::{Finding, codes, contexts, error_at};
 use table_ancestry::{has_ancestor, up};
 use table_names::name_is;
+use table_records::nodes::Nodes;
 use table_records::{NodeId, extras, kinds, node_flag, scope_flag};
 use table_scoping::{current_scope_flags, strict_mode};
 use table_source::is_module;
 
 // Why strict code has a name reserved: a class, a module, or neither.
 #[tactic(auto, unfolding(crate::specs::Identifiers::strict_context))]
-fn unexpected_identifier_assign_context(source_type: u32, nodes: &[u32], n: NodeId) -> u32
-    requires tree { Tree nodes.now }
+fn unexpected_identifier_assign_context(source_type: u32, nodes: &Nodes, n: NodeId) -> u32
     requires n_bound { n.0 < count nodes.now }
     ensures { result ≡ strict_context source_type nodes.now n.0 }
 {
@@ -83,6 +83,7 @@ pub fn check_identifier(
     requires n_bound { n.0 < count nodes.now }
     ensures { result ≡ check_identifier source_type nodes.now scopes.now names.now n.0 }
 {
+    let nodes = &Nodes { numbers: nodes };
     if name_is(nodes, names, n, b"await") {
         return check_await(source_type, nodes, scopes, n);
     }
@@ -120,8 +121,7 @@ fn let_bound(nodes: &[u32], n: NodeId, d: NodeId) -> Option<Finding>
 // > LexicalDeclaration : LetOrConst BindingList ;
 // > * It is a Syntax Error if the BoundNames of BindingList contains "let".
 #[tactic(auto, using(crate::proofs::IdentifierLaws::let_found, crate::proofs::IdentifierLaws::let_function, crate::proofs::IdentifierLaws::let_on, crate::proofs::IdentifierLaws::let_root))]
-fn let_declared(nodes: &[u32], n: NodeId) -> Option<Finding>
-    requires tree { Tree nodes.now }
+fn let_declared(nodes: &Nodes, n: NodeId) -> Option<Finding>
     requires n_bound { n.0 < count nodes.now }
     ensures { result ≡ let_from nodes.now n.0 n.0 }
 {
@@ -152,6 +152,7 @@ pub fn check_binding_identifier(
     requires n_bound { n.0 < count nodes.now }
     ensures { result ≡ check_binding_identifier source_type nodes.now scopes.now names.now n.0 }
 {
+    let nodes = &Nodes { numbers: nodes };
     if strict_mode(nodes, scopes, n) {
         if is_eval_or_arguments(nodes, names, n) {
             let context = unexpected_identifier_assign_context(source_type, nodes, n);
@@ -167,8 +168,7 @@ pub fn check_binding_identifier(
 
 // Whether v is the initialiser of the field p.
 #[tactic(auto, unfolding(crate::specs::Identifiers::is_field_value))]
-fn is_field_value(nodes: &[u32], p: NodeId, v: NodeId) -> bool
-    requires tree { Tree nodes.now }
+fn is_field_value(nodes: &Nodes, p: NodeId, v: NodeId) -> bool
     requires p_bound { p.0 < count nodes.now }
     ensures { result ≡ is_field_value nodes.now p.0 v.0 }
 {
@@ -187,11 +187,11 @@ fn is_field_value(nodes: &[u32], p: NodeId, v: NodeId) -> bool
 // > ClassStaticBlockBody : ClassStaticBlockStatementList
 // >   It is a Syntax Error if ContainsArguments of ClassStaticBlockStatementList is true.
 #[tactic(auto, using(crate::proofs::IdentifierLaws::arguments_function, crate::proofs::IdentifierLaws::arguments_found, crate::proofs::IdentifierLaws::arguments_on, crate::proofs::IdentifierLaws::arguments_root))]
-fn arguments_in_class(nodes: &[u32], n: NodeId) -> Option<Finding>
-    requires tree { Tree nodes.now }
+fn arguments_in_class(nodes: &Nodes, n: NodeId) -> Option<Finding>
     requires n_bound { n.0 < count nodes.now }
     ensures { result ≡ arguments_from nodes.now n.0 n.0 }
 {
+    let _ = &nodes.numbers; // names the field, so that its invariant is known
     let mut previous = n;
     loop {
         if previous.0 == 0 {
@@ -232,6 +232,7 @@ pub fn check_identifier_reference(
     requires n_bound { n.0 < count nodes.now }
     ensures { result ≡ check_identifier_reference source_type nodes.now scopes.now names.now n.0 }
 {
+    let nodes = &Nodes { numbers: nodes };
     if is_invalid_target(nodes, scopes, names, n) {
         let context = unexpected_identifier_assign_context(source_type, nodes, n);
         return error_at(nodes, codes::UNEXPECTED_IDENTIFIER_ASSIGN, n, n, context);
@@ -247,8 +248,7 @@ pub fn check_identifier_reference(
 
 // The node whose scope is current at n: n itself or one above it.
 #[tactic(auto, using(crate::proofs::IdentifierLaws::scope_node_below))]
-fn current_scope_node(nodes: &[u32], scopes: &[u32], n: NodeId) -> NodeId
-    requires tree { Tree nodes.now }
+fn current_scope_node(nodes: &Nodes, scopes: &[u32], n: NodeId) -> NodeId
     requires scoped { Scoped nodes.now scopes.now }
     requires n_bound { n.0 < count nodes.now }
     ensures result_value { result.0 ≡ scope_node_of scopes.now (scope_of nodes.now n.0) }
@@ -280,6 +280,7 @@ pub fn check_directive(nodes: &[u32], scopes: &[u32], names: &[u8], n: NodeId) -
     requires n_bound { n.0 < count nodes.now }
     ensures { result ≡ check_directive nodes.now scopes.now names.now n.0 }
 {
+    let nodes = &Nodes { numbers: nodes };
     if !name_is(nodes, names, n, b"use strict") {
         return None;
     }

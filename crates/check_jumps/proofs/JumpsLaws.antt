@@ -7,10 +7,10 @@ use Rattle.table_records.specs.Table.{kind_of, parent_of, count}
 use Rattle.table_records.specs.Kinds as k
 use Rattle.table_records.specs.Roles as role
 use Rattle.table_records.specs.Facts.{Tree}
-use Rattle.table_children.specs.Children.{held_of}
+use Rattle.table_children.specs.Children.{held_of, when_found}
 use Rattle.table_children.proofs.ChildrenLaws.{found_child}
 use Rattle.table_ancestry.proofs.AncestryLaws.{ancestors_up, ancestors_root}
-use Rattle.check_jumps.specs.Jumps.{when_found, walk_up, under, labeled_item}
+use Rattle.check_jumps.specs.Jumps.{walk_up, under, labeled_item}
 
 -- one step: p is the parent of i
 pub walk_up_lem : (ns : List ℕ) (says : ℕ → Option Finding → Option Finding) → Tree ns → (i p : ℕ) → 0 < i → i < count ns → p ≡ parent_of ns i → walk_up ns says i ≡ says p (walk_up ns says p)

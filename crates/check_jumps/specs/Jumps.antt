@@ -7,7 +7,7 @@ use Rattle.base_common.specs.Tests.{within}
 use Rattle.table_records.specs.Table.{kind_of, count, ancestors}
 use Rattle.table_records.specs.Kinds as k
 use Rattle.table_names.specs.Name.{same_name}
-use Rattle.table_children.specs.Children.{label_of, held_of}
+use Rattle.table_children.specs.Children.{label_of, held_of, when_found}
 use Rattle.check_diagnostics.specs.Codes as code
 use Rattle.check_diagnostics.specs.Contexts as context
 use Rattle.check_diagnostics.specs.Finding.{error_at, error_between}
@@ -27,11 +27,6 @@ is_iteration kind = within kind k.For k.DoWhile
 -- "an IterationStatement or a SwitchStatement"
 abbrev pub is_breakable : ℕ → Bool
 is_breakable kind = is_iteration kind || eqb kind k.Switch
-
--- with what was found, or else
-abbrev pub when_found : {R : Type 0} → Option NodeId → (ℕ → R) → R → R
-when_found (Some m) f r = f m.0
-when_found None f r = r
 
 -- A walk up from n: an ancestor gives what it raises, or hands on what those above it give. Past the program nothing is raised.
 unfoldable pub walk_up : List ℕ → (ℕ → Option Finding → Option Finding) → ℕ → Option Finding

@@ -3,11 +3,12 @@
 
 ghost use Rattle.std.specs.Prelude.{◌≡◌, ◌<◌, cond};
 ghost use Rattle.table_records.specs.Table.{count};
-ghost use Rattle.table_records.specs.Facts.{Tree, Named};
+ghost use Rattle.table_records.specs.Facts.{Named};
 ghost use Rattle.table_children.specs.Children.{below};
 ghost use Rattle.check_jumps.specs.Jumps.{is_boundary, is_unit, is_iteration, walk_up, same_label, labeled_item, plain_break_at, no_label, labelled_break_at, plain_continue_at, continue_to, labelled_continue_at, labeled_at, check_break_statement, check_continue_statement, check_labeled_statement};
 
 use check_diagnostics::{Finding, codes, contexts, error_at, error_between};
+use table_records::nodes::Nodes;
 use table_records::{NodeId, kinds};
 
 fn is_boundary(kind: u32) -> bool
@@ -30,8 +31,7 @@ fn is_iteration_statement(kind: u32) -> bool
 
 // The label of a, where a is a Labeled with the name of this label.
 #[tactic(auto, unfolding(crate::specs::Jumps::same_label))]
-fn same_label(nodes: &[u32], names: &[u8], label: NodeId, a: NodeId) -> Option<NodeId>
-    requires tree { Tree nodes.now }
+fn same_label(nodes: &Nodes, names: &[u8], label: NodeId, a: NodeId) -> Option<NodeId>
     requires named { Named nodes.now names.now }
     requires label_bound { label.0 < count nodes.now }
     requires a_bound { a.0 < count nodes.now }
@@ -51,8 +51,7 @@ fn same_label(nodes: &[u32], names: &[u8], label: NodeId, a: NodeId) -> Option<N
 
 // What a Labeled labels, through nested ones.
 #[tactic(auto, using(crate::proofs::JumpsLaws::held_after_lem, crate::proofs::JumpsLaws::item_here, crate::proofs::JumpsLaws::item_none, crate::proofs::JumpsLaws::item_down))]
-fn labeled_item(nodes: &[u32], labeled: NodeId) -> NodeId
-    requires tree { Tree nodes.now }
+fn labeled_item(nodes: &Nodes, labeled: NodeId) -> NodeId
     requires labeled_bound { labeled.0 < count nodes.now }
     ensures result_value { result.0 ≡ labeled_item nodes.now labeled.0 }
     ensures result_bound { result.0 < count nodes.now }
@@ -72,8 +71,7 @@ fn labeled_item(nodes: &[u32], labeled: NodeId) -> NodeId
 
 // A break without a label, or else a continue: the nearest loop is its target, and of a break the nearest switch too.
 #[tactic(auto, using(crate::proofs::JumpsLaws::walk_up_lem, crate::proofs::JumpsLaws::walk_root), unfolding(crate::specs::Jumps::plain_break_at, crate::specs::Jumps::plain_continue_at))]
-fn plain_jump(nodes: &[u32], n: NodeId, is_break: bool) -> Option<Finding>
-    requires tree { Tree nodes.now }
+fn plain_jump(nodes: &Nodes, n: NodeId, is_break: bool) -> Option<Finding>
     requires n_bound { n.0 < count nodes.now }
     ensures { result ≡ walk_up nodes.now (cond is_break (plain_break_at nodes.now n.0) (plain_continue_at nodes.now n.0)) n.0 }
 {
@@ -117,8 +115,7 @@ fn no_label(nodes: &[u32], n: NodeId, label: NodeId, kind: u32) -> Option<Findin
 }
 
 #[tactic(auto, using(crate::proofs::JumpsLaws::walk_up_lem, crate::proofs::JumpsLaws::walk_root), unfolding(crate::specs::Jumps::labelled_break_at))]
-fn labelled_break(nodes: &[u32], names: &[u8], n: NodeId, label: NodeId) -> Option<Finding>
-    requires tree { Tree nodes.now }
+fn labelled_break(nodes: &Nodes, names: &[u8], n: NodeId, label: NodeId) -> Option<Finding>
     requires named { Named nodes.now names.now }
     requires n_bound { n.0 < count nodes.now }
     requires label_bound { label.0 < count nodes.now }
@@ -144,8 +141,7 @@ fn labelled_break(nodes: &[u32], names: &[u8], n: NodeId, label: NodeId) -> Opti
 // A break has a target: without a label the nearest loop or switch, with one the nearest Labeled of that name.
 // > It is a Syntax Error if this BreakStatement is not nested, directly or indirectly (but not crossing function or static initialization block
 // > boundaries), within an IterationStatement or a SwitchStatement.
-pub fn check_break_statement(nodes: &[u32], names: &[u8], n: NodeId) -> Option<Finding>
-    requires tree { Tree nodes.now }
+pub fn check_break_statement(nodes: &Nodes, names: &[u8], n: NodeId) -> Option<Finding>
     requires named { Named nodes.now names.now }
     requires n_bound { n.0 < count nodes.now }
     ensures { result ≡ check_break_statement nodes.now names.now n.0 }
@@ -159,13 +155,12 @@ pub fn check_break_statement(nodes: &[u32], names: &[u8], n: NodeId) -> Option<F
 // A continue at the Labeled of its label's name, whose own label is `outer`.
 #[tactic(auto, unfolding(crate::specs::Jumps::continue_to))]
 fn continue_to(
-    nodes: &[u32],
+    nodes: &Nodes,
     n: NodeId,
     label: NodeId,
     labeled: NodeId,
     outer: NodeId,
 ) -> Option<Finding>
-    requires tree { Tree nodes.now }
     requires label_bound { label.0 < count nodes.now }
     requires labeled_bound { labeled.0 < count nodes.now }
     requires outer_bound { outer.0 < count nodes.now }
@@ -179,8 +174,7 @@ fn continue_to(
 }
 
 #[tactic(auto, using(crate::proofs::JumpsLaws::walk_up_lem, crate::proofs::JumpsLaws::walk_root), unfolding(crate::specs::Jumps::labelled_continue_at))]
-fn labelled_continue(nodes: &[u32], names: &[u8], n: NodeId, label: NodeId) -> Option<Finding>
-    requires tree { Tree nodes.now }
+fn labelled_continue(nodes: &Nodes, names: &[u8], n: NodeId, label: NodeId) -> Option<Finding>
     requires named { Named nodes.now names.now }
     requires n_bound { n.0 < count nodes.now }
     requires label_bound { label.0 < count nodes.now }
@@ -206,8 +200,7 @@ fn labelled_continue(nodes: &[u32], names: &[u8], n: NodeId, label: NodeId) -> O
 // A continue has a target: the nearest loop, with a label the loop that the nearest Labeled of that name labels.
 // > It is a Syntax Error if this ContinueStatement is not nested, directly or indirectly (but not crossing function or static initialization block
 // > boundaries), within an IterationStatement.
-pub fn check_continue_statement(nodes: &[u32], names: &[u8], n: NodeId) -> Option<Finding>
-    requires tree { Tree nodes.now }
+pub fn check_continue_statement(nodes: &Nodes, names: &[u8], n: NodeId) -> Option<Finding>
     requires named { Named nodes.now names.now }
     requires n_bound { n.0 < count nodes.now }
     ensures { result ≡ check_continue_statement nodes.now names.now n.0 }
@@ -219,8 +212,7 @@ pub fn check_continue_statement(nodes: &[u32], names: &[u8], n: NodeId) -> Optio
 }
 
 #[tactic(auto, using(crate::proofs::JumpsLaws::walk_up_lem, crate::proofs::JumpsLaws::walk_root), unfolding(crate::specs::Jumps::labeled_at))]
-fn redeclared_label(nodes: &[u32], names: &[u8], n: NodeId, label: NodeId) -> Option<Finding>
-    requires tree { Tree nodes.now }
+fn redeclared_label(nodes: &Nodes, names: &[u8], n: NodeId, label: NodeId) -> Option<Finding>
     requires named { Named nodes.now names.now }
     requires n_bound { n.0 < count nodes.now }
     requires label_bound { label.0 < count nodes.now }
@@ -243,8 +235,7 @@ fn redeclared_label(nodes: &[u32], names: &[u8], n: NodeId, label: NodeId) -> Op
 }
 
 // A label does not stand within a Labeled of the same name.
-pub fn check_labeled_statement(nodes: &[u32], names: &[u8], n: NodeId) -> Option<Finding>
-    requires tree { Tree nodes.now }
+pub fn check_labeled_statement(nodes: &Nodes, names: &[u8], n: NodeId) -> Option<Finding>
     requires named { Named nodes.now names.now }
     requires n_bound { n.0 < count nodes.now }
     ensures { result ≡ check_labeled_statement nodes.now names.now n.0 }

@@ -3,6 +3,7 @@ use Prim.Native.Nat.{ℕ, zero, suc, ◌+◌, ◌-◌, ◌≤◌, ◌<◌}
 use Rattle.std.specs.Prelude.{Option, Some, None, ◌≡◌, refl, List, [], ◌∷◌, Bool, true, false, cond, ◌&&◌, eqb, get_or, drop}
 use Rattle.std.proofs.Common.{◌∙◌, length-take, length-drop}
 use borrow.Author.Tests.{eq-eqb, ne_eqb}
+use mathlib.Core.Path.{sym}
 use Rattle.std.proofs.Math.ListN.{length}
 use Rattle.std.proofs.Math.Seq.{drop-cons}
 use Rattle.std.proofs.Math.Numerals.{add-one, add-two}
@@ -91,12 +92,12 @@ bad_ends i (b ∷ c ∷ l) =
     (ends_by m (i + 1 + length (c ∷ l)) (bad_escape (i + 1) (c ∷ l)) (omega arith) (bad_ends (i + 1) (c ∷ l)))
 
 -- the escape of a string ends within its span
-abbrev pub Spanned : List ℕ → ℕ → Option Escape → Type 0
+abbrev Spanned : List ℕ → ℕ → Option Escape → Type 0
 Spanned ns n (Some (LegacyOctal i)) = span_start_of ns n + i + 2 ≤ span_end_of ns n
 Spanned ns n (Some (NonOctalDecimal i)) = span_start_of ns n + i + 2 ≤ span_end_of ns n
 Spanned ns n None = Unit {0}
 
-pub escape_spanned : (ns source : List ℕ) (n : ℕ) (e : Option Escape) → e ≡ bad_escape 0 (source_text ns source n) → Spanned ns n e
+escape_spanned : (ns source : List ℕ) (n : ℕ) (e : Option Escape) → e ≡ bad_escape 0 (source_text ns source n) → Spanned ns n e
 unfolding source_text
 escape_spanned ns source n e q = go e (rw (← q) at (bad_ends 0 (source_text ns source n)))
   where
@@ -107,6 +108,13 @@ escape_spanned ns source n e q = go e (rw (← q) at (bad_ends 0 (source_text ns
     go (Some (LegacyOctal i)) h = omega (arith, short)
     go (Some (NonOctalDecimal i)) h = omega (arith, short)
     go None h = h
+
+-- the same of each kind of escape, as the scan gives it
+pub legacy_spanned : (ns source : List ℕ) (n i : ℕ) → bad_escape 0 (source_text ns source n) ≡ Some (LegacyOctal i) → span_start_of ns n + i + 2 ≤ span_end_of ns n
+legacy_spanned ns source n i q = escape_spanned ns source n (Some (LegacyOctal i)) (sym q)
+
+pub decimal_spanned : (ns source : List ℕ) (n i : ℕ) → bad_escape 0 (source_text ns source n) ≡ Some (NonOctalDecimal i) → span_start_of ns n + i + 2 ≤ span_end_of ns n
+decimal_spanned ns source n i q = escape_spanned ns source n (Some (NonOctalDecimal i)) (sym q)
 
 -- a leading zero, by places
 pub zero_short : (l : List ℕ) → length l < 2 → leading_zero l ≡ false

@@ -3,11 +3,12 @@
 
 ghost use Rattle.std.specs.Prelude.{◌≡◌, ◌+◌, ◌<◌, ◌≤◌, length, get_or, drop};
 ghost use Rattle.table_records.specs.Table.{count, span_start_of, span_end_of};
-ghost use Rattle.table_records.specs.Facts.{Tree, Scoped, Sourced};
+ghost use Rattle.table_records.specs.Facts.{Scoped, Sourced};
 ghost use Rattle.check_literals.specs.Escapes.{digit_next, escape_of, bad_escape};
 ghost use Rattle.check_literals.specs.Literals.{source_text, leading_zero, error_escape, check_string_literal, check_number_literal};
 
 use check_diagnostics::{Finding, codes, contexts};
+use table_records::nodes::Nodes;
 use table_records::{NodeId, extras, kinds};
 
 // An escape that strict code may not have, with the offset of its backslash.
@@ -95,14 +96,13 @@ fn error_escape(nodes: &[u32], code: u32, n: NodeId, i: usize) -> Option<Finding
 // A string of strict code has no legacy escape.
 // > EscapeSequence :: LegacyOctalEscapeSequence
 // > It is a Syntax Error if IsStrict(this production) is true.
-#[tactic(auto, unfolding(crate::specs::Literals::check_string_literal))]
+#[tactic(auto, using(crate::proofs::EscapeLaws::legacy_spanned, crate::proofs::EscapeLaws::decimal_spanned), unfolding(crate::specs::Literals::check_string_literal))]
 pub fn check_string_literal(
-    nodes: &[u32],
+    nodes: &Nodes,
     scopes: &[u32],
     source: &[u8],
     n: NodeId,
 ) -> Option<Finding>
-    requires tree { Tree nodes.now }
     requires scoped { Scoped nodes.now scopes.now }
     requires sourced { Sourced nodes.now source.now }
     requires n_bound { n.0 < count nodes.now }

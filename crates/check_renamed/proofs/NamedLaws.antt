@@ -13,10 +13,10 @@ use Rattle.table_records.specs.Kinds as k
 use Rattle.table_records.specs.Facts.{Named}
 use Rattle.table_names.specs.Name.{name_of, name_is, same_name}
 use Rattle.table_names.specs.Words as word
-use Rattle.table_children.specs.Children.{keep, label_of}
+use Rattle.table_children.specs.Children.{keep, label_of, when_found}
 use Rattle.check_diagnostics.specs.Finding.{listed}
 use Rattle.check_diagnostics.proofs.Gather.{flat_keep, flat_same_lem}
-use Rattle.check_jumps.specs.Jumps.{when_found, walk_up, same_label, labelled_break_at, labelled_continue_at, labeled_at, check_break_statement, check_continue_statement, check_labeled_statement}
+use Rattle.check_jumps.specs.Jumps.{walk_up, same_label, labelled_break_at, labelled_continue_at, labeled_at, check_break_statement, check_continue_statement, check_labeled_statement}
 use Rattle.check_identifiers.specs.Identifiers.{is_strict_word, check_identifier, check_binding_identifier, check_identifier_reference, check_directive}
 use Rattle.check_expressions.specs.Expressions.{if_proto, proto_key, check_object_expression}
 use Rattle.check_class_table.specs.Classes.{current_class, outer_classes}

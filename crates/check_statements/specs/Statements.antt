@@ -1,7 +1,7 @@
 -- What statements and declarations raise.
 use Rattle.check_diagnostics.specs.declared.Finding.{Finding}
 use Rattle.table_records.specs.declared.NodeId.{NodeId}
-use Rattle.std.specs.Prelude.{ℕ, ◌+◌, Bool, true, false, cond, not, ◌&&◌, ◌||◌, eqb, leb, Option, Some, None}
+use Rattle.std.specs.Prelude.{ℕ, ◌+◌, Bool, true, false, cond, not, ◌&&◌, ◌||◌, eqb, leb, Option, None}
 use mathlib.Core.List.{List, foldr}
 use Rattle.base_common.specs.Tests.{within}
 use Rattle.table_source.specs.SourceType.{is_typescript}
@@ -11,16 +11,11 @@ use Rattle.table_records.specs.Roles as role
 use Rattle.table_records.specs.Extras as extra
 use Rattle.table_records.specs.NodeFlag as flag
 use Rattle.table_records.specs.ScopeFlag as scope
-use Rattle.table_children.specs.Children.{first_child, how_many, held_of, alternate_of}
+use Rattle.table_children.specs.Children.{first_child, how_many, held_of, alternate_of, when_found}
 use Rattle.table_scoping.specs.Scoping.{is_strict, in_class_static_block}
 use Rattle.check_diagnostics.specs.Codes as code
 use Rattle.check_diagnostics.specs.Contexts as context
 use Rattle.check_diagnostics.specs.Finding.{error_span, error_at}
-
--- a check of what was found; where nothing was found, nothing is raised
-abbrev pub check_found : Option NodeId → (ℕ → Option Finding) → Option Finding
-check_found (Some m) check = check m.0
-check_found None check = None
 
 -- "Function declaration not allowed in statement position": n holds the statement s; a function is one if it is held. 15 in strict code, else 16, but an If
 -- may hold one.
@@ -33,14 +28,14 @@ check_function_declaration ns ss n is_if s =
 
 -- the statement that a With or a loop holds
 abbrev pub check_body : List ℕ → List ℕ → ℕ → Option Finding
-check_body ns ss n = check_found (held_of ns n) (check_function_declaration ns ss n false)
+check_body ns ss n = when_found (held_of ns n) (check_function_declaration ns ss n false) None
 
 -- the two of an If
 abbrev pub check_consequent : List ℕ → List ℕ → ℕ → Option Finding
-check_consequent ns ss n = check_found (held_of ns n) (check_function_declaration ns ss n true)
+check_consequent ns ss n = when_found (held_of ns n) (check_function_declaration ns ss n true) None
 
 abbrev pub check_alternate : List ℕ → List ℕ → ℕ → Option Finding
-check_alternate ns ss n = check_found (alternate_of ns n) (check_function_declaration ns ss n true)
+check_alternate ns ss n = when_found (alternate_of ns n) (check_function_declaration ns ss n true) None
 
 -- "It is a Syntax Error if IsLabelledFunction(Statement) is true": 16 for the labelled function s if the nearest ancestor of the Labeled n that is no
 -- Labeled itself is a loop, an If or a With. The program is the last ancestor, so there is always one.
@@ -56,7 +51,7 @@ check_labeled_item ns ss n s =
     None
 
 abbrev pub check_function_declaration_in_labeled_statement : List ℕ → List ℕ → ℕ → Option Finding
-check_function_declaration_in_labeled_statement ns ss n = check_found (held_of ns n) (check_labeled_item ns ss n)
+check_function_declaration_in_labeled_statement ns ss n = when_found (held_of ns n) (check_labeled_item ns ss n) None
 
 -- no With in strict code, and "`with` gives code 17 in sloppy code too" in TypeScript (document 02, request 13): 17, with the four bytes of the word
 unfoldable pub check_with_statement : ℕ → List ℕ → List ℕ → ℕ → Option Finding
@@ -82,10 +77,10 @@ check_initialiser ns ss n isForIn d v =
 -- A declaration on the left: of more than one declarator nothing is said.
 unfoldable pub check_left : List ℕ → List ℕ → ℕ → Bool → ℕ → Option Finding
 check_left ns ss n isForIn d =
-    cond (eqb (kind_of ns d) k.VariableDeclaration) (cond (leb (declarators ns d) 1) (check_found (declarator_of ns d) (check_initialiser ns ss n isForIn d)) None) None
+    cond (eqb (kind_of ns d) k.VariableDeclaration) (cond (leb (declarators ns d) 1) (when_found (declarator_of ns d) (check_initialiser ns ss n isForIn d) None) None) None
 
 abbrev pub check_for_statement_left : List ℕ → List ℕ → ℕ → Bool → Option Finding
-check_for_statement_left ns ss n isForIn = check_found (left_of ns n) (check_left ns ss n isForIn)
+check_for_statement_left ns ss n isForIn = when_found (left_of ns n) (check_left ns ss n isForIn) None
 
 -- no `for await` in a static block: 25
 unfoldable pub check_for_of_statement : List ℕ → List ℕ → ℕ → Option Finding

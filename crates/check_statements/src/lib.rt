@@ -1,14 +1,15 @@
 // Statements and declarations: the checks of checker/javascript.rs on functions in statement position, with, for heads, `for await` and `using`.
 #![tactic(auto)]
 
-ghost use Rattle.std.specs.Prelude.{◌≡◌, ◌<◌};
+ghost use Rattle.std.specs.Prelude.{◌≡◌, ◌<◌, None};
 ghost use Rattle.table_records.specs.Table.{count};
-ghost use Rattle.table_records.specs.Facts.{Tree, Chained, Scoped, Spanned};
-ghost use Rattle.table_children.specs.Children.{below};
-ghost use Rattle.check_statements.specs.Statements.{check_found, check_function_declaration, check_body, check_consequent, check_alternate, labelled_function, check_labeled_item, check_function_declaration_in_labeled_statement, check_with_statement, check_initialiser, check_left, check_for_statement_left, check_for_of_statement, check_using, check_await_using};
+ghost use Rattle.table_records.specs.Facts.{Chained, Scoped, Spanned};
+ghost use Rattle.table_children.specs.Children.{below, when_found};
+ghost use Rattle.check_statements.specs.Statements.{check_function_declaration, check_body, check_consequent, check_alternate, labelled_function, check_labeled_item, check_function_declaration_in_labeled_statement, check_with_statement, check_initialiser, check_left, check_for_statement_left, check_for_of_statement, check_using, check_await_using};
 
 use check_diagnostics::{Finding, codes, contexts, error, error_at};
 use table_children::Part;
+use table_records::nodes::Nodes;
 use table_records::{NodeId, extras, kinds, node_flag, roles, scope_flag};
 
 // A function declaration as the statement that n holds.
@@ -60,14 +61,13 @@ fn check_found(
     requires scoped { Scoped nodes.now scopes.now }
     requires n_bound { n.0 < count nodes.now }
     requires below { below nodes.now found }
-    ensures { result ≡ check_found found (check_function_declaration nodes.now scopes.now n.0 is_if_stmt_or_labeled_stmt) }
+    ensures { result ≡ when_found found (check_function_declaration nodes.now scopes.now n.0 is_if_stmt_or_labeled_stmt) None }
 {
     check_function_declaration(nodes, scopes, n, found?, is_if_stmt_or_labeled_stmt)
 }
 
 // The body of a With or a loop.
-pub fn check_body(nodes: &[u32], scopes: &[u32], n: NodeId) -> Option<Finding>
-    requires tree { Tree nodes.now }
+pub fn check_body(nodes: &Nodes, scopes: &[u32], n: NodeId) -> Option<Finding>
     requires scoped { Scoped nodes.now scopes.now }
     requires n_bound { n.0 < count nodes.now }
     ensures { result ≡ check_body nodes.now scopes.now n.0 }
@@ -76,8 +76,7 @@ pub fn check_body(nodes: &[u32], scopes: &[u32], n: NodeId) -> Option<Finding>
 }
 
 // The consequent of an If. It and the alternate are one call each over what they share, `check_found`.
-pub fn check_consequent(nodes: &[u32], scopes: &[u32], n: NodeId) -> Option<Finding>
-    requires tree { Tree nodes.now }
+pub fn check_consequent(nodes: &Nodes, scopes: &[u32], n: NodeId) -> Option<Finding>
     requires scoped { Scoped nodes.now scopes.now }
     requires n_bound { n.0 < count nodes.now }
     ensures { result ≡ check_consequent nodes.now scopes.now n.0 }
@@ -86,8 +85,7 @@ pub fn check_consequent(nodes: &[u32], scopes: &[u32], n: NodeId) -> Option<Find
 }
 
 // The alternate of an If, where it has one.
-pub fn check_alternate(nodes: &[u32], scopes: &[u32], n: NodeId) -> Option<Finding>
-    requires tree { Tree nodes.now }
+pub fn check_alternate(nodes: &Nodes, scopes: &[u32], n: NodeId) -> Option<Finding>
     requires scoped { Scoped nodes.now scopes.now }
     requires n_bound { n.0 < count nodes.now }
     ensures { result ≡ check_alternate nodes.now scopes.now n.0 }
@@ -103,8 +101,7 @@ pub fn check_alternate(nodes: &[u32], scopes: &[u32], n: NodeId) -> Option<Findi
 
 // A labelled function in sloppy code: past nested labels, no loop, If or With holds it.
 #[tactic(auto, using(crate::proofs::StatementsLaws::function_on, crate::proofs::StatementsLaws::function_held, crate::proofs::StatementsLaws::function_free, crate::proofs::StatementsLaws::function_root), unfolding(crate::specs::Statements::labelled_function))]
-fn labelled_function(nodes: &[u32], n: NodeId, function: NodeId) -> Option<Finding>
-    requires tree { Tree nodes.now }
+fn labelled_function(nodes: &Nodes, n: NodeId, function: NodeId) -> Option<Finding>
     requires n_bound { n.0 < count nodes.now }
     requires function_bound { function.0 < count nodes.now }
     ensures { result ≡ labelled_function nodes.now n.0 function.0 n.0 }
@@ -132,8 +129,7 @@ fn labelled_function(nodes: &[u32], n: NodeId, function: NodeId) -> Option<Findi
 }
 
 #[tactic(auto, unfolding(crate::specs::Statements::check_labeled_item))]
-fn check_labeled_item(nodes: &[u32], scopes: &[u32], n: NodeId, item: NodeId) -> Option<Finding>
-    requires tree { Tree nodes.now }
+fn check_labeled_item(nodes: &Nodes, scopes: &[u32], n: NodeId, item: NodeId) -> Option<Finding>
     requires scoped { Scoped nodes.now scopes.now }
     requires n_bound { n.0 < count nodes.now }
     requires item_bound { item.0 < count nodes.now }
@@ -157,11 +153,10 @@ fn check_labeled_item(nodes: &[u32], scopes: &[u32], n: NodeId, item: NodeId) ->
 // A function declaration as the statement of a Labeled. Its body is that of check_labeled_statement (check_jumps) by chance: each goes on with a check of its own.
 // > It is a Syntax Error if IsLabelledFunction(Statement) is true.
 pub fn check_function_declaration_in_labeled_statement(
-    nodes: &[u32],
+    nodes: &Nodes,
     scopes: &[u32],
     n: NodeId,
 ) -> Option<Finding>
-    requires tree { Tree nodes.now }
     requires scoped { Scoped nodes.now scopes.now }
     requires n_bound { n.0 < count nodes.now }
     ensures { result ≡ check_function_declaration_in_labeled_statement nodes.now scopes.now n.0 }
@@ -227,13 +222,12 @@ fn check_initialiser(
 
 #[tactic(auto, unfolding(crate::specs::Statements::check_left))]
 fn check_left(
-    nodes: &[u32],
+    nodes: &Nodes,
     scopes: &[u32],
     n: NodeId,
     is_for_in: bool,
     decl: NodeId,
 ) -> Option<Finding>
-    requires tree { Tree nodes.now }
     requires scoped { Scoped nodes.now scopes.now }
     requires n_bound { n.0 < count nodes.now }
     requires decl_bound { decl.0 < count nodes.now }
@@ -260,12 +254,11 @@ fn check_left(
 
 // The left of a ForIn or a ForOf: where its declaration may have an initialiser.
 pub fn check_for_statement_left(
-    nodes: &[u32],
+    nodes: &Nodes,
     scopes: &[u32],
     n: NodeId,
     is_for_in: bool,
 ) -> Option<Finding>
-    requires tree { Tree nodes.now }
     requires scoped { Scoped nodes.now scopes.now }
     requires n_bound { n.0 < count nodes.now }
     ensures { result ≡ check_for_statement_left nodes.now scopes.now n.0 is_for_in }

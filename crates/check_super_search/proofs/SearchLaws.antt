@@ -23,7 +23,8 @@ use Rattle.table_children.proofs.ChildrenLaws.{node_on, node_stop, node_end, num
 use Rattle.table_ancestry.specs.Ancestry.{nearest_of}
 use Rattle.base_common.specs.Tests.{within}
 use Rattle.table_ancestry.proofs.AncestryLaws.{parent_in, nearest_stop, nearest_on, nearest_root}
-use Rattle.check_supers.specs.Super.{if_call, part_at, place_of, heritage_use, first_class, dummy_use, derived_use, is_value_of, is_method_like, object_use, method_use, function_use, is_class_scope, at_class, scope_step, step_at, class_above, leave_class, class_after, or_rest, reach_from, reach_of, is_call}
+use Rattle.check_class_table.specs.Classes.{body_above}
+use Rattle.check_supers.specs.Super.{if_call, part_at, place_of, heritage_use, first_class, dummy_use, derived_use, is_value_of, is_method_like, object_use, method_use, function_use, is_class_scope, at_class, scope_step, step_at, leave_class, class_after, or_rest, reach_from, reach_of, is_call}
 use Rattle.check_supers.proofs.SuperLaws.{outer_next, reach_end, place_some}
 use Rattle.check_supers.specs.declared.ElementPart.{ElementPart}
 use Rattle.check_supers.specs.declared.ElementPart.TheVariants.{Value, Key}
@@ -173,7 +174,7 @@ module _ (ns : List ℕ) (t : Tree ns) where
   or_in Leave r a b = b
   or_in On r a b = b
 
-  reach_in_from : ((b : ℕ) → b < count ns → below ns (class_above ns b)) → (ss : List ℕ) (n : ℕ) (call : Bool) (l : List ℕ) (class : Option NodeId) (start : ℕ) → below ns class
+  reach_in_from : ((b : ℕ) → b < count ns → below ns (body_above ns b)) → (ss : List ℕ) (n : ℕ) (call : Bool) (l : List ℕ) (class : Option NodeId) (start : ℕ) → below ns class
       → underived_in ns (reach_from ns ss n call l class start)
   unfolding reach_from
   reach_in_from above_in_lem ss n call [] class start w = tt
@@ -205,7 +206,7 @@ module _ (ns : List ℕ) (t : Tree ns) where
   pub reach_in : (ss : List ℕ) (n : ℕ) → n < count ns → underived_in ns (reach_of ns ss n)
   unfolding reach_of
   reach_in ss n l =
-      reach_in_from (λ b h. nearest_in k.ClassBody k.ClassBody b b (omega arith) h) ss n (is_call ns n) (scope_of ns n ∷ outer ss (scope_of ns n)) (class_above ns n) n (nearest_in k.ClassBody k.ClassBody n n (omega arith) l)
+      reach_in_from (λ b h. nearest_in k.ClassBody k.ClassBody b b (omega arith) h) ss n (is_call ns n) (scope_of ns n ∷ outer ss (scope_of ns n)) (body_above ns n) n (nearest_in k.ClassBody k.ClassBody n n (omega arith) l)
 
 spent : (ns ss : List ℕ) (n : ℕ) (call : Bool) (class : Option NodeId) (start : ℕ) → reach_from ns ss n call [] class start ≡ Illegal
 unfolding reach_from

@@ -3,13 +3,14 @@
 
 ghost use Rattle.std.specs.Prelude.{◌≡◌, ◌<◌};
 ghost use Rattle.table_records.specs.Table.{count, count_scopes};
-ghost use Rattle.table_records.specs.Facts.{Tree, Chained, Scoped};
+ghost use Rattle.table_records.specs.Facts.{Chained, Scoped};
 ghost use Rattle.table_children.specs.Children.{below};
 ghost use Rattle.check_supers.specs.Super.{reach_of, fails_at, by_reach, check_super};
 ghost use Rattle.check_super_search.specs.Search.{underived_in, around_of};
 
 use check_diagnostics::{Finding, codes, contexts, error_at};
 use check_supers::{ElementPart, Reach, Step};
+use table_records::nodes::Nodes;
 use table_records::{NodeId, ScopeId, kinds};
 
 // The scopes around s.
@@ -29,8 +30,7 @@ fn around(scopes: &[u32], s: ScopeId) -> Option<ScopeId>
 // > * It is a Syntax Error if ModuleItemList Contains super.
 // > ScriptBody : StatementList
 // > * It is a Syntax Error if StatementList Contains super
-pub fn reach(nodes: &[u32], scopes: &[u32], n: NodeId) -> Reach
-    requires tree { Tree nodes.now }
+pub fn reach(nodes: &Nodes, scopes: &[u32], n: NodeId) -> Reach
     requires chained { Chained scopes.now }
     requires scoped { Scoped nodes.now scopes.now }
     requires n_bound { n.0 < count nodes.now }
@@ -76,8 +76,7 @@ pub fn reach(nodes: &[u32], scopes: &[u32], n: NodeId) -> Reach
 
 // Whether n is a Super whose search the Rust ends in a failure.
 #[tactic(auto, unfolding(check_supers::specs::Super::fails_at))]
-pub fn fails_at(nodes: &[u32], scopes: &[u32], n: NodeId) -> bool
-    requires tree { Tree nodes.now }
+pub fn fails_at(nodes: &Nodes, scopes: &[u32], n: NodeId) -> bool
     requires chained { Chained scopes.now }
     requires scoped { Scoped nodes.now scopes.now }
     requires n_bound { n.0 < count nodes.now }
@@ -87,8 +86,7 @@ pub fn fails_at(nodes: &[u32], scopes: &[u32], n: NodeId) -> bool
 }
 
 // The finding of an illegal `super`: the call, or the Super itself.
-fn illegal(nodes: &[u32], n: NodeId) -> Option<Finding>
-    requires tree { Tree nodes.now }
+fn illegal(nodes: &Nodes, n: NodeId) -> Option<Finding>
     requires n_bound { n.0 < count nodes.now }
     ensures { result ≡ by_reach nodes.now n.0 Reach.Illegal }
 {
@@ -106,8 +104,7 @@ fn illegal(nodes: &[u32], n: NodeId) -> Option<Finding>
 }
 
 // The finding that a search gives.
-fn by_reach(nodes: &[u32], n: NodeId, r: Reach) -> Option<Finding>
-    requires tree { Tree nodes.now }
+fn by_reach(nodes: &Nodes, n: NodeId, r: Reach) -> Option<Finding>
     requires n_bound { n.0 < count nodes.now }
     requires underived_in { underived_in nodes.now r }
     ensures { result ≡ by_reach nodes.now n.0 r }
@@ -126,8 +123,7 @@ fn by_reach(nodes: &[u32], n: NodeId, r: Reach) -> Option<Finding>
 }
 
 #[tactic(auto, unfolding(check_supers::specs::Super::check_super))]
-pub fn check_super(nodes: &[u32], scopes: &[u32], n: NodeId) -> Option<Finding>
-    requires tree { Tree nodes.now }
+pub fn check_super(nodes: &Nodes, scopes: &[u32], n: NodeId) -> Option<Finding>
     requires chained { Chained scopes.now }
     requires scoped { Scoped nodes.now scopes.now }
     requires n_bound { n.0 < count nodes.now }

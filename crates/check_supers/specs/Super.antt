@@ -12,9 +12,9 @@ use Rattle.table_records.specs.Extras as extra
 use Rattle.table_records.specs.NodeFlag as flag
 use Rattle.table_records.specs.ScopeFlag as scope
 use Rattle.table_children.specs.Children.{value_of, first_node, is_node}
-use Rattle.table_ancestry.specs.Ancestry.{nearest_of}
 use Rattle.check_diagnostics.specs.Finding.{error_at, error_between}
 use Rattle.check_diagnostics.specs.Codes as code
+use Rattle.check_class_table.specs.Classes.{body_above}
 use Rattle.check_supers.specs.declared.Reach.{Reach}
 use Rattle.check_supers.specs.declared.Reach.TheVariants.{Legal, Illegal, Underived, Fails}
 use Rattle.check_supers.specs.declared.ElementPart.{ElementPart}
@@ -112,13 +112,9 @@ scope_step ns ss n call class s =
 unfoldable pub step_at : List ℕ → List ℕ → ℕ → Bool → Option NodeId → ℕ → ℕ → Step
 step_at ns ss n call class start s = cond (is_class_scope ns class s) (at_class call (place_of ns start)) (scope_step ns ss n call class s)
 
--- the nearest ClassBody above a node
-abbrev pub class_above : List ℕ → ℕ → Option NodeId
-class_above ns n = nearest_of ns k.ClassBody k.ClassBody n
-
 -- leaving a class, the search goes on in the class around it
 abbrev pub leave_class : List ℕ → Option NodeId → Option NodeId
-leave_class ns (Some b) = class_above ns b.0
+leave_class ns (Some b) = body_above ns b.0
 leave_class ns None = None
 
 abbrev pub class_after : List ℕ → Option NodeId → Step → Option NodeId
@@ -140,7 +136,7 @@ reach_from ns ss n call (s ∷ rest) class start =
 
 -- what is found of the Super n
 unfoldable pub reach_of : List ℕ → List ℕ → ℕ → Reach
-reach_of ns ss n = reach_from ns ss n (is_call ns n) (scope_of ns n ∷ outer ss (scope_of ns n)) (class_above ns n) n
+reach_of ns ss n = reach_from ns ss n (is_call ns n) (scope_of ns n ∷ outer ss (scope_of ns n)) (body_above ns n) n
 
 -- refusal 6: "at its Super, a walk that the Rust ends in `unreachable!` or a failed `unwrap`"
 abbrev pub is_fails : Reach → Bool

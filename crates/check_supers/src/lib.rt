@@ -3,10 +3,11 @@
 
 ghost use Rattle.std.specs.Prelude.{◌≡◌, ◌<◌};
 ghost use Rattle.table_records.specs.Table.{count, count_scopes, scope_node_of};
-ghost use Rattle.table_records.specs.Facts.{Tree};
 ghost use Rattle.table_children.specs.Children.{below};
-ghost use Rattle.check_supers.specs.Super.{is_call, if_call, part_of, part_at, is_value_of, is_method_like, heritage_use, first_class, dummy_use, derived_use, object_use, method_use, function_use, is_class_scope, scope_step, class_above, leave_class, body_of};
+ghost use Rattle.check_class_table.specs.Classes.{body_above};
+ghost use Rattle.check_supers.specs.Super.{is_call, if_call, part_of, part_at, is_value_of, is_method_like, heritage_use, first_class, dummy_use, derived_use, object_use, method_use, function_use, is_class_scope, scope_step, leave_class, body_of};
 
+use table_records::nodes::Nodes;
 use table_records::{ClassId, NodeId, ScopeId, extras, kinds, node_flag, scope_flag};
 
 // What the search finds of a `super`: that it is legal, or illegal, or a call in the constructor of this class, which has no heritage; or that the Rust fails.
@@ -34,8 +35,7 @@ pub enum Step {
 }
 
 // Whether a `super` is called.
-pub fn is_call(nodes: &[u32], n: NodeId) -> bool
-    requires tree { Tree nodes.now }
+pub fn is_call(nodes: &Nodes, n: NodeId) -> bool
     requires n_bound { n.0 < count nodes.now }
     ensures { result ≡ is_call nodes.now n.0 }
 {
@@ -57,8 +57,7 @@ pub fn if_call(call: bool) -> Reach
 
 // Whether x is the value of a.
 #[tactic(auto, unfolding(crate::specs::Super::is_value_of))]
-fn is_value_of(nodes: &[u32], a: NodeId, x: NodeId) -> bool
-    requires tree { Tree nodes.now }
+fn is_value_of(nodes: &Nodes, a: NodeId, x: NodeId) -> bool
     requires a_bound { a.0 < count nodes.now }
     ensures { result ≡ is_value_of nodes.now a.0 x.0 }
 {
@@ -70,8 +69,7 @@ fn is_value_of(nodes: &[u32], a: NodeId, x: NodeId) -> bool
 
 // The part of the class element a in which its child x stands.
 #[tactic(auto, unfolding(crate::specs::Super::part_of))]
-fn part_of(nodes: &[u32], a: NodeId, x: NodeId) -> ElementPart
-    requires tree { Tree nodes.now }
+fn part_of(nodes: &Nodes, a: NodeId, x: NodeId) -> ElementPart
     requires a_bound { a.0 < count nodes.now }
     ensures { result ≡ part_of nodes.now a.0 x.0 }
 {
@@ -86,8 +84,7 @@ fn part_of(nodes: &[u32], a: NodeId, x: NodeId) -> ElementPart
 
 // The same for any node a, if it is a class element.
 #[tactic(auto, unfolding(crate::specs::Super::part_at))]
-pub fn part_at(nodes: &[u32], a: NodeId, x: NodeId) -> Option<ElementPart>
-    requires tree { Tree nodes.now }
+pub fn part_at(nodes: &Nodes, a: NodeId, x: NodeId) -> Option<ElementPart>
     requires a_bound { a.0 < count nodes.now }
     ensures { result ≡ part_at nodes.now a.0 x.0 }
 {
@@ -103,8 +100,7 @@ pub fn part_at(nodes: &[u32], a: NodeId, x: NodeId) -> Option<ElementPart>
 // >   1. Let constructor be ConstructorMethod of ClassBody.
 // >   2. If constructor is empty, return false.
 // >   3. Return HasDirectSuper of constructor.
-fn heritage_use(nodes: &[u32], c: ClassId) -> Reach
-    requires tree { Tree nodes.now }
+fn heritage_use(nodes: &Nodes, c: ClassId) -> Reach
     requires c_bound { c.0 < count nodes.now }
     ensures { result ≡ heritage_use nodes.now c.0 }
 {
@@ -117,11 +113,11 @@ fn heritage_use(nodes: &[u32], c: ClassId) -> Reach
 
 // The first ClassBody of the table: class number 0.
 #[tactic(auto, using(crate::proofs::SuperLaws::classes_start, crate::proofs::SuperLaws::classes_here, crate::proofs::SuperLaws::classes_on, crate::proofs::SuperLaws::classes_past))]
-fn first_class(nodes: &[u32]) -> Option<NodeId>
-    requires { Tree nodes.now }
+fn first_class(nodes: &Nodes) -> Option<NodeId>
     ensures value { result ≡ first_class nodes.now }
     ensures below { below nodes.now result }
 {
+    let _ = &nodes.numbers; // names the field, so that its invariant is known
     for i in 0.. {
         if !table_records::is_node(nodes, i) {
             break;
@@ -134,8 +130,7 @@ fn first_class(nodes: &[u32]) -> Option<NodeId>
 }
 
 // A call in a constructor while no class is current: class number 0 must be around the Super.
-fn dummy_use(nodes: &[u32], n: NodeId) -> Reach
-    requires tree { Tree nodes.now }
+fn dummy_use(nodes: &Nodes, n: NodeId) -> Reach
     requires n_bound { n.0 < count nodes.now }
     ensures { result ≡ dummy_use nodes.now n.0 (first_class nodes.now) }
 {
@@ -150,8 +145,7 @@ fn dummy_use(nodes: &[u32], n: NodeId) -> Reach
 }
 
 // A call in a constructor of the class, if one is current.
-fn derived_use(nodes: &[u32], n: NodeId, class: Option<ClassId>) -> Reach
-    requires tree { Tree nodes.now }
+fn derived_use(nodes: &Nodes, n: NodeId, class: Option<ClassId>) -> Reach
     requires n_bound { n.0 < count nodes.now }
     requires below { below nodes.now (body_of class) }
     ensures { result ≡ derived_use nodes.now n.0 (body_of class) }
@@ -173,8 +167,7 @@ fn is_method_like(nodes: &[u32], p: NodeId) -> bool
 
 // A `super` in the function f, which is the value of a property of an object, or not.
 #[tactic(auto, unfolding(crate::specs::Super::object_use))]
-fn object_use(nodes: &[u32], call: bool, p: NodeId, f: NodeId) -> Reach
-    requires tree { Tree nodes.now }
+fn object_use(nodes: &Nodes, call: bool, p: NodeId, f: NodeId) -> Reach
     requires p_bound { p.0 < count nodes.now }
     ensures { result ≡ object_use nodes.now call p.0 f.0 }
 {
@@ -187,14 +180,13 @@ fn object_use(nodes: &[u32], call: bool, p: NodeId, f: NodeId) -> Reach
 // A `super` in the function f, which is the value of a method of a class, or not.
 #[tactic(auto, unfolding(crate::specs::Super::method_use))]
 fn method_use(
-    nodes: &[u32],
+    nodes: &Nodes,
     n: NodeId,
     call: bool,
     class: Option<ClassId>,
     p: NodeId,
     f: NodeId,
 ) -> Reach
-    requires tree { Tree nodes.now }
     requires n_bound { n.0 < count nodes.now }
     requires below { below nodes.now (body_of class) }
     requires p_bound { p.0 < count nodes.now }
@@ -214,8 +206,7 @@ fn method_use(
 
 // A `super` in the function f.
 #[tactic(auto, unfolding(crate::specs::Super::function_use))]
-fn function_use(nodes: &[u32], n: NodeId, call: bool, class: Option<ClassId>, f: NodeId) -> Reach
-    requires tree { Tree nodes.now }
+fn function_use(nodes: &Nodes, n: NodeId, call: bool, class: Option<ClassId>, f: NodeId) -> Reach
     requires n_bound { n.0 < count nodes.now }
     requires below { below nodes.now (body_of class) }
     requires f_bound { f.0 < count nodes.now }
@@ -233,8 +224,7 @@ fn function_use(nodes: &[u32], n: NodeId, call: bool, class: Option<ClassId>, f:
 }
 
 // Whether s is the scope of the class (the first of get_class_details).
-pub fn is_class_scope(nodes: &[u32], class: Option<ClassId>, s: ScopeId) -> bool
-    requires tree { Tree nodes.now }
+pub fn is_class_scope(nodes: &Nodes, class: Option<ClassId>, s: ScopeId) -> bool
     requires below { below nodes.now (body_of class) }
     ensures { result ≡ is_class_scope nodes.now (body_of class) s.0 }
 {
@@ -250,14 +240,13 @@ pub fn is_class_scope(nodes: &[u32], class: Option<ClassId>, s: ScopeId) -> bool
 // > ClassStaticBlockBody : ClassStaticBlockStatementList
 // > * It is a Syntax Error if ClassStaticBlockStatementList Contains SuperCall is true.
 pub fn scope_step(
-    nodes: &[u32],
+    nodes: &Nodes,
     scopes: &[u32],
     n: NodeId,
     call: bool,
     class: Option<ClassId>,
     s: ScopeId,
 ) -> Step
-    requires tree { Tree nodes.now }
     requires n_bound { n.0 < count nodes.now }
     requires below { below nodes.now (body_of class) }
     requires s_bound { s.0 < count_scopes scopes.now }
@@ -278,10 +267,9 @@ pub fn scope_step(
 }
 
 // The class around a node.
-pub fn class_around(nodes: &[u32], n: NodeId) -> Option<ClassId>
-    requires tree { Tree nodes.now }
+pub fn class_around(nodes: &Nodes, n: NodeId) -> Option<ClassId>
     requires n_bound { n.0 < count nodes.now }
-    ensures result_value { body_of result ≡ class_above nodes.now n.0 }
+    ensures result_value { body_of result ≡ body_above nodes.now n.0 }
     ensures below { below nodes.now (body_of result) }
 {
     let b = table_ancestry::nearest(nodes, n, kinds::CLASS_BODY, kinds::CLASS_BODY)?;
@@ -289,8 +277,7 @@ pub fn class_around(nodes: &[u32], n: NodeId) -> Option<ClassId>
 }
 
 // The class around a class.
-pub fn leave_class(nodes: &[u32], class: Option<ClassId>) -> Option<ClassId>
-    requires tree { Tree nodes.now }
+pub fn leave_class(nodes: &Nodes, class: Option<ClassId>) -> Option<ClassId>
     requires below { below nodes.now (body_of class) }
     ensures result_value { body_of result ≡ leave_class nodes.now (body_of class) }
     ensures below_2 { below nodes.now (body_of result) }

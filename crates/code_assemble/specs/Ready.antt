@@ -5,6 +5,7 @@ use Rattle.table_records.specs.Facts.{Tree}
 use Rattle.code_tree.specs.Statements.{holder_of}
 use Rattle.code_contexts.specs.Contexts as contexts
 
+-- A `requires` and no struct's invariant: it ties two lent slices and a unit, and `Rule` (check_dispatch), which holds the slices, stands where this is not known.
 pub record Ready (ns names : List ℕ) (u : ℕ) : Type 0 where
   pub tree : Tree ns
   pub root : u < count ns

@@ -9,7 +9,7 @@ ghost use Rattle.code_tree.specs.Statements.{body_of, unit_of};
 ghost use Rattle.code_widths.specs.Widths.{Units, Widths};
 ghost use Rattle.code_contexts.specs.Contexts as contexts;
 ghost use Rattle.code_contexts.specs.Turn.{Room};
-ghost use Rattle.code_branch.specs.Branch.{Arrays, Laid};
+ghost use Rattle.code_branch.specs.Branch.{Arrays};
 ghost use Rattle.code_put.specs.Put.{Put};
 ghost use Rattle.code_assemble.specs.Ready.{Ready};
 ghost use Rattle.code_assemble.specs.Assembled.{assembled, assembled_slice};
@@ -21,6 +21,7 @@ use code_machine::opcodes;
 use code_put::put_words;
 use refusal_verdict::{Refusal, Refused};
 use table_records::NodeId;
+use table_records::nodes::Nodes;
 
 // Up to how many nodes small arrays serve, and smaller ones: they cost less to clear.
 const SMALL: usize = 1024;
@@ -35,11 +36,10 @@ const END_WORDS: usize = 8;
 
 // Writes the words of n at its place, if it is the unit's.
 fn emit_at(laid: &Layout, n: NodeId, code: &mut [u32])
-    requires arrays { Laid laid.now }
-    requires b_lt_n { laid.now.body.0 < n.0 }
-    requires n_bound { n.0 < count laid.now.nodes.now }
-    requires b_in_bounds { length (unit (body_of laid.now.nodes.now laid.now.names.now laid.now.body.0)) ≤ length code.old }
-    ensures { Emitted laid.now.nodes.now laid.now.names.now laid.now.body.0 n.0 code.old code.new }
+    requires b_lt_n { laid.now.body < n.0 }
+    requires n_bound { n.0 < count laid.now.nodes }
+    requires b_in_bounds { length (unit (body_of laid.now.nodes laid.now.names laid.now.body)) ≤ length code.old }
+    ensures { Emitted laid.now.nodes laid.now.names laid.now.body n.0 code.old code.new }
 {
     if laid.levels[n.0 as usize] == 0 {
         return;
@@ -75,9 +75,8 @@ fn put_ends(code: &mut [u32], o: usize)
 // Writes the words of all nodes, and the ends.
 #[tactic(auto, using(crate::proofs::WrittenLaws::length_whole, crate::proofs::WrittenLaws::write_start, crate::proofs::WrittenLaws::write_turn, crate::proofs::WrittenLaws::write_end, code_layout::proofs::LayoutLaws::in_root, code_branch::proofs::JumpLaws::width_is_lem))]
 fn write_code(laid: &Layout, code: &mut [u32])
-    requires arrays { Laid laid.now }
-    requires b_in_bounds { length (unit (body_of laid.now.nodes.now laid.now.names.now laid.now.body.0)) ≤ length code.old }
-    ensures { code.new ≡ over (unit (body_of laid.now.nodes.now laid.now.names.now laid.now.body.0)) code.old }
+    requires b_in_bounds { length (unit (body_of laid.now.nodes laid.now.names laid.now.body)) ≤ length code.old }
+    ensures { code.new ≡ over (unit (body_of laid.now.nodes laid.now.names laid.now.body)) code.old }
 {
     for j in laid.body.0 + 1..table_records::size(laid.nodes) {
         emit_at(laid, NodeId(j), code);
@@ -87,7 +86,7 @@ fn write_code(laid: &Layout, code: &mut [u32])
 
 // Writes the words of all nodes, and the ends, from a draft in which each node has its place.
 fn write_draft<'a>(
-    nodes: &'a [u32],
+    nodes: &'a Nodes<'a>,
     names: &'a [u8],
     b: NodeId,
     draft: &'a Draft<'a>,
@@ -113,7 +112,7 @@ fn write_draft<'a>(
 // is written.
 #[tactic(auto, using(crate::proofs::WrittenLaws::fits_answer, crate::proofs::WrittenLaws::fits_slice, crate::proofs::WrittenLaws::short_answer, crate::proofs::WrittenLaws::short_slice, crate::proofs::WrittenLaws::length_whole, code_layout::proofs::LayoutLaws::in_root))]
 fn code_by(
-    nodes: &[u32],
+    nodes: &Nodes,
     names: &[u8],
     b: NodeId,
     draft: &mut Draft,
@@ -140,7 +139,7 @@ fn code_by(
 // It stands by itself, so that no call makes room for larger arrays than its own.
 #[inline(never)]
 fn code_within<const N: usize>(
-    nodes: &[u32],
+    nodes: &Nodes,
     names: &[u8],
     b: NodeId,
     code: &mut [u32],
@@ -152,7 +151,7 @@ fn code_within<const N: usize>(
     ensures code_after { code.new ≡ assembled_slice (unit (body_of nodes.now names.now b.0)) code.old }
 {
     let mut widths: [u32; N] = [0; N];
-    let mut levels: [u32; N] = [0; N];
+    let mut levels: [u16; N] = [0; N];
     let mut offsets: [u32; N] = [0; N];
     let mut follows: [u32; N] = [0; N];
     code_widths::fill_units(nodes, names, b, &mut levels, &mut widths);
@@ -167,7 +166,7 @@ fn code_within<const N: usize>(
 }
 
 // The code of the statements that b holds.
-fn code_body(nodes: &[u32], names: &[u8], b: NodeId, code: &mut [u32]) -> Result<usize, Refused>
+fn code_body(nodes: &Nodes, names: &[u8], b: NodeId, code: &mut [u32]) -> Result<usize, Refused>
     requires { contexts.Ready nodes.now names.now b.0 }
     ensures value { result ≡ assembled (unit (body_of nodes.now names.now b.0)) (length code.old) }
     ensures code_after { code.new ≡ assembled_slice (unit (body_of nodes.now names.now b.0)) code.old }
@@ -200,6 +199,7 @@ pub fn code_unit(nodes: &[u32], names: &[u8], u: NodeId, code: &mut [u32]) -> Re
     ensures value { result ≡ assembled (unit (unit_of nodes.now names.now u.0)) (length code.old) }
     ensures code_after { code.new ≡ assembled_slice (unit (unit_of nodes.now names.now u.0)) code.old }
 {
+    let nodes = &Nodes { numbers: nodes };
     match code_shapes::holder(nodes, u) {
         Some(b) => code_body(nodes, names, b, code),
         None => code_none(code),

@@ -76,8 +76,8 @@ module _ (ns names : List ℕ) where
   end_is m Throw = refl
 
   -- At the unit's own node the way up ends.
-  pub end_is_lem : (b n m : ℕ) → n ≡ b → m ≡ width_at ns b b → (j : Jump) → at (m + end_by j) 0 ≡ target ns names b n (comp_by ns names j)
-  end_is_lem b n m q w j = end_is m j ∙ ap (λ k. top k (comp_by ns names j)) w ∙ sym (ap (λ k. target ns names b k (comp_by ns names j)) q ∙ target_root ns names b (comp_by ns names j))
+  pub end_is_lem : (b n : ℕ) → n ≡ b → (j : Jump) → target ns names b n (comp_by ns names j) ≡ at (width_at ns b b + end_by j) 0
+  end_is_lem b n q j = ap (λ k. target ns names b k (comp_by ns names j)) q ∙ target_root ns names b (comp_by ns names j) ∙ sym (end_is (width_at ns b b) j)
 
   pub labels_root : (b n : ℕ) → n ≡ b → (l : ℕ) → elem l (labels_at ns names b n) ≡ false
   unfolding labels_at

@@ -13,7 +13,6 @@ use Rattle.code_targets.specs.Targets.{is_loop, is_breakable, catches_at, target
 use Rattle.code_contexts.specs.Contexts.{Ready, Wide, Places}
 use Rattle.code_branch.specs.declared.Target.{Target}
 use Rattle.code_branch.specs.declared.Jump.{Jump}
-use Rattle.code_branch.specs.declared.Layout.{Layout}
 use Rattle.code_branch.specs.declared.Jump.TheVariants.{Break, Continue, Return, Throw}
 
 abbrev pub stat_of : Target → Stat
@@ -78,6 +77,16 @@ module _ (ns names : List ℕ) (b : ℕ) where
     pub long_offsets : count ns ≤ length offsets
     pub long_follows : count ns ≤ length follows
 
--- What is known of a layout: its arrays are those of the code maker.
-abbrev pub Laid : Layout → Type 0
-Laid l = Arrays l.nodes.now l.names.now l.body.0 l.widths.now l.levels.now l.offsets.now l.follows.now
+-- What a clause sees of a layout.
+pub record Plan : Type 0 where
+  pub nodes : List ℕ
+  pub names : List ℕ
+  pub body : ℕ
+  pub widths : List ℕ
+  pub levels : List ℕ
+  pub offsets : List ℕ
+  pub follows : List ℕ
+
+-- Its arrays are those of the code maker: the invariant of `Layout`.
+abbrev pub Laid : Plan → Type 0
+Laid l = Arrays l.nodes l.names l.body l.widths l.levels l.offsets l.follows

@@ -24,8 +24,8 @@ module _ {ns names : List ℕ} {b n : ℕ} {d : Draft} (t : Turn ns names b n d)
   pub holder_level : get_or d.levels.now p 0 ≡ suc (depth_at ns names b p)
   holder_level = t.places.level p holder_low holder_lt holder_in
 
-  -- No level is above the number of nodes.
-  pub level_small : get_or d.levels.now p 0 ≤ 65536
+  -- A level and the next one are numbers of 16 bits.
+  pub level_small : get_or d.levels.now p 0 ≤ 65534
   level_small =
       let l = holder_lt in
       let c = t.inside in

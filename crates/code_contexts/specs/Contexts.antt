@@ -20,11 +20,13 @@ TryParts ns = (j : ℕ) → j < count ns → is_part ns j ≡ true → shape_at 
     → (kind_of ns j ≡ cond (eqb (role_of ns j) role.Alternate) k.CatchClause k.Block) × (parent_of ns j ≡ up_of ns j)
 
 -- What is asked of the tables.
+-- In the invariant of `Layout` (code_branch). A `requires` of `fill_places` and what it calls, which write the arrays before there is a `Layout`.
 pub record Ready (ns names : List ℕ) (b : ℕ) : Type 0 where
   pub held : Held ns names b
   pub direct : TryParts ns
 
 -- The widths of the unit's nodes.
+-- A `requires` and no struct's invariant: it ties the nodes with an array, and `Draft`, which holds the array by a `&mut`, holds no nodes.
 pub record Wide (ns : List ℕ) (b : ℕ) (widths : List ℕ) : Type 0 where
   pub long : count ns ≤ length widths
   pub is : (j : ℕ) → b ≤ j → j < count ns → in_unit ns b j ≡ true → get_or widths j 0 ≡ width_at ns b j

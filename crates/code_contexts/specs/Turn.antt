@@ -6,6 +6,7 @@ use Rattle.code_contexts.specs.declared.Draft.{Draft}
 use Rattle.code_contexts.specs.Contexts.{Ready, Wide, Places}
 
 -- Each array has a place for each node.
+-- A `requires` and no struct's invariant: it ties the nodes with the arrays of a `Draft`, which holds no nodes.
 pub record Room (ns : List ℕ) (d : Draft) : Type 0 where
   pub widths : count ns ≤ length d.widths.now
   pub levels : count ns ≤ length d.levels.now
@@ -13,6 +14,7 @@ pub record Room (ns : List ℕ) (d : Draft) : Type 0 where
   pub follows : count ns ≤ length d.follows.now
 
 -- n, behind b, is the unit's, and the unit's nodes before it have their places.
+-- A `requires` and no struct's invariant: `lay_at` writes array by array, so that it holds between turns and not at each write.
 pub record Turn (ns names : List ℕ) (b n : ℕ) (d : Draft) : Type 0 where
   pub ready : Ready ns names b
   pub behind : b < n

@@ -15,20 +15,21 @@ ghost use Rattle.code_contexts.specs.Turn.{Room, Turn};
 use code_shapes::{is_try, shape_of, up_of};
 use code_tree::Shape;
 use table_children::Part;
+use table_records::nodes::Nodes;
 use table_records::{NodeId, kinds, roles};
 
 // A layout in the making: the arrays of the code maker, which have a place for each node. In the first passes the levels are marks of the unit's nodes, and the
-// offsets the words behind each.
+// offsets the words behind each. No level is above the number of nodes, so 16 bits are enough.
 #[derive(Drop)]
 pub struct Draft<'a> {
     pub widths: &'a mut [u32],
-    pub levels: &'a mut [u32],
+    pub levels: &'a mut [u16],
     pub offsets: &'a mut [u32],
     pub follows: &'a mut [u32],
 }
 
 // Whether the Try p has a finally.
-pub fn has_finally(nodes: &[u32], names: &[u8], b: NodeId, p: NodeId) -> bool
+pub fn has_finally(nodes: &Nodes, names: &[u8], b: NodeId, p: NodeId) -> bool
     requires ready { Ready nodes.now names.now b.0 }
     requires p_bound { p.0 < count nodes.now }
     requires p_value { shape_at nodes.now p.0 ≡ Try }
@@ -39,7 +40,7 @@ pub fn has_finally(nodes: &[u32], names: &[u8], b: NodeId, p: NodeId) -> bool
 
 // Whether the Try p has a catch. One function for this and the one above would take a kind and a role, and ask that they fit each other: what they share is
 // `first_child` already.
-pub fn has_catch(nodes: &[u32], names: &[u8], b: NodeId, p: NodeId) -> bool
+pub fn has_catch(nodes: &Nodes, names: &[u8], b: NodeId, p: NodeId) -> bool
     requires ready { Ready nodes.now names.now b.0 }
     requires p_bound { p.0 < count nodes.now }
     requires p_value { shape_at nodes.now p.0 ≡ Try }
@@ -50,7 +51,7 @@ pub fn has_catch(nodes: &[u32], names: &[u8], b: NodeId, p: NodeId) -> bool
 
 // The words of the Try p itself: OPEN's, where it has a finally.
 #[tactic(auto, using(crate::proofs::EndLaws::try_own))]
-pub fn own_of_try(nodes: &[u32], names: &[u8], b: NodeId, p: NodeId) -> u32
+pub fn own_of_try(nodes: &Nodes, names: &[u8], b: NodeId, p: NodeId) -> u32
     requires ready { Ready nodes.now names.now b.0 }
     requires b_lt_p { b.0 < p.0 }
     requires p_bound { p.0 < count nodes.now }
@@ -65,7 +66,7 @@ pub fn own_of_try(nodes: &[u32], names: &[u8], b: NodeId, p: NodeId) -> u32
 }
 
 // Where the words of n stand, a part of the Try p: the Block's first, then the catch's, the finally's last.
-fn offset_in_try(nodes: &[u32], names: &[u8], b: NodeId, draft: &Draft, p: NodeId, n: NodeId) -> u32
+fn offset_in_try(nodes: &Nodes, names: &[u8], b: NodeId, draft: &Draft, p: NodeId, n: NodeId) -> u32
     requires turn { Turn nodes.now names.now b.0 n.0 draft.now }
     requires p_value { p.0 ≡ up_of nodes.now n.0 }
     requires p_value_2 { shape_at nodes.now p.0 ≡ Try }
@@ -89,7 +90,7 @@ fn offset_in_try(nodes: &[u32], names: &[u8], b: NodeId, draft: &Draft, p: NodeI
 
 // Where the words of n stand: where the end of its holder p stands, less its own width and the words behind it.
 #[tactic(auto, using(crate::proofs::OffsetLaws::up_room, crate::proofs::OffsetLaws::plain_room, crate::proofs::OffsetLaws::plain_less, crate::proofs::OffsetLaws::plain_is_lem, crate::proofs::TurnLaws::holder_offset, crate::proofs::TurnLaws::behind_is))]
-fn offset_of(nodes: &[u32], names: &[u8], b: NodeId, draft: &Draft, p: NodeId, n: NodeId) -> u32
+fn offset_of(nodes: &Nodes, names: &[u8], b: NodeId, draft: &Draft, p: NodeId, n: NodeId) -> u32
     requires turn { Turn nodes.now names.now b.0 n.0 draft.now }
     requires p_value { p.0 ≡ up_of nodes.now n.0 }
     ensures { result ≡ offset_at nodes.now names.now b.0 n.0 }
@@ -115,7 +116,7 @@ fn goes_by(s: Shape, x: bool, r: u32) -> bool
 }
 
 // From which node's end control goes on where n falls through: its own, or as for its holder p.
-fn follow_of(nodes: &[u32], names: &[u8], b: NodeId, draft: &Draft, p: NodeId, n: NodeId) -> u32
+fn follow_of(nodes: &Nodes, names: &[u8], b: NodeId, draft: &Draft, p: NodeId, n: NodeId) -> u32
     requires turn { Turn nodes.now names.now b.0 n.0 draft.now }
     requires p_value { p.0 ≡ up_of nodes.now n.0 }
     ensures { Follow nodes.now names.now b.0 n.0 result }
@@ -132,10 +133,10 @@ fn follow_of(nodes: &[u32], names: &[u8], b: NodeId, draft: &Draft, p: NodeId, n
 }
 
 // One more than the depth of the pending ends at a part of p; l is that of p.
-fn level_of(nodes: &[u32], names: &[u8], b: NodeId, p: NodeId, l: u32) -> u32
+fn level_of(nodes: &Nodes, names: &[u8], b: NodeId, p: NodeId, l: u16) -> u16
     requires ready { Ready nodes.now names.now b.0 }
     requires p_bound { p.0 < count nodes.now }
-    requires l_bound { l ≤ 65536 }
+    requires l_bound { l ≤ 65534 }
     ensures { result ≡ cond (is_try (shape_at nodes.now p.0) && has_role nodes.now role.Finally (order nodes.now p.0)) (suc l) l }
 {
     if is_try(shape_of(nodes, p)) && has_finally(nodes, names, b, p) {
@@ -146,7 +147,7 @@ fn level_of(nodes: &[u32], names: &[u8], b: NodeId, p: NodeId, l: u32) -> u32
 
 // One node of the unit.
 #[tactic(auto, using(crate::proofs::PlacesLaws::level_is_lem, crate::proofs::PlacesLaws::places_turn, crate::proofs::TurnLaws::holder_lt, crate::proofs::TurnLaws::holder_level, crate::proofs::TurnLaws::level_small))]
-fn lay_node(nodes: &[u32], names: &[u8], b: NodeId, n: NodeId, draft: &mut Draft)
+fn lay_node(nodes: &Nodes, names: &[u8], b: NodeId, n: NodeId, draft: &mut Draft)
     requires { Turn nodes.now names.now b.0 n.0 draft.old }
     ensures room { Room nodes.now draft.new }
     ensures widths { draft.new.widths.now ≡ draft.old.widths.now }
@@ -162,7 +163,7 @@ fn lay_node(nodes: &[u32], names: &[u8], b: NodeId, n: NodeId, draft: &mut Draft
 }
 
 // One turn: a node that isn't the unit's changes nothing.
-fn lay_at(nodes: &[u32], names: &[u8], b: NodeId, n: NodeId, draft: &mut Draft)
+fn lay_at(nodes: &Nodes, names: &[u8], b: NodeId, n: NodeId, draft: &mut Draft)
     requires ready { Ready nodes.now names.now b.0 }
     requires b_lt_n { b.0 < n.0 }
     requires n_bound { n.0 < count nodes.now }
@@ -180,7 +181,7 @@ fn lay_at(nodes: &[u32], names: &[u8], b: NodeId, n: NodeId, draft: &mut Draft)
 }
 
 // Gives each node of the unit its place.
-pub fn fill_places(nodes: &[u32], names: &[u8], b: NodeId, draft: &mut Draft)
+pub fn fill_places(nodes: &Nodes, names: &[u8], b: NodeId, draft: &mut Draft)
     requires ready { Ready nodes.now names.now b.0 }
     requires room { Room nodes.now draft.old }
     requires units { Units nodes.now b.0 (count nodes.now) draft.old.levels.now }

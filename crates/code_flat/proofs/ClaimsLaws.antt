@@ -9,6 +9,7 @@ use Rattle.route_completion.proofs.TakenLaws.{execs_takes}
 use Rattle.route_completion.proofs.ScopeLaws.{scoped_end}
 use Rattle.route_completion.proofs.Parts.{parts_once}
 use Rattle.code_flat.specs.Code.{unit, sizes, RoomAll}
+use Rattle.code_flat.specs.Forward.{gave_up}
 use Rattle.code_flat.specs.Machine.{run, room, started, result}
 use Rattle.code_flat.proofs.Meet.{meet}
 use Rattle.code_flat.proofs.Correct.{unit_correct}
@@ -18,7 +19,7 @@ use Rattle.code_flat.proofs.Sum.{length_sum, total_small}
 use Rattle.code_flat.specs.Claims.{Claims}
 
 -- No completion of a unit gives it up.
-ended : (x : Comp) → end_of x ≢ 6
+ended : (x : Comp) → end_of x ≢ gave_up
 ended normal e = absurd (omega arith)
 ended (breaks l) e = absurd (omega arith)
 ended (continues l) e = absurd (omega arith)

@@ -15,6 +15,7 @@ use Rattle.code_flat.specs.Forward.{ask_now, behind, forward, step, run}
 use Rattle.code_flat.proofs.Steps.{run_step, run_pos, resume}
 use Rattle.route_completion.specs.Rest.{Shrinks}
 use Rattle.route_completion.proofs.RestLaws.{exec_rest}
+use Rattle.route_completion.specs.Ends as run_end
 use Rattle.code_flat.proofs.Size.{code_length, codes_length, size_pos}
 use Rattle.code_flat.specs.Has.{Has}
 
@@ -220,7 +221,7 @@ module _ (lim : ℕ) (C : List ℕ) where
   on_open : (o f : ℕ) (l : List ℕ) → Has C o (op.Open ∷ f ∷ l) → (K : List Frame) → length K < lim → (qs : List ℕ) → run lim C o K qs ≡ run lim C (o + 2) (open' f ∷ K) qs
   on_open o f l h K p qs =
       run_at o (OPEN f) (fetches o op.Open f _ _ h.0 h.1.0 refl refl) K qs
-      ∙ ap (λ b. pick b (run lim C (o + 2) (open' f ∷ K) qs) (res [] 5 qs)) (lt-ltb (length K) lim p)
+      ∙ ap (λ b. pick b (run lim C (o + 2) (open' f ∷ K) qs) (res [] run_end.Astray qs)) (lt-ltb (length K) lim p)
 
   on_end : (o e : ℕ) (l : List ℕ) → Has C o (op.End ∷ e ∷ l) → (K : List Frame) (qs : List ℕ) → run lim C o K qs ≡ res [] (end_as e) qs
   on_end o e l h K qs = run_at o (END e) (fetches o op.End e _ _ h.0 h.1.0 refl refl) K qs
@@ -331,7 +332,7 @@ module _ (lim : ℕ) (C : List ℕ) where
     drop_at (at u v) p t d r = ap (λ x. run_pos lim C x r) (unwind_pend K t d u v (omega (arith, g.depth, p.1)))
     drop_at (ended x) p t d r = absurd p
 
-    spent_any : (J : List Frame) (r : List ℕ) → resume lim C (ρ spent) J r ≡ res [] 3 r
+    spent_any : (J : List Frame) (r : List ℕ) → resume lim C (ρ spent) J r ≡ res [] run_end.Spent r
     unfolding resume
     spent_any J r = ap (λ s. resume lim C s J r) g.stops
 

@@ -7,6 +7,7 @@ use mathlib.Core.List.{List, [], ◌∷◌, append_assoc}
 use Rattle.route_completion.specs.Sem.{Entry, plain, asked, pick}
 use Rattle.route_completion.specs.Route.{asks}
 use Rattle.route_completion.proofs.TakenLaws.{asks_append}
+use Rattle.route_completion.specs.Ends as run_end
 use Rattle.code_flat.specs.Machine.{Res, res, pre, Instr, NONE, LIST, LEAVE, ASK, SELECT, OPEN, END, CASE, fetch, Frame, open', Pos, is_zero, unwind, pass, jump, step, run}
 use Rattle.code_flat.proofs.Runs.{run_step}
 use Rattle.code_flat.specs.Leg.{Leg, ends, waits, listed, before, leg_jump, leg_step, leg, onward}
@@ -28,7 +29,7 @@ module _ (lim : ℕ) (C : List ℕ) where
       (h : (es : List Entry) (t : ℕ) (J : List Frame) (qs : List ℕ) → pass b (λ r. pre es (run lim C r t J qs)) qs ≡ onward lim C (k es t J) qs) where
     jump_leg : (p : Pos) (qs : List ℕ) → jump (run lim C) b p qs ≡ onward lim C (leg_jump k p) qs
     jump_leg p qs =
-        pick_onward (is_zero p.pc) (res [] 5 qs) (pass b (λ r. run lim C r p.pc p.stack qs) qs) (ends [] 5) (k [] p.pc p.stack) qs refl
+        pick_onward (is_zero p.pc) (res [] run_end.Astray qs) (pass b (λ r. run lim C r p.pc p.stack qs) qs) (ends [] run_end.Astray) (k [] p.pc p.stack) qs refl
         (h [] p.pc p.stack qs)
 
     step_leg : (i : Instr) (pc : ℕ) (K : List Frame) (qs : List ℕ) → step lim C (run lim C) i b pc K qs ≡ onward lim C (leg_step lim C k i pc K) qs
@@ -40,7 +41,7 @@ module _ (lim : ℕ) (C : List ℕ) where
     step_leg (SELECT n c e) pc K [] = refl
     step_leg (SELECT n c e) pc K (a ∷ qs) = refl
     step_leg (OPEN f) pc K qs =
-        pick_onward (ltb (length K) lim) (pass b (λ r. run lim C r (pc + 2) (open' f ∷ K) qs) qs) (res [] 5 qs) (k [] (pc + 2) (open' f ∷ K)) (ends [] 5) qs
+        pick_onward (ltb (length K) lim) (pass b (λ r. run lim C r (pc + 2) (open' f ∷ K) qs) qs) (res [] run_end.Astray qs) (k [] (pc + 2) (open' f ∷ K)) (ends [] run_end.Astray) qs
         (h [] (pc + 2) (open' f ∷ K) qs) refl
     step_leg (END e) pc K qs = refl
     step_leg (CASE c t d) pc K qs = jump_leg (unwind K t d) qs
@@ -48,7 +49,7 @@ module _ (lim : ℕ) (C : List ℕ) where
   -- A run is its first leg and what follows.
   pub run_leg : (b pc : ℕ) (K : List Frame) (qs : List ℕ) → run lim C b pc K qs ≡ onward lim C (leg lim C b pc K) qs
   unfolding leg
-  run_leg zero pc K qs = run_step lim C zero pc K qs ∙ step_leg zero (λ es t J. ends [] 5) (λ es t J u. refl) (fetch C pc) pc K qs
+  run_leg zero pc K qs = run_step lim C zero pc K qs ∙ step_leg zero (λ es t J. ends [] run_end.Astray) (λ es t J u. refl) (fetch C pc) pc K qs
   run_leg (suc b) pc K qs =
       run_step lim C (suc b) pc K qs
       ∙ step_leg (suc b) (λ es t J. before es (leg lim C b t J)) (λ es t J u. ap (pre es) (run_leg b t J u) ∙ before_onward es (leg lim C b t J) u) (fetch C pc) pc K qs
@@ -67,15 +68,15 @@ module _ (lim : ℕ) (C : List ℕ) where
     unfolding asks
     step_plain NONE pc K = refl
     step_plain (LIST n) pc K = h (plain n ∷ []) (pc + 2) K refl
-    step_plain (LEAVE t d) pc K = pick_plain (is_zero (unwind K t d).pc) (ends [] 5) (k [] (unwind K t d).pc (unwind K t d).stack) refl (h [] (unwind K t d).pc (unwind K t d).stack refl)
+    step_plain (LEAVE t d) pc K = pick_plain (is_zero (unwind K t d).pc) (ends [] run_end.Astray) (k [] (unwind K t d).pc (unwind K t d).stack) refl (h [] (unwind K t d).pc (unwind K t d).stack refl)
     step_plain (ASK n y z) pc K = refl
     step_plain (SELECT n c e) pc K = refl
-    step_plain (OPEN f) pc K = pick_plain (ltb (length K) lim) (k [] (pc + 2) (open' f ∷ K)) (ends [] 5) (h [] (pc + 2) (open' f ∷ K) refl) refl
+    step_plain (OPEN f) pc K = pick_plain (ltb (length K) lim) (k [] (pc + 2) (open' f ∷ K)) (ends [] run_end.Astray) (h [] (pc + 2) (open' f ∷ K) refl) refl
     step_plain (END e) pc K = refl
-    step_plain (CASE c t d) pc K = pick_plain (is_zero (unwind K t d).pc) (ends [] 5) (k [] (unwind K t d).pc (unwind K t d).stack) refl (h [] (unwind K t d).pc (unwind K t d).stack refl)
+    step_plain (CASE c t d) pc K = pick_plain (is_zero (unwind K t d).pc) (ends [] run_end.Astray) (k [] (unwind K t d).pc (unwind K t d).stack) refl (h [] (unwind K t d).pc (unwind K t d).stack refl)
 
   pub leg_plain : (b pc : ℕ) (K : List Frame) → asks (listed (leg lim C b pc K)) ≡ 0
   unfolding leg asks
-  leg_plain zero pc K = step_plain (λ es t J. ends [] 5) (λ es t J p. refl) (fetch C pc) pc K
+  leg_plain zero pc K = step_plain (λ es t J. ends [] run_end.Astray) (λ es t J p. refl) (fetch C pc) pc K
   leg_plain (suc b) pc K =
       step_plain (λ es t J. before es (leg lim C b t J)) (λ es t J p. before_plain es (leg lim C b t J) p (leg_plain b t J)) (fetch C pc) pc K

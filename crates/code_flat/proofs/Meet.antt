@@ -3,15 +3,16 @@
 use Rattle.std.specs.Prelude.{ℕ, zero, suc, ◌+◌, ◌-◌, ◌≤◌, ◌<◌, ◌≡◌, refl, Bool, true, false, List, [], ◌∷◌, ◌≢◌, length, ltb}
 use Rattle.std.proofs.Common.{sym, ◌∙◌, ap, ltb-true, arith}
 use Rattle.route_completion.specs.Sem.{plain, asked, pick, is_yes}
+use Rattle.route_completion.specs.Ends as run_end
 use Rattle.code_flat.specs.Machine.{Res, res, pre, Instr, NONE, LIST, LEAVE, ASK, SELECT, OPEN, END, CASE, fetch, Frame, open', Pos, is_zero, unwind, chase, pass, jump, step, run}
 use Rattle.code_flat.proofs.Runs.{inside, run_step}
 use Rattle.code_flat.specs.Machine.{is_none}
-use Rattle.code_flat.specs.Forward.{ask_now, behind, forward, measure, step as stepF, run as runF}
+use Rattle.code_flat.specs.Forward.{gave_up, ask_now, behind, forward, measure, step as stepF, run as runF}
 use Rattle.code_flat.proofs.Steps.{run_step as runStepF}
 
 -- The forward machine has not given up.
 abbrev Kept : Res → Type 0
-Kept r = r.end ≢ 6
+Kept r = r.end ≢ gave_up
 
 module _ (lim : ℕ) (C : List ℕ) (pc : ℕ) (qs : List ℕ)
     (ih : (b' pc' : ℕ) (K' : List Frame) (qs' : List ℕ) → measure C pc' qs' < measure C pc qs → length C - pc' ≤ b' → Kept (runF lim C pc' K' qs')
@@ -34,7 +35,7 @@ module _ (lim : ℕ) (C : List ℕ) (pc : ℕ) (qs : List ℕ)
 
   -- A way back leads to an ASK.
   back_to : (b t : ℕ) (K : List Frame) → Kept (ask_now (behind C t) (runF lim C) K qs)
-      → pick (is_zero t) (res [] 5 qs) (run lim C b t K qs) ≡ ask_now (behind C t) (runF lim C) K qs
+      → pick (is_zero t) (res [] run_end.Astray qs) (run lim C b t K qs) ≡ ask_now (behind C t) (runF lim C) K qs
   back_to b zero K w = absurd (w refl)
   back_to b (suc t) K w = go (fetch C (suc t)) refl w
     where
@@ -59,7 +60,7 @@ module _ (lim : ℕ) (C : List ℕ) (pc : ℕ) (qs : List ℕ)
       back = ask_now (behind C p.pc) (runF lim C) p.stack qs
 
       -- The place is not 0.
-      some : (t : ℕ) (r : Res) → pc < t → pick (is_zero t) (res [] 5 qs) r ≡ r
+      some : (t : ℕ) (r : Res) → pc < t → pick (is_zero t) (res [] run_end.Astray qs) r ≡ r
       some zero r q = absurd (omega arith)
       some (suc t) r q = refl
 
@@ -69,7 +70,7 @@ module _ (lim : ℕ) (C : List ℕ) (pc : ℕ) (qs : List ℕ)
           some p.pc (pass b out qs) q ∙ passes b h l out (runF lim C p.pc p.stack qs) (λ r m. ih r p.pc p.stack qs (omega arith) (omega arith) v)
       go false e v = leads b h
         where
-          leads : (x : ℕ) → length C - pc ≤ x → pick (is_zero p.pc) (res [] 5 qs) (pass x out qs) ≡ back
+          leads : (x : ℕ) → length C - pc ≤ x → pick (is_zero p.pc) (res [] run_end.Astray qs) (pass x out qs) ≡ back
           leads zero m = absurd (omega arith)
           leads (suc x) m = back_to x p.pc p.stack v
 
@@ -95,8 +96,8 @@ module _ (lim : ℕ) (C : List ℕ) (pc : ℕ) (qs : List ℕ)
       l : pc < length C
       l = inside C pc (ap is_none e)
 
-      go : (x : Bool) → Kept (pick x (runF lim C (pc + 2) (open' f ∷ K) qs) (res [] 5 qs))
-          → pick x (pass b (λ r. run lim C r (pc + 2) (open' f ∷ K) qs) qs) (res [] 5 qs) ≡ pick x (runF lim C (pc + 2) (open' f ∷ K) qs) (res [] 5 qs)
+      go : (x : Bool) → Kept (pick x (runF lim C (pc + 2) (open' f ∷ K) qs) (res [] run_end.Astray qs))
+          → pick x (pass b (λ r. run lim C r (pc + 2) (open' f ∷ K) qs) qs) (res [] run_end.Astray qs) ≡ pick x (runF lim C (pc + 2) (open' f ∷ K) qs) (res [] run_end.Astray qs)
       go true v =
           passes b h l (λ r. run lim C r (pc + 2) (open' f ∷ K) qs) (runF lim C (pc + 2) (open' f ∷ K) qs)
           (λ r m. ih r (pc + 2) (open' f ∷ K) qs (omega (arith, l)) (omega (arith, l)) v)
@@ -112,5 +113,5 @@ meets lim (suc f) C b pc K qs m h w =
     ∙ steps lim C pc qs (λ b' pc' K' qs' l h' w'. meets lim f C b' pc' K' qs' (omega arith) h' w') b h K (fetch C pc) refl (λ e. w (ap (λ r. r.end) (runStepF lim C pc K qs) ∙ e))
     ∙ sym (runStepF lim C pc K qs)
 
-pub meet : (lim : ℕ) (C : List ℕ) (qs : List ℕ) → (runF lim C 0 [] qs).end ≢ 6 → run lim C (length C) 0 [] qs ≡ runF lim C 0 [] qs
+pub meet : (lim : ℕ) (C : List ℕ) (qs : List ℕ) → (runF lim C 0 [] qs).end ≢ gave_up → run lim C (length C) 0 [] qs ≡ runF lim C 0 [] qs
 meet lim C qs w = meets lim (suc (measure C 0 qs)) C (length C) 0 [] qs (omega arith) (omega arith) w

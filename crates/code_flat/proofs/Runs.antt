@@ -4,6 +4,7 @@ use Rattle.std.proofs.Common.{sym, ◌∙◌, ap, true≢false, inl, inr, ltb-tr
 use Rattle.std.proofs.Math.ListN.{get_or-eq_default}
 use Rattle.std.proofs.Math.Decide.{dec_lt}
 use Rattle.route_completion.specs.Sem.{plain, asked, pick, is_yes}
+use Rattle.route_completion.specs.Ends as run_end
 use Rattle.code_flat.specs.Machine.{Res, res, pre, Instr, NONE, LIST, LEAVE, ASK, SELECT, OPEN, END, CASE, decode, fetch, Frame, open', Pos, is_zero, unwind, chase, pass, jump, step, runs, measure, run}
 use Rattle.code_flat.specs.Machine.{is_none}
 
@@ -31,7 +32,7 @@ module _ (C : List ℕ) (k k' : ℕ → ℕ → List Frame → List ℕ → Res)
 
   jump_cong : (p : Pos) → jump k b p qs ≡ jump k' b p qs
   jump_cong p =
-      ap (λ r. pick (is_zero p.pc) (res [] 5 qs) r)
+      ap (λ r. pick (is_zero p.pc) (res [] run_end.Astray qs) r)
       (pass_cong (λ r. k r p.pc p.stack qs) (λ r. k' r p.pc p.stack qs) (λ r h. ih r p.pc p.stack qs (omega arith)))
 
 step_cong : (lim : ℕ) (C : List ℕ) (k k' : ℕ → ℕ → List Frame → List ℕ → Res) (b pc : ℕ) (K : List Frame) (qs : List ℕ)
@@ -47,7 +48,7 @@ step_cong lim C k k' b pc K (a ∷ qs) ih (ASK n y z) = ap (pre (asked n ∷ [])
 step_cong lim C k k' b pc K [] ih (SELECT n c e) = refl
 step_cong lim C k k' b pc K (a ∷ qs) ih (SELECT n c e) = ap (pre (asked n ∷ [])) (ih (length C) (chase C pc c e a) K qs (omega arith))
 step_cong lim C k k' b pc K qs ih (OPEN f) =
-    ap (λ r. pick (ltb (length K) lim) r (res [] 5 qs))
+    ap (λ r. pick (ltb (length K) lim) r (res [] run_end.Astray qs))
     (pass_cong C k k' b qs ih (λ r. k r (pc + 2) (open' f ∷ K) qs) (λ r. k' r (pc + 2) (open' f ∷ K) qs) (λ r h. ih r (pc + 2) (open' f ∷ K) qs (omega arith)))
 step_cong lim C k k' b pc K qs ih (END e) = refl
 step_cong lim C k k' b pc K qs ih (CASE c t d) = jump_cong C k k' b qs ih (unwind K t d)
@@ -68,7 +69,7 @@ run_step lim C b pc K qs =
 
 -- Every run ends with 0, 1, 2, 3 or 5.
 abbrev pub Ends : ℕ → Type 0
-Ends e = (e ≤ 3) ⊎ (e ≡ 5)
+Ends e = (e ≤ run_end.Spent) ⊎ (e ≡ run_end.Astray)
 
 module _ (lim : ℕ) (C : List ℕ) (k : ℕ → ℕ → List Frame → List ℕ → Res) (ih : (b pc : ℕ) (K : List Frame) (qs : List ℕ) → Ends (k b pc K qs).end) where
   pass_ends : (b : ℕ) (g : ℕ → Res) (qs : List ℕ) → ((r : ℕ) → Ends (g r).end) → Ends (pass b g qs).end
@@ -81,7 +82,7 @@ module _ (lim : ℕ) (C : List ℕ) (k : ℕ → ℕ → List Frame → List ℕ
 
   jump_ends : (b : ℕ) (p : Pos) (qs : List ℕ) → Ends (jump k b p qs).end
   jump_ends b p qs =
-      pick_ends (is_zero p.pc) (res [] 5 qs) (pass b (λ r. k r p.pc p.stack qs) qs) (inr refl)
+      pick_ends (is_zero p.pc) (res [] run_end.Astray qs) (pass b (λ r. k r p.pc p.stack qs) qs) (inr refl)
       (pass_ends b (λ r. k r p.pc p.stack qs) qs (λ r. ih r p.pc p.stack qs))
 
   step_ends : (i : Instr) (b pc : ℕ) (K : List Frame) (qs : List ℕ) → Ends (step lim C k i b pc K qs).end
@@ -93,11 +94,11 @@ module _ (lim : ℕ) (C : List ℕ) (k : ℕ → ℕ → List Frame → List ℕ
   step_ends (SELECT n c e) b pc K [] = inl (omega arith)
   step_ends (SELECT n c e) b pc K (a ∷ qs) = ih (length C) (chase C pc c e a) K qs
   step_ends (OPEN f) b pc K qs =
-      pick_ends (ltb (length K) lim) (pass b (λ r. k r (pc + 2) (open' f ∷ K) qs) qs) (res [] 5 qs)
+      pick_ends (ltb (length K) lim) (pass b (λ r. k r (pc + 2) (open' f ∷ K) qs) qs) (res [] run_end.Astray qs)
       (pass_ends b (λ r. k r (pc + 2) (open' f ∷ K) qs) qs (λ r. ih r (pc + 2) (open' f ∷ K) qs)) (inr refl)
   step_ends (END e) b pc K qs = go (ltb e 3) refl
     where
-      go : (t : Bool) → ltb e 3 ≡ t → Ends (pick t e 5)
+      go : (t : Bool) → ltb e run_end.Spent ≡ t → Ends (pick t e run_end.Astray)
       go true h = let p : e < 3 = ltb-true e 3 h in inl (omega arith)
       go false h = inr refl
   step_ends (CASE c t d) b pc K qs = jump_ends b (unwind K t d) qs

@@ -2,6 +2,7 @@
 use Rattle.std.specs.Prelude.{ℕ, zero, suc, ◌+◌, ◌<◌, ◌≡◌, refl, Bool, true, false, List, [], ◌∷◌, length, ltb}
 use Rattle.std.proofs.Common.{ap, ltb-true, arith}
 use Rattle.route_completion.specs.Sem.{plain, asked, pick}
+use Rattle.route_completion.specs.Ends as run_end
 use Rattle.code_flat.specs.Code.{Stat, at, ended}
 use Rattle.code_flat.specs.Machine.{Res, res, pre, Instr, NONE, LIST, LEAVE, ASK, SELECT, OPEN, END, CASE, fetch, Frame, open', Pos, unwind}
 use Rattle.code_flat.proofs.Runs.{inside}
@@ -47,7 +48,7 @@ step_cong lim C k k' pc K [] ih (SELECT n m d) h = refl
 step_cong lim C k k' pc K (a ∷ qs) ih (SELECT n m d) h = ap (pre (asked n ∷ [])) (ih _ K qs (omega arith))
 step_cong lim C k k' pc K qs ih (OPEN f) h =
     let p : pc < length C = inside C pc (ap is_none h) in
-    ap (λ r. pick (ltb (length K) lim) r (res [] 5 qs)) (ih (pc + 2) (open' f ∷ K) qs (omega arith))
+    ap (λ r. pick (ltb (length K) lim) r (res [] run_end.Astray qs)) (ih (pc + 2) (open' f ∷ K) qs (omega arith))
 step_cong lim C k k' pc K qs ih (END e) h = refl
 step_cong lim C k k' pc K qs ih (CASE c t d) h = forward_cong C k k' pc qs ih (inside C pc (ap is_none h)) (unwind K t d)
 

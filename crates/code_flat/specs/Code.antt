@@ -3,6 +3,7 @@
 use Rattle.std.specs.Prelude.{ℕ, zero, suc, ◌+◌, List, [], ◌∷◌, ◌++◌}
 use Rattle.route_completion.specs.Tree.{Stmt, Stmts, Cases, leaf, if1, if2, if3, withs, block, label, loop, switch, try_c, try_f, nil, cons, none, case}
 use Rattle.route_completion.specs.Sem.{Comp, normal, breaks, continues, returns, throws, spent, pick, loop_continues, no_break, no_label, default_at, comp_of}
+use Rattle.route_completion.specs.Ends as run_end
 use Rattle.code_flat.specs.Opcodes as op
 
 -- Where control goes: to a place of the code, at a depth of the pending ends; or the run has ended.
@@ -118,17 +119,17 @@ unfoldable mutual
       case_to (link cs (o + 4 + sizes ss)) (first ss (o + 4) δ (next ρ (through cs (o + 4 + sizes ss) δ ρ)))
       ++ (codes ss (o + 4) δ (next ρ (through cs (o + 4 + sizes ss) δ ρ)) ++ code_cases cs (o + 4 + sizes ss) δ ρ)
 
--- Behind a unit's statements stand the four ends, in the order 0, 1, 2, 5. A break or a continue that has no target ends it with 5.
+-- Behind a unit's statements stand the four ends that a completion comes to. A break or a continue that has no target ends it astray.
 abbrev pub top : ℕ → Comp → Stat
 top m normal = at m 0
 top m (breaks l) = at (m + 6) 0
 top m (continues l) = at (m + 6) 0
 top m returns = at (m + 2) 0
 top m throws = at (m + 4) 0
-top m spent = ended 3
+top m spent = ended run_end.Spent
 
 abbrev pub ends : List ℕ
-ends = op.End ∷ 0 ∷ op.End ∷ 1 ∷ op.End ∷ 2 ∷ op.End ∷ 5 ∷ []
+ends = op.End ∷ run_end.FellThrough ∷ op.End ∷ run_end.Returned ∷ op.End ∷ run_end.Thrown ∷ op.End ∷ run_end.Astray ∷ []
 
 unfoldable pub unit : Stmts → List ℕ
 unit ss = codes ss 0 0 (top (sizes ss)) ++ ends

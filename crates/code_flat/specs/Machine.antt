@@ -4,6 +4,7 @@
 use Rattle.std.specs.Prelude.{ℕ, zero, suc, ◌+◌, ◌*◌, Bool, true, false, ◌&&◌, List, [], ◌∷◌, ◌++◌, length, get_or, eqb, ltb}
 use Rattle.route_completion.specs.Sem.{Entry, plain, asked, pick, is_yes, Out}
 use Rattle.route_completion.specs.Route.{Route, route_of, end_of}
+use Rattle.route_completion.specs.Ends as run_end
 use Rattle.code_flat.specs.Opcodes as op
 
 -- What a run lists, its end, and the answers that are left.
@@ -81,35 +82,35 @@ unfoldable pub chase : List ℕ → ℕ → ℕ → ℕ → ℕ → ℕ
 chase C p c e zero = pick (is_case C p c) c e
 chase C p c e (suc a) = pick (is_case C p c) (chase C c (get_or C (suc c) 0) e a) e
 
--- An END can say 0, 1 and 2.
+-- An END can say that the run fell through, returned or has thrown.
 abbrev pub end_as : ℕ → ℕ
-end_as e = pick (ltb e 3) e 5
+end_as e = pick (ltb e run_end.Spent) e run_end.Astray
 
 -- One more instruction passes without an answer, if one of b is left.
 abbrev pub pass : ℕ → (ℕ → Res) → List ℕ → Res
-pass zero k qs = res [] 5 qs
+pass zero k qs = res [] run_end.Astray qs
 pass (suc b) k qs = k b
 
 -- Control goes on at p. The place 0 is what is pending where nothing is.
 abbrev pub jump : (ℕ → ℕ → List Frame → List ℕ → Res) → ℕ → Pos → List ℕ → Res
-jump k b p qs = pick (is_zero p.pc) (res [] 5 qs) (pass b (λ r. k r p.pc p.stack qs) qs)
+jump k b p qs = pick (is_zero p.pc) (res [] run_end.Astray qs) (pass b (λ r. k r p.pc p.stack qs) qs)
 
 -- One instruction; k goes on. At most lim ends are pending, and b instructions more may pass before the next answer.
 abbrev pub step : ℕ → List ℕ → (ℕ → ℕ → List Frame → List ℕ → Res) → Instr → ℕ → ℕ → List Frame → List ℕ → Res
-step lim C k NONE b pc K qs = res [] 5 qs
+step lim C k NONE b pc K qs = res [] run_end.Astray qs
 step lim C k (LIST n) b pc K qs = pass b (λ r. pre (plain n ∷ []) (k r (pc + 2) K qs)) qs
 step lim C k (LEAVE t d) b pc K qs = jump k b (unwind K t d) qs
-step lim C k (ASK n y z) b pc K [] = res [] 3 []
+step lim C k (ASK n y z) b pc K [] = res [] run_end.Spent []
 step lim C k (ASK n y z) b pc K (a ∷ qs) = pre (asked n ∷ []) (k (length C) (pick (is_yes a) y z) K qs)
-step lim C k (SELECT n c e) b pc K [] = res [] 3 []
+step lim C k (SELECT n c e) b pc K [] = res [] run_end.Spent []
 step lim C k (SELECT n c e) b pc K (a ∷ qs) = pre (asked n ∷ []) (k (length C) (chase C pc c e a) K qs)
-step lim C k (OPEN f) b pc K qs = pick (ltb (length K) lim) (pass b (λ r. k r (pc + 2) (open' f ∷ K) qs) qs) (res [] 5 qs)
+step lim C k (OPEN f) b pc K qs = pick (ltb (length K) lim) (pass b (λ r. k r (pc + 2) (open' f ∷ K) qs) qs) (res [] run_end.Astray qs)
 step lim C k (END e) b pc K qs = res [] (end_as e) qs
 step lim C k (CASE c t d) b pc K qs = jump k b (unwind K t d) qs
 
 -- The second number bounds the steps. It is never met (Runs.run_step).
 unfoldable pub runs : ℕ → ℕ → List ℕ → ℕ → ℕ → List Frame → List ℕ → Res
-runs lim zero C b pc K qs = res [] 5 qs
+runs lim zero C b pc K qs = res [] run_end.Astray qs
 runs lim (suc f) C b pc K qs = step lim C (runs lim f C) (fetch C pc) b pc K qs
 
 -- What is left of a run at most, in steps.

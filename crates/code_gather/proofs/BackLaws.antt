@@ -111,11 +111,6 @@ below_all p (x ∷ xs) = go (ltb x p) (below_all p xs)
     go true h = omega arith
     go false h = omega arith
 
-pub below_none : (xs : List ℕ) → below 0 xs ≡ 0
-unfolding below
-below_none [] = refl
-below_none (x ∷ xs) = let e : bit (ltb x 0) ≡ 0 = ap bit (le-ltb x 0 (omega arith)) in omega (arith, below_none xs)
-
 -- What one more instruction adds.
 module _ (C : List ℕ) (split : ℕ) where
   elem_with : (x : ℕ) → dropped C split x ≡ true → (a : Option Aim) (xs : List ℕ) → elem x (with_entry C split a xs) ≡ (comes x a || elem x xs)

@@ -15,13 +15,14 @@ ghost use Rattle.code_layout.specs.Words.{default_from, words_at};
 ghost use Rattle.code_targets.specs.Targets.{target, depth_at};
 ghost use Rattle.code_widths.specs.Widths.{counted};
 ghost use Rattle.code_contexts.specs.Contexts.{Ready};
-ghost use Rattle.code_branch.specs.Branch.{stat_of, Laid};
+ghost use Rattle.code_branch.specs.Branch.{stat_of};
 ghost use Rattle.code_tree.specs.First.{first_of};
 
 use code_branch::{Layout, Target, leaf_target, normal_target};
 use code_machine::opcodes;
 use code_shapes::{is_try, next_part, number_by, shape_of, up_of};
 use code_tree::Shape;
+use table_records::nodes::Nodes;
 use table_records::{NodeId, kinds, roles};
 
 // How many words stand before the jump of an If, of a Switch; before the ASK and the jump of a loop.
@@ -73,33 +74,31 @@ fn asking(code: u32, n: NodeId, x: u32, y: u32, t: Target) -> [u32; 10]
 // Where a node that holds a list goes first: into its first part, which begins behind its own words; on, if it has none.
 #[tactic(auto, using(crate::proofs::PartLaws::ifz_none, crate::proofs::PartLaws::ifz_some, crate::proofs::PartLaws::number_fits, crate::proofs::PartLaws::head_none, crate::proofs::PartLaws::head_has, code_branch::proofs::JumpLaws::depth_is, code_branch::proofs::JumpLaws::end_small, code_branch::proofs::JumpLaws::offset_is))]
 fn entry_of(laid: &Layout, n: NodeId, own: u32) -> Target
-    requires arrays { Laid laid.now }
-    requires b_lt_n { laid.now.body.0 < n.0 }
-    requires n_bound { n.0 < count laid.now.nodes.now }
-    requires n_value { in_unit laid.now.nodes.now laid.now.body.0 n.0 ≡ true }
-    requires n_value_2 { is_try (shape_at laid.now.nodes.now n.0) ≡ false }
-    requires own_value { own ≡ number_by (shape_at laid.now.nodes.now n.0) }
-    ensures { stat_of result ≡ ifz (head0 (order laid.now.nodes.now n.0)) (target laid.now.nodes.now laid.now.names.now laid.now.body.0 n.0 normal) (at (offset_at laid.now.nodes.now laid.now.names.now laid.now.body.0 n.0 + own) (depth_at laid.now.nodes.now laid.now.names.now laid.now.body.0 n.0)) }
+    requires b_lt_n { laid.now.body < n.0 }
+    requires n_bound { n.0 < count laid.now.nodes }
+    requires n_value { in_unit laid.now.nodes laid.now.body n.0 ≡ true }
+    requires n_value_2 { is_try (shape_at laid.now.nodes n.0) ≡ false }
+    requires own_value { own ≡ number_by (shape_at laid.now.nodes n.0) }
+    ensures { stat_of result ≡ ifz (head0 (order laid.now.nodes n.0)) (target laid.now.nodes laid.now.names laid.now.body n.0 normal) (at (offset_at laid.now.nodes laid.now.names laid.now.body n.0 + own) (depth_at laid.now.nodes laid.now.names laid.now.body n.0)) }
 {
     if laid.widths[n.0 as usize] == own {
         return normal_target(laid, n);
     }
     Target {
         place: laid.offsets[n.0 as usize] + own,
-        depth: laid.levels[n.0 as usize] - 1,
+        depth: u32::from(laid.levels[n.0 as usize]) - 1,
     }
 }
 
 // Whether no part of p stands behind its part n: their words end at the same place.
 #[tactic(auto, using(crate::proofs::PartLaws::holder_small, crate::proofs::PartLaws::last_is_lem, code_branch::proofs::JumpLaws::end_small))]
 fn is_last(laid: &Layout, p: NodeId, n: NodeId) -> bool
-    requires arrays { Laid laid.now }
-    requires b_lt_n { laid.now.body.0 < n.0 }
-    requires n_bound { n.0 < count laid.now.nodes.now }
-    requires n_value { in_unit laid.now.nodes.now laid.now.body.0 n.0 ≡ true }
-    requires p_value { p.0 ≡ up_of laid.now.nodes.now n.0 }
-    requires p_value_2 { is_try (shape_at laid.now.nodes.now p.0) ≡ false }
-    ensures { result ≡ eqb (sum (counted laid.now.nodes.now laid.now.body.0) (parts laid.now.nodes.now p.0 (n.0 + 1))) 0 }
+    requires b_lt_n { laid.now.body < n.0 }
+    requires n_bound { n.0 < count laid.now.nodes }
+    requires n_value { in_unit laid.now.nodes laid.now.body n.0 ≡ true }
+    requires p_value { p.0 ≡ up_of laid.now.nodes n.0 }
+    requires p_value_2 { is_try (shape_at laid.now.nodes p.0) ≡ false }
+    ensures { result ≡ eqb (sum (counted laid.now.nodes laid.now.body) (parts laid.now.nodes p.0 (n.0 + 1))) 0 }
 {
     laid.offsets[n.0 as usize] + laid.widths[n.0 as usize]
         == laid.offsets[p.0 as usize] + laid.widths[p.0 as usize]
@@ -107,12 +106,11 @@ fn is_last(laid: &Layout, p: NodeId, n: NodeId) -> bool
 
 // A statement without parts is listed.
 fn leaf_words(laid: &Layout, n: NodeId) -> [u32; 10]
-    requires arrays { Laid laid.now }
-    requires b_lt_n { laid.now.body.0 < n.0 }
-    requires n_bound { n.0 < count laid.now.nodes.now }
-    requires n_value { in_unit laid.now.nodes.now laid.now.body.0 n.0 ≡ true }
-    requires n_value_2 { shape_at laid.now.nodes.now n.0 ≡ Leaf }
-    ensures { Has result 0 (words_at laid.now.nodes.now laid.now.names.now laid.now.body.0 n.0) }
+    requires b_lt_n { laid.now.body < n.0 }
+    requires n_bound { n.0 < count laid.now.nodes }
+    requires n_value { in_unit laid.now.nodes laid.now.body n.0 ≡ true }
+    requires n_value_2 { shape_at laid.now.nodes n.0 ≡ Leaf }
+    ensures { Has result 0 (words_at laid.now.nodes laid.now.names laid.now.body n.0) }
 {
     let t = leaf_target(laid, n);
     listing(n, t)
@@ -120,12 +118,11 @@ fn leaf_words(laid: &Layout, n: NodeId) -> [u32; 10]
 
 // A class is listed, and then its static blocks run.
 fn class_words(laid: &Layout, n: NodeId) -> [u32; 10]
-    requires arrays { Laid laid.now }
-    requires b_lt_n { laid.now.body.0 < n.0 }
-    requires n_bound { n.0 < count laid.now.nodes.now }
-    requires n_value { in_unit laid.now.nodes.now laid.now.body.0 n.0 ≡ true }
-    requires n_value_2 { shape_at laid.now.nodes.now n.0 ≡ Class }
-    ensures { Has result 0 (words_at laid.now.nodes.now laid.now.names.now laid.now.body.0 n.0) }
+    requires b_lt_n { laid.now.body < n.0 }
+    requires n_bound { n.0 < count laid.now.nodes }
+    requires n_value { in_unit laid.now.nodes laid.now.body n.0 ≡ true }
+    requires n_value_2 { shape_at laid.now.nodes n.0 ≡ Class }
+    ensures { Has result 0 (words_at laid.now.nodes laid.now.names laid.now.body n.0) }
 {
     let own = number_by(Shape::Class);
     let t = entry_of(laid, n, own);
@@ -135,12 +132,11 @@ fn class_words(laid: &Layout, n: NodeId) -> [u32; 10]
 // An If without an alternate goes to its own jump on no. An alternate may stand before the held statement.
 #[tactic(auto, using(code_branch::proofs::JumpLaws::end_small))]
 fn if_words(laid: &Layout, n: NodeId) -> [u32; 10]
-    requires arrays { Laid laid.now }
-    requires b_lt_n { laid.now.body.0 < n.0 }
-    requires n_bound { n.0 < count laid.now.nodes.now }
-    requires n_value { in_unit laid.now.nodes.now laid.now.body.0 n.0 ≡ true }
-    requires n_value_2 { shape_at laid.now.nodes.now n.0 ≡ If }
-    ensures { Has result 0 (words_at laid.now.nodes.now laid.now.names.now laid.now.body.0 n.0) }
+    requires b_lt_n { laid.now.body < n.0 }
+    requires n_bound { n.0 < count laid.now.nodes }
+    requires n_value { in_unit laid.now.nodes laid.now.body n.0 ≡ true }
+    requires n_value_2 { shape_at laid.now.nodes n.0 ≡ If }
+    ensures { Has result 0 (words_at laid.now.nodes laid.now.names laid.now.body n.0) }
 {
     let t = normal_target(laid, n);
     let o = laid.offsets[n.0 as usize];
@@ -160,20 +156,19 @@ fn if_words(laid: &Layout, n: NodeId) -> [u32; 10]
 
 #[tactic(auto, using(crate::proofs::WordsLaws::with_has))]
 fn with_words(laid: &Layout, n: NodeId) -> [u32; 10]
-    requires b_lt_n { laid.now.body.0 < n.0 }
-    requires n_value { shape_at laid.now.nodes.now n.0 ≡ With }
-    ensures { Has result 0 (words_at laid.now.nodes.now laid.now.names.now laid.now.body.0 n.0) }
+    requires b_lt_n { laid.now.body < n.0 }
+    requires n_value { shape_at laid.now.nodes n.0 ≡ With }
+    ensures { Has result 0 (words_at laid.now.nodes laid.now.names laid.now.body n.0) }
 {
     [opcodes::LIST, n.0, 0, 0, 0, 0, 0, 0, 0, 0]
 }
 
 fn block_words(laid: &Layout, n: NodeId) -> [u32; 10]
-    requires arrays { Laid laid.now }
-    requires b_lt_n { laid.now.body.0 < n.0 }
-    requires n_bound { n.0 < count laid.now.nodes.now }
-    requires n_value { in_unit laid.now.nodes.now laid.now.body.0 n.0 ≡ true }
-    requires n_value_2 { shape_at laid.now.nodes.now n.0 ≡ Block }
-    ensures { Has result 0 (words_at laid.now.nodes.now laid.now.names.now laid.now.body.0 n.0) }
+    requires b_lt_n { laid.now.body < n.0 }
+    requires n_bound { n.0 < count laid.now.nodes }
+    requires n_value { in_unit laid.now.nodes laid.now.body n.0 ≡ true }
+    requires n_value_2 { shape_at laid.now.nodes n.0 ≡ Block }
+    ensures { Has result 0 (words_at laid.now.nodes laid.now.names laid.now.body n.0) }
 {
     let own = number_by(Shape::Block);
     let t = entry_of(laid, n, own);
@@ -181,17 +176,17 @@ fn block_words(laid: &Layout, n: NodeId) -> [u32; 10]
 }
 
 // A loop asks before its body or behind it; one without a test goes on whatever the answer.
+#[tactic(auto, using(code_branch::proofs::JumpLaws::end_small))]
 fn loop_words(laid: &Layout, n: NodeId) -> [u32; 10]
-    requires arrays { Laid laid.now }
-    requires b_lt_n { laid.now.body.0 < n.0 }
-    requires n_bound { n.0 < count laid.now.nodes.now }
-    requires n_value { in_unit laid.now.nodes.now laid.now.body.0 n.0 ≡ true }
-    requires n_value_2 { shape_at laid.now.nodes.now n.0 ≡ Loop }
-    ensures { Has result 0 (words_at laid.now.nodes.now laid.now.names.now laid.now.body.0 n.0) }
+    requires b_lt_n { laid.now.body < n.0 }
+    requires n_bound { n.0 < count laid.now.nodes }
+    requires n_value { in_unit laid.now.nodes laid.now.body n.0 ≡ true }
+    requires n_value_2 { shape_at laid.now.nodes n.0 ≡ Loop }
+    ensures { Has result 0 (words_at laid.now.nodes laid.now.names laid.now.body n.0) }
 {
     let t = normal_target(laid, n);
     let o = laid.offsets[n.0 as usize];
-    let depth = laid.levels[n.0 as usize] - 1;
+    let depth = u32::from(laid.levels[n.0 as usize]) - 1;
     let first = if code_shapes::is_before(laid.nodes, n) {
         o + LEAVE_WORDS
     } else {
@@ -218,29 +213,28 @@ fn loop_words(laid: &Layout, n: NodeId) -> [u32; 10]
 
 // The case of the Switch n behind its case c. Behind the last, no node is read.
 fn next_case(laid: &Layout, n: NodeId, c: NodeId) -> Option<NodeId>
-    requires arrays { Laid laid.now }
-    requires b_lt_n { laid.now.body.0 < n.0 }
-    requires n_bound { n.0 < count laid.now.nodes.now }
-    requires n_value { in_unit laid.now.nodes.now laid.now.body.0 n.0 ≡ true }
-    requires n_value_2 { shape_at laid.now.nodes.now n.0 ≡ Switch }
-    requires part { Part laid.now.nodes.now n.0 c.0 }
-    ensures { result ≡ first_of (parts laid.now.nodes.now n.0 (c.0 + 1)) }
+    requires b_lt_n { laid.now.body < n.0 }
+    requires n_bound { n.0 < count laid.now.nodes }
+    requires n_value { in_unit laid.now.nodes laid.now.body n.0 ≡ true }
+    requires n_value_2 { shape_at laid.now.nodes n.0 ≡ Switch }
+    requires part { Part laid.now.nodes n.0 c.0 }
+    ensures { result ≡ first_of (parts laid.now.nodes n.0 (c.0 + 1)) }
 {
+    let nodes = laid.nodes;
     if is_last(laid, n, c) {
         return None;
     }
-    next_part(laid.nodes, n, c.0 + 1)
+    next_part(nodes, n, c.0 + 1)
 }
 
 // Where the `default` of the Switch n begins; its own jump, if it has none.
 #[tactic(auto, using(crate::proofs::PartLaws::default_of, crate::proofs::PartLaws::default_yes, crate::proofs::PartLaws::default_no, crate::proofs::PartLaws::default_end, crate::proofs::PartLaws::default_is_lem, crate::proofs::PartLaws::case_in, crate::proofs::PartLaws::rest_of, crate::proofs::PartLaws::IsFound, crate::proofs::PartLaws::left_of, crate::proofs::PartLaws::rest_is, crate::proofs::PartLaws::found_is, crate::proofs::PartLaws::left_less, code_branch::proofs::JumpLaws::end_small, code_branch::proofs::JumpLaws::offset_is))]
 fn default_at(laid: &Layout, n: NodeId) -> u32
-    requires arrays { Laid laid.now }
-    requires b_lt_n { laid.now.body.0 < n.0 }
-    requires n_bound { n.0 < count laid.now.nodes.now }
-    requires n_value { in_unit laid.now.nodes.now laid.now.body.0 n.0 ≡ true }
-    requires n_value_2 { shape_at laid.now.nodes.now n.0 ≡ Switch }
-    ensures { result ≡ default_from laid.now.nodes.now laid.now.body.0 (order laid.now.nodes.now n.0) (offset_at laid.now.nodes.now laid.now.names.now laid.now.body.0 n.0 + 7) (offset_at laid.now.nodes.now laid.now.names.now laid.now.body.0 n.0 + 4) }
+    requires b_lt_n { laid.now.body < n.0 }
+    requires n_bound { n.0 < count laid.now.nodes }
+    requires n_value { in_unit laid.now.nodes laid.now.body n.0 ≡ true }
+    requires n_value_2 { shape_at laid.now.nodes n.0 ≡ Switch }
+    ensures { result ≡ default_from laid.now.nodes laid.now.body (order laid.now.nodes n.0) (offset_at laid.now.nodes laid.now.names laid.now.body n.0 + 7) (offset_at laid.now.nodes laid.now.names laid.now.body n.0 + 4) }
 {
     let mut next = next_part(laid.nodes, n, n.0 + 1);
     while let Some(c) = next {
@@ -255,12 +249,11 @@ fn default_at(laid: &Layout, n: NodeId) -> u32
 // A Switch without cases goes to its own jump.
 #[tactic(auto, using(code_branch::proofs::JumpLaws::end_small))]
 fn switch_words(laid: &Layout, n: NodeId) -> [u32; 10]
-    requires arrays { Laid laid.now }
-    requires b_lt_n { laid.now.body.0 < n.0 }
-    requires n_bound { n.0 < count laid.now.nodes.now }
-    requires n_value { in_unit laid.now.nodes.now laid.now.body.0 n.0 ≡ true }
-    requires n_value_2 { shape_at laid.now.nodes.now n.0 ≡ Switch }
-    ensures { Has result 0 (words_at laid.now.nodes.now laid.now.names.now laid.now.body.0 n.0) }
+    requires b_lt_n { laid.now.body < n.0 }
+    requires n_bound { n.0 < count laid.now.nodes }
+    requires n_value { in_unit laid.now.nodes laid.now.body n.0 ≡ true }
+    requires n_value_2 { shape_at laid.now.nodes n.0 ≡ Switch }
+    ensures { Has result 0 (words_at laid.now.nodes laid.now.names laid.now.body n.0) }
 {
     let t = normal_target(laid, n);
     let o = laid.offsets[n.0 as usize];
@@ -272,14 +265,13 @@ fn switch_words(laid: &Layout, n: NodeId) -> [u32; 10]
 }
 
 // A case names the next one, and jumps into its statements.
-#[tactic(auto, using(code_branch::proofs::JumpLaws::end_small))]
+#[tactic(auto, using(crate::proofs::PartLaws::case_holder, code_branch::proofs::JumpLaws::end_small))]
 fn case_words(laid: &Layout, n: NodeId) -> [u32; 10]
-    requires arrays { Laid laid.now }
-    requires b_lt_n { laid.now.body.0 < n.0 }
-    requires n_bound { n.0 < count laid.now.nodes.now }
-    requires n_value { in_unit laid.now.nodes.now laid.now.body.0 n.0 ≡ true }
-    requires n_value_2 { shape_at laid.now.nodes.now n.0 ≡ Case }
-    ensures { Has result 0 (words_at laid.now.nodes.now laid.now.names.now laid.now.body.0 n.0) }
+    requires b_lt_n { laid.now.body < n.0 }
+    requires n_bound { n.0 < count laid.now.nodes }
+    requires n_value { in_unit laid.now.nodes laid.now.body n.0 ≡ true }
+    requires n_value_2 { shape_at laid.now.nodes n.0 ≡ Case }
+    ensures { Has result 0 (words_at laid.now.nodes laid.now.names laid.now.body n.0) }
 {
     let p = up_of(laid.nodes, n);
     let own = number_by(Shape::Case);
@@ -292,13 +284,13 @@ fn case_words(laid: &Layout, n: NodeId) -> [u32; 10]
 }
 
 // A Try with a finally opens it.
+#[tactic(auto, using(crate::proofs::PartLaws::finally_none, crate::proofs::WordsLaws::catch_has))]
 fn try_words(laid: &Layout, n: NodeId) -> [u32; 10]
-    requires arrays { Laid laid.now }
-    requires b_lt_n { laid.now.body.0 < n.0 }
-    requires n_bound { n.0 < count laid.now.nodes.now }
-    requires n_value { in_unit laid.now.nodes.now laid.now.body.0 n.0 ≡ true }
-    requires n_value_2 { shape_at laid.now.nodes.now n.0 ≡ Try }
-    ensures { Has result 0 (words_at laid.now.nodes.now laid.now.names.now laid.now.body.0 n.0) }
+    requires b_lt_n { laid.now.body < n.0 }
+    requires n_bound { n.0 < count laid.now.nodes }
+    requires n_value { in_unit laid.now.nodes laid.now.body n.0 ≡ true }
+    requires n_value_2 { shape_at laid.now.nodes n.0 ≡ Try }
+    ensures { Has result 0 (words_at laid.now.nodes laid.now.names laid.now.body n.0) }
 {
     match table_children::first_child(
         laid.nodes,
@@ -324,11 +316,10 @@ fn try_words(laid: &Layout, n: NodeId) -> [u32; 10]
 // The words of n.
 #[tactic(auto, using(crate::proofs::WordsLaws::label_has, crate::proofs::WordsLaws::clause_has))]
 pub fn words_of(laid: &Layout, n: NodeId) -> [u32; 10]
-    requires arrays { Laid laid.now }
-    requires b_lt_n { laid.now.body.0 < n.0 }
-    requires n_bound { n.0 < count laid.now.nodes.now }
-    requires n_value { in_unit laid.now.nodes.now laid.now.body.0 n.0 ≡ true }
-    ensures { Has result 0 (words_at laid.now.nodes.now laid.now.names.now laid.now.body.0 n.0) }
+    requires b_lt_n { laid.now.body < n.0 }
+    requires n_bound { n.0 < count laid.now.nodes }
+    requires n_value { in_unit laid.now.nodes laid.now.body n.0 ≡ true }
+    ensures { Has result 0 (words_at laid.now.nodes laid.now.names laid.now.body n.0) }
 {
     match shape_of(laid.nodes, n) {
         Shape::Leaf => leaf_words(laid, n),
@@ -346,7 +337,7 @@ pub fn words_of(laid: &Layout, n: NodeId) -> [u32; 10]
 
 // How many words n has.
 #[tactic(auto, using(code_layout::proofs::LayoutLaws::own_width_on, code_contexts::proofs::PlacesLaws::try_is))]
-pub fn own_of(nodes: &[u32], names: &[u8], b: NodeId, n: NodeId) -> u32
+pub fn own_of(nodes: &Nodes, names: &[u8], b: NodeId, n: NodeId) -> u32
     requires ready { Ready nodes.now names.now b.0 }
     requires b_lt_n { b.0 < n.0 }
     requires n_bound { n.0 < count nodes.now }

@@ -1,6 +1,6 @@
 -- What the kind of a node says of its shape; a Labeled by its name's number; what a Labeled labels is what its part labels, or its part.
 use Rattle.table_records.specs.declared.NodeId.{NodeId}
-use Rattle.std.specs.Prelude.{ℕ, ◌+◌, ◌<◌, ◌≡◌, List, [], ◌∷◌, Bool, cond, eqb, Option, Some, None}
+use Rattle.std.specs.Prelude.{ℕ, ◌+◌, ◌<◌, ◌≡◌, List, [], ◌∷◌, Bool, cond, eqb, Option, Some, None, is_some}
 use Rattle.std.proofs.Math.Path.{refl, ap, sym}
 use Rattle.std.proofs.Common.{subst, ◌∙◌, inl, inr}
 use Rattle.std.proofs.Math.Bool.{true, false}
@@ -11,10 +11,9 @@ use Rattle.table_records.specs.Table.{kind_of, parent_of, role_of, count}
 use Rattle.table_records.specs.Kinds as k
 use Rattle.table_records.specs.Roles as role
 use Rattle.table_names.specs.Name.{same_name}
-use Rattle.table_children.specs.Children.{label_of, held_of}
+use Rattle.table_children.specs.Children.{label_of, held_of, when_found}
 use Rattle.table_children.proofs.ChildrenLaws.{found_child}
-use Rattle.table_ancestry.specs.Ancestry.{is_at}
-use Rattle.check_jumps.specs.Jumps.{is_iteration, when_found, same_label, labeled_item}
+use Rattle.check_jumps.specs.Jumps.{is_iteration, same_label, labeled_item}
 use Rattle.check_jumps.proofs.JumpsLaws.{item_here, item_none, item_down}
 use Rattle.refusal_standing.specs.Standing.{Placed}
 use Rattle.code_tree.specs.Labels.{name_id, id_at}
@@ -70,15 +69,15 @@ up_parent ns j n = ap (λ x. cond x (entered_by ns (parent_of ns (parent_of ns j
 
 -- A Labeled has the name of the label l just where their numbers are the same.
 module _ (ns names : List ℕ) (a : ℕ) where
-  pub label_test : (l : ℕ) → l < count ns → kind_of ns a ≡ k.Labeled → eqb (name_id ns names l) (id_at ns names a) ≡ is_at (same_label ns names l a)
+  pub label_test : (l : ℕ) → l < count ns → kind_of ns a ≡ k.Labeled → eqb (name_id ns names l) (id_at ns names a) ≡ is_some (same_label ns names l a)
   unfolding same_label
   label_test l h e = id_test ns names l h a (label_of ns a) refl ∙ rw (eq-eqb (kind_of ns a) k.Labeled e) (go (label_of ns a))
     where
-      by : (m : ℕ) (x : Bool) → x ≡ is_at (cond x (Some (record { 0 = m })) None)
+      by : (m : ℕ) (x : Bool) → x ≡ is_some {T = NodeId} (cond x (Some (record { 0 = m })) None)
       by m true = refl
       by m false = refl
 
-      go : (x : Option NodeId) → named_as ns names l x ≡ is_at (when_found x (λ m. cond (same_name ns names m l) (Some (record { 0 = m })) None) None)
+      go : (x : Option NodeId) → named_as ns names l x ≡ is_some {T = NodeId} (when_found x (λ m. cond (same_name ns names m l) (Some (record { 0 = m })) None) None)
       go (Some m) = by m.0 (same_name ns names m.0 l)
       go None = refl
 

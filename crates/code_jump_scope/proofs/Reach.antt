@@ -1,6 +1,6 @@
 -- A break or a continue that has a target has one in the scope at its node.
 use Rattle.table_records.specs.declared.NodeId.{NodeId}
-use Rattle.std.specs.Prelude.{ℕ, ◌+◌, ◌<◌, ◌≡◌, ◌⊎◌, List, Bool, ◌||◌, eqb, Option, Some, None}
+use Rattle.std.specs.Prelude.{ℕ, ◌+◌, ◌<◌, ◌≡◌, ◌⊎◌, List, Bool, ◌||◌, eqb, Option, Some, None, is_some}
 use Rattle.std.proofs.Math.Path.{refl, ap}
 use Rattle.std.proofs.Common.{sym, ◌∙◌, inl, inr, eq-eqb, eqb-true}
 use Rattle.std.proofs.Math.Logic.{⊎_elim}
@@ -11,11 +11,10 @@ use Rattle.base_common.proofs.Bools.{never, either}
 use Rattle.table_records.specs.Table.{kind_of, parent_of, count}
 use Rattle.table_records.specs.Kinds as k
 use Rattle.table_records.specs.Roles as role
-use Rattle.table_children.specs.Children.{label_of}
+use Rattle.table_children.specs.Children.{label_of, when_found}
 use Rattle.table_children.proofs.ChildrenLaws.{found_child}
-use Rattle.table_ancestry.specs.Ancestry.{is_at}
 use Rattle.table_ancestry.proofs.AncestryLaws.{ancestors_up}
-use Rattle.check_jumps.specs.Jumps.{is_unit, is_iteration, is_breakable, when_found, same_label, labeled_item}
+use Rattle.check_jumps.specs.Jumps.{is_unit, is_iteration, is_breakable, same_label, labeled_item}
 use Rattle.route_completion.specs.Tree.{near, named}
 use Rattle.route_completion.specs.Sem.{Comp, normal, breaks, continues, returns, throws, pick, elem, no_break}
 use Rattle.route_completion.specs.Route.{top_scope, loop_scope, label_scope}
@@ -170,8 +169,8 @@ module _ (ns names : List ℕ) (b : ℕ) (g : Good ns) (pl : Placed ns) (root : 
     at_body q = no_same ns names b m (λ z. omega arith)
 
     -- A Labeled of that name, and one of another.
-    same_id : (p : ℕ) → kind_of ns p ≡ k.Labeled → (x : Option NodeId) → same_label ns names m p ≡ x → eqb id (id_at ns names p) ≡ is_at x
-    same_id p e x q = label_test ns names p m lm e ∙ ap is_at q
+    same_id : (p : ℕ) → kind_of ns p ≡ k.Labeled → (x : Option NodeId) → same_label ns names m p ≡ x → eqb id (id_at ns names p) ≡ is_some x
+    same_id p e x q = label_test ns names p m lm e ∙ ap is_some q
 
     leave_met : (p : ℕ) → In p → met (named_break ns names m) p ≡ true → below p (breaks (named id)) ≡ true
     unfolding named_break
@@ -191,7 +190,7 @@ module _ (ns names : List ℕ) (b : ℕ) (g : Good ns) (pl : Placed ns) (root : 
         go p l up (inl y) (Some j) q e =
             ap (λ (s : Shape). (part_scope ns names b s p (at p)).scope (breaks (named id))) (shape_label (kind_of ns p) y)
             ∙ ap (λ (x : Bool). (at p).scope (pick x normal (breaks (named id)))) (same_id p y (Some j) q) ∙ at_normal p l
-        go p l up (inr y) (Some j) q e = never (sym (ap is_at q) ∙ ap is_at (no_same ns names p m y))
+        go p l up (inr y) (Some j) q e = never (sym (ap is_some q) ∙ ap is_some (no_same ns names p m y))
         go p l up d None q e =
             kept ns names b p (at p) (breaks (named id)) (shape_at ns p) (up e) (λ s. leaves p l (up e) (eqb id (id_at ns names p))) (up e) (up e)
 
@@ -245,7 +244,7 @@ module _ (ns names : List ℕ) (b : ℕ) (g : Good ns) (pl : Placed ns) (root : 
                   ∙ or_left_lem (eqb id (id_at ns names p)) (elem id (at p).labels) (same_id p y (Some j) q),
               e,
             )
-        go p h l up (inr y) (Some j) q e = never (sym (ap is_at q) ∙ ap is_at (no_same ns names p m y))
+        go p h l up (inr y) (Some j) q e = never (sym (ap is_some q) ∙ ap is_some (no_same ns names p m y))
         go p h l up (inl y) None q e = on_label p h l y (same_id p y None q) (up e)
         go p h l up (inr y) None q e = on_other p h l y (up e)
 

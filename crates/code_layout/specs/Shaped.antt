@@ -69,6 +69,7 @@ pub record Good (ns : List ℕ) : Type 0 where
   pub shaped : Shaped ns
 
 -- .. and of the node that holds the unit's statements.
+-- In the invariants of `Layout` (code_branch) and of `Given` (route_walk). A `requires` of code_widths alone, whose functions run before there is a `Layout`.
 pub record Held (ns names : List ℕ) (b : ℕ) : Type 0 where
   pub good : Good ns
   pub named : Named ns names

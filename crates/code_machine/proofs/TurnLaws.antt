@@ -8,6 +8,7 @@ use Rattle.std.proofs.Math.ListN.{get_or}
 use native.Mathlib.Omega.{arith}
 use Rattle.route_completion.specs.Sem.{plain, asked, pick, is_yes}
 use Rattle.route_completion.specs.Route.{asks}
+use Rattle.route_completion.specs.Ends as run_end
 use Rattle.code_flat.specs.Opcodes as op
 use Rattle.code_flat.specs.Machine.{room, res, pre, Instr, ASK, SELECT, decode, fetch, open', pos, is_case, chase, measure}
 use Rattle.code_flat.proofs.Runs.{past}
@@ -60,7 +61,7 @@ passed (suc b) k r h =
     let e : suc b - 1 ≡ b = omega arith in
     ap k (sym e)
 
-stuck : (b : ℕ) (k : ℕ → Stop) (r : List ℕ) → b ≡ 0 → pass b k r ≡ over (res [] 5 r)
+stuck : (b : ℕ) (k : ℕ → Stop) (r : List ℕ) → b ≡ 0 → pass b k r ≡ over (res [] run_end.Astray r)
 stuck zero k r h = refl
 stuck (suc b) k r h = absurd (omega arith)
 
@@ -206,8 +207,8 @@ module _ (C qs ends : List ℕ) (p : Place) (i : Instr) where
   step_on m r = step room C (stops room C (suc m)) (stops room C m (length C)) i p.budget p.pc (stack ends p.pending) r
 
   module _ (here : (m : ℕ) → up_to C qs ends p (suc m) ≡ step_on m (drop p.at qs)) where
-    spent_by : length qs ≤ p.at → ((m : ℕ) → step_on m [] ≡ over (res [] 3 [])) → Turned C qs ends ends p (Over 3)
-    spent_by h q m = here m ∙ ap (step_on m) (no_more qs p.at h) ∙ q m ∙ ap (λ r. over (res [] 3 r)) (sym (no_more qs p.at h))
+    spent_by : length qs ≤ p.at → ((m : ℕ) → step_on m [] ≡ over (res [] run_end.Spent [])) → Turned C qs ends ends p (Over 3)
+    spent_by h q m = here m ∙ ap (step_on m) (no_more qs p.at h) ∙ q m ∙ ap (λ r. over (res [] run_end.Spent r)) (sym (no_more qs p.at h))
 
     -- n is listed, and the run goes on at t.
     took_by : (n t : ℕ) → t < half → p.pending ≤ room → p.at < length qs

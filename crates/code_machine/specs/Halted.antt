@@ -1,6 +1,7 @@
 -- The route up to a stop, and where it stands then.
 use Rattle.std.specs.Prelude.{ℕ, ◌≡◌, List, length}
 use Rattle.route_completion.specs.Route.{Route, route_of}
+use Rattle.route_completion.specs.Ends as run_end
 use Rattle.route_list.specs.Listing.{saturated, laid}
 use Rattle.code_flat.specs.Machine.{room, Pos, pos}
 use Rattle.code_marks.specs.Stop.{Stop, held, over, stopped}
@@ -9,7 +10,7 @@ use Rattle.code_machine.specs.declared.Landing.{Landing}
 
 -- "with end 4"
 abbrev pub stopped_end : ℕ
-stopped_end = 4
+stopped_end = run_end.Stopped
 
 -- The list, the end and the answers taken of a run that was stopped, or had ended before.
 abbrev pub route_to : Stop → Route

@@ -2,6 +2,7 @@
 use Rattle.std.specs.Prelude.{ℕ, suc, ◌+◌, ◌≤◌, ◌<◌, ◌≡◌, List, [], ◌∷◌, map, drop, length, ltb, Result, Ok, Err}
 use Rattle.route_completion.specs.Sem.{Entry, plain, pick}
 use Rattle.route_completion.specs.Route.{asks, node_of}
+use Rattle.route_completion.specs.Ends as run_end
 use Rattle.code_flat.specs.Machine.{room, Res, res, open', Pos, unwind, pos, measure, run}
 use Rattle.code_marks.specs.Stop.{Stop, over, after, stops}
 use Rattle.code_marks.specs.Steps.{pass, jump}
@@ -56,7 +57,7 @@ Opens C qs ends p f t =
     (m : ℕ) → up_to C qs ends p (suc m)
     ≡ pick (ltb (length (stack ends p.pending)) room)
     (pass p.budget (λ b. stops room C (suc m) b t (open' f ∷ stack ends p.pending) (drop p.at qs)) (drop p.at qs))
-    (over (res [] 5 (drop p.at qs)))
+    (over (res [] run_end.Astray (drop p.at qs)))
 
 -- That the run ends there, with e.
 abbrev pub Ends : List ℕ → List ℕ → List ℕ → Place → ℕ → Type 0

@@ -6,6 +6,7 @@ use Rattle.std.proofs.Common.{sym, ap, subst, true≢false, inl, inr, ltb-true, 
 use Rattle.std.proofs.Math.Bool.{true, false}
 use mathlib.Core.List.{List, [], ◌∷◌}
 use Rattle.route_completion.specs.Sem.{Entry, plain, asked, pick, is_yes}
+use Rattle.route_completion.specs.Ends as run_end
 use Rattle.code_flat.specs.Machine.{Instr, NONE, LIST, LEAVE, ASK, SELECT, OPEN, END, CASE, decode, fetch, Frame, open', pend, Pos, pos, is_zero, unwind, is_case, chase}
 use Rattle.code_flat.specs.Leg.{Leg, ends, waits, before, leg_jump, leg_step, leg}
 use Rattle.code_marks.specs.Stop.{Stop, held, over, after, behind, stops}
@@ -89,7 +90,7 @@ module _ (T : ℕ → Type 0) where
       jump_at : (p : Pos) → At p → LegAt T (leg_jump k p)
       jump_at p h = go p.pc h.0
         where
-          go : (t : ℕ) → OrNone T t → LegAt T (pick (is_zero t) (ends [] 5) (k [] t p.stack))
+          go : (t : ℕ) → OrNone T t → LegAt T (pick (is_zero t) (ends [] run_end.Astray) (k [] t p.stack))
           go zero u = tt
           go (suc t) (inl e) = absurd (omega arith)
           go (suc t) (inr u) = ok [] (suc t) p.stack u h.1
@@ -102,7 +103,7 @@ module _ (T : ℕ → Type 0) where
       step_at (SELECT n c e) pc K l h = ((λ a. chase_at a pc c e l.0 l.1), h)
       step_at (OPEN f) pc K l h = go (ltb (length K) lim)
         where
-          go : (b : Bool) → LegAt T (pick b (k [] (pc + 2) (open' f ∷ K)) (ends [] 5))
+          go : (b : Bool) → LegAt T (pick b (k [] (pc + 2) (open' f ∷ K)) (ends [] run_end.Astray))
           go true = ok [] (pc + 2) (open' f ∷ K) l.0 (l.1, h)
           go false = tt
       step_at (END e) pc K l h = tt
@@ -110,7 +111,7 @@ module _ (T : ℕ → Type 0) where
 
     leg_at : (b pc : ℕ) (K : List Frame) → T pc → Frames T K → LegAt T (leg lim C b pc K)
     unfolding leg
-    leg_at zero pc K t h = step_at (λ es u J. ends [] 5) (λ es u J v w. tt) (fetch C pc) pc K (leads pc t) h
+    leg_at zero pc K t h = step_at (λ es u J. ends [] run_end.Astray) (λ es u J v w. tt) (fetch C pc) pc K (leads pc t) h
     leg_at (suc b) pc K t h =
         step_at (λ es u J. before es (leg lim C b u J)) (λ es u J v w. before_at es (leg lim C b u J) (leg_at b u J v w)) (fetch C pc) pc K (leads pc t) h
 

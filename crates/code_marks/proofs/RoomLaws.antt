@@ -5,6 +5,7 @@ use mathlib.Core.List.{List, [], ◌∷◌}
 use Rattle.std.proofs.Math.ListN.{length}
 use Rattle.std.proofs.Common.{ltb-true, arith}
 use Rattle.route_completion.specs.Sem.{Entry, plain, asked, pick}
+use Rattle.route_completion.specs.Ends as run_end
 use Rattle.code_flat.specs.Machine.{Instr, NONE, LIST, LEAVE, ASK, SELECT, OPEN, END, CASE, fetch, Frame, open', pend, Pos, pos, is_zero, unwind}
 use Rattle.code_flat.specs.Leg.{Leg, ends, waits, before, leg_jump, leg_step, leg}
 use Rattle.code_marks.specs.Stop.{Stop, held, over, after, behind, stops}
@@ -43,7 +44,7 @@ module _ (lim : ℕ) (C : List ℕ) where
     jump_room : (p : Pos) → length p.stack ≤ lim → LegRoom lim (leg_jump g p)
     jump_room p h = go (is_zero p.pc)
       where
-        go : (z : Bool) → LegRoom lim (pick z (ends [] 5) (g [] p.pc p.stack))
+        go : (z : Bool) → LegRoom lim (pick z (ends [] run_end.Astray) (g [] p.pc p.stack))
         go true = tt
         go false = ok [] p.pc p.stack h
 
@@ -55,7 +56,7 @@ module _ (lim : ℕ) (C : List ℕ) where
     step_room (SELECT n c e) pc K h = h
     step_room (OPEN f) pc K h = go (ltb (length K) lim) refl
       where
-        go : (x : Bool) → ltb (length K) lim ≡ x → LegRoom lim (pick x (g [] (pc + 2) (open' f ∷ K)) (ends [] 5))
+        go : (x : Bool) → ltb (length K) lim ≡ x → LegRoom lim (pick x (g [] (pc + 2) (open' f ∷ K)) (ends [] run_end.Astray))
         go true e = ok [] (pc + 2) (open' f ∷ K) (ltb-true (length K) lim e)
         go false e = tt
     step_room (END e) pc K h = tt
@@ -63,7 +64,7 @@ module _ (lim : ℕ) (C : List ℕ) where
 
   leg_room : (b pc : ℕ) (K : List Frame) → length K ≤ lim → LegRoom lim (leg lim C b pc K)
   unfolding leg
-  leg_room zero pc K h = step_room (λ es t J. ends [] 5) (λ es t J u. tt) (fetch C pc) pc K h
+  leg_room zero pc K h = step_room (λ es t J. ends [] run_end.Astray) (λ es t J u. tt) (fetch C pc) pc K h
   leg_room (suc b) pc K h =
       step_room (λ es t J. before es (leg lim C b t J)) (λ es t J u. before_room es (leg lim C b t J) (leg_room b t J u)) (fetch C pc) pc K h
 

@@ -2,6 +2,7 @@
 use Rattle.std.specs.Prelude.{ℕ, zero, suc, ◌+◌, ◌≡◌, refl, Bool, true, false, List, [], ◌∷◌, ◌++◌, length, ltb}
 use Rattle.std.proofs.Common.{◌∙◌, ap, append_assoc}
 use Rattle.route_completion.specs.Sem.{Entry, plain, asked, pick, is_yes}
+use Rattle.route_completion.specs.Ends as run_end
 use Rattle.code_flat.specs.Machine.{res, Instr, NONE, LIST, LEAVE, ASK, SELECT, OPEN, END, CASE, fetch, Frame, open', Pos, is_zero, unwind, chase}
 use Rattle.code_flat.specs.Leg.{Leg, ends, waits, before, leg_jump, leg_step, leg}
 use Rattle.code_marks.specs.Stop.{Stop, held, over, after, behind, stops}
@@ -36,7 +37,7 @@ module _ (lim : ℕ) (C : List ℕ) (j : ℕ → List Frame → List ℕ → Sto
 
     jump_behind : (p : Pos) (qs : List ℕ) → behind j (leg_jump g p) qs ≡ jump k b p qs
     jump_behind p qs =
-        pick_behind (is_zero p.pc) (over (res [] 5 qs)) (pass b (λ r. k r p.pc p.stack qs) qs) (ends [] 5) (g [] p.pc p.stack) qs refl (bare p.pc p.stack qs)
+        pick_behind (is_zero p.pc) (over (res [] run_end.Astray qs)) (pass b (λ r. k r p.pc p.stack qs) qs) (ends [] run_end.Astray) (g [] p.pc p.stack) qs refl (bare p.pc p.stack qs)
 
     step_behind : (i : Instr) (pc : ℕ) (K : List Frame) (qs : List ℕ) → behind j (leg_step lim C g i pc K) qs ≡ step lim C k j i b pc K qs
     step_behind NONE pc K qs = refl
@@ -47,7 +48,7 @@ module _ (lim : ℕ) (C : List ℕ) (j : ℕ → List Frame → List ℕ → Sto
     step_behind (SELECT n c e) pc K [] = refl
     step_behind (SELECT n c e) pc K (a ∷ qs) = after_none (after (asked n ∷ []) (j (chase C pc c e a) K qs))
     step_behind (OPEN f) pc K qs =
-        pick_behind (ltb (length K) lim) (pass b (λ r. k r (pc + 2) (open' f ∷ K) qs) qs) (over (res [] 5 qs)) (g [] (pc + 2) (open' f ∷ K)) (ends [] 5) qs
+        pick_behind (ltb (length K) lim) (pass b (λ r. k r (pc + 2) (open' f ∷ K) qs) qs) (over (res [] run_end.Astray qs)) (g [] (pc + 2) (open' f ∷ K)) (ends [] run_end.Astray) qs
         (bare (pc + 2) (open' f ∷ K) qs) refl
     step_behind (END e) pc K qs = refl
     step_behind (CASE c t d) pc K qs = jump_behind (unwind K t d) qs
@@ -57,7 +58,7 @@ pub stops_step : (lim : ℕ) (C : List ℕ) (n b pc : ℕ) (K : List Frame) (qs 
     → stops lim C (suc n) b pc K qs ≡ step lim C (stops lim C (suc n)) (stops lim C n (length C)) (fetch C pc) b pc K qs
 unfolding stops leg
 stops_step lim C n zero pc K qs =
-    step_behind lim C (stops lim C n (length C)) zero (stops lim C (suc n)) (λ es t J. ends [] 5) (λ es t J u. refl) (fetch C pc) pc K qs
+    step_behind lim C (stops lim C n (length C)) zero (stops lim C (suc n)) (λ es t J. ends [] run_end.Astray) (λ es t J u. refl) (fetch C pc) pc K qs
 stops_step lim C n (suc b) pc K qs =
     step_behind lim C (stops lim C n (length C)) (suc b) (stops lim C (suc n)) (λ es t J. before es (leg lim C b t J))
     (λ es t J u. behind_before lim C (stops lim C n (length C)) es (leg lim C b t J) u) (fetch C pc) pc K qs

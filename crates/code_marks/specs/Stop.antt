@@ -3,6 +3,7 @@
 -- mark has to hold: Machine.Pos.
 use Rattle.std.specs.Prelude.{ℕ, zero, suc, List, [], ◌∷◌, ◌++◌, length, take}
 use Rattle.route_completion.specs.Sem.{Entry, asked}
+use Rattle.route_completion.specs.Ends as run_end
 use Rattle.code_flat.specs.Machine.{Res, res, pre, Frame, Pos, pos, run}
 use Rattle.code_flat.specs.Leg.{Leg, ends, waits, leg}
 
@@ -19,7 +20,7 @@ after es (over r) = over (pre es r)
 -- Behind a leg; k goes on behind its answer.
 abbrev pub behind : (ℕ → List Frame → List ℕ → Stop) → Leg → List ℕ → Stop
 behind k (ends es e) qs = over (res es e qs)
-behind k (waits es n f K) [] = over (res es 3 [])
+behind k (waits es n f K) [] = over (res es run_end.Spent [])
 behind k (waits es n f K) (a ∷ qs) = after es (after (asked n ∷ []) (k (f a) K qs))
 
 -- The run from pc on, with K pending, stopped behind n answers; b instructions may pass before the next.

@@ -1,9 +1,9 @@
 -- Laws of the index while it is filled.
-use Prim.Native.Nat.{ℕ, ◌+◌, ◌*◌, ◌/◌, ◌≤◌, ◌<◌}
+use Prim.Native.Nat.{ℕ, ◌+◌, ◌-◌, ◌*◌, ◌/◌, ◌≤◌, ◌<◌}
 use Rattle.std.specs.Prelude.{◌≡◌, ◌≢◌, ◌⊎◌, length, set, min, ltb}
 use Rattle.std.proofs.Math.Path.{sym, ap, subst}
 use Rattle.std.proofs.Common.{◌∙◌, inl, inr, add-mul, get_or-set_same, get_or-set_other}
-use Rattle.std.proofs.Math.Nat.{div-lt_iff_lt-mul, mul-le-mul_right}
+use Rattle.std.proofs.Math.Nat.{div-lt_iff_lt-mul, lt-mul-div-succ, mul-le-mul_left, mul-le-mul_right}
 use Rattle.std.proofs.Math.ListN.{get_or, get_or-map}
 use Rattle.std.proofs.lemmas.List.{map-set, length-map}
 use mathlib.Core.List.{List}
@@ -18,16 +18,18 @@ use Rattle.code_pass.specs.Stages.{sent_on, kept_places, kept_to, cycle, Marked,
 use Rattle.code_pass.proofs.KeptLaws.{At, begin_apart, kept_low, kept_next, sent_sound, sent_none, sent_begin, at_next, at_begin, begin_fits}
 use Rattle.code_mark.specs.Read.{standing_in}
 use Rattle.code_places.specs.declared.index.Stride.{Stride}
-use Rattle.code_places.specs.Placing.{begins, news, stride_in, strides, stride_for}
+use Rattle.code_places.specs.Placing.{begins, news, stride_in, stride_for}
 use Rattle.code_places.proofs.PlacingLaws.{marked_len, marked_kept}
 
 -- Each place that a target can name stands before the last entry.
-covers_all : (n stride o : ℕ) → stride ≡ stride_for n → o < n → o < 4294967296 → o / stride < 4095
+covers_all : (strides n stride o : ℕ) → 2 ≤ strides → stride ≡ stride_for strides n → o < n → o < 4294967296 → o / stride < strides - 1
 unfolding stride_for
-covers_all n stride o e h k =
+covers_all strides n stride o two e h k =
     let m : ℕ = min n 4294967296 in
-    let s : stride ≡ min n 4294967296 / 4095 + 4 = e in
-    (div-lt_iff_lt-mul {k = stride} {x = o} {y = 4095} (omega arith)).1 (omega arith)
+    let s : stride ≡ m / (strides - 1) + 4 = e in
+    let under : m < (strides - 1) * (m / (strides - 1) + 1) = lt-mul-div-succ m (omega arith) in
+    let wide : (strides - 1) * (m / (strides - 1) + 1) ≤ (strides - 1) * stride = mul-le-mul_left (strides - 1) (omega arith) in
+    (div-lt_iff_lt-mul {k = stride} {x = o} {y = strides - 1} (omega arith)).1 (omega (arith, under, wide))
 
 -- The index is filled as far as the k-th entry, by a walk that stands at p.
 pub record Row (C : List ℕ) (stride j b n : ℕ) : Type 0 where
@@ -36,7 +38,7 @@ pub record Row (C : List ℕ) (stride j b n : ℕ) : Type 0 where
   pub first : (o : ℕ) → Begin (sent_on C) o → j * stride ≤ o → b ≤ o
   pub new : n ≡ kept_to C b
 
-pub record Filling (C begins news : List ℕ) (stride p kept k next : ℕ) : Type 0 where
+pub record Filling (C : List ℕ) (strides : ℕ) (begins news : List ℕ) (stride p kept k next : ℕ) : Type 0 where
   pub at : At C p
   pub count : kept ≡ kept_to C p
   pub row : next ≡ k * stride
@@ -44,8 +46,8 @@ pub record Filling (C begins news : List ℕ) (stride p kept k next : ℕ) : Typ
   pub before : k < strides → (o : ℕ) → Begin (sent_on C) o → o < p → o < next
   pub rows : (j : ℕ) → j < k → Row C stride j (get_or begins j 0) (get_or news j 0)
 
-module _ (C f : List ℕ) (v : Valid C) (m : Marked C f) (stride : ℕ) (wide : 4 ≤ stride) where
-  pub filling_first : (begins news : List ℕ) → Filling C begins news stride 0 0 0 0
+module _ (C f : List ℕ) (v : Valid C) (m : Marked C f) (strides stride : ℕ) (wide : 4 ≤ stride) where
+  pub filling_first : (begins news : List ℕ) → Filling C strides begins news stride 0 0 0 0
   filling_first begins news =
       record {
         at = inl (sent_sound C v).start;
@@ -56,7 +58,7 @@ module _ (C f : List ℕ) (v : Valid C) (m : Marked C f) (stride : ℕ) (wide : 
         rows = λ j l. absurd (omega arith);
       }
 
-  module _ (begins news : List ℕ) (p kept k next : ℕ) (g : Filling C begins news stride p kept k next) where
+  module _ (begins news : List ℕ) (p kept k next : ℕ) (g : Filling C strides begins news stride p kept k next) where
     pub filling_begin : p < length f → Begin (sent_on C) p
     filling_begin h = at_begin C v p g.at (omega (arith, m.same))
 
@@ -94,7 +96,7 @@ module _ (C f : List ℕ) (v : Valid C) (m : Marked C f) (stride : ℕ) (wide : 
             go (yes x) = absurd (omega (arith, size, begin_apart (sent_on C) 0 p o (sent_sound C v).some begun b x))
             go (no x) = omega arith
 
-        pub filling_skip : (k < strides → p < next) → Filling C begins news stride (p + w) (kept + n) k next
+        pub filling_skip : (k < strides → p < next) → Filling C strides begins news stride (p + w) (kept + n) k next
         filling_skip a =
             record {
               at = at';
@@ -106,7 +108,7 @@ module _ (C f : List ℕ) (v : Valid C) (m : Marked C f) (stride : ℕ) (wide : 
             }
 
         pub filling_set : k < strides → next ≤ p → k < length begins → k < length news
-            → Filling C (set begins k p) (set news k kept) stride (p + w) (kept + n) (k + 1) (next + stride)
+            → Filling C strides (set begins k p) (set news k kept) stride (p + w) (kept + n) (k + 1) (next + stride)
         filling_set l a in_begins in_news =
             record {
               at = at';
@@ -140,16 +142,16 @@ module _ (C f : List ℕ) (v : Valid C) (m : Marked C f) (stride : ℕ) (wide : 
                 (subst (λ b. Row C stride k b (get_or (set news k kept) k 0)) (sym (get_or-set_same begins k p 0 in_begins))
                 (subst (Row C stride k p) (sym (get_or-set_same news k kept 0 in_news)) here))
 
-    pub filling_end : length f ≤ p → stride ≡ stride_for (length C) → stride < cycle → (b' n' : List ℕ) → length b' ≡ strides → length n' ≡ strides
+    pub filling_end : 2 ≤ strides → length f ≤ p → stride ≡ stride_for strides (length C) → stride < cycle → (b' n' : List ℕ) → length b' ≡ strides → length n' ≡ strides
         → ((j : ℕ) → j < k → get_or b' j 0 ≡ get_or begins j 0) → ((j : ℕ) → j < k → get_or n' j 0 ≡ get_or news j 0)
         → ((j : ℕ) → k ≤ j → j < strides → get_or b' j 0 ≡ p) → ((j : ℕ) → k ≤ j → j < strides → get_or n' j 0 ≡ kept)
         → Index C b' n' stride
-    filling_end h s small b' n' sb sn eb en rb rn =
+    filling_end two h s small b' n' sb sn eb en rb rn =
         record {
           positive = omega arith;
           small = small;
           same = omega arith;
-          covers = λ o x y. omega (arith, covers_all (length C) stride o s x y, sb);
+          covers = λ o x y. omega (arith, covers_all strides (length C) stride o two s x y, sb);
           from = λ j x. from' j x (dec_lt j k);
           begun = λ j x. begun' j x (dec_lt j k);
           first = λ j o x b y. first' j o x b y (dec_lt j k);
@@ -187,23 +189,23 @@ begin_in index k = get_or-map (λ s. s.begin) index k (record { begin = 0; new =
 pub new_in : (index : List Stride) (k : ℕ) → get_or (news index) k 0 ≡ (stride_in index k).new
 new_in index k = get_or-map (λ s. s.new) index k (record { begin = 0; new = 0 })
 
-module _ (C f : List ℕ) (v : Valid C) (m : Marked C f) (stride : ℕ) (wide : 4 ≤ stride) (index : List Stride) (p kept k next : ℕ)
-    (g : Filling C (begins index) (news index) stride p kept k next) where
+module _ (C f : List ℕ) (v : Valid C) (m : Marked C f) (strides stride : ℕ) (wide : 4 ≤ stride) (index : List Stride) (p kept k next : ℕ)
+    (g : Filling C strides (begins index) (news index) stride p kept k next) where
   abbrev entry : Stride
   entry = record { begin = p; new = kept }
 
   pub filling_put : (h : p < length f) (w n : ℕ) → w ≡ len (standing_in f p) → n ≡ pick (ltb (get_or f p 0) 8) 0 w → k < strides → next ≤ p → k < length index
-      → Filling C (begins (set index k entry)) (news (set index k entry)) stride (p + w) (kept + n) (k + 1) (next + stride)
+      → Filling C strides (begins (set index k entry)) (news (set index k entry)) stride (p + w) (kept + n) (k + 1) (next + stride)
   filling_put h w n e d l a inside =
-      subst (λ b. Filling C b (news (set index k entry)) stride (p + w) (kept + n) (k + 1) (next + stride)) (sym (map-set (λ s. s.begin) index k entry))
-      (subst (λ c. Filling C (set (begins index) k p) c stride (p + w) (kept + n) (k + 1) (next + stride)) (sym (map-set (λ s. s.new) index k entry))
-      (filling_set C f v m stride wide (begins index) (news index) p kept k next g h w n e d l a (omega (arith, length-map index (λ s. s.begin))) (omega (arith, length-map index (λ s. s.new)))))
+      subst (λ b. Filling C strides b (news (set index k entry)) stride (p + w) (kept + n) (k + 1) (next + stride)) (sym (map-set (λ s. s.begin) index k entry))
+      (subst (λ c. Filling C strides (set (begins index) k p) c stride (p + w) (kept + n) (k + 1) (next + stride)) (sym (map-set (λ s. s.new) index k entry))
+      (filling_set C f v m strides stride wide (begins index) (news index) p kept k next g h w n e d l a (omega (arith, length-map index (λ s. s.begin))) (omega (arith, length-map index (λ s. s.new)))))
 
-  pub filling_rest : length f ≤ p → stride ≡ stride_for (length C) → stride < cycle → (index' : List Stride) → length index' ≡ strides
+  pub filling_rest : 2 ≤ strides → length f ≤ p → stride ≡ stride_for strides (length C) → stride < cycle → (index' : List Stride) → length index' ≡ strides
       → ((j : ℕ) → j < k → stride_in index' j ≡ stride_in index j) → ((j : ℕ) → k ≤ j → j < length index' → stride_in index' j ≡ entry)
       → Index C (begins index') (news index') stride
-  filling_rest h s small index' same before rest =
-      filling_end C f v m stride wide (begins index) (news index) p kept k next g h s small (begins index') (news index')
+  filling_rest two h s small index' same before rest =
+      filling_end C f v m strides stride wide (begins index) (news index) p kept k next g two h s small (begins index') (news index')
       (length-map index' (λ s. s.begin) ∙ same) (length-map index' (λ s. s.new) ∙ same)
       (λ j x. begin_in index' j ∙ ap (λ s. s.begin) (before j x) ∙ sym (begin_in index j))
       (λ j x. new_in index' j ∙ ap (λ s. s.new) (before j x) ∙ sym (new_in index j))

@@ -1,5 +1,5 @@
 -- Where kept instructions come to stand, looked up in a slice whose front is gathered (code_pass, Stages.antt).
-use Rattle.std.specs.Prelude.{ℕ, ◌+◌, ◌/◌, ◌^◌, min, ◌≤◌, ◌<◌, ◌≡◌, List, Option, Some, None, length, get_or, map}
+use Rattle.std.specs.Prelude.{ℕ, ◌+◌, ◌-◌, ◌/◌, ◌^◌, min, ◌≤◌, ◌<◌, ◌≡◌, List, Option, Some, None, length, get_or, map}
 use Rattle.route_completion.specs.Sem.{pick, elem}
 use Rattle.code_valid.specs.Valid.{Valid}
 use Rattle.code_shorten.specs.Closes.{In}
@@ -18,12 +18,9 @@ news index = map (λ s. s.new) index
 abbrev pub stride_in : List Stride → ℕ → Stride
 stride_in index k = get_or index k (record { begin = 0; new = 0 })
 
--- How many entries the index has, and its stride for a code of so many numbers: all places that a target can name stand before the last entry.
-abbrev pub strides : ℕ
-strides = 4096
-
-unfoldable pub stride_for : ℕ → ℕ
-stride_for n = min n (2 ^ 32) / 4095 + 4
+-- The stride of an index of so many entries, for a code of so many numbers: all places that a target can name stand before the last entry.
+unfoldable pub stride_for : ℕ → ℕ → ℕ
+stride_for strides n = min n (2 ^ 32) / (strides - 1) + 4
 
 -- The new place of the instruction at o; none where it is not kept.
 abbrev pub kept_place : List ℕ → ℕ → Option ℕ

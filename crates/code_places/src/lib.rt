@@ -7,7 +7,7 @@ ghost use Rattle.code_valid.specs.Instrs.{parse};
 ghost use Rattle.code_shorten.specs.Closes.{In};
 ghost use Rattle.code_shorten.specs.Sound.{Begin};
 ghost use Rattle.code_pass.specs.Stages.{cycle, Marked, Index, kept_places, new_place};
-ghost use Rattle.code_places.specs.Placing.{begins, news, stride_in, strides, stride_for, kept_place, Tagged, PlacedBy};
+ghost use Rattle.code_places.specs.Placing.{begins, news, stride_in, stride_for, kept_place, Tagged, PlacedBy};
 
 use code_machine::word;
 use code_mark::{RAISE, kept_at, opcode_at, size_at};
@@ -18,20 +18,19 @@ pub mod index;
 // Of an old place this much is said by the number that begins a gathered instruction: what is left of it by 2 ^ 29.
 pub const CYCLE: u32 = 536_870_912;
 
-// How many strides the index has.
-pub const STRIDES: usize = 4096;
-
 // No target names a place from here on.
 const TARGETS: usize = 4_294_967_296;
 
-// The stride for a code of so many numbers: each place that a target names stands before the last entry, and no instruction is longer.
+// The stride of an index of so many entries for a code of so many numbers: each place that a target names stands before the last entry, and no instruction
+// is longer. Of ten entries or more the stride is below `CYCLE`, however long the code.
 #[tactic(auto, unfolding(crate::specs::Placing::stride_for))]
-pub fn stride_of(length: usize) -> usize
-    ensures value { result ≡ stride_for length }
+pub fn stride_of(strides: usize, length: usize) -> usize
+    requires { 10 ≤ strides }
+    ensures value { result ≡ stride_for strides length }
     ensures lower_bound { 4 ≤ result }
     ensures upper_bound { result < cycle }
 {
-    length.min(TARGETS) / (STRIDES - 1) + 4
+    length.min(TARGETS) / (strides - 1) + 4
 }
 
 // Fills the index from an entry on.
@@ -47,10 +46,10 @@ fn fill_rest(index: &mut [Stride], from: usize, stride: Stride)
 
 // Fills the index of a slice whose kept instructions are marked.
 pub fn fill(code: &[u32], index: &mut [Stride])
-    requires { length index.old ≡ strides }
-    ensures { (C : List ℕ) → Valid C → Marked C code.now → Index C (begins index.new) (news index.new) (stride_for (length C)) }
+    requires { 10 ≤ length index.old }
+    ensures { (C : List ℕ) → Valid C → Marked C code.now → Index C (begins index.new) (news index.new) (stride_for (length index.old) (length C)) }
 {
-    let stride = stride_of(code.len());
+    let stride = stride_of(index.len(), code.len());
     let mut p = 0;
     let mut kept = 0;
     let mut k = 0;
@@ -60,7 +59,7 @@ pub fn fill(code: &[u32], index: &mut [Stride])
         if size == 0 {
             return;
         }
-        if k < STRIDES && next <= p {
+        if k < index.len() && next <= p {
             index[k] = Stride {
                 begin: p,
                 new: kept,

@@ -3,7 +3,7 @@
 
 ghost use Rattle.std.specs.Prelude.{◌≡◌, ◌&&◌, ◌+◌, ◌<◌, ◌≤◌, eqb};
 ghost use Rattle.table_records.specs.Table.{count};
-ghost use Rattle.table_records.specs.Facts.{Tree, Named};
+ghost use Rattle.table_records.specs.Facts.{Named};
 ghost use Rattle.table_children.specs.Children.{below};
 ghost use Rattle.code_tree.specs.Labels.{name_id, id_at};
 ghost use Rattle.code_tree.specs.First.{first_of};
@@ -13,6 +13,7 @@ ghost use Rattle.code_layout.specs.Widths.{is_try, number_by};
 ghost use Rattle.code_layout.specs.Exact.{open_at};
 
 use code_tree::Shape;
+use table_records::nodes::Nodes;
 use table_records::{NodeId, kinds, node_flag, roles};
 
 // What a node is to the code.
@@ -66,8 +67,7 @@ pub fn is_labeled(s: Shape) -> bool
 
 // Whether the label of p has the name of the label l.
 #[tactic(auto, using(code_tree::proofs::LabelLaws::id_test))]
-pub fn has_same_label(nodes: &[u32], names: &[u8], p: NodeId, l: NodeId) -> bool
-    requires tree { Tree nodes.now }
+pub fn has_same_label(nodes: &Nodes, names: &[u8], p: NodeId, l: NodeId) -> bool
     requires named { Named nodes.now names.now }
     requires p_bound { p.0 < count nodes.now }
     requires l_bound { l.0 < count nodes.now }
@@ -99,8 +99,7 @@ pub fn part_by(s: Shape, kind: u32, r: u32) -> bool
 }
 
 // Where a class is entered from: itself, or the export that declares it.
-fn entered_by(nodes: &[u32], c: NodeId) -> NodeId
-    requires tree { Tree nodes.now }
+fn entered_by(nodes: &Nodes, c: NodeId) -> NodeId
     requires c_bound { c.0 < count nodes.now }
     ensures { result.0 ≡ entered_by nodes.now c.0 }
 {
@@ -117,8 +116,7 @@ fn entered_by(nodes: &[u32], c: NodeId) -> NodeId
 
 // Whose part a node may be.
 #[tactic(auto, unfolding(code_tree::specs::Parts::up_of))]
-pub fn up_of(nodes: &[u32], n: NodeId) -> NodeId
-    requires tree { Tree nodes.now }
+pub fn up_of(nodes: &Nodes, n: NodeId) -> NodeId
     requires n_nonzero { 0 < n.0 }
     requires n_bound { n.0 < count nodes.now }
     ensures result_value { result.0 ≡ up_of nodes.now n.0 }
@@ -133,8 +131,7 @@ pub fn up_of(nodes: &[u32], n: NodeId) -> NodeId
 
 // Whether a node is a part of its holder.
 #[tactic(auto, unfolding(code_tree::specs::Parts::is_part))]
-pub fn is_part(nodes: &[u32], n: NodeId) -> bool
-    requires tree { Tree nodes.now }
+pub fn is_part(nodes: &Nodes, n: NodeId) -> bool
     requires n_nonzero { 0 < n.0 }
     requires n_bound { n.0 < count nodes.now }
     ensures { result ≡ is_part nodes.now n.0 }
@@ -148,8 +145,7 @@ pub fn is_part(nodes: &[u32], n: NodeId) -> bool
 }
 
 // Whether n is a part of p.
-fn is_part_of(nodes: &[u32], p: NodeId, n: NodeId) -> bool
-    requires tree { Tree nodes.now }
+fn is_part_of(nodes: &Nodes, p: NodeId, n: NodeId) -> bool
     requires n_nonzero { 0 < n.0 }
     requires n_bound { n.0 < count nodes.now }
     ensures { result ≡ (eqb (up_of nodes.now n.0) p.0 && is_part nodes.now n.0) }
@@ -157,27 +153,30 @@ fn is_part_of(nodes: &[u32], p: NodeId, n: NodeId) -> bool
     up_of(nodes, n) == p && is_part(nodes, n)
 }
 
-// The first part of p from a node on.
-pub fn next_part(nodes: &[u32], p: NodeId, from: u32) -> Option<NodeId>
-    requires tree { Tree nodes.now }
+// The first part of p from `from` on. From behind p it reads the nodes below p, and one more.
+#[tactic(auto, using(crate::proofs::SearchLaws::part_stop, crate::proofs::SearchLaws::part_on, crate::proofs::SearchLaws::part_out, crate::proofs::SearchLaws::part_none))]
+pub fn next_part(nodes: &Nodes, p: NodeId, from: u32) -> Option<NodeId>
     requires from_nonzero { 0 < from }
     ensures { result ≡ first_of (parts nodes.now p.0 from) }
 {
-    let mut i = from;
-    // `while`, since a range asks for the table's size: nothing that a walk up calls divides.
-    while table_records::is_node(nodes, i) {
+    let _ = &nodes.numbers; // names the field, so that its invariant is known
+    for i in from.. {
+        if !table_records::is_node(nodes, i) {
+            break;
+        }
+        if p.0 < i && table_records::parent(nodes, NodeId(i)).0 < p.0 {
+            break;
+        }
         if is_part_of(nodes, p, NodeId(i)) {
             return Some(NodeId(i));
         }
-        i += 1;
     }
     None
 }
 
 // OPEN's words, counted at the finally block.
 #[tactic(auto, unfolding(code_layout::specs::Exact::open_at))]
-pub fn open_at(nodes: &[u32], n: NodeId) -> u32
-    requires tree { Tree nodes.now }
+pub fn open_at(nodes: &Nodes, n: NodeId) -> u32
     requires n_nonzero { 0 < n.0 }
     requires n_bound { n.0 < count nodes.now }
     ensures value { result ≡ open_at nodes.now n.0 }
@@ -221,8 +220,7 @@ pub fn is_default(nodes: &[u32], n: NodeId) -> bool
 
 // The node that holds a unit's statements.
 #[tactic(auto, unfolding(code_tree::specs::Statements::holder_of))]
-pub fn holder(nodes: &[u32], u: NodeId) -> Option<NodeId>
-    requires tree { Tree nodes.now }
+pub fn holder(nodes: &Nodes, u: NodeId) -> Option<NodeId>
     requires u_bound { u.0 < count nodes.now }
     ensures value { result ≡ holder_of nodes.now u.0 }
     ensures below { below nodes.now result }

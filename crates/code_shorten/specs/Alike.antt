@@ -6,10 +6,11 @@ use Rattle.std.proofs.Common.{sym, ◌∙◌, subst, true≢false, inl, inr, ltb
 use Rattle.std.proofs.Math.Bool.{true, false}
 use Rattle.std.proofs.Math.ListN.{get_or}
 use Rattle.route_completion.specs.Sem.{plain, asked, pick, is_yes}
+use Rattle.route_completion.specs.Ends as run_end
 use Rattle.code_flat.specs.Machine.{Res, res, pre, Instr, NONE, LIST, LEAVE, ASK, SELECT, OPEN, END, CASE, decode, fetch, Frame, open', Pos, pos, is_zero, unwind, is_case, chase}
 use Rattle.code_flat.proofs.Runs.{inside}
 use Rattle.code_flat.specs.Machine.{is_none}
-use Rattle.code_flat.specs.Forward.{ask_now, behind, forward, measure, step, run}
+use Rattle.code_flat.specs.Forward.{gave_up, ask_now, behind, forward, measure, step, run}
 use Rattle.code_flat.proofs.Steps.{run_step}
 use Rattle.code_valid.proofs.ReadingLaws.{decode_none}
 use Rattle.code_shorten.specs.Short.{to, place_in, depth_in, aim_of}
@@ -17,7 +18,7 @@ use Rattle.code_shorten.specs.Unwinds.{Ahead, Like, like_length, Same, Both, unw
 
 -- The forward machine has not given up.
 abbrev pub Kept : Res → Type 0
-Kept r = r.end ≢ 6
+Kept r = r.end ≢ gave_up
 
 -- D's instruction j at φ o does what C's instruction i does at o, and C's leads to places of P.
 abbrev pub Does : List ℕ → (ℕ → Type 0) → (ℕ → ℕ) → ℕ → Instr → Instr → Type 0
@@ -95,7 +96,7 @@ aim_step lim C k (END e) t d pc K qs h = let w : ◌≡◌ {A = ℕ} 0 1 = cc in
 aim_step lim C k (CASE c u e) t d pc K qs h = let p : u ≡ t = ap place_in h in let q : e ≡ d = ap depth_in h in rw (p, q)
 
 -- What is no ASK gives up, if it is gone back to.
-aim_back : (k : ℕ → List Frame → List ℕ → Res) (i : Instr) (t d : ℕ) (K : List Frame) (qs : List ℕ) → aim_of i ≡ to t d → (ask_now i k K qs).end ≡ 6
+aim_back : (k : ℕ → List Frame → List ℕ → Res) (i : Instr) (t d : ℕ) (K : List Frame) (qs : List ℕ) → aim_of i ≡ to t d → (ask_now i k K qs).end ≡ gave_up
 aim_back k NONE t d K qs h = refl
 aim_back k (LIST n) t d K qs h = refl
 aim_back k (LEAVE u e) t d K qs h = refl
@@ -360,14 +361,14 @@ module _ (lim : ℕ) (C D : List ℕ) (P : ℕ → Type 0) (φ : ℕ → ℕ)
           ap (λ y. pre (asked n ∷ []) (run lim D y L u)) r.1 ∙ ap (pre (asked n ∷ [])) (f (chase C pc c x a) K L u (omega arith) r.0 l v)
   steps pc qs ih h K L l (OPEN f) e m w =
       ap (λ j. step lim D (run lim D) j (φ pc) L qs) m.0
-      ∙ ap (λ n. pick (ltb n lim) (run lim D (φ pc + 2) (open' (φ f) ∷ L) qs) (res [] 5 qs)) (sym (like_length C P φ K L l))
+      ∙ ap (λ n. pick (ltb n lim) (run lim D (φ pc + 2) (open' (φ f) ∷ L) qs) (res [] run_end.Astray qs)) (sym (like_length C P φ K L l))
       ∙ go (ltb (length K) lim) w
     where
       i : pc < length C
       i = inside C pc (ap is_none e)
 
-      go : (b : Bool) → Kept (pick b (run lim C (pc + 2) (open' f ∷ K) qs) (res [] 5 qs))
-          → pick b (run lim D (φ pc + 2) (open' (φ f) ∷ L) qs) (res [] 5 qs) ≡ pick b (run lim C (pc + 2) (open' f ∷ K) qs) (res [] 5 qs)
+      go : (b : Bool) → Kept (pick b (run lim C (pc + 2) (open' f ∷ K) qs) (res [] run_end.Astray qs))
+          → pick b (run lim D (φ pc + 2) (open' (φ f) ∷ L) qs) (res [] run_end.Astray qs) ≡ pick b (run lim C (pc + 2) (open' f ∷ K) qs) (res [] run_end.Astray qs)
       go true v =
           ap (λ x. run lim D x (open' (φ f) ∷ L) qs) (sym m.3)
           ∙ ih (pc + 2) (open' f ∷ K) (open' (φ f) ∷ L) qs (omega (arith, i)) m.2 (m.1, refl, l) v

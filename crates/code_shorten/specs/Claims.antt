@@ -5,6 +5,7 @@ use Rattle.route_completion.specs.Tree.{Stmts}
 use Rattle.route_completion.specs.Sem.{Comp, normal, breaks, continues, returns, throws, spent, execs}
 use Rattle.route_completion.specs.Route.{end_of, route_of, route}
 use Rattle.code_flat.specs.Code.{unit, RoomAll}
+use Rattle.code_flat.specs.Forward.{gave_up}
 use Rattle.code_flat.specs.Machine.{Instr, room, started, code_route, result}
 use Rattle.code_flat.specs.Machine.{is_none}
 use Rattle.code_flat.proofs.Correct.{unit_correct}
@@ -75,7 +76,7 @@ pub record Shortened (ss : Stmts) (qs : List ℕ) : Type 0 where
   pub rules : started (shorter (unit ss)) qs ≡ result (execs ss qs)
   pub routes : code_route (shorter (unit ss)) qs ≡ route ss qs
 
-ended : (x : Comp) → end_of x ≡ 6 → ⊥
+ended : (x : Comp) → end_of x ≡ gave_up → ⊥
 ended normal e = omega arith
 ended (breaks l) e = omega arith
 ended (continues l) e = omega arith

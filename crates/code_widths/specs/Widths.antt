@@ -6,6 +6,7 @@ use Rattle.code_layout.specs.Widths.{sum, in_unit, width_at}
 use Rattle.code_layout.specs.Exact.{open_at}
 
 -- Up to j: 1 for each node of the unit, 0 for the others; and zeros in the other array.
+-- A `requires` and no struct's invariant: `fill_units` fills the array step by step through a `&mut`, and `fill_places` (code_contexts) writes over it.
 pub record Units (ns : List ℕ) (b j : ℕ) (units : List ℕ) : Type 0 where
   pub is : (k : ℕ) → k < j → get_or units k 0 ≡ cond (in_unit ns b k) 1 0
 

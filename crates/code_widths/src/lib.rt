@@ -9,10 +9,11 @@ ghost use Rattle.code_widths.specs.Widths.{Units, Zeros, Counts, Widths};
 
 use code_shapes::{is_part, up_of};
 use table_records::NodeId;
+use table_records::nodes::Nodes;
 
 // Whether n is the unit's (1) or not (0), from what is known of the nodes before it.
 #[tactic(auto, using(crate::proofs::WidthsLaws::unit_low, crate::proofs::WidthsLaws::unit_root_lem, crate::proofs::WidthsLaws::unit_no, crate::proofs::WidthsLaws::unit_part))]
-fn unit_at(nodes: &[u32], names: &[u8], b: NodeId, units: &[u32], n: NodeId) -> u32
+fn unit_at(nodes: &Nodes, names: &[u8], b: NodeId, units: &[u16], n: NodeId) -> u16
     requires held { Held nodes.now names.now b.0 }
     requires n_bound { n.0 < count nodes.now }
     requires nodes_in_bounds { count nodes.now ≤ length units.now }
@@ -33,7 +34,7 @@ fn unit_at(nodes: &[u32], names: &[u8], b: NodeId, units: &[u32], n: NodeId) -> 
 }
 
 // Marks the unit's nodes, and clears the widths.
-pub fn fill_units(nodes: &[u32], names: &[u8], b: NodeId, units: &mut [u32], widths: &mut [u32])
+pub fn fill_units(nodes: &Nodes, names: &[u8], b: NodeId, units: &mut [u16], widths: &mut [u32])
     requires held { Held nodes.now names.now b.0 }
     requires nodes_in_bounds { count nodes.now ≤ length units.old }
     requires nodes_in_bounds_2 { count nodes.now ≤ length widths.old }
@@ -47,8 +48,9 @@ pub fn fill_units(nodes: &[u32], names: &[u8], b: NodeId, units: &mut [u32], wid
 }
 
 // One node of the unit: its width, and the words of its holder's parts behind it; its holder gets its words.
+#[tactic(auto, using(crate::proofs::WidthsLaws::own_small, crate::proofs::WidthsLaws::rest_small, crate::proofs::WidthsLaws::counts_turn))]
 fn add_node(
-    nodes: &[u32],
+    nodes: &Nodes,
     names: &[u8],
     b: NodeId,
     n: NodeId,
@@ -77,10 +79,10 @@ fn add_node(
 // The width of each node of the unit, and the words of its holder's parts behind it.
 #[tactic(auto, using(crate::proofs::WidthsLaws::counts_start, crate::proofs::WidthsLaws::counts_skip, crate::proofs::WidthsLaws::counts_end, crate::proofs::WidthsLaws::unit_test))]
 pub fn fill_widths(
-    nodes: &[u32],
+    nodes: &Nodes,
     names: &[u8],
     b: NodeId,
-    units: &[u32],
+    units: &[u16],
     widths: &mut [u32],
     behinds: &mut [u32],
 )

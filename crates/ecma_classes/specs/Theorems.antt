@@ -1,6 +1,6 @@
 -- THE THEOREMS: in well-formed tables the findings with these codes are the breaches of ECMA-262's rules, one finding for each; where the Rust keeps a changed rule, they are
 -- breaches of that, and a law says on which condition it is the standard's. `raised c fs` is the nodes that raise the findings of fs with code c.
-use Rattle.std.specs.Prelude.{ℕ, ◌+◌, ◌≤◌, ◌<◌, ◌≡◌, Bool, not, ◌&&◌, ◌||◌, eqb, ltb, Some}
+use Rattle.std.specs.Prelude.{ℕ, ◌+◌, ◌≤◌, ◌<◌, ◌≡◌, Bool, not, ◌&&◌, ◌||◌, eqb, ltb, Some, is_some}
 use Rattle.std.proofs.Math.Path.{refl, ap, sym}
 use Rattle.std.proofs.Common.{subst, ◌∙◌}
 use mathlib.Core.List.{List, [], ◌∷◌, ◌++◌, flat_map}
@@ -9,7 +9,7 @@ use Rattle.base_common.specs.Upto.{upto, any}
 use Rattle.base_walk.specs.On.{member}
 use Rattle.table_records.specs.Table.{kind_of, parent_of, count}
 use Rattle.table_records.specs.Kinds as k
-use Rattle.table_children.specs.Children.{keep, class_body_of, found}
+use Rattle.table_children.specs.Children.{keep, class_body_of}
 use Rattle.table_children.proofs.ChildrenLaws.{found_child}
 use Rattle.ecma_trees.specs.Rose.{tree_of}
 use Rattle.ecma_trees.specs.Walk.{some, only}
@@ -174,11 +174,11 @@ module _ (t : ℕ) (js : t ≤ 1) (ns ss source names : List ℕ) (w : WellForme
   pub code7 : raised 7 findings ≡ keep (is_outside ns) nodes
   code7 = whole t ns ss source names 7 refl (is_outside ns) (λ j h. private_outside_lem t ns ss source names j)
 
-  pub outside_at : (j : ℕ) → j < count ns → OutsideUsed ns j → at 7 j ≡ only (member j (invalid_identifiers ns names) && not (found (body_around ns j))) j
+  pub outside_at : (j : ℕ) → j < count ns → OutsideUsed ns j → at 7 j ≡ only (member j (invalid_identifiers ns names) && not (is_some (body_around ns j))) j
   outside_at j h u = private_outside_lem t ns ss source names j ∙ ap (λ (b : Bool). only b j) (outside_invalid ns names w.input.tree j h u)
 
-  pub code7_standard : UsedOutside ns → raised 7 findings ≡ keep (λ j. member j (invalid_identifiers ns names) && not (found (body_around ns j))) nodes
-  code7_standard u = whole t ns ss source names 7 refl (λ j. member j (invalid_identifiers ns names) && not (found (body_around ns j))) (λ j h. outside_at j h (u j h))
+  pub code7_standard : UsedOutside ns → raised 7 findings ≡ keep (λ j. member j (invalid_identifiers ns names) && not (is_some (body_around ns j))) nodes
+  code7_standard u = whole t ns ss source names 7 refl (λ j. member j (invalid_identifiers ns names) && not (is_some (body_around ns j))) (λ j h. outside_at j h (u j h))
 
   -- 8: at a Class, one for each PrivateIdentifier at which AllPrivateIdentifiersValid is false and whose nearest ClassBody is the class's; changed: by what the Rust enters
   pub code8 : with_code 8 findings ≡ reported ns (invalid_in_table ns names)

@@ -1,6 +1,6 @@
 -- From nodes to the program: a rule of the standard, which is a test of the tree, holds just where no finding is raised.
 use Rattle.table_records.specs.declared.NodeId.{NodeId}
-use Rattle.std.specs.Prelude.{ℕ, zero, suc, ◌+◌, ◌-◌, ◌≤◌, ◌<◌, ◌≡◌, Bool, cond, not, ◌&&◌, ◌||◌, eqb, Option, Some, None}
+use Rattle.std.specs.Prelude.{ℕ, zero, suc, ◌+◌, ◌-◌, ◌≤◌, ◌<◌, ◌≡◌, Bool, cond, not, ◌&&◌, ◌||◌, eqb, Option, Some, None, is_some}
 use Rattle.std.proofs.Math.Path.{refl, ap}
 use Rattle.std.proofs.Common.{sym, subst, ◌∙◌, ⊎_elim, eq-or-lt_of_le, arith, eq-eqb, eqb-true}
 use mathlib.Core.List.{List, [], ◌∷◌, flat_map}
@@ -12,7 +12,7 @@ use Rattle.base_walk.specs.On.{member}
 use Rattle.table_records.specs.Table.{kind_of, parent_of, count}
 use Rattle.table_records.specs.Facts.{Tree}
 use Rattle.table_records.specs.Kinds as k
-use Rattle.table_children.specs.Children.{keep, class_body_of, found}
+use Rattle.table_children.specs.Children.{keep, class_body_of}
 use Rattle.check_class_table.proofs.ClassesLaws.{within_one, over}
 use Rattle.refusal_fields.specs.Fields.{Listed}
 use Rattle.refusal_input.specs.WellFormed.{Shaped}
@@ -91,7 +91,7 @@ module _ (ns : List ℕ) (tree : Tree ns) (listed' : Listed ns) (shaped : Shaped
       go false = refl
 
   abbrev outside : ℕ → Bool
-  outside j = member j l && not (found (body_around ns j))
+  outside j = member j l && not (is_some (body_around ns j))
 
   abbrev reported : List Finding
   reported = flat_map (λ n. cond (eqb (kind_of ns n) k.Class) (flat_map (error8 n) (mine n)) []) nodes
@@ -106,7 +106,7 @@ module _ (ns : List ℕ) (tree : Tree ns) (listed' : Listed ns) (shaped : Shaped
       any_same [] = refl
       any_same (n ∷ x) = rw (class_raises n, any_same x)
 
-  same_self : (f : Option NodeId) → found f ≡ true → same_node f f ≡ true
+  same_self : (f : Option NodeId) → is_some f ≡ true → same_node f f ≡ true
   same_self (Some b) e = eq-eqb b.0 b.0 refl
   same_self None e = never (sym e)
 
@@ -145,7 +145,7 @@ module _ (ns : List ℕ) (tree : Tree ns) (listed' : Listed ns) (shaped : Shaped
       to e = let x = some_in l e in by x.0 x.1 (body_around ns x.0) refl
 
       left : any outside nodes ≡ true → some l ≡ true
-      left e = let x = any_find_lem outside nodes e in in_some l x.at (and_left_lem (member x.at l) (not (found (body_around ns x.at))) x.does)
+      left e = let x = any_find_lem outside nodes e in in_some l x.at (and_left_lem (member x.at l) (not (is_some (body_around ns x.at))) x.does)
 
       right : any (λ n. eqb (kind_of ns n) k.Class && some (mine n)) nodes ≡ true → some l ≡ true
       right e =

@@ -7,10 +7,9 @@ use Rattle.base_common.specs.Upto.{all}
 use Rattle.base_common.proofs.UptoLaws.{and_left_lem, and_right_lem}
 use Rattle.base_common.proofs.Bools.{never}
 use Rattle.base_walk.specs.On.{member}
+use Rattle.table_children.specs.Children.{when_found}
 use Rattle.check_diagnostics.specs.declared.Finding.{Finding}
 use Rattle.check_diagnostics.specs.Finding.{listed}
-use Rattle.check_jumps.specs.Jumps.{when_found}
-use Rattle.check_statements.specs.Statements.{check_found}
 use Rattle.ecma_dispatch.specs.WithCode.{with_code}
 use Rattle.ecma_dispatch.specs.Coded.{Coded}
 
@@ -143,7 +142,7 @@ pub fine_found : (cs : List ℕ) (x : Option NodeId) (f : ℕ → Option Finding
 fine_found cs (Some m) f r p q = p m.0
 fine_found cs None f r p q = q
 
-pub fine_held : (cs : List ℕ) (x : Option NodeId) (f : ℕ → Option Finding) → ((m : ℕ) → fine cs (f m) ≡ true) → fine cs (check_found x f) ≡ true
+pub fine_held : (cs : List ℕ) (x : Option NodeId) (f : ℕ → Option Finding) → ((m : ℕ) → fine cs (f m) ≡ true) → fine cs (when_found x f None) ≡ true
 fine_held cs (Some m) f p = p m.0
 fine_held cs None f p = fine_clear cs
 

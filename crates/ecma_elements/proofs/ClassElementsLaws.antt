@@ -1,6 +1,6 @@
 -- THE FINDINGS ON THE ELEMENTS OF ONE CLASS OR OBJECT ARE BREACHES OF 15.7 AND 13.2.5.1: codes 26 and 27 at a Class, 1 at an Object.
 use Rattle.table_records.specs.declared.NodeId.{NodeId}
-use Rattle.std.specs.Prelude.{ℕ, ◌+◌, ◌<◌, ◌≡◌, List, [], ◌∷◌, Bool, cond, not, ◌&&◌, ◌||◌, length, Option, Some, None}
+use Rattle.std.specs.Prelude.{ℕ, ◌+◌, ◌<◌, ◌≡◌, List, [], ◌∷◌, Bool, cond, not, ◌&&◌, ◌||◌, length, Option, Some, None, is_some}
 use Rattle.std.proofs.Math.Path.{refl, sym}
 use Rattle.std.proofs.Common.{ap, ◌∙◌, ⊎_elim, eq-or-lt_of_le, arith, lt-ltb, ne_eqb, eqb-true}
 use Rattle.std.proofs.Math.Bool.{true, false}
@@ -13,8 +13,7 @@ use Rattle.table_records.specs.Table.{kind_of, parent_of, span_start_of, flags_o
 use Rattle.table_records.specs.Kinds as k
 use Rattle.table_records.specs.NodeFlag as flag
 use Rattle.table_names.specs.Name.{same, name_of}
-use Rattle.table_children.specs.Children.{keep, children, first_child, key_of, inner_of, value_of, function_body_of, class_body_of, found}
-use Rattle.table_ancestry.specs.Ancestry.{is_at}
+use Rattle.table_children.specs.Children.{keep, children, first_child, key_of, inner_of, value_of, function_body_of, class_body_of}
 use Rattle.ecma_trees.specs.Walk.{only}
 use Rattle.check_diagnostics.specs.Finding.{listed, error_span}
 use Rattle.check_diagnostics.specs.Codes as code
@@ -32,12 +31,8 @@ use Rattle.ecma_dispatch.proofs.NodesOfLaws.{raised_again}
 use Rattle.ecma_elements.specs.ClassElements.{name_found, key_name, literal_name, prop_name, is_definition, is_static, constructor_word, elements_in, class_elements, names_constructor, constructor_twice, name_missing}
 use Rattle.ecma_elements.specs.Changed.{body_in, is_constructor, written_key, keyed_constructor, called_constructor, built_twice, ConstructorsNamed}
 
-found_at : (f : Option NodeId) → is_at f ≡ found f
-found_at (Some m) = refl
-found_at None = refl
-
 pub body_in_lem : (ns : List ℕ) (f : Option NodeId) → has_body_at ns f ≡ body_in ns f
-body_in_lem ns (Some m) = found_at (function_body_of ns m.0)
+body_in_lem ns (Some m) = refl
 body_in_lem ns None = refl
 
 pairs : (t : ℕ) (ns : List ℕ) (n : ℕ) (l : List ℕ) → raised 27 (listed (first_pair t ns n l)) ≡ only (ltb 1 (length l)) n
@@ -59,8 +54,8 @@ second_by_lem t ns n None = refl
 require_by : (ns : List ℕ) (n : ℕ) → eqb (kind_of ns n) k.Class ≡ true → raised 26 (listed (require_class_name ns n)) ≡ only (name_missing ns n) n
 unfolding require_class_name name_missing nodes_of with_code
 require_by ns n h =
-    rw (h, found_at (first_child ns n k.BindingIdentifier k.BindingIdentifier 0 7))
-    (go (has_flag (flags_of ns n) flag.Declaration) (found (first_child ns n k.BindingIdentifier k.BindingIdentifier 0 7)) (eqb (kind_of ns (parent_of ns n)) k.ExportDefault))
+    rw h
+    (go (has_flag (flags_of ns n) flag.Declaration) (is_some (first_child ns n k.BindingIdentifier k.BindingIdentifier 0 7)) (eqb (kind_of ns (parent_of ns n)) k.ExportDefault))
   where
     go : (a b x : Bool)
         → raised 26 (listed (cond (a && (not b && not x)) (error_span code.require_class_name n (span_start_of ns n) (span_start_of ns n + 5) context.none) None)) ≡ only (a && not (b || x)) n
@@ -115,7 +110,7 @@ range_two a lo = go (within a lo (lo + 1)) refl (eqb a lo) refl (eqb a (lo + 1))
 
 -- a LiteralPropertyName is a key that the table has written so
 pub literal_written : (ns : List ℕ) (f : Option NodeId) → literal_name ns f ≡ written_key ns f
-literal_written ns (Some m) = ap (λ (b : Bool). b || (eqb (kind_of ns m.0) k.AnythingElse && not (found (inner_of ns m.0)))) (range_two (kind_of ns m.0) 35)
+literal_written ns (Some m) = ap (λ (b : Bool). b || (eqb (kind_of ns m.0) k.AnythingElse && not (is_some (inner_of ns m.0)))) (range_two (kind_of ns m.0) 35)
 literal_written ns None = refl
 
 -- an element names "constructor" where the table says that it is called so

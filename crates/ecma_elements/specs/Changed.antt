@@ -1,6 +1,6 @@
 -- THE RULES AS THE RUST HAS THEM, where they are not the standard's, and the conditions on which they are: in the order of the codes 1 (at an object) and 27.
 use Rattle.table_records.specs.declared.NodeId.{NodeId}
-use Rattle.std.specs.Prelude.{ℕ, ◌≤◌, ◌≡◌, List, [], ◌∷◌, Bool, true, false, cond, not, ◌&&◌, ◌||◌, eqb, ltb, length, Option, Some, None}
+use Rattle.std.specs.Prelude.{ℕ, ◌≤◌, ◌≡◌, List, [], ◌∷◌, Bool, true, false, cond, not, ◌&&◌, ◌||◌, eqb, ltb, length, Option, Some, None, is_some}
 use Rattle.base_common.specs.Tests.{within}
 use Rattle.base_walk.specs.On.{member}
 use Rattle.table_records.specs.Table.{kind_of, flags_of, extra_of, has_flag}
@@ -9,7 +9,7 @@ use Rattle.table_records.specs.Extras as extra
 use Rattle.table_records.specs.NodeFlag as flag
 use Rattle.table_names.specs.Name.{same, name_of}
 use Rattle.table_names.specs.Words as word
-use Rattle.table_children.specs.Children.{keep, children, key_of, inner_of, value_of, function_body_of, found}
+use Rattle.table_children.specs.Children.{keep, children, key_of, inner_of, value_of, function_body_of}
 use Rattle.ecma_elements.specs.ClassElements.{class_elements, constructor_word, is_colon, is_proto}
 
 -- 1 at an object: `__proto__`
@@ -33,7 +33,7 @@ proto_again ns names n = cond (eqb (kind_of ns n) k.Object) (later (keep (is_key
 
 -- what the table says of a key: it is a number, a string, or a node of no other kind that holds nothing, so no expression in brackets
 abbrev pub written_key : List ℕ → Option NodeId → Bool
-written_key ns (Some m) = (eqb (kind_of ns m.0) k.NumericLiteral || eqb (kind_of ns m.0) k.StringLiteral) || (eqb (kind_of ns m.0) k.AnythingElse && not (found (inner_of ns m.0)))
+written_key ns (Some m) = (eqb (kind_of ns m.0) k.NumericLiteral || eqb (kind_of ns m.0) k.StringLiteral) || (eqb (kind_of ns m.0) k.AnythingElse && not (is_some (inner_of ns m.0)))
 written_key ns None = false
 
 -- CONDITION: no property of the object has a private key, and one whose key gives the name `__proto__` has it written so
@@ -52,7 +52,7 @@ abbrev pub is_table_constructor : List ℕ → ℕ → Bool
 is_table_constructor ns e = eqb (extra_of ns e) extra.Constructor
 
 abbrev pub body_in : List ℕ → Option NodeId → Bool
-body_in ns (Some f) = found (function_body_of ns f.0)
+body_in ns (Some f) = is_some (function_body_of ns f.0)
 body_in ns None = false
 
 -- what the table calls a constructor, if it has a body: no getter, setter or field of that name, each of which is an error by another rule

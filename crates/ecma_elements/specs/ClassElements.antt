@@ -1,6 +1,6 @@
 -- ECMA-262, 15.7 Class Definitions, 15.7.1 Static Semantics: Early Errors, and 13.2.5 Object Initializer, 13.2.5.1 Static Semantics: Early Errors: those on the elements of one class or one object.
 use Rattle.table_records.specs.declared.NodeId.{NodeId}
-use Rattle.std.specs.Prelude.{ℕ, List, [], ◌∷◌, Bool, false, cond, not, ◌&&◌, ◌||◌, eqb, ltb, length, Option, Some, None}
+use Rattle.std.specs.Prelude.{ℕ, List, [], ◌∷◌, Bool, false, cond, not, ◌&&◌, ◌||◌, eqb, ltb, length, Option, Some, None, is_some}
 use Rattle.base_common.specs.Tests.{within}
 use Rattle.table_records.specs.Table.{kind_of, parent_of, flags_of, extra_of, has_flag}
 use Rattle.table_records.specs.Kinds as k
@@ -8,7 +8,7 @@ use Rattle.table_records.specs.Extras as extra
 use Rattle.table_records.specs.NodeFlag as flag
 use Rattle.table_names.specs.Name.{same, name_of}
 use Rattle.table_names.specs.Words as word
-use Rattle.table_children.specs.Children.{keep, children, first_child, key_of, inner_of, class_body_of, is_node, found}
+use Rattle.table_children.specs.Children.{keep, children, first_child, key_of, inner_of, class_body_of, is_node}
 
 -- the name at the key of an element or a property; no name is []
 abbrev pub name_found : List ℕ → List ℕ → Option NodeId → List ℕ
@@ -21,7 +21,7 @@ key_name ns names e = name_found ns names (key_of ns e)
 -- 13.2.5, PropertyName : LiteralPropertyName, ComputedPropertyName. In the tables a LiteralPropertyName is a NumericLiteral, a StringLiteral or, as an IdentifierName or a bigint, a node of no other
 -- kind that holds nothing. "[ AssignmentExpression ]" is the expression, of another kind, or a node that holds it.
 abbrev pub literal_name : List ℕ → Option NodeId → Bool
-literal_name ns (Some m) = within (kind_of ns m.0) k.NumericLiteral k.StringLiteral || (eqb (kind_of ns m.0) k.AnythingElse && not (found (inner_of ns m.0)))
+literal_name ns (Some m) = within (kind_of ns m.0) k.NumericLiteral k.StringLiteral || (eqb (kind_of ns m.0) k.AnythingElse && not (is_some (inner_of ns m.0)))
 literal_name ns None = false
 
 -- 8.6.5 PropName: the name of a LiteralPropertyName; a ComputedPropertyName has none, and a PrivateIdentifier is no PropertyName
@@ -73,7 +73,7 @@ is_first_constructor ns names e = is_node (constructor_method ns names (children
 unfoldable pub name_missing : List ℕ → ℕ → Bool
 name_missing ns n =
     eqb (kind_of ns n) k.Class
-    && (has_flag (flags_of ns n) flag.Declaration && not (found (first_child ns n k.BindingIdentifier k.BindingIdentifier 0 7) || eqb (kind_of ns (parent_of ns n)) k.ExportDefault))
+    && (has_flag (flags_of ns n) flag.Declaration && not (is_some (first_child ns n k.BindingIdentifier k.BindingIdentifier 0 7) || eqb (kind_of ns (parent_of ns n)) k.ExportDefault))
 
 -- "PropertyDefinition : PropertyName : AssignmentExpression", and no method, getter or setter; the key of a shorthand property has no name in the tables
 abbrev pub is_colon : List ℕ → ℕ → Bool

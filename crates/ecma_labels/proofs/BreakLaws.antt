@@ -15,9 +15,9 @@ use Rattle.base_walk.proofs.AboveLaws.{fold_root}
 use Rattle.table_records.specs.Table.{kind_of, parent_of, count, ancestors}
 use Rattle.table_records.specs.Facts.{Tree}
 use Rattle.table_names.specs.Name.{same, name_of, has}
-use Rattle.table_children.specs.Children.{label_of}
+use Rattle.table_children.specs.Children.{label_of, when_found}
 use Rattle.check_diagnostics.specs.Finding.{listed, error_at, error_between}
-use Rattle.check_jumps.specs.Jumps.{when_found, walk_up, same_label, no_label, plain_break_at, labelled_break_at, labeled_at, check_break_statement, check_labeled_statement}
+use Rattle.check_jumps.specs.Jumps.{walk_up, same_label, no_label, plain_break_at, labelled_break_at, labeled_at, check_break_statement, check_labeled_statement}
 use Rattle.ecma_dispatch.specs.WithCode.{with_code}
 use Rattle.ecma_dispatch.specs.NodesOf.{nodes_of}
 use Rattle.ecma_trees.specs.Walk.{only}

@@ -14,10 +14,10 @@ use Rattle.base_common.proofs.Bools.{in_range_lem, range_of}
 use Rattle.table_records.specs.Table.{kind_of, count}
 use Rattle.table_records.specs.Facts.{Tree}
 use Rattle.table_names.specs.Name.{name_of, has}
-use Rattle.table_children.specs.Children.{label_of}
+use Rattle.table_children.specs.Children.{label_of, when_found}
 use Rattle.refusal_input.specs.WellFormed.{Shaped}
 use Rattle.check_diagnostics.specs.Finding.{listed, error_at, error_between}
-use Rattle.check_jumps.specs.Jumps.{when_found, walk_up, no_label, plain_continue_at, labelled_continue_at, check_continue_statement, check_break_statement, check_labeled_statement}
+use Rattle.check_jumps.specs.Jumps.{walk_up, no_label, plain_continue_at, labelled_continue_at, check_continue_statement, check_break_statement, check_labeled_statement}
 use Rattle.check_jumps.proofs.JumpsLaws.{item_here}
 use Rattle.check_dispatch.specs.Findings.{findings_at}
 use Rattle.ecma_dispatch.specs.WithCode.{with_code}

@@ -12,10 +12,10 @@ use Rattle.table_records.specs.Table.{kind_of, parent_of, count}
 use Rattle.table_records.specs.Facts.{Tree}
 use Rattle.table_names.specs.Name.{same, name_of, has}
 use Rattle.table_names.proofs.NameLaws.{same_eq}
-use Rattle.table_children.specs.Children.{label_of}
+use Rattle.table_children.specs.Children.{label_of, when_found}
 use Rattle.refusal_input.specs.WellFormed.{Shaped}
 use Rattle.check_diagnostics.specs.Finding.{error_at, error_between}
-use Rattle.check_jumps.specs.Jumps.{when_found, walk_up, same_label, no_label, labeled_item, continue_to, plain_continue_at, labelled_continue_at}
+use Rattle.check_jumps.specs.Jumps.{walk_up, same_label, no_label, labeled_item, continue_to, plain_continue_at, labelled_continue_at}
 use Rattle.check_jumps.proofs.JumpsLaws.{item_here, item_down}
 use Rattle.ecma_trees.specs.Unit.{home_of}
 use Rattle.ecma_labels.specs.Labels.{is_iteration, is_unit, adding}

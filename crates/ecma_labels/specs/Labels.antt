@@ -2,8 +2,7 @@
 -- They go through FunctionBody, Block, Labeled, For, ForIn, ForOf, While, DoWhile, If, With, Switch, SwitchCase, Try and CatchClause (kinds 4 to 17). For a
 -- function, a class, any other declaration, an expression and every statement not named the standard has "Return false".
 use Rattle.table_records.specs.declared.NodeId.{NodeId}
-use Rattle.std.specs.Prelude.{ℕ, Bool, true, false, cond, not, ◌&&◌, ◌||◌, List, [], ◌∷◌, ◌++◌, eqb, Option, Some, None}
-use Rattle.table_children.specs.Children.{found}
+use Rattle.std.specs.Prelude.{ℕ, Bool, true, false, cond, not, ◌&&◌, ◌||◌, List, [], ◌∷◌, ◌++◌, eqb, Option, Some, None, is_some}
 use Rattle.base_common.specs.Tests.{within}
 use Rattle.table_records.specs.Table.{kind_of, role_of}
 use Rattle.table_records.specs.Kinds as k
@@ -25,7 +24,7 @@ unfoldable pub label_in : List ℕ → Roses → Option NodeId
 label_in ns ks = fold_parts (λ i r. cond (eqb (kind_of ns i) k.LabelIdentifier && eqb (role_of ns i) role.Label) (Some (record { 0 = i })) r) None ks
 
 abbrev pub unlabelled : Option NodeId → Bool
-unlabelled label = not (found label)
+unlabelled label = not (is_some label)
 
 -- "labelSet contains label", where label is the StringValue of LabelIdentifier
 abbrev pub contains : List ℕ → List ℕ → List (List ℕ) → Option NodeId → Bool

@@ -21,7 +21,7 @@ use Rattle.check_diagnostics.specs.Codes as code
 use Rattle.check_diagnostics.specs.Contexts as context
 use Rattle.refusal_fields.specs.Fields.{Listed}
 use Rattle.check_expressions.specs.Expressions.{inner_expression, error_part, field_of, chain_finding, delete_of, delete_finding, check_unary_expression}
-use Rattle.check_expressions.specs.ExpressionLaws.{inner_bare, inner_empty, inner_on}
+use Rattle.check_expressions.proofs.ExpressionLaws.{inner_bare, inner_empty, inner_on}
 use Rattle.ecma_trees.specs.Rose.{Rose, Roses, node, rnil, rcons, idx, parts_of, tree_at, fold_parts}
 use Rattle.ecma_trees.proofs.RoseLaws.{PlacedAll, WholeAll, parts_placed, parts_whole, fold_parts_is}
 use Rattle.ecma_trees.specs.Walk.{only}

@@ -1,6 +1,6 @@
 -- THE FINDINGS WITH CODES 7 AND 8 ARE WHERE AllPrivateIdentifiersValid (15.7.7) IS FALSE.
 use Rattle.table_records.specs.declared.NodeId.{NodeId}
-use Rattle.std.specs.Prelude.{ℕ, zero, suc, ◌+◌, ◌≤◌, ◌<◌, ◌≡◌, Bool, ◌&&◌, ◌||◌, length, Option, Some, None}
+use Rattle.std.specs.Prelude.{ℕ, zero, suc, ◌+◌, ◌≤◌, ◌<◌, ◌≡◌, Bool, ◌&&◌, ◌||◌, length, Option, Some, None, is_some}
 use Rattle.std.proofs.Math.Path.{refl, ap, sym}
 use Rattle.std.proofs.Common.{subst, ◌∙◌, eq-or-lt_of_le, arith}
 use mathlib.Core.List.{List, [], ◌∷◌, ◌++◌, foldr, flat_map}
@@ -18,7 +18,7 @@ use Rattle.table_records.specs.Table.{kind_of, parent_of, role_of, count, ancest
 use Rattle.table_records.specs.Facts.{Tree}
 use Rattle.table_records.specs.Kinds as k
 use Rattle.table_names.specs.Name.{same, name_of, has}
-use Rattle.table_children.specs.Children.{keep, is_child, class_body_of, found}
+use Rattle.table_children.specs.Children.{keep, is_child, class_body_of}
 use Rattle.table_children.proofs.ChildrenLaws.{keep_keep, found_child, tally, tally_all}
 use Rattle.table_ancestry.specs.Ancestry.{nearest_of}
 use Rattle.table_ancestry.proofs.AncestryLaws.{ancestors_up, ancestors_root}
@@ -156,7 +156,7 @@ current_is ns m e = let q : kind_of ns m ≡ k.PrivateIdentifier = eqb-true (kin
 
 -- 7: one finding at each PrivateIdentifier outside of ClassBodies
 module _ (t : ℕ) (ns ss source names : List ℕ) (n : ℕ) where
-  outside_raised : (f : Option NodeId) → raised 7 (listed (outside_by ns n (class_at f))) ≡ only (not (found f)) n
+  outside_raised : (f : Option NodeId) → raised 7 (listed (outside_by ns n (class_at f))) ≡ only (not (is_some f)) n
   unfolding nodes_of with_code
   outside_raised (Some b) = refl
   outside_raised None = refl
@@ -165,7 +165,7 @@ module _ (t : ℕ) (ns ss source names : List ℕ) (n : ℕ) where
   unfolding is_outside nodes_of with_code
   private_outside_lem = sym (raised_again 7 (findings_at t ns ss source names n)) ∙ rw (at_code 7 t ns ss source names n) (go (eqb (kind_of ns n) k.PrivateIdentifier) refl)
     where
-      go : (b : Bool) → eqb (kind_of ns n) k.PrivateIdentifier ≡ b → raised 7 (cond b (listed (private_outside ns n)) []) ≡ only (b && not (found (body_around ns n))) n
+      go : (b : Bool) → eqb (kind_of ns n) k.PrivateIdentifier ≡ b → raised 7 (cond b (listed (private_outside ns n)) []) ≡ only (b && not (is_some (body_around ns n))) n
       go true q = rw (current_is ns n q) (outside_raised (body_around ns n))
       go false q = refl
 
@@ -176,13 +176,13 @@ listed_at q n j h =
 
 module _ (ns names : List ℕ) (w : Tree ns) where
   -- no ClassBody around, no name
-  none_around : (l : List ℕ) → found (foldr (λ a r. cond (is_class_body ns a) (Some (record { 0 = a })) r) None l) ≡ false → keep (is_class_body ns) l ≡ []
+  none_around : (l : List ℕ) → is_some {T = NodeId} (foldr (λ a r. cond (is_class_body ns a) (Some (record { 0 = a })) r) None l) ≡ false → keep (is_class_body ns) l ≡ []
   unfolding keep
   none_around [] h = refl
   none_around (a ∷ l) h = go (is_class_body ns a) h (λ z. none_around l z)
     where
-      go : (b : Bool) → found (cond b (Some (record { 0 = a })) (foldr (λ a r. cond (is_class_body ns a) (Some (record { 0 = a })) r) None l)) ≡ false
-          → (found (foldr (λ a r. cond (is_class_body ns a) (Some (record { 0 = a })) r) None l) ≡ false → keep (is_class_body ns) l ≡ []) → cond b (a ∷ keep (is_class_body ns) l) (keep (is_class_body ns) l) ≡ []
+      go : (b : Bool) → is_some {T = NodeId} (cond b (Some (record { 0 = a })) (foldr (λ a r. cond (is_class_body ns a) (Some (record { 0 = a })) r) None l)) ≡ false
+          → (is_some {T = NodeId} (foldr (λ a r. cond (is_class_body ns a) (Some (record { 0 = a })) r) None l) ≡ false → keep (is_class_body ns) l ≡ []) → cond b (a ∷ keep (is_class_body ns) l) (keep (is_class_body ns) l) ≡ []
       go true e r = never e
       go false e r = r e
 
@@ -190,15 +190,15 @@ module _ (ns names : List ℕ) (w : Tree ns) where
     abbrev handed : List (List ℕ)
     handed = foldr (λ a l. new_names ns names (is_use ns) (private_bound ns) a l) [] (ancestors ns j)
 
-    bare : found (body_around ns j) ≡ false → has handed (name_of ns names j) ≡ false
+    bare : is_some (body_around ns j) ≡ false → has handed (name_of ns names j) ≡ false
     unfolding body_around
     bare e = bound_is ns names (is_use ns) (private_bound ns) (ancestors ns j) (name_of ns names j) ∙ rw (none_around (ancestors ns j) e)
 
-    opens : is_use ns j ≡ true → found (body_around ns j) ≡ false → is_outside ns j ≡ true
+    opens : is_use ns j ≡ true → is_some (body_around ns j) ≡ false → is_outside ns j ≡ true
     unfolding is_use is_outside
     opens q e = rw (and_left_lem (eqb (kind_of ns j) k.PrivateIdentifier) (within (kind_of ns (parent_of ns j)) k.PrivateField k.PrivateIn) q, e)
 
-    inside : found (body_around ns j) ≡ true → is_outside ns j ≡ false
+    inside : is_some (body_around ns j) ≡ true → is_outside ns j ≡ false
     unfolding is_outside
     inside e = rw e (by (eqb (kind_of ns j) k.PrivateIdentifier))
       where
@@ -207,10 +207,10 @@ module _ (ns names : List ℕ) (w : Tree ns) where
         by false = refl
 
   -- where a PrivateIdentifier there is a use, it is one that the standard's operation finds outside of ClassBodies
-  pub outside_invalid : (j : ℕ) → j < count ns → OutsideUsed ns j → is_outside ns j ≡ (member j (invalid_identifiers ns names) && not (found (body_around ns j)))
+  pub outside_invalid : (j : ℕ) → j < count ns → OutsideUsed ns j → is_outside ns j ≡ (member j (invalid_identifiers ns names) && not (is_some (body_around ns j)))
   outside_invalid j h u =
       rw (invalid_list ns names (is_use ns) (private_bound ns) w, listed_at (invalid_at ns names (is_use ns) (private_bound ns)) (count ns) j h)
-      (go (found (body_around ns j)) refl)
+      (go (is_some (body_around ns j)) refl)
     where
       shuts : is_use ns j ≡ false → (x : Bool) → is_outside ns j ≡ x → is_outside ns j ≡ false
       shuts q true z = never (sym (u z) ∙ q)
@@ -220,11 +220,11 @@ module _ (ns names : List ℕ) (w : Tree ns) where
       off true = refl
       off false = refl
 
-      by : found (body_around ns j) ≡ false → (b : Bool) → is_use ns j ≡ b → is_outside ns j ≡ ((b && true) && true)
+      by : is_some (body_around ns j) ≡ false → (b : Bool) → is_use ns j ≡ b → is_outside ns j ≡ ((b && true) && true)
       by e true q = opens j q e
       by e false q = shuts q (is_outside ns j) refl
 
-      go : (b : Bool) → found (body_around ns j) ≡ b → is_outside ns j ≡ ((is_use ns j && not (has (handed j) (name_of ns names j))) && not b)
+      go : (b : Bool) → is_some (body_around ns j) ≡ b → is_outside ns j ≡ ((is_use ns j && not (has (handed j) (name_of ns names j))) && not b)
       go true e = inside j e ∙ off (is_use ns j && not (has (handed j) (name_of ns names j)))
       go false e = rw (bare j e) (by e (is_use ns j) refl)
 

@@ -1,12 +1,12 @@
 -- THE RULES AS THE RUST HAS THEM, where they are not the standard's, and the conditions on which they are: in the order of the codes 1 (at a class), 7 and 8.
 use Rattle.table_records.specs.declared.NodeId.{NodeId}
-use Rattle.std.specs.Prelude.{ℕ, ◌<◌, ◌≤◌, ◌≡◌, List, [], ◌∷◌, Bool, true, false, not, ◌&&◌, eqb, ltb, length, Option, Some, None}
+use Rattle.std.specs.Prelude.{ℕ, ◌<◌, ◌≤◌, ◌≡◌, List, [], ◌∷◌, Bool, true, false, not, ◌&&◌, eqb, ltb, length, Option, Some, None, is_some}
 use Rattle.std.specs.Bool.{xor}
 use Rattle.base_common.specs.Tests.{within}
 use Rattle.base_walk.specs.On.{member}
 use Rattle.table_records.specs.Table.{kind_of, parent_of, name_len_of, count}
 use Rattle.table_records.specs.Kinds as k
-use Rattle.table_children.specs.Children.{keep, children, key_of, value_of, found}
+use Rattle.table_children.specs.Children.{keep, children, key_of, value_of}
 use Rattle.ecma_trees.specs.Rose.{tree_of}
 use Rattle.ecma_elements.specs.Changed.{is_table_constructor, body_in}
 use Rattle.ecma_privates.specs.PrivateNames.{is_private_bound, entries, is_setter, matched, invalid, is_use}
@@ -63,7 +63,7 @@ OnceOrTwice ns names l = (e : ℕ) → member e l ≡ true → length (entries n
 
 -- CHANGED RULE: each PrivateIdentifier in no ClassBody, whatever it stands under
 unfoldable pub is_outside : List ℕ → ℕ → Bool
-is_outside ns n = eqb (kind_of ns n) k.PrivateIdentifier && not (found (body_around ns n))
+is_outside ns n = eqb (kind_of ns n) k.PrivateIdentifier && not (is_some (body_around ns n))
 
 -- CONDITION: a PrivateIdentifier outside of ClassBodies is a use; each is
 abbrev pub OutsideUsed : List ℕ → ℕ → Type 0

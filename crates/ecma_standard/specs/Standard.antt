@@ -1,7 +1,7 @@
 -- THE FINDINGS AGAINST THE RULES OF ECMA-262 THEMSELVES, all codes together: of well-formed tables, for every telling of the functions that are async or generators.
 -- Where a field has a condition, that is a named one (Changed.antt of each crate; docs/DIFFERENCES.md has a row for each, and a text where there is one); where it does not hold the Rust keeps another rule, which
 -- Findings.antt states of all tables. Operations.antt has the standard's operations of units.
-use Rattle.std.specs.Prelude.{ℕ, ◌≤◌, ◌<◌, ◌≡◌, ◌↔◌, Bool, true, false, not, ◌&&◌, ◌||◌, ltb}
+use Rattle.std.specs.Prelude.{ℕ, ◌≤◌, ◌<◌, ◌≡◌, ◌↔◌, Bool, true, false, not, ◌&&◌, ◌||◌, ltb, is_some}
 use Rattle.std.proofs.Common.{ap, ◌∙◌}
 use mathlib.Core.List.{List, [], ◌∷◌, ◌++◌, flat_map}
 use Rattle.base_common.specs.Upto.{upto, all, any}
@@ -9,7 +9,7 @@ use Rattle.base_common.specs.Tests.{within}
 use Rattle.base_walk.specs.On.{member}
 use Rattle.table_records.specs.Table.{kind_of, count}
 use Rattle.table_records.specs.Kinds as k
-use Rattle.table_children.specs.Children.{keep, found}
+use Rattle.table_children.specs.Children.{keep}
 use Rattle.check_diagnostics.specs.declared.Finding.{Finding}
 use Rattle.refusal_verdict.specs.Verdict.{Passed}
 use Rattle.refusal_input.specs.Input.{input_refusal}
@@ -129,7 +129,7 @@ module _ (told : Telling) (t : ℕ) (ns ss source names : List ℕ) where
     pub redeclared : ((b : ℕ) → b < count ns → is_class_body ns b ≡ true → PrivatesEntered ns b) → ((n : ℕ) → n < count ns → kind_of ns n ≡ k.Object → KeysPlain ns names n)
         → some (raised 1 findings) ≡ (any (λ b. is_class_body ns b && private_twice ns names (private_bound ns b)) nodes || any (proto_twice ns names) nodes)
     -- 7 and 8: each PrivateIdentifier at which AllPrivateIdentifiersValid is false
-    pub private_outside : RuleOn (OutsideUsed ns) 7 (λ j. member j (invalid_identifiers ns names) && not (found (body_around ns j)))
+    pub private_outside : RuleOn (OutsideUsed ns) 7 (λ j. member j (invalid_identifiers ns names) && not (is_some (body_around ns j)))
     pub private_undeclared : PrivatesPlain ns → with_code 8 findings ≡ reported ns (invalid_identifiers ns names)
     pub class_name : Rule 26 (name_missing ns)
     pub constructors : RuleOn (ConstructorsNamed ns names) 27 (constructor_twice ns names)

@@ -12,11 +12,11 @@ use Rattle.base_common.proofs.UptoLaws.{and_left_lem, and_right_lem}
 use Rattle.table_records.specs.Table.{kind_of, parent_of, count}
 use Rattle.table_records.specs.Facts.{Tree}
 use Rattle.table_records.specs.Kinds as k
-use Rattle.table_children.specs.Children.{held_of, alternate_of}
+use Rattle.table_children.specs.Children.{held_of, alternate_of, when_found}
 use Rattle.check_diagnostics.specs.Finding.{error_at}
 use Rattle.check_diagnostics.specs.Codes as code
 use Rattle.check_diagnostics.specs.Contexts as context
-use Rattle.check_statements.specs.Statements.{check_found, check_function_declaration, check_body, check_consequent, check_alternate, labelled_function, check_labeled_item, check_function_declaration_in_labeled_statement}
+use Rattle.check_statements.specs.Statements.{check_function_declaration, check_body, check_consequent, check_alternate, labelled_function, check_labeled_item, check_function_declaration_in_labeled_statement}
 use Rattle.check_statements.proofs.StatementsLaws.{function_on, function_held, function_free, function_root}
 use Rattle.ecma_trees.specs.Walk.{only}
 use Rattle.ecma_trees.specs.Trail.{unit_of}
@@ -79,7 +79,7 @@ module _ (ns ss : List ℕ) (n : ℕ) where
   and_false true = refl
   and_false false = refl
 
-  found15 : (told : Telling) (i : Bool) (r : Option NodeId) → of_check 15 (check_found r (check_function_declaration ns ss n i)) ≡ only (strict_code ns ss n && misplaced told ns ss n r) n
+  found15 : (told : Telling) (i : Bool) (r : Option NodeId) → of_check 15 (when_found r (check_function_declaration ns ss n i) None) ≡ only (strict_code ns ss n && misplaced told ns ss n r) n
   unfolding check_function_declaration
   found15 told i (Some m) =
       held15 (eqb (kind_of ns m.0) k.Function) (strict_code ns ss n) (annex_allows told ns ss n m.0) m.0
@@ -87,7 +87,7 @@ module _ (ns ss : List ℕ) (n : ℕ) where
   found15 told i None = and_false (strict_code ns ss n)
 
   found16 : (i : Bool) → (eqb (kind_of ns n) k.If || eqb (kind_of ns n) k.Labeled) ≡ i → (r : Option NodeId)
-      → of_check 16 (check_found r (check_function_declaration ns ss n i)) ≡ only (not (strict_code ns ss n) && misplaced ordinary ns ss n r) n
+      → of_check 16 (when_found r (check_function_declaration ns ss n i) None) ≡ only (not (strict_code ns ss n) && misplaced ordinary ns ss n r) n
   unfolding check_function_declaration
   found16 i e (Some m) = held16 (eqb (kind_of ns m.0) k.Function) (strict_code ns ss n) i (annex_allows ordinary ns ss n m.0) m.0 (ordinary_allowed i e m.0)
   found16 i e None = and_false (not (strict_code ns ss n))
@@ -174,7 +174,7 @@ module _ (ns ss : List ℕ) (t : Tree ns) (n : ℕ) (h : n < count ns) where
   item16 true false false m = refl
   item16 false s l m = refl
 
-  labelled15 : (told : Telling) (r : Option NodeId) → of_check 15 (check_found r (check_labeled_item ns ss n)) ≡ only (strict_code ns ss n && misplaced told ns ss n r) n
+  labelled15 : (told : Telling) (r : Option NodeId) → of_check 15 (when_found r (check_labeled_item ns ss n) None) ≡ only (strict_code ns ss n && misplaced told ns ss n r) n
   unfolding check_labeled_item
   labelled15 told (Some m) =
       let l = ends_in_statement ns (unit_of ns (label_edge ns) n) in
@@ -183,7 +183,7 @@ module _ (ns ss : List ℕ) (t : Tree ns) (n : ℕ) (h : n < count ns) where
       (cond l (error_at ns code.function_declaration_non_strict n m.0 context.none) None) (item15 l m.0) (strict_denied ns ss n told m.0))
   labelled15 told None = and_false ns ss n (strict_code ns ss n)
 
-  labelled16 : (r : Option NodeId) → of_check 16 (check_found r (check_labeled_item ns ss n)) ≡ only (is_function ns r && (not (strict_code ns ss n) && ends_in_statement ns (unit_of ns (label_edge ns) n))) n
+  labelled16 : (r : Option NodeId) → of_check 16 (when_found r (check_labeled_item ns ss n) None) ≡ only (is_function ns r && (not (strict_code ns ss n) && ends_in_statement ns (unit_of ns (label_edge ns) n))) n
   unfolding check_labeled_item
   labelled16 (Some m) = rw (labelled_is ns t n m.0 n h) (item16 (eqb (kind_of ns m.0) k.Function) (strict_code ns ss n) (ends_in_statement ns (unit_of ns (label_edge ns) n)) m.0)
   labelled16 None = refl

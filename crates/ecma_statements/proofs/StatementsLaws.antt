@@ -13,13 +13,13 @@ use Rattle.table_source.proofs.SourceTypeLaws.{no_typescript}
 use Rattle.table_records.specs.Table.{kind_of, parent_of, count, extra_of, span_start_of, span_end_of}
 use Rattle.table_records.specs.Kinds as k
 use Rattle.table_records.specs.Extras as extra
-use Rattle.table_children.specs.Children.{keep, is_child}
+use Rattle.table_children.specs.Children.{keep, is_child, when_found}
 use Rattle.table_children.proofs.ChildrenLaws.{tally, tally_all}
 use Rattle.check_diagnostics.proofs.Gather.{kept_first_lem, kept_none}
 use Rattle.check_diagnostics.specs.Finding.{error_at}
 use Rattle.check_diagnostics.specs.Codes as code
 use Rattle.check_diagnostics.specs.Contexts as context
-use Rattle.check_statements.specs.Statements.{check_found, check_with_statement, declarator_of, declarators, check_initialiser, check_left, check_for_statement_left, check_using}
+use Rattle.check_statements.specs.Statements.{check_with_statement, declarator_of, declarators, check_initialiser, check_left, check_for_statement_left, check_using}
 use Rattle.ecma_trees.specs.Walk.{only}
 use Rattle.ecma_base.specs.Nodes.{of_check}
 use Rattle.ecma_base.proofs.NodesLaws.{if_only}
@@ -75,7 +75,7 @@ module _ (ns ss : List ℕ) (n : ℕ) (f : Bool) (e : eqb (kind_of ns n) k.ForIn
   several d a b l q = rw (q, lt-leb (length (a ∷ b ∷ l)) 1 (omega arith)) (and_false (bad_head ns ss n d))
 
   head_left : (d : ℕ) → (x : Bool) → eqb (kind_of ns d) k.VariableDeclaration ≡ x → (r : Option NodeId) → declarator_of ns d ≡ r
-      → of_check 24 (cond x (cond (single (declarators_of ns d)) (check_found r (check_initialiser ns ss n f d)) None) None) ≡ only (bad_head ns ss n d && not (unsaid ns n d)) n
+      → of_check 24 (cond x (cond (single (declarators_of ns d)) (when_found r (check_initialiser ns ss n f d) None) None) None) ≡ only (bad_head ns ss n d && not (unsaid ns n d)) n
   unfolding bad_head annex_head check_initialiser
   head_left d false x r q = rw x
   head_left d true x None q =
@@ -95,7 +95,7 @@ module _ (ns ss : List ℕ) (n : ℕ) (f : Bool) (e : eqb (kind_of ns n) k.ForIn
           let y : single (declarators_of ns d) ≡ false = ap (λ (m : List ℕ). single m) z ∙ lt-leb (length (v.0 ∷ b ∷ l)) 1 (omega arith) in
           ap (λ b. of_check 24 (cond true (cond b (check_initialiser ns ss n f d v.0) None) None)) y ∙ ap (λ y. only y n) (sym (several d v.0 b l z))
 
-  head_by : (r : Option NodeId) → of_check 24 (check_found r (check_left ns ss n f)) ≡ only (of_head (λ d. bad_head ns ss n d && not (unsaid ns n d)) r) n
+  head_by : (r : Option NodeId) → of_check 24 (when_found r (check_left ns ss n f) None) ≡ only (of_head (λ d. bad_head ns ss n d && not (unsaid ns n d)) r) n
   unfolding check_left
   head_by (Some d) = rw (how_many_is ns d.0) (head_left d.0 (eqb (kind_of ns d.0) k.VariableDeclaration) refl (declarator_of ns d.0) refl)
   head_by None = refl

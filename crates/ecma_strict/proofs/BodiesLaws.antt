@@ -9,10 +9,9 @@ use Rattle.std.proofs.Math.Dec.{eqb}
 use Rattle.base_common.proofs.Bools.{never}
 use Rattle.table_records.specs.Table.{kind_of, flags_of, has_flag, count}
 use Rattle.table_records.specs.Kinds as k
-use Rattle.table_children.specs.Children.{held_of, alternate_of}
+use Rattle.table_children.specs.Children.{held_of, alternate_of, when_found}
 use Rattle.check_diagnostics.specs.Contexts as context
 use Rattle.check_diagnostics.specs.Finding.{error_at, listed}
-use Rattle.check_statements.specs.Statements.{check_found}
 use Rattle.check_bodies.specs.Bodies.{AsyncOrGenerator, async_body, check_async_body, check_async_held, check_async_alternate, async_bodies_at}
 use Rattle.check_dispatch.specs.Findings.{findings_at}
 use Rattle.refusal_input.specs.WellFormed.{WellFormed}
@@ -72,7 +71,7 @@ module _ (told : Telling) (ns ss : List ℕ) (n : ℕ) where
     one true false false x m e q = never (sym e)
     one false b h x m e q = refl
 
-    found34 : (r : Option NodeId) → annex_holder ns ss n ≡ true → raised 34 (listed (check_found r (check_async_body ns n))) ≡ only (misplaced told ns ss n r) n
+    found34 : (r : Option NodeId) → annex_holder ns ss n ≡ true → raised 34 (listed (when_found r (check_async_body ns n) None)) ≡ only (misplaced told ns ss n r) n
     unfolding check_async_body
     found34 (Some m) a =
         raised_listed 34 (check_async_body ns n m.0)

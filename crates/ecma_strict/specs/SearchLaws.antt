@@ -24,7 +24,7 @@ use Rattle.table_scoping.specs.Scoping.{in_static_block}
 use Rattle.check_identifiers.specs.Identifiers as its
 use Rattle.check_identifiers.proofs.IdentifierLaws.{let_found, let_function, let_on, let_root, arguments_function, arguments_found, arguments_on, arguments_root}
 use Rattle.check_expressions.specs.Expressions.{is_parameter, in_formal_parameters, in_parameter, in_block}
-use Rattle.check_expressions.specs.ExpressionLaws.{parameter_found, parameter_stop, parameter_on, parameter_root}
+use Rattle.check_expressions.proofs.ExpressionLaws.{parameter_found, parameter_stop, parameter_on, parameter_root}
 use Rattle.check_statements.specs.Statements.{check_for_of_statement, check_await_using}
 use Rattle.refusal_standing.specs.Standing.{Placed}
 use Rattle.ecma_trees.specs.Walk.{only}

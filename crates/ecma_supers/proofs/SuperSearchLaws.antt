@@ -18,7 +18,8 @@ use Rattle.check_class_table.proofs.ClassesLaws.{within_one, over}
 use Rattle.refusal_standing.specs.Standing.{Placed}
 use Rattle.ecma_trees.specs.Trail.{unit_of}
 use Rattle.ecma_trees.proofs.TrailLaws.{handed_law, handed_root}
-use Rattle.check_supers.specs.Super.{if_call, is_value_of, part_of, place_of, function_use, is_class_scope, at_class, step_at, class_above, reach_from}
+use Rattle.check_class_table.specs.Classes.{body_above}
+use Rattle.check_supers.specs.Super.{if_call, is_value_of, part_of, place_of, function_use, is_class_scope, at_class, step_at, reach_from}
 use Rattle.check_supers.proofs.SuperLaws.{place_stop, place_on, reach_stop, reach_leave, reach_on, outer_next}
 use Rattle.check_supers.specs.declared.ElementPart.TheVariants.{Value, Key}
 use Rattle.check_supers.specs.declared.Reach.{Reach}
@@ -84,20 +85,20 @@ module _ (ns : List ℕ) (i j : ℕ) where
 module _ (ns ss : List ℕ) (tree : Tree ns) (chained : Chained ss) (scoped : Scoped ns ss) (placed : Placed ns) (fit : ScopesFit ns ss) (n : ℕ) (call : Bool) where
   -- the search from node j
   abbrev from : ℕ → ℕ → Reach
-  from j start = reach_from ns ss n call (scope_of ns j ∷ outer ss (scope_of ns j)) (class_above ns j) start
+  from j start = reach_from ns ss n call (scope_of ns j ∷ outer ss (scope_of ns j)) (body_above ns j) start
 
   -- what a unit says
   abbrev pub in_unit : ℕ → Reach
-  in_unit u = cond (eqb u 0) Illegal (cond (eqb (kind_of ns u) k.Function) (function_use ns n call (class_above ns u) u) (if_call call))
+  in_unit u = cond (eqb u 0) Illegal (cond (eqb (kind_of ns u) k.Function) (function_use ns n call (body_above ns u) u) (if_call call))
 
   abbrev unit : ℕ → ℕ
   unit j = unit_of ns (begins ns) j
 
   -- the class around a node, one step up
-  pub above_other : (j : ℕ) → 0 < j → j < count ns → (kind_of ns (parent_of ns j) ≡ k.ClassBody → ⊥) → class_above ns j ≡ class_above ns (parent_of ns j)
+  pub above_other : (j : ℕ) → 0 < j → j < count ns → (kind_of ns (parent_of ns j) ≡ k.ClassBody → ⊥) → body_above ns j ≡ body_above ns (parent_of ns j)
   above_other j z h e = nearest_on ns tree k.ClassBody k.ClassBody j (parent_of ns j) z h refl (within_one (kind_of ns (parent_of ns j)) k.ClassBody ∙ ne_eqb (kind_of ns (parent_of ns j)) k.ClassBody e)
 
-  pub above_body : (j : ℕ) → 0 < j → j < count ns → kind_of ns (parent_of ns j) ≡ k.ClassBody → class_above ns j ≡ Some (record { 0 = parent_of ns j })
+  pub above_body : (j : ℕ) → 0 < j → j < count ns → kind_of ns (parent_of ns j) ≡ k.ClassBody → body_above ns j ≡ Some (record { 0 = parent_of ns j })
   above_body j z h e = nearest_stop ns tree k.ClassBody k.ClassBody j (parent_of ns j) z h refl (within_one (kind_of ns (parent_of ns j)) k.ClassBody ∙ eq-eqb (kind_of ns (parent_of ns j)) k.ClassBody e)
 
   -- the class that is found above j is a Class, before j, and makes its scope
@@ -108,7 +109,7 @@ module _ (ns ss : List ℕ) (tree : Tree ns) (chained : Chained ss) (scoped : Sc
     fall : parent_of ns b < b
     maker : scope_node_of ss (extra_of ns (parent_of ns b)) ≡ parent_of ns b
 
-  around : (j b : ℕ) → j < count ns → class_above ns j ≡ Some (record { 0 = b }) → Around j b
+  around : (j b : ℕ) → j < count ns → body_above ns j ≡ Some (record { 0 = b }) → Around j b
   around j b h e =
       let o = over ns tree k.ClassBody k.ClassBody j b h e in
       let l = o.less in
@@ -119,37 +120,37 @@ module _ (ns ss : List ℕ) (tree : Tree ns) (chained : Chained ss) (scoped : Sc
       record { less = l; kind = q; parent = c; fall = f; maker = fit.class (parent_of ns b) (omega arith) c }
 
   -- a scope made by a node that is not the class around is not that class's
-  no_class : (j s : ℕ) → j < count ns → ((b : ℕ) → class_above ns j ≡ Some (record { 0 = b }) → scope_node_of ss s ≡ parent_of ns b → ⊥) → is_class_scope ns (class_above ns j) s ≡ false
-  no_class j s h w = go (class_above ns j) refl
+  no_class : (j s : ℕ) → j < count ns → ((b : ℕ) → body_above ns j ≡ Some (record { 0 = b }) → scope_node_of ss s ≡ parent_of ns b → ⊥) → is_class_scope ns (body_above ns j) s ≡ false
+  no_class j s h w = go (body_above ns j) refl
     where
-      go : (f : Option NodeId) → class_above ns j ≡ f → is_class_scope ns f s ≡ false
+      go : (f : Option NodeId) → body_above ns j ≡ f → is_class_scope ns f s ≡ false
       go (Some b) e = ne_eqb s (extra_of ns (parent_of ns b.0)) (λ q. w b.0 e (ap (scope_node_of ss) q ∙ (around j b.0 h e).maker))
       go None e = refl
 
   -- a scope of its own
-  module _ (j start : ℕ) (z : 0 < j) (h : j < count ns) (own : Made ns ss j) (c : is_class_scope ns (class_above ns j) (scope_of ns j) ≡ false) where
+  module _ (j start : ℕ) (z : 0 < j) (h : j < count ns) (own : Made ns ss j) (c : is_class_scope ns (body_above ns j) (scope_of ns j) ≡ false) where
     next : outer ss (scope_of ns j) ≡ scope_of ns (parent_of ns j) ∷ outer ss (scope_of ns (parent_of ns j))
     next = outer_next ss chained (scope_of ns j) (scope_of ns (parent_of ns j)) (sym own.around) own.later (scoped.scope j h)
 
-    passed : step_at ns ss n call (class_above ns j) start (scope_of ns j) ≡ On → class_above ns j ≡ class_above ns (parent_of ns j) → from j start ≡ from (parent_of ns j) (parent_of ns j)
-    passed e a = reach_on ns ss n call (class_above ns j) start (scope_of ns j) e ∙ rw (next, own.whose, a)
+    passed : step_at ns ss n call (body_above ns j) start (scope_of ns j) ≡ On → body_above ns j ≡ body_above ns (parent_of ns j) → from j start ≡ from (parent_of ns j) (parent_of ns j)
+    passed e a = reach_on ns ss n call (body_above ns j) start (scope_of ns j) e ∙ rw (next, own.whose, a)
 
-    plain_step_lem : is_block_scope ss (scope_of ns j) ≡ false → is_function_scope ss (scope_of ns j) ≡ false → step_at ns ss n call (class_above ns j) start (scope_of ns j) ≡ On
+    plain_step_lem : is_block_scope ss (scope_of ns j) ≡ false → is_function_scope ss (scope_of ns j) ≡ false → step_at ns ss n call (body_above ns j) start (scope_of ns j) ≡ On
     unfolding step_at
     plain_step_lem b f = rw (c, b, f)
 
-    arrow_step : is_block_scope ss (scope_of ns j) ≡ false → is_function_scope ss (scope_of ns j) ≡ true → is_arrow_scope ss (scope_of ns j) ≡ true → step_at ns ss n call (class_above ns j) start (scope_of ns j) ≡ On
+    arrow_step : is_block_scope ss (scope_of ns j) ≡ false → is_function_scope ss (scope_of ns j) ≡ true → is_arrow_scope ss (scope_of ns j) ≡ true → step_at ns ss n call (body_above ns j) start (scope_of ns j) ≡ On
     unfolding step_at
     arrow_step b f a = rw (c, b, f, a)
 
     function_step : is_block_scope ss (scope_of ns j) ≡ false → is_function_scope ss (scope_of ns j) ≡ true → is_arrow_scope ss (scope_of ns j) ≡ false
-        → from j start ≡ function_use ns n call (class_above ns j) (parent_of ns j)
+        → from j start ≡ function_use ns n call (body_above ns j) (parent_of ns j)
     unfolding step_at
-    function_step b f a = reach_stop ns ss n call (class_above ns j) start (scope_of ns j) (function_use ns n call (class_above ns j) (parent_of ns j)) (rw (c, b, f, a, own.whose))
+    function_step b f a = reach_stop ns ss n call (body_above ns j) start (scope_of ns j) (function_use ns n call (body_above ns j) (parent_of ns j)) (rw (c, b, f, a, own.whose))
 
     block_step : is_block_scope ss (scope_of ns j) ≡ true → from j start ≡ if_call call
     unfolding step_at
-    block_step b = reach_stop ns ss n call (class_above ns j) start (scope_of ns j) (if_call call) (rw (c, b))
+    block_step b = reach_stop ns ss n call (body_above ns j) start (scope_of ns j) (if_call call) (rw (c, b))
 
   -- the unit, one step up
   unit_up_lem : (j : ℕ) → 0 < j → j < count ns → unit j ≡ cond (begins ns (parent_of ns j) j) (parent_of ns j) (unit (parent_of ns j))
@@ -172,7 +173,7 @@ module _ (ns ss : List ℕ) (tree : Tree ns) (chained : Chained ss) (scoped : Sc
   unit_begins_lem j z h e = unit_up_lem j z h ∙ rw e
 
   -- no class's scope
-  own_free : (j : ℕ) → 0 < j → j < count ns → (kind_of ns (parent_of ns j) ≡ k.ClassBody → ⊥) → Made ns ss j → is_class_scope ns (class_above ns j) (scope_of ns j) ≡ false
+  own_free : (j : ℕ) → 0 < j → j < count ns → (kind_of ns (parent_of ns j) ≡ k.ClassBody → ⊥) → Made ns ss j → is_class_scope ns (body_above ns j) (scope_of ns j) ≡ false
   own_free j z h e own =
       let l = tree.falls j z h in
       no_class j (scope_of ns j) h
@@ -270,24 +271,24 @@ module _ (ns ss : List ℕ) (tree : Tree ns) (chained : Chained ss) (scoped : Sc
       the_scope : scope_of ns j ≡ scope_of ns b
       the_scope = let x = p_later.1 in fit.element j z h e1 e2 ∙ (fit.in_body p p_later.0 (omega arith) b_kind).0
 
-      the_class : class_above ns j ≡ Some (record { 0 = b })
+      the_class : body_above ns j ≡ Some (record { 0 = b })
       the_class = let x = p_later.1 in above_other j z h (λ q. omega arith) ∙ above_body p p_later.0 (omega arith) b_kind
 
-      step_is : step_at ns ss n call (class_above ns j) start (scope_of ns j) ≡ at_class call (Some (part_of ns p j))
+      step_is : step_at ns ss n call (body_above ns j) start (scope_of ns j) ≡ at_class call (Some (part_of ns p j))
       unfolding step_at
       step_is =
           rw (the_class, eq-eqb (scope_of ns j) (extra_of ns c) (the_scope ∙ body_scope.1))
           (ap (at_class call) (place ∙ place_stop ns tree j p refl z h (in_range_lem (kind_of ns p) 28 30 e1 e2)))
 
       in_value : part_of ns p j ≡ Value → from j start ≡ if_call call
-      in_value e = reach_stop ns ss n call (class_above ns j) start (scope_of ns j) (if_call call) (step_is ∙ ap (λ y. at_class call (Some y)) e)
+      in_value e = reach_stop ns ss n call (body_above ns j) start (scope_of ns j) (if_call call) (step_is ∙ ap (λ y. at_class call (Some y)) e)
 
       in_key : part_of ns p j ≡ Key → from j start ≡ from c c
       in_key e =
           let x = p_later.1 in
           let y = b_later.1 in
           let w = c_kind in
-          reach_leave ns ss n call (class_above ns j) start (scope_of ns j) (step_is ∙ ap (λ y. at_class call (Some y)) e)
+          reach_leave ns ss n call (body_above ns j) start (scope_of ns j) (step_is ∙ ap (λ y. at_class call (Some y)) e)
           ∙ rw (the_scope, the_class, outer_next ss chained (scope_of ns b) (scope_of ns c) (sym body_scope.0.around) body_scope.0.later (scoped.scope b (omega arith)), body_scope.0.whose, above_other b b_later.0 (omega arith) (λ q. omega arith))
 
       -- its class is in the unit that the class's own node is in
@@ -364,5 +365,5 @@ module _ (ns ss : List ℕ) (tree : Tree ns) (chained : Chained ss) (scoped : Sc
       (λ (q : 0 < j). step_up j start q h g1 g2 place (λ i s l a b r. search_by f i s (omega arith) (omega arith) a b r)) (eq-or-lt_of_le (omega arith))
 
   -- THE SEARCH, from a Super
-  pub search_is : n < count ns → kind_of ns n ≡ k.Super → reach_from ns ss n call (scope_of ns n ∷ outer ss (scope_of ns n)) (class_above ns n) n ≡ in_unit (unit n)
+  pub search_is : n < count ns → kind_of ns n ≡ k.Super → reach_from ns ss n call (scope_of ns n ∷ outer ss (scope_of ns n)) (body_above ns n) n ≡ in_unit (unit n)
   search_is h e = search_by n n n (omega arith) h (rw e) (rw e) refl

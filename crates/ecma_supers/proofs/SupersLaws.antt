@@ -19,7 +19,8 @@ use Rattle.ecma_trees.specs.Walk.{only}
 use Rattle.ecma_trees.specs.Trail.{unit_of}
 use Rattle.ecma_trees.proofs.TrailLaws.{handed_law, handed_root}
 use Rattle.check_diagnostics.specs.Finding.{listed}
-use Rattle.check_supers.specs.Super.{if_call, is_method_like, object_use, method_use, function_use, class_above, reach_of, is_call, by_reach, check_super}
+use Rattle.check_class_table.specs.Classes.{body_above}
+use Rattle.check_supers.specs.Super.{if_call, is_method_like, object_use, method_use, function_use, reach_of, is_call, by_reach, check_super}
 use Rattle.check_supers.specs.declared.Reach.{Reach}
 use Rattle.check_supers.specs.declared.Reach.TheVariants.{Legal, Illegal, Underived}
 use Rattle.check_dispatch.specs.Findings.{findings_at}
@@ -95,7 +96,7 @@ module _ (ns ss : List ℕ) (tree : Tree ns) (chained : Chained ss) (scoped : Sc
     abbrev p : ℕ
     p = parent_of ns u
 
-    of_object : kind_of ns u ≡ k.Function → kind_of ns p ≡ k.ObjectProperty → function_use ns n call (class_above ns u) u ≡ expected ns call u
+    of_object : kind_of ns u ≡ k.Function → kind_of ns p ≡ k.ObjectProperty → function_use ns n call (body_above ns u) u ≡ expected ns call u
     unfolding function_use is_constructor_method is_method is_object_method bars_property object_use
     of_object e q = rw (ne_eqb u 0 (λ q. omega arith), q, value_is ns p u, e) (go (is_method_like ns p) (is_value ns p u))
       where
@@ -104,13 +105,13 @@ module _ (ns ss : List ℕ) (tree : Tree ns) (chained : Chained ss) (scoped : Sc
         go true false = refl
         go false v = refl
 
-    of_class : kind_of ns u ≡ k.Function → kind_of ns p ≡ k.MethodDefinition → function_use ns n call (class_above ns u) u ≡ expected ns call u
+    of_class : kind_of ns u ≡ k.Function → kind_of ns p ≡ k.MethodDefinition → function_use ns n call (body_above ns u) u ≡ expected ns call u
     unfolding function_use is_constructor_method is_method is_object_method bars_property method_use has_heritage
     of_class e q =
         let l = tree.falls u z h in
         let r : 0 < p = no_root ns ss tree chained scoped placed fit n call p (λ x. omega arith) in
         let b : kind_of ns (parent_of ns p) ≡ k.ClassBody = placed.element p (omega arith) (omega arith) (omega arith) in
-        let c : class_above ns u ≡ Some (record { 0 = parent_of ns p }) =
+        let c : body_above ns u ≡ Some (record { 0 = parent_of ns p }) =
         above_other ns ss tree chained scoped placed fit n call u z h (λ x. omega arith) ∙ above_body ns ss tree chained scoped placed fit n call p r (omega arith) b in
         rw (ne_eqb u 0 (λ q. omega arith), c, q, value_is ns p u, e) (go (is_value ns p u) (eqb (extra_of ns p) extra.Constructor) call (has_flag (flags_of ns (class_of ns u)) flag.Heritage))
       where
@@ -122,14 +123,14 @@ module _ (ns ss : List ℕ) (tree : Tree ns) (chained : Chained ss) (scoped : Sc
         go true false false h = refl
         go false x c h = refl
 
-    of_none : kind_of ns u ≡ k.Function → eqb (kind_of ns p) k.ObjectProperty ≡ false → eqb (kind_of ns p) k.MethodDefinition ≡ false → function_use ns n call (class_above ns u) u ≡ expected ns call u
+    of_none : kind_of ns u ≡ k.Function → eqb (kind_of ns p) k.ObjectProperty ≡ false → eqb (kind_of ns p) k.MethodDefinition ≡ false → function_use ns n call (body_above ns u) u ≡ expected ns call u
     unfolding function_use is_constructor_method is_method is_object_method bars_property
     of_none e q r = rw (ne_eqb u 0 (λ q. omega arith), q, r, e)
 
     at_function : kind_of ns u ≡ k.Function → in_unit ns ss tree chained scoped placed fit n call u ≡ expected ns call u
     at_function e = rw (ne_eqb u 0 (λ q. omega arith), e) (go (eqb (kind_of ns p) k.ObjectProperty) refl (eqb (kind_of ns p) k.MethodDefinition) refl)
       where
-        go : (o : Bool) → eqb (kind_of ns p) k.ObjectProperty ≡ o → (m : Bool) → eqb (kind_of ns p) k.MethodDefinition ≡ m → function_use ns n call (class_above ns u) u ≡ expected ns call u
+        go : (o : Bool) → eqb (kind_of ns p) k.ObjectProperty ≡ o → (m : Bool) → eqb (kind_of ns p) k.MethodDefinition ≡ m → function_use ns n call (body_above ns u) u ≡ expected ns call u
         go true q m r = of_object e (eqb-true (kind_of ns p) k.ObjectProperty q)
         go false q true r = of_class e (eqb-true (kind_of ns p) k.MethodDefinition r)
         go false q false r = of_none e q r

@@ -3,13 +3,13 @@
 
 ghost use Rattle.std.specs.Prelude.{ℕ, ◌≡◌, ◌≤◌, ◌<◌, ◌+◌, true, false, eqb, ltb, cond, ◌&&◌, length};
 ghost use Rattle.table_records.specs.Table.{count};
-ghost use Rattle.table_records.specs.Facts.{Tree};
 ghost use Rattle.refusal_verdict.specs.First.{first};
 ghost use Rattle.refusal_counts.specs.Counts.{is_default, wrong_body, wrong_alternate, wrong_default, wrong_try, wrong_clause, wrong_label, wrong_function, wrong_class, wrong_value, wrong_element, wrong_statement, wrong_part, wrong_home, wrong_count_at};
 ghost use Rattle.refusal_counts.specs.declared.Sort.{Sort};
 ghost use Rattle.refusal_counts.specs.Tally.{is_of, number, weight, digit, Adds, Notes, Tallied};
 
 use table_children::{Part, is_child};
+use table_records::nodes::Nodes;
 use table_records::{NodeId, kinds, node_flag, roles};
 
 // A sort of child that a sentence of document 01 counts. The sentences ask for one, at most one or at least one: so what is noted of a node is a number in
@@ -142,8 +142,7 @@ fn with_child(nodes: &[u32], p: NodeId, c: NodeId, seen: u32) -> u32
 
 // The pass: each node but the first is noted at its parent.
 #[tactic(auto, using(crate::proofs::TallyLaws::tallied_more))]
-fn tally(nodes: &[u32], seen: &mut [u32])
-    requires tree { Tree nodes.now }
+fn tally(nodes: &Nodes, seen: &mut [u32])
     requires room { count nodes.now ≤ length seen.old }
     requires cleared { Tallied nodes.now seen.old 1 }
     ensures { Tallied nodes.now seen.new (count nodes.now) }
@@ -331,8 +330,7 @@ fn wrong_count_at(nodes: &[u32], n: NodeId, seen: u32) -> bool
 }
 
 // The lowest node with a wrong number of children, over the filled array.
-fn wrong_count_by(nodes: &[u32], seen: &[u32]) -> Option<u32>
-    requires tree { Tree nodes.now }
+fn wrong_count_by(nodes: &Nodes, seen: &[u32]) -> Option<u32>
     requires room { count nodes.now ≤ length seen.now }
     requires tallied { Tallied nodes.now seen.now (count nodes.now) }
     ensures { result ≡ first (wrong_count_at nodes.now) 0 (count nodes.now) }
@@ -343,8 +341,7 @@ fn wrong_count_by(nodes: &[u32], seen: &[u32]) -> Option<u32>
 // With an array of N numbers, which is on the stack while this function runs alone.
 #[inline(never)]
 #[tactic(auto, using(crate::proofs::TallyLaws::tallied_start))]
-fn wrong_count_in<const N: usize>(nodes: &[u32]) -> Option<u32>
-    requires tree { Tree nodes.now }
+fn wrong_count_in<const N: usize>(nodes: &Nodes) -> Option<u32>
     requires nodes_bound { count nodes.now ≤ N }
     requires small { N ≤ 65536 }
     ensures { result ≡ first (wrong_count_at nodes.now) 0 (count nodes.now) }
@@ -355,8 +352,7 @@ fn wrong_count_in<const N: usize>(nodes: &[u32]) -> Option<u32>
 }
 
 // The lowest node with a wrong number of children.
-pub fn wrong_count(nodes: &[u32]) -> Option<u32>
-    requires { Tree nodes.now }
+pub fn wrong_count(nodes: &Nodes) -> Option<u32>
     ensures { result ≡ first (wrong_count_at nodes.now) 0 (count nodes.now) }
 {
     // an array that serves few nodes costs less to clear, and less of the stack: half a KiB, 8 KiB or 256 KiB

@@ -1,7 +1,6 @@
 -- Laws of scopes, and what is known where refusal 5 does not apply.
-use borrow.Author.Tests.{le-leb, lt-leb}
-use Rattle.std.specs.Prelude.{ℕ, zero, suc, ◌+◌, ◌≤◌, ◌<◌, ◌≡◌, refl, List, [], ◌∷◌, Bool, true, false, cond, not, ◌&&◌, ◌||◌, eqb, ltb, length, get_or, set, None}
-use Rattle.std.proofs.Common.{sym, subst, ◌∙◌, ⊎_elim, eq-or-lt_of_le, arith, get_or-set_same, get_or-set_other}
+use Rattle.std.specs.Prelude.{ℕ, zero, suc, ◌≤◌, ◌<◌, ◌≡◌, refl, List, [], ◌∷◌, Bool, true, false, cond, not, ◌&&◌, ◌||◌, eqb, ltb, Option, Some, None}
+use Rattle.std.proofs.Common.{sym, subst, ◌∙◌, ⊎_elim, eq-or-lt_of_le, arith}
 use Rattle.std.proofs.Math.Bool.{and-true, and-false}
 use borrow.Author.Tests.{eq-eqb, ne_eqb, eqb-true, ltb-true, ltb-false, leb-false, not-true, not-false}
 use Rattle.std.proofs.Math.Dec.{leb}
@@ -15,9 +14,13 @@ use Rattle.base_walk.proofs.PreorderLaws.{lt_or_ge}
 use Rattle.table_records.specs.Table.{kind_of, parent_of, scope_of, extra_of, count, count_scopes, scope_parent_of, scope_flags_of, scope_node_of, outer, IsTableSize}
 use Rattle.table_records.specs.Facts.{Tree, Chained, Scoped}
 use Rattle.refusal_verdict.specs.First.{first}
-use Rattle.refusal_verdict.proofs.FirstLaws.{first_none}
+use Rattle.refusal_verdict.proofs.FirstLaws.{first_none, first_here_lem}
 use Rattle.refusal_scopes.specs.Scopes.{broken_at, chain_on, misscoped_at}
-use Rattle.refusal_scopes.specs.OwnScopes.{Meets, Deep, shares_scope}
+use Rattle.refusal_scopes.specs.OwnScopes.{Meets, shares_scope}
+
+-- the scope around another is a lower one: a lemma of its own, which `using` can name
+pub scope_falls : (ss : List ℕ) → Chained ss → (s : ℕ) → 0 < s → s < count_scopes ss → scope_parent_of ss s < s
+scope_falls ss c = c.falls
 
 module _ (ns ss : List ℕ) where
   pub chain_up : Chained ss → (s i : ℕ) → 0 < s → s < count_scopes ss → chain_on ns ss s i ≡ (on (parent_of ns) (scope_node_of ss s) i && chain_on ns ss (scope_parent_of ss s) i)
@@ -69,23 +72,6 @@ module _ (ns : List ℕ) (t : Tree ns) where
           (lt_or_ge a b)
       go true false p q = refl
       go false y p q = refl
-
--- the array, one scope more
-module _ (ns ss deep : List ℕ) where
-  pub deep_start : 0 < length deep → Deep ns ss (set deep 0 (scope_node_of ss 0)) 1
-  deep_start h s l i k =
-      let q : s ≡ 0 = omega arith in
-      subst (λ (x : ℕ). on (parent_of ns) (get_or (set deep 0 (scope_node_of ss 0)) x 0) i ≡ chain_on ns ss x i) (sym q)
-      (rw (get_or-set_same deep 0 (scope_node_of ss 0) 0 h) (sym (chain_root ns ss i)))
-
-  pub deep_more : Chained ss → (s m : ℕ) → 0 < s → s < count_scopes ss → s < length deep → Deep ns ss deep s
-      → Meets ns m (scope_node_of ss s) (get_or deep (scope_parent_of ss s) 0) → Deep ns ss (set deep s m) (s + 1)
-  deep_more c s m h l r d w j k i b =
-      ⊎_elim (λ (q : j ≡ s).
-      subst (λ (x : ℕ). on (parent_of ns) (get_or (set deep s m) x 0) i ≡ chain_on ns ss x i) (sym q)
-      (rw (get_or-set_same deep s m 0 r) (w i b ∙ rw (d (scope_parent_of ss s) (c.falls s h l) i b) (sym (chain_up ns ss c s i h l)))))
-      (λ (q : j < s). rw (get_or-set_other deep s j m 0 (λ e. omega arith)) (d j q i b))
-      (eq-or-lt_of_le (omega arith))
 
 -- no scope record is broken: the facts
 pub chained_of : (ss : List ℕ) → IsTableSize (count_scopes ss) → first (broken_at ss) 0 (count_scopes ss) ≡ None → Chained ss
@@ -139,18 +125,13 @@ module _ (ns ss : List ℕ) (c : Chained ss) where
       scope : (i : ℕ) → i < count ns → scope_of ns i < count_scopes ss
       scope i l = leb-false (count_scopes ss) (scope_of ns i) (fine i l).0
 
-module _ (ns ss : List ℕ) (i : ℕ) where
-  pub mis_missing : count_scopes ss ≤ scope_of ns i → misscoped_at ns ss i ≡ true
-  unfolding misscoped_at
-  mis_missing h = rw (le-leb (count_scopes ss) (scope_of ns i) h)
-
-  pub mis_extra : scope_of ns i < count_scopes ss → (eqb (kind_of ns i) 26 && leb (count_scopes ss) (extra_of ns i)) ≡ true → misscoped_at ns ss i ≡ true
-  unfolding misscoped_at
-  mis_extra h e = rw (lt-leb (count_scopes ss) (scope_of ns i) h, e)
-
-  pub mis_chain : scope_of ns i < count_scopes ss → (eqb (kind_of ns i) 26 && leb (count_scopes ss) (extra_of ns i)) ≡ false → misscoped_at ns ss i ≡ not (chain_on ns ss (scope_of ns i) i)
-  unfolding misscoped_at
-  mis_chain h e = rw (lt-leb (count_scopes ss) (scope_of ns i) h, e)
+-- where the lowest place from i on is the lowest of all, the test says false below i
+before : (p : ℕ → Bool) (i n : ℕ) → first p i n ≡ first p 0 n → (j : ℕ) → j < i → j < n → p j ≡ false
+before p i n e j a l = go (first p 0 n) refl
+  where
+    go : (r : Option ℕ) → first p 0 n ≡ r → p j ≡ false
+    go None q = first_none p n 0 q j (omega arith) l
+    go (Some k) q = let w = first_here_lem p n i k (e ∙ q) in let from = w.from in (first_here_lem p n 0 k q).lower j (omega arith) (omega arith)
 
 -- a node that stands in its parent's scope, where that fits the parent
 all_more : (p q : ℕ → Bool) → ((t : ℕ) → p t ≡ true → q t ≡ true) → (l : List ℕ) → all p l ≡ true → all q l ≡ true
@@ -165,9 +146,9 @@ module _ (ns ss : List ℕ) (t : Tree ns) (i : ℕ) (l : i < count ns) where
       (λ x. on_step (parent_of ns) (count ns) t.falls (scope_node_of ss x) i h l)
       (s ∷ outer ss s) e
 
-  pub shares_fits : shares_scope ns i ≡ true → misscoped_at ns ss (parent_of ns i) ≡ false → misscoped_at ns ss i ≡ false
+  fits : shares_scope ns i ≡ true → misscoped_at ns ss (parent_of ns i) ≡ false → misscoped_at ns ss i ≡ false
   unfolding shares_scope misscoped_at
-  shares_fits e d =
+  fits e d =
       let w = and_right_lem (ltb 0 i) _ e in
       let apart = not-true (eqb (kind_of ns i) 26) (and_left_lem (not (eqb (kind_of ns i) 26)) _ w) in
       let same = eqb-true (scope_of ns i) (scope_of ns (parent_of ns i)) (and_right_lem (not (eqb (kind_of ns i) 26)) _ w) in
@@ -176,7 +157,8 @@ module _ (ns ss : List ℕ) (t : Tree ns) (i : ℕ) (l : i < count ns) where
       let here = chain_below (ltb-true 0 i (and_left_lem (ltb 0 i) _ e)) (scope_of ns (parent_of ns i)) above in
       rw (same, u.0, apart, here)
 
-module _ (ns : List ℕ) (i : ℕ) where
-  pub shares_inside : shares_scope ns i ≡ true → 0 < i
+  pub shares_fits : shares_scope ns i ≡ true → first (misscoped_at ns ss) i (count ns) ≡ first (misscoped_at ns ss) 0 (count ns) → misscoped_at ns ss i ≡ false
   unfolding shares_scope
-  shares_inside e = ltb-true 0 i (and_left_lem (ltb 0 i) _ e)
+  shares_fits e d =
+      let f = t.falls i (ltb-true 0 i (and_left_lem (ltb 0 i) _ e)) l in
+      fits e (before (misscoped_at ns ss) i (count ns) d (parent_of ns i) f (omega (arith, f)))

@@ -4,11 +4,12 @@
 ghost use Rattle.std.specs.Prelude.{◌≡◌, ◌≤◌, ◌<◌, length};
 ghost use Rattle.table_records.specs.Table.{count, count_scopes, IsTableSize};
 ghost use Rattle.refusal_verdict.specs.First.{first};
-ghost use Rattle.table_records.specs.Facts.{Tree, Chained};
+ghost use Rattle.table_records.specs.Facts.{Chained};
 ghost use Rattle.refusal_scopes.specs.Scopes.{broken_at, misscoped_at};
 ghost use Rattle.refusal_scopes.specs.OwnScopes.{Meets, Deep, shares_scope};
 
 use table_ancestry::is_on_path;
+use table_records::nodes::Nodes;
 use table_records::{NodeId, ScopeId, kinds};
 
 // No node has this number: there are at most 65,535. It stands in place of an Option: as Option<u32> the array of the chains' deepest nodes would take 512 KB
@@ -18,8 +19,7 @@ const NO_NODE: u32 = 65535;
 
 // A number that is on the way up from a node just where both a and b are: the deeper of the two, or none.
 #[tactic(auto, using(crate::proofs::ScopesLaws::meets_left, crate::proofs::ScopesLaws::meets_right, crate::proofs::ScopesLaws::meets_second, crate::proofs::ScopesLaws::meets_first, crate::proofs::ScopesLaws::meets_apart))]
-fn meet(nodes: &[u32], a: u32, b: u32) -> u32
-    requires { Tree nodes.now }
+fn meet(nodes: &Nodes, a: u32, b: u32) -> u32
     ensures { Meets nodes.now result a b }
 {
     if !table_records::is_node(nodes, a) {
@@ -61,8 +61,8 @@ pub fn broken(scopes: &[u32]) -> Option<u32>
 }
 
 // For each scope the deepest node of its chain, or none where the chain's nodes lie on no one way up: so that no chain is walked for each node anew.
-fn deepest(nodes: &[u32], scopes: &[u32], deep: &mut [u32])
-    requires tree { Tree nodes.now }
+#[tactic(auto, using(std::proofs::lemmas::Grind::moves, crate::proofs::ScopesLaws::chain_root, crate::proofs::ScopesLaws::chain_up, crate::proofs::ScopesLaws::scope_falls))]
+fn deepest(nodes: &Nodes, scopes: &[u32], deep: &mut [u32])
     requires chained { Chained scopes.now }
     requires scopes_in_bounds { count_scopes scopes.now ≤ length deep.old }
     ensures { Deep nodes.now scopes.now deep.new (count_scopes scopes.now) }
@@ -77,8 +77,7 @@ fn deepest(nodes: &[u32], scopes: &[u32], deep: &mut [u32])
 
 // Whether the scope of node n is missing or does not fit it.
 #[tactic(auto, unfolding(crate::specs::Scopes::misscoped_at))]
-fn misscoped_at(nodes: &[u32], scopes: &[u32], deep: &[u32], n: NodeId) -> bool
-    requires tree { Tree nodes.now }
+fn misscoped_at(nodes: &Nodes, scopes: &[u32], deep: &[u32], n: NodeId) -> bool
     requires chained { Chained scopes.now }
     requires scopes_in_bounds { count_scopes scopes.now ≤ length deep.now }
     requires deep { Deep nodes.now scopes.now deep.now (count_scopes scopes.now) }
@@ -94,8 +93,7 @@ fn misscoped_at(nodes: &[u32], scopes: &[u32], deep: &[u32], n: NodeId) -> bool
 
 // Whether node n stands in its parent's scope and has no scope of its own: where its parent's fits, so does its.
 #[tactic(auto, unfolding(crate::specs::OwnScopes::shares_scope))]
-fn shares_scope(nodes: &[u32], n: NodeId) -> bool
-    requires tree { Tree nodes.now }
+fn shares_scope(nodes: &Nodes, n: NodeId) -> bool
     requires n_bound { n.0 < count nodes.now }
     ensures { result ≡ shares_scope nodes.now n.0 }
 {
@@ -104,8 +102,8 @@ fn shares_scope(nodes: &[u32], n: NodeId) -> bool
 }
 
 // The lowest node whose scope is missing or does not fit it, over the filled array.
-fn misscoped_by(nodes: &[u32], scopes: &[u32], deep: &[u32]) -> Option<u32>
-    requires tree { Tree nodes.now }
+#[tactic(auto, using(refusal_verdict::proofs::FirstLaws::first_on, refusal_verdict::proofs::FirstLaws::first_stop, refusal_verdict::proofs::FirstLaws::first_end, crate::proofs::ScopesLaws::shares_fits))]
+fn misscoped_by(nodes: &Nodes, scopes: &[u32], deep: &[u32]) -> Option<u32>
     requires chained { Chained scopes.now }
     requires scopes_in_bounds { count_scopes scopes.now ≤ length deep.now }
     requires deep { Deep nodes.now scopes.now deep.now (count_scopes scopes.now) }
@@ -122,8 +120,7 @@ fn misscoped_by(nodes: &[u32], scopes: &[u32], deep: &[u32]) -> Option<u32>
 
 // With an array of N numbers, which is on the stack while this function runs alone.
 #[inline(never)]
-fn misscoped_in<const N: usize>(nodes: &[u32], scopes: &[u32]) -> Option<u32>
-    requires tree { Tree nodes.now }
+fn misscoped_in<const N: usize>(nodes: &Nodes, scopes: &[u32]) -> Option<u32>
     requires chained { Chained scopes.now }
     requires scopes_in_bounds { count_scopes scopes.now ≤ N }
     requires small { N ≤ 65536 }
@@ -135,8 +132,7 @@ fn misscoped_in<const N: usize>(nodes: &[u32], scopes: &[u32]) -> Option<u32>
 }
 
 // The lowest node whose scope is missing or does not fit it.
-pub fn misscoped(nodes: &[u32], scopes: &[u32]) -> Option<u32>
-    requires tree { Tree nodes.now }
+pub fn misscoped(nodes: &Nodes, scopes: &[u32]) -> Option<u32>
     requires chained { Chained scopes.now }
     ensures { result ≡ first (misscoped_at nodes.now scopes.now) 0 (count nodes.now) }
 {

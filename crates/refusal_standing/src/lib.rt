@@ -3,10 +3,10 @@
 
 ghost use Rattle.std.specs.Prelude.{◌≡◌, ◌<◌};
 ghost use Rattle.table_records.specs.Table.{count};
-ghost use Rattle.table_records.specs.Facts.{Tree};
 ghost use Rattle.refusal_verdict.specs.First.{first};
 ghost use Rattle.refusal_standing.specs.Standing.{is_statement, may_be_statement, is_holder, is_held, stray_statement, stray_held, stray_alternate, stray_in_switch, stray_case, try_part, stray_in_try, stray_clause, stray_in_clause, stray_function_body, stray_class_body, stray_element, stray_value, misplaced_statement, misplaced_part, misplaced_element, misplaced, misplaced_child_at};
 
+use table_records::nodes::Nodes;
 use table_records::{NodeId, kinds, roles};
 
 #[tactic(auto, unfolding(crate::specs::Standing::is_statement))]
@@ -188,8 +188,7 @@ pub fn misplaced(kind: u32, role: u32, above: u32) -> bool
 }
 
 #[tactic(auto, unfolding(crate::specs::Standing::misplaced_child_at))]
-pub fn misplaced_child_at(nodes: &[u32], n: NodeId) -> bool
-    requires tree { Tree nodes.now }
+pub fn misplaced_child_at(nodes: &Nodes, n: NodeId) -> bool
     requires n_bound { n.0 < count nodes.now }
     ensures { result ≡ misplaced_child_at nodes.now n.0 }
 {
@@ -200,8 +199,7 @@ pub fn misplaced_child_at(nodes: &[u32], n: NodeId) -> bool
 }
 
 // The lowest misplaced child.
-pub fn misplaced_child(nodes: &[u32]) -> Option<u32>
-    requires { Tree nodes.now }
+pub fn misplaced_child(nodes: &Nodes) -> Option<u32>
     ensures { result ≡ first (misplaced_child_at nodes.now) 0 (count nodes.now) }
 {
     (0..table_records::size(nodes)).find(|&i| misplaced_child_at(nodes, NodeId(i)))

@@ -17,7 +17,7 @@ use Rattle.base_common.proofs.WroteLaws.{length_put}
 use Rattle.table_records.specs.Table.{kind_of, parent_of, count}
 use Rattle.table_records.specs.Kinds as k
 use Rattle.table_records.specs.Facts.{Tree}
-use Rattle.table_children.specs.Children.{label_of}
+use Rattle.table_children.specs.Children.{label_of, when_found}
 use Rattle.table_ancestry.proofs.AncestryLaws.{ancestors_up}
 use Rattle.refusal_verdict.specs.First.{first}
 use Rattle.refusal_verdict.proofs.FirstLaws.{first_on, first_end, le_or_lt}
@@ -30,7 +30,7 @@ use Rattle.check_diagnostics.specs.Codes as code
 use Rattle.check_diagnostics.specs.Contexts as context
 use Rattle.check_diagnostics.specs.Finding.{listed, numbers, sink, error_at}
 use Rattle.check_diagnostics.proofs.Gather.{flat_turn}
-use Rattle.check_jumps.specs.Jumps.{is_unit, is_iteration, is_breakable, when_found, same_label, labeled_item, walk_up, plain_break_at, labelled_break_at, plain_continue_at, labelled_continue_at, continue_to, no_label, check_break_statement, check_continue_statement}
+use Rattle.check_jumps.specs.Jumps.{is_unit, is_iteration, is_breakable, same_label, labeled_item, walk_up, plain_break_at, labelled_break_at, plain_continue_at, labelled_continue_at, continue_to, no_label, check_break_statement, check_continue_statement}
 use Rattle.check_jumps.proofs.JumpsLaws.{walk_up_lem}
 use Rattle.check_duplicates.specs.Duplicates.{duplicate_elements}
 use Rattle.check_dispatch.specs.Findings.{findings_at, findings_of}

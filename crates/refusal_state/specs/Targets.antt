@@ -4,13 +4,13 @@ use mathlib.Core.List.{List, [], ◌∷◌, foldr}
 use Rattle.base_common.specs.Tests.{within}
 use Rattle.table_records.specs.Table.{kind_of, count, ancestors}
 use Rattle.table_records.specs.Kinds as k
-use Rattle.table_children.specs.Children.{label_of}
+use Rattle.table_children.specs.Children.{label_of, when_found}
 use Rattle.refusal_verdict.specs.First.{first}
 use Rattle.refusal_verdict.specs.declared.Refused.TheVariants.{At}
 use Rattle.refusal_verdict.specs.Verdict.{Verdict, Passed, or_next}
 use Rattle.refusal_verdict.specs.declared.Refusal.TheVariants as refusal
 use Rattle.check_diagnostics.specs.declared.Finding.{Finding}
-use Rattle.check_jumps.specs.Jumps.{is_unit, is_iteration, is_breakable, when_found, same_label, labeled_item}
+use Rattle.check_jumps.specs.Jumps.{is_unit, is_iteration, is_breakable, same_label, labeled_item}
 use Rattle.check_dispatch.specs.Rule.{Rule}
 use Rattle.check_dispatch.specs.Reported.{reported}
 use Rattle.check_dispatch.specs.Findings.{findings_of}

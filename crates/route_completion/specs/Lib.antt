@@ -1,5 +1,6 @@
 pub mod Tree
 pub mod Sem
+pub mod Ends
 pub mod Route
 pub mod Rest
 pub mod Taken

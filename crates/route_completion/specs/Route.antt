@@ -3,16 +3,16 @@
 use Rattle.std.specs.Prelude.{ℕ, zero, suc, ◌≡◌, Bool, true, false, ◌||◌, List, [], ◌∷◌, ◌++◌, map, ◌⊎◌, eqb}
 use Rattle.route_completion.specs.Tree.{near, named, Stmt, Stmts, Cases, leaf, if1, if2, if3, withs, block, label, loop, switch, try_c, try_f, nil, cons, none, case}
 use Rattle.route_completion.specs.Sem.{Entry, plain, asked, Comp, normal, breaks, continues, returns, throws, spent, pick, no_break, no_label, loop_continues, comp_of, execs}
+use Rattle.route_completion.specs.Ends as run_end
 
--- "Ends: 0 fell through, 1 returned, 2 thrown, 3 answers spent". A unit in which a break or a continue has no target is refused (9), and
--- 5 stands for its end.
+-- A unit in which a break or a continue has no target is refused (9).
 abbrev pub end_of : Comp → ℕ
-end_of normal = 0
-end_of (breaks l) = 5
-end_of (continues l) = 5
-end_of returns = 1
-end_of throws = 2
-end_of spent = 3
+end_of normal = run_end.FellThrough
+end_of (breaks l) = run_end.Astray
+end_of (continues l) = run_end.Astray
+end_of returns = run_end.Returned
+end_of throws = run_end.Thrown
+end_of spent = run_end.Spent
 
 abbrev pub node_of : Entry → ℕ
 node_of (plain n) = n

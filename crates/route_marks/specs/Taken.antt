@@ -23,6 +23,7 @@ unfoldable pub begins_at : List ℕ → ℕ → Bool
 begins_at C x = leads C x x 0 && ltb 0 (width (get_or C x 0))
 
 -- A mark that is taken up is set: refusal 16 has been tested.
+-- A `requires` and no struct's invariant: it ties a number to the lent array of marks, which the same call changes.
 abbrev pub Ready : List ℕ → Begin → Type 0
 Ready M Start = Unit {0}
 Ready M (Mark m) = is_set M m ≡ true

@@ -1,20 +1,16 @@
 -- Walks one behind the other, walks that take an answer, and what a whole walk has listed.
-use Rattle.std.specs.Prelude.{ℕ, suc, ◌+◌, ◌≤◌, ◌<◌, ◌≡◌, refl, List, [], ◌∷◌, ◌++◌, map, Bool, true, false, length, set, get_or, eqb}
+use Rattle.std.specs.Prelude.{ℕ, suc, ◌+◌, ◌≤◌, ◌<◌, ◌≡◌, refl, List, [], ◌∷◌, ◌++◌, map, Bool, true, false, length, set, get_or}
 use Rattle.std.proofs.Math.Path.{ap}
 use Rattle.std.proofs.Common.{sym, ◌∙◌, subst, append-nil, drop_of_length-le, drop-cons, arith}
 use Rattle.std.proofs.Math.ListN.{drop}
 use Rattle.std.proofs.Math.Seq.{append_snoc}
-use Rattle.route_completion.specs.Sem.{Entry, plain, asked, Comp, normal, spent, Out, out, more, ask, go_on, pick, is_normal, is_spent, finally, finally_if, no_label, exec, execs}
+use Rattle.route_completion.specs.Sem.{Entry, plain, asked, Comp, normal, spent, Out, out, more, ask, go_on, pick, is_normal, is_spent, finally, finally_if, exec, execs}
 use Rattle.route_completion.specs.Tree.{Stmts, nil}
-use Rattle.code_tree.specs.Labels.{name_id}
-use Rattle.table_records.specs.declared.NodeId.{NodeId}
 use Rattle.route_completion.specs.Route.{node_of, asks, end_of, route}
 use Rattle.route_completion.proofs.TakenLaws.{asks_append}
 use Rattle.route_list.specs.Listing.{most, next, Listing}
 use Rattle.route_list.proofs.ListingLaws.{listing_first, listing_more}
 use Rattle.route_walk.specs.declared.Run.{Run}
-use Rattle.route_walk.specs.declared.Completion.{Completion}
-use Rattle.route_walk.specs.declared.Completion.TheVariants as how
 use Rattle.route_walk.specs.Walk.{comp_at, label_in, written, counted, Walked, Shows}
 
 written_append : (f : List ℕ) (n : ℕ) (a b : List Entry) → written f n (a ++ b) ≡ written (written f n a) (counted n a) b
@@ -114,16 +110,6 @@ module _ (ns names qs : List ℕ) where
       (let w = subst (λ x. Walked ns names qs g mid (k x) h last) (sym u.rest) v in
       (λ i. pick (is_normal (w.ended i)) (u.ended i) (w.ended i)) ∙ sym q) l
       (then f g h start mid last o (k o.rest) u (subst (λ x. Walked ns names qs g mid (k x) h last) (sym u.rest) v)))
-
-  pub lasts_spent : (f g : List ℕ) (start r : Run) (o : Out) (k : List ℕ → Out) → is_spent o.comp ≡ true → Walked ns names qs f start o g r → Walked ns names qs f start (finally o k) g r
-  lasts_spent f g start r o k s u = subst (λ x. Walked ns names qs f start (finally_if x o k) g r) (sym s) u
-
-  -- A break to a label, at a Labeled.
-  pub unlabel_hit : (h : Completion) (l : NodeId) (i : ℕ) (b : Bool) → h ≡ how.BreakTo l → b ≡ eqb (name_id ns names l.0) i → b ≡ true → normal ≡ no_label i (comp_at ns names h)
-  unlabel_hit h l i b e q t = sym (ap (λ x. no_label i (comp_at ns names x)) e ∙ ap (λ x. pick x normal (comp_at ns names (how.BreakTo l))) (sym q ∙ t))
-
-  pub unlabel_miss : (h : Completion) (l : NodeId) (i : ℕ) (b : Bool) → h ≡ how.BreakTo l → b ≡ eqb (name_id ns names l.0) i → b ≡ false → comp_at ns names (how.BreakTo l) ≡ no_label i (comp_at ns names h)
-  unlabel_miss h l i b e q t = sym (ap (λ x. no_label i (comp_at ns names x)) e ∙ ap (λ x. pick x normal (comp_at ns names (how.BreakTo l))) (sym q ∙ t))
 
   -- From the first answer on, a walk of the statements ss is their route.
   module _ (f : List ℕ) (start r : Run) (none : start.entries ≡ 0) (first : start.taken ≡ 0) (m : length f ≤ most) where

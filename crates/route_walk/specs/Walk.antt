@@ -13,12 +13,19 @@ use Rattle.route_walk.specs.declared.Run.{Run}
 use Rattle.route_walk.specs.declared.Completion.{Completion}
 use Rattle.route_walk.specs.declared.Completion.TheVariants as how
 
--- What is asked of the tables.
+-- What is known of the tables that a walk reads.
 pub record Walkable (ns names : List ℕ) : Type 0 where
   pub good : Good ns
   pub named : Named ns names
 
+-- What a clause sees of `Given`, which a walk reads: the tables and the answers.
+pub record Read : Type 0 where
+  pub nodes : List ℕ
+  pub names : List ℕ
+  pub answers : List ℕ
+
 -- What is asked of a unit: the node that holds its statements, where it has one, is a list of them in such tables.
+-- A `requires` and no struct's invariant: it ties two lent slices and a unit, and `walk_unit` and `shown` (call_walk) alone ask for it.
 pub record Enterable (ns names : List ℕ) (u : ℕ) : Type 0 where
   pub tree : Tree ns
   pub root : u < count ns

@@ -4,20 +4,20 @@
 ghost use Rattle.std.specs.Prelude.{◌≡◌, List, [], ◌∷◌, ℕ, ◌+◌, ◌<◌, ◌≤◌, length, drop};
 ghost use Rattle.table_records.specs.Table.{count};
 ghost use Rattle.table_records.specs.Roles as role;
-ghost use Rattle.table_records.specs.Facts.{Tree, Named};
 ghost use Rattle.route_completion.specs.Sem.{Out, plain, asked as ask', normal, out as outcome, is_normal, is_throw, is_spent, elem, loop_continues, comp_of, ask, loops, no_break, no_label, unbreak, unlabel, rounds, exec, execs};
 ghost use Rattle.route_completion.specs.Route.{end_of, route};
 ghost use Rattle.code_tree.specs.Labels.{name_id, id_at};
 ghost use Rattle.code_tree.specs.Parts.{up_of, parts};
-ghost use Rattle.code_tree.specs.Parts.{Part};
 ghost use Rattle.code_tree.specs.Statements.{leaf_at, before_at, test_at, list_of, one_of, unit_of};
-ghost use Rattle.route_walk.specs.Walk.{Walkable, Enterable, comp_at, label_in, Walked, Shows};
+ghost use Rattle.route_walk.specs.Walk.{Enterable, comp_at, label_in, Walked, Shows};
 ghost use Rattle.route_steps.specs.Statement.{labels_of, statement};
 ghost use Rattle.route_steps.specs.Steps.{First, part_of, branch_of, cases_from, from_default, role_in, ran_of, caught_by, finally_by};
 
 use code_shapes::{has_same_label, is_labeled, shape_of, up_of};
 use code_tree::Shape;
 use route_list::run_end;
+use std::marker::Model;
+use table_records::nodes::Nodes;
 use table_records::{NodeId, kinds, roles};
 
 // How a statement completes, as ECMA-262's Completion Record: a break or continue with its label's node where it has one. Or no answer was left.
@@ -41,12 +41,22 @@ pub struct Run {
     pub how: Completion,
 }
 
-// What a walk reads: the tables and the answers.
-#[derive(Clone, Copy)]
+// What a walk reads: the tables and the answers. That the tables are `Walkable` is known where a function names a field.
+#[derive(Drop)]
 struct Given<'a> {
-    nodes: &'a [u32],
+    nodes: &'a Nodes<'a>,
     names: &'a [u8],
     answers: &'a [u32],
+}
+
+impl<'a> Model for Given<'a> {
+    ghost use Rattle.route_walk.specs.Walk.{Walkable, Read};
+
+    ghost Value = { Read };
+
+    ghost view = { λ a. record { nodes = a.nodes.now; names = a.names.now; answers = a.answers.now } };
+
+    ghost invariant = { λ a. Walkable a.nodes.now a.names.now };
 }
 
 fn is_normal(how: Completion) -> bool
@@ -79,47 +89,45 @@ fn unbroken(how: Completion) -> Completion
 }
 
 // A break to the label of p, at p.
-fn unlabelled(nodes: &[u32], names: &[u8], p: NodeId, how: Completion) -> Completion
-    requires walkable { Walkable nodes.now names.now }
-    requires p_bound { p.0 < count nodes.now }
-    requires label_in { label_in nodes.now how }
-    ensures result_value { comp_at nodes.now names.now result ≡ no_label (id_at nodes.now names.now p.0) (comp_at nodes.now names.now how) }
-    ensures label_in_2 { label_in nodes.now result }
+fn unlabelled(given: &Given, p: NodeId, how: Completion) -> Completion
+    requires p_bound { p.0 < count given.now.nodes }
+    requires label_in { label_in given.now.nodes how }
+    ensures result_value { comp_at given.now.nodes given.now.names result ≡ no_label (id_at given.now.nodes given.now.names p.0) (comp_at given.now.nodes given.now.names how) }
+    ensures label_in_2 { label_in given.now.nodes result }
 {
     match how {
-        Completion::BreakTo(l) if has_same_label(nodes, names, p, l) => Completion::Normal,
+        Completion::BreakTo(l) if has_same_label(given.nodes, given.names, p, l) =>
+            Completion::Normal,
         other => other,
     }
 }
 
 // Whether a Labeled of the name of l is p, or stands right above it.
 #[tactic(auto, using(route_steps::proofs::StatementLaws::labels_hit, route_steps::proofs::StatementLaws::labels_next, route_steps::proofs::StatementLaws::labels_stop, route_steps::proofs::StatementLaws::labeled_inner))]
-fn has_label(nodes: &[u32], names: &[u8], p: NodeId, l: NodeId) -> bool
-    requires walkable { Walkable nodes.now names.now }
-    requires p_bound { p.0 < count nodes.now }
-    requires l_bound { l.0 < count nodes.now }
-    ensures { result ≡ elem (name_id nodes.now names.now l.0) (labels_of nodes.now names.now p.0) }
+fn has_label(given: &Given, p: NodeId, l: NodeId) -> bool
+    requires p_bound { p.0 < count given.now.nodes }
+    requires l_bound { l.0 < count given.now.nodes }
+    ensures { result ≡ elem (name_id given.now.nodes given.now.names l.0) (labels_of given.now.nodes given.now.names p.0) }
 {
     let mut at = p;
-    while is_labeled(shape_of(nodes, at)) {
-        if has_same_label(nodes, names, at, l) {
+    while is_labeled(shape_of(given.nodes, at)) {
+        if has_same_label(given.nodes, given.names, at, l) {
             return true;
         }
-        at = up_of(nodes, at);
+        at = up_of(given.nodes, at);
     }
     false
 }
 
 // 14.7.1.1 LoopContinues, for the loop n.
-fn loop_continues(nodes: &[u32], names: &[u8], n: NodeId, how: Completion) -> bool
-    requires walkable { Walkable nodes.now names.now }
+fn loop_continues(given: &Given, n: NodeId, how: Completion) -> bool
     requires n_nonzero { 0 < n.0 }
-    requires n_bound { n.0 < count nodes.now }
-    requires label_in { label_in nodes.now how }
-    ensures { result ≡ loop_continues (labels_of nodes.now names.now (up_of nodes.now n.0)) (comp_at nodes.now names.now how) }
+    requires n_bound { n.0 < count given.now.nodes }
+    requires label_in { label_in given.now.nodes how }
+    ensures { result ≡ loop_continues (labels_of given.now.nodes given.now.names (up_of given.now.nodes n.0)) (comp_at given.now.nodes given.now.names how) }
 {
     match how {
-        Completion::ContinueTo(l) => has_label(nodes, names, up_of(nodes, n), l),
+        Completion::ContinueTo(l) => has_label(given, up_of(given.nodes, n), l),
         Completion::Normal | Completion::Continue => true,
         _ => false,
     }
@@ -127,14 +135,13 @@ fn loop_continues(nodes: &[u32], names: &[u8], n: NodeId, how: Completion) -> bo
 
 // How a statement without parts completes.
 #[tactic(auto, using(route_steps::proofs::StatementLaws::comp_return, route_steps::proofs::StatementLaws::comp_throw, route_steps::proofs::StatementLaws::comp_normal))]
-fn completion_of(nodes: &[u32], names: &[u8], n: NodeId) -> Completion
-    requires walkable { Walkable nodes.now names.now }
-    requires n_bound { n.0 < count nodes.now }
-    ensures result_value { comp_at nodes.now names.now result ≡ comp_of (leaf_at nodes.now names.now n.0) }
-    ensures label_in { label_in nodes.now result }
+fn completion_of(given: &Given, n: NodeId) -> Completion
+    requires n_bound { n.0 < count given.now.nodes }
+    ensures result_value { comp_at given.now.nodes given.now.names result ≡ comp_of (leaf_at given.now.nodes given.now.names n.0) }
+    ensures label_in { label_in given.now.nodes result }
 {
-    let label = table_children::label_of(nodes, n);
-    match table_records::kind(nodes, n) {
+    let label = table_children::label_of(given.nodes, n);
+    match table_records::kind(given.nodes, n) {
         kinds::BREAK => match label {
             Some(l) => Completion::BreakTo(l),
             None => Completion::Break,
@@ -151,41 +158,41 @@ fn completion_of(nodes: &[u32], names: &[u8], n: NodeId) -> Completion
 
 // The first part of p from a node on, and with it those behind it.
 #[tactic(auto, using(crate::proofs::PartLaws::first_is))]
-fn next_part(nodes: &[u32], p: NodeId, from: u32) -> Option<NodeId>
-    requires tree { Tree nodes.now }
+fn next_part(given: &Given, p: NodeId, from: u32) -> Option<NodeId>
     requires p_lt_from { p.0 < from }
-    requires from_bound { from ≤ count nodes.now }
-    ensures { First nodes.now p.0 (parts nodes.now p.0 from) result }
+    requires from_bound { from ≤ count given.now.nodes }
+    ensures { First given.now.nodes p.0 (parts given.now.nodes p.0 from) result }
 {
-    code_shapes::next_part(nodes, p, from)
+    code_shapes::next_part(given.nodes, p, from)
 }
 
 // The a-th part of p.
-fn nth_part(nodes: &[u32], p: NodeId, a: u32) -> Option<NodeId>
-    requires tree { Tree nodes.now }
-    requires p_bound { p.0 < count nodes.now }
-    ensures { First nodes.now p.0 (drop a (parts nodes.now p.0 (p.0 + 1))) result }
+#[tactic(auto, using(route_steps::proofs::StepsLaws::nth_on))]
+fn nth_part(given: &Given, p: NodeId, a: u32) -> Option<NodeId>
+    requires p_bound { p.0 < count given.now.nodes }
+    ensures { First given.now.nodes p.0 (drop a (parts given.now.nodes p.0 (p.0 + 1))) result }
 {
+    let _ = &given.nodes; // names a field, so that the invariant is known
     let mut from = p.0 + 1;
     for _passed in 0..a {
-        from = next_part(nodes, p, from)?.0 + 1;
+        from = next_part(given, p, from)?.0 + 1;
     }
-    next_part(nodes, p, from)
+    next_part(given, p, from)
 }
 
 // This walk and that of `part_with_role` differ in one test. One function over a closure for it has six clauses and a ghost test, and both of these would keep
 // their own beside it, with a law each.
 // The `default` among the parts of p.
 #[tactic(auto, using(route_steps::proofs::StepsLaws::first_low_lem))]
-fn default_part(nodes: &[u32], p: NodeId) -> Option<NodeId>
-    requires tree { Tree nodes.now }
-    requires p_bound { p.0 < count nodes.now }
-    ensures { First nodes.now p.0 (from_default nodes.now (parts nodes.now p.0 (p.0 + 1))) result }
+fn default_part(given: &Given, p: NodeId) -> Option<NodeId>
+    requires p_bound { p.0 < count given.now.nodes }
+    ensures { First given.now.nodes p.0 (from_default given.now.nodes (parts given.now.nodes p.0 (p.0 + 1))) result }
 {
+    let _ = &given.nodes; // names a field, so that the invariant is known
     let mut from = p.0 + 1;
     loop {
-        let c = next_part(nodes, p, from)?;
-        if code_shapes::is_default(nodes, c) {
+        let c = next_part(given, p, from)?;
+        if code_shapes::is_default(given.nodes, c) {
             return Some(c);
         }
         from = c.0 + 1;
@@ -194,29 +201,28 @@ fn default_part(nodes: &[u32], p: NodeId) -> Option<NodeId>
 
 // The case of the switch p that the answer picks.
 #[tactic(auto, using(route_steps::proofs::StepsLaws::case_nth, route_steps::proofs::StepsLaws::case_default))]
-fn case_of(nodes: &[u32], p: NodeId, a: u32) -> Option<NodeId>
-    requires tree { Tree nodes.now }
-    requires p_bound { p.0 < count nodes.now }
-    ensures { First nodes.now p.0 (cases_from nodes.now (parts nodes.now p.0 (p.0 + 1)) a) result }
+fn case_of(given: &Given, p: NodeId, a: u32) -> Option<NodeId>
+    requires p_bound { p.0 < count given.now.nodes }
+    ensures { First given.now.nodes p.0 (cases_from given.now.nodes (parts given.now.nodes p.0 (p.0 + 1)) a) result }
 {
-    let Some(c) = nth_part(nodes, p, a) else {
-        return default_part(nodes, p);
+    let Some(c) = nth_part(given, p, a) else {
+        return default_part(given, p);
     };
     Some(c)
 }
 
 // The part of the If p that the answer picks.
-fn branch_of(nodes: &[u32], p: NodeId, a: u32) -> Option<NodeId>
-    requires tree { Tree nodes.now }
-    requires p_bound { p.0 < count nodes.now }
-    ensures value { result ≡ branch_of nodes.now (parts nodes.now p.0 (p.0 + 1)) a }
-    ensures part_of { part_of nodes.now p.0 result }
+fn branch_of(given: &Given, p: NodeId, a: u32) -> Option<NodeId>
+    requires p_bound { p.0 < count given.now.nodes }
+    ensures value { result ≡ branch_of given.now.nodes (parts given.now.nodes p.0 (p.0 + 1)) a }
+    ensures part_of { part_of given.now.nodes p.0 result }
 {
-    let first = next_part(nodes, p, p.0 + 1)?;
-    let Some(other) = next_part(nodes, p, first.0 + 1) else {
+    let _ = &given.nodes; // names a field, so that the invariant is known
+    let first = next_part(given, p, p.0 + 1)?;
+    let Some(other) = next_part(given, p, first.0 + 1) else {
         return if a == 0 { None } else { Some(first) };
     };
-    if (table_records::role(nodes, first) == roles::ALTERNATE) == (a == 0) {
+    if (table_records::role(given.nodes, first) == roles::ALTERNATE) == (a == 0) {
         Some(first)
     } else {
         Some(other)
@@ -225,16 +231,16 @@ fn branch_of(nodes: &[u32], p: NodeId, a: u32) -> Option<NodeId>
 
 // The first part of p with the role r.
 #[tactic(auto, using(route_steps::proofs::StepsLaws::first_low_lem, route_steps::proofs::StepsLaws::role_start, route_steps::proofs::StepsLaws::role_on, route_steps::proofs::StepsLaws::role_hit, route_steps::proofs::StepsLaws::role_none))]
-fn part_with_role(nodes: &[u32], p: NodeId, r: u32) -> Option<NodeId>
-    requires tree { Tree nodes.now }
-    requires p_bound { p.0 < count nodes.now }
-    ensures value { result ≡ role_in nodes.now p.0 r }
-    ensures part_of { part_of nodes.now p.0 result }
+fn part_with_role(given: &Given, p: NodeId, r: u32) -> Option<NodeId>
+    requires p_bound { p.0 < count given.now.nodes }
+    ensures value { result ≡ role_in given.now.nodes p.0 r }
+    ensures part_of { part_of given.now.nodes p.0 result }
 {
+    let _ = &given.nodes; // names a field, so that the invariant is known
     let mut from = p.0 + 1;
     loop {
-        let c = next_part(nodes, p, from)?;
-        if table_records::role(nodes, c) == r {
+        let c = next_part(given, p, from)?;
+        if table_records::role(given.nodes, c) == r {
             return Some(c);
         }
         from = c.0 + 1;
@@ -243,7 +249,8 @@ fn part_with_role(nodes: &[u32], p: NodeId, r: u32) -> Option<NodeId>
 
 // A node is listed.
 fn listed(out: &mut [u32], n: NodeId, start: Run) -> Run
-    ensures { (ns names qs : List ℕ) → start.taken ≤ length qs → Walked ns names qs out.old start (outcome (plain n.0 ∷ []) normal (drop start.taken qs)) out.new result }
+    ensures by_index { (ns names qs : List ℕ) → start.taken ≤ length qs → Walked ns names qs out.old start (outcome (plain n.0 ∷ []) normal (drop start.taken qs)) out.new result }
+    ensures taken_value { result.taken ≡ start.taken }
 {
     Run {
         entries: route_list::add(out, start.entries, n.0),
@@ -253,11 +260,12 @@ fn listed(out: &mut [u32], n: NodeId, start: Run) -> Run
 }
 
 // A node is listed as it takes an answer.
-fn asked(answers: &[u32], out: &mut [u32], n: NodeId, start: Run) -> Run
-    requires { start.taken < length answers.now }
-    ensures by_index { (ns names : List ℕ) → Walked ns names answers.now out.old start (outcome (ask' n.0 ∷ []) normal (drop (start.taken + 1) answers.now)) out.new result }
+fn asked(given: &Given, out: &mut [u32], n: NodeId, start: Run) -> Run
+    requires { start.taken < length given.now.answers }
+    ensures by_index { (ns names : List ℕ) → Walked ns names given.now.answers out.old start (outcome (ask' n.0 ∷ []) normal (drop (start.taken + 1) given.now.answers)) out.new result }
     ensures taken_value { result.taken ≡ start.taken + 1 }
 {
+    let _ = &given.answers; // names a field, so that the invariant is known
     Run {
         entries: route_list::add(out, start.entries, n.0),
         taken: start.taken + 1,
@@ -266,12 +274,11 @@ fn asked(answers: &[u32], out: &mut [u32], n: NodeId, start: Run) -> Run
 }
 
 // A statement without parts.
-fn walk_leaf(nodes: &[u32], names: &[u8], out: &mut [u32], n: NodeId, start: Run) -> Run
-    requires walkable { Walkable nodes.now names.now }
-    requires n_bound { n.0 < count nodes.now }
-    ensures { (qs : List ℕ) → start.taken ≤ length qs → Walked nodes.now names.now qs out.old start (outcome (plain n.0 ∷ []) (comp_of (leaf_at nodes.now names.now n.0)) (drop start.taken qs)) out.new result }
+fn walk_leaf(given: &Given, out: &mut [u32], n: NodeId, start: Run) -> Run
+    requires n_bound { n.0 < count given.now.nodes }
+    ensures { (qs : List ℕ) → start.taken ≤ length qs → Walked given.now.nodes given.now.names qs out.old start (outcome (plain n.0 ∷ []) (comp_of (leaf_at given.now.nodes given.now.names n.0)) (drop start.taken qs)) out.new result }
 {
-    let how = completion_of(nodes, names, n);
+    let how = completion_of(given, n);
     Run {
         entries: route_list::add(out, start.entries, n.0),
         how,
@@ -291,14 +298,13 @@ fn left(run: Run) -> Run
 
 // What the Labeled p leaves: a break to its label ends there.
 #[tactic(auto, using(crate::proofs::WalkLaws::ends_as))]
-fn left_label(nodes: &[u32], names: &[u8], p: NodeId, run: Run) -> Run
-    requires walkable { Walkable nodes.now names.now }
-    requires p_bound { p.0 < count nodes.now }
-    requires label_in { label_in nodes.now run.how }
-    ensures { (qs f g : List ℕ) (start : Run) (o : Out) → Walked nodes.now names.now qs f start o g run → Walked nodes.now names.now qs f start (unlabel (id_at nodes.now names.now p.0) o) g result }
+fn left_label(given: &Given, p: NodeId, run: Run) -> Run
+    requires p_bound { p.0 < count given.now.nodes }
+    requires label_in { label_in given.now.nodes run.how }
+    ensures { (qs f g : List ℕ) (start : Run) (o : Out) → Walked given.now.nodes given.now.names qs f start o g run → Walked given.now.nodes given.now.names qs f start (unlabel (id_at given.now.nodes given.now.names p.0) o) g result }
 {
     Run {
-        how: unlabelled(nodes, names, p, run.how),
+        how: unlabelled(given, p, run.how),
         ..run
     }
 }
@@ -306,12 +312,12 @@ fn left_label(nodes: &[u32], names: &[u8], p: NodeId, run: Run) -> Run
 // What the node n holds, where that is one statement.
 #[cycle(walk)]
 fn walk_one(given: &Given, out: &mut [u32], n: NodeId, start: Run) -> Run
-    requires walkable { Walkable given.now.nodes.now given.now.names.now }
-    requires n_bound { n.0 < count given.now.nodes.now }
-    requires taken_in_bounds { start.taken ≤ length given.now.answers.now }
-    ensures { Walked given.now.nodes.now given.now.names.now given.now.answers.now out.old start (exec (one_of (statement given.now.nodes.now given.now.names.now) (parts given.now.nodes.now n.0 (n.0 + 1))) (labels_of given.now.nodes.now given.now.names.now n.0) (drop start.taken given.now.answers.now)) out.new result }
+    requires n_bound { n.0 < count given.now.nodes }
+    requires taken_in_bounds { start.taken ≤ length given.now.answers }
+    ensures { Walked given.now.nodes given.now.names given.now.answers out.old start (exec (one_of (statement given.now.nodes given.now.names) (parts given.now.nodes n.0 (n.0 + 1))) (labels_of given.now.nodes given.now.names n.0) (drop start.taken given.now.answers)) out.new result }
 {
-    let Some(c) = next_part(given.nodes, n, n.0 + 1) else {
+    let _ = &given.nodes; // names a field, so that the invariant is known
+    let Some(c) = next_part(given, n, n.0 + 1) else {
         return Run {
             how: Completion::Normal,
             ..start
@@ -321,19 +327,20 @@ fn walk_one(given: &Given, out: &mut [u32], n: NodeId, start: Run) -> Run
 }
 
 // 14.2.2, StatementList: the parts of n from a node on, one behind the other.
+#[tactic(auto, using(route_steps::proofs::StepsLaws::first_low_lem))]
 #[cycle(walk)]
 fn walk_parts(given: &Given, out: &mut [u32], n: NodeId, from: u32, start: Run) -> Run
-    requires walkable { Walkable given.now.nodes.now given.now.names.now }
     requires n_lt_from { n.0 < from }
-    requires from_bound { from ≤ count given.now.nodes.now }
-    requires n_value { labels_of given.now.nodes.now given.now.names.now n.0 ≡ [] }
-    requires taken_in_bounds { start.taken ≤ length given.now.answers.now }
-    ensures { Walked given.now.nodes.now given.now.names.now given.now.answers.now out.old start (execs (list_of (statement given.now.nodes.now given.now.names.now) (parts given.now.nodes.now n.0 from)) (drop start.taken given.now.answers.now)) out.new result }
+    requires from_bound { from ≤ count given.now.nodes }
+    requires n_value { labels_of given.now.nodes given.now.names n.0 ≡ [] }
+    requires taken_in_bounds { start.taken ≤ length given.now.answers }
+    ensures { Walked given.now.nodes given.now.names given.now.answers out.old start (execs (list_of (statement given.now.nodes given.now.names) (parts given.now.nodes n.0 from)) (drop start.taken given.now.answers)) out.new result }
 {
+    let _ = &given.nodes; // names a field, so that the invariant is known
     let mut run = start;
     let mut i = from;
     loop {
-        let Some(c) = next_part(given.nodes, n, i) else {
+        let Some(c) = next_part(given, n, i) else {
             return Run {
                 how: Completion::Normal,
                 ..run
@@ -351,11 +358,10 @@ fn walk_parts(given: &Given, out: &mut [u32], n: NodeId, from: u32, start: Run) 
 // 14.6.2, the If n.
 #[cycle(walk)]
 fn walk_if(given: &Given, out: &mut [u32], n: NodeId, start: Run) -> Run
-    requires walkable { Walkable given.now.nodes.now given.now.names.now }
-    requires n_bound { n.0 < count given.now.nodes.now }
-    requires n_value { labels_of given.now.nodes.now given.now.names.now n.0 ≡ [] }
-    requires taken_in_bounds { start.taken ≤ length given.now.answers.now }
-    ensures { Walked given.now.nodes.now given.now.names.now given.now.answers.now out.old start (ask n.0 (drop start.taken given.now.answers.now) (λ a r. ran_of (statement given.now.nodes.now given.now.names.now) (branch_of given.now.nodes.now (parts given.now.nodes.now n.0 (n.0 + 1)) a) r)) out.new result }
+    requires n_bound { n.0 < count given.now.nodes }
+    requires n_value { labels_of given.now.nodes given.now.names n.0 ≡ [] }
+    requires taken_in_bounds { start.taken ≤ length given.now.answers }
+    ensures { Walked given.now.nodes given.now.names given.now.answers out.old start (ask n.0 (drop start.taken given.now.answers) (λ a r. ran_of (statement given.now.nodes given.now.names) (branch_of given.now.nodes (parts given.now.nodes n.0 (n.0 + 1)) a) r)) out.new result }
 {
     let at = start.taken;
     if given.answers.len() <= at {
@@ -365,8 +371,8 @@ fn walk_if(given: &Given, out: &mut [u32], n: NodeId, start: Run) -> Run
         };
     }
     let a = given.answers[at];
-    let next = asked(given.answers, out, n, start);
-    let Some(c) = branch_of(given.nodes, n, a) else {
+    let next = asked(given, out, n, start);
+    let Some(c) = branch_of(given, n, a) else {
         return next;
     };
     walk_node(given, out, c, next)
@@ -375,24 +381,23 @@ fn walk_if(given: &Given, out: &mut [u32], n: NodeId, start: Run) -> Run
 // 14.7.3.2, the turns of the loop n, from its next answer on.
 #[cycle(walk)]
 fn walk_turns(given: &Given, out: &mut [u32], n: NodeId, start: Run) -> Run
-    requires walkable { Walkable given.now.nodes.now given.now.names.now }
     requires n_nonzero { 0 < n.0 }
-    requires n_bound { n.0 < count given.now.nodes.now }
-    requires n_value { labels_of given.now.nodes.now given.now.names.now n.0 ≡ [] }
-    requires taken_in_bounds { start.taken ≤ length given.now.answers.now }
-    ensures { Walked given.now.nodes.now given.now.names.now given.now.answers.now out.old start (rounds n.0 (test_at given.now.nodes.now n.0) (labels_of given.now.nodes.now given.now.names.now (up_of given.now.nodes.now n.0)) (λ r. exec (one_of (statement given.now.nodes.now given.now.names.now) (parts given.now.nodes.now n.0 (n.0 + 1))) [] r) (drop start.taken given.now.answers.now)) out.new result }
+    requires n_bound { n.0 < count given.now.nodes }
+    requires n_value { labels_of given.now.nodes given.now.names n.0 ≡ [] }
+    requires taken_in_bounds { start.taken ≤ length given.now.answers }
+    ensures { Walked given.now.nodes given.now.names given.now.answers out.old start (rounds n.0 (test_at given.now.nodes n.0) (labels_of given.now.nodes given.now.names (up_of given.now.nodes n.0)) (λ r. exec (one_of (statement given.now.nodes given.now.names) (parts given.now.nodes n.0 (n.0 + 1))) [] r) (drop start.taken given.now.answers)) out.new result }
 {
     let heeds = code_shapes::has_test(given.nodes, n);
     let mut run = start;
     while run.taken < given.answers.len() {
         let at = run.taken;
         let a = given.answers[at];
-        let next = asked(given.answers, out, n, run);
+        let next = asked(given, out, n, run);
         if heeds && a == 0 {
             return next;
         }
         let done = walk_one(given, out, n, next);
-        if !loop_continues(given.nodes, given.names, n, done.how) {
+        if !loop_continues(given, n, done.how) {
             return done;
         }
         run = done;
@@ -406,19 +411,18 @@ fn walk_turns(given: &Given, out: &mut [u32], n: NodeId, start: Run) -> Run
 // 14.7.1.2, the loop n: a DoWhile runs its body before the first answer.
 #[cycle(walk)]
 fn walk_loop(given: &Given, out: &mut [u32], n: NodeId, start: Run) -> Run
-    requires walkable { Walkable given.now.nodes.now given.now.names.now }
     requires n_nonzero { 0 < n.0 }
-    requires n_bound { n.0 < count given.now.nodes.now }
-    requires n_value { labels_of given.now.nodes.now given.now.names.now n.0 ≡ [] }
-    requires taken_in_bounds { start.taken ≤ length given.now.answers.now }
-    ensures { Walked given.now.nodes.now given.now.names.now given.now.answers.now out.old start (unbreak (loops (before_at given.now.nodes.now n.0) n.0 (test_at given.now.nodes.now n.0) (labels_of given.now.nodes.now given.now.names.now (up_of given.now.nodes.now n.0)) (λ r. exec (one_of (statement given.now.nodes.now given.now.names.now) (parts given.now.nodes.now n.0 (n.0 + 1))) [] r) (drop start.taken given.now.answers.now))) out.new result }
+    requires n_bound { n.0 < count given.now.nodes }
+    requires n_value { labels_of given.now.nodes given.now.names n.0 ≡ [] }
+    requires taken_in_bounds { start.taken ≤ length given.now.answers }
+    ensures { Walked given.now.nodes given.now.names given.now.answers out.old start (unbreak (loops (before_at given.now.nodes n.0) n.0 (test_at given.now.nodes n.0) (labels_of given.now.nodes given.now.names (up_of given.now.nodes n.0)) (λ r. exec (one_of (statement given.now.nodes given.now.names) (parts given.now.nodes n.0 (n.0 + 1))) [] r) (drop start.taken given.now.answers))) out.new result }
 {
     if code_shapes::is_before(given.nodes, n) {
         let done = walk_turns(given, out, n, start);
         return left(done);
     }
     let first = walk_one(given, out, n, start);
-    if !loop_continues(given.nodes, given.names, n, first.how) {
+    if !loop_continues(given, n, first.how) {
         return left(first);
     }
     let done = walk_turns(given, out, n, first);
@@ -428,11 +432,10 @@ fn walk_loop(given: &Given, out: &mut [u32], n: NodeId, start: Run) -> Run
 // 14.12.2, the switch n: from the case that the answer picks, "later cases follow".
 #[cycle(walk)]
 fn walk_switch(given: &Given, out: &mut [u32], n: NodeId, start: Run) -> Run
-    requires walkable { Walkable given.now.nodes.now given.now.names.now }
-    requires n_bound { n.0 < count given.now.nodes.now }
-    requires n_value { labels_of given.now.nodes.now given.now.names.now n.0 ≡ [] }
-    requires taken_in_bounds { start.taken ≤ length given.now.answers.now }
-    ensures { Walked given.now.nodes.now given.now.names.now given.now.answers.now out.old start (ask n.0 (drop start.taken given.now.answers.now) (λ a r. unbreak (execs (list_of (statement given.now.nodes.now given.now.names.now) (cases_from given.now.nodes.now (parts given.now.nodes.now n.0 (n.0 + 1)) a)) r))) out.new result }
+    requires n_bound { n.0 < count given.now.nodes }
+    requires n_value { labels_of given.now.nodes given.now.names n.0 ≡ [] }
+    requires taken_in_bounds { start.taken ≤ length given.now.answers }
+    ensures { Walked given.now.nodes given.now.names given.now.answers out.old start (ask n.0 (drop start.taken given.now.answers) (λ a r. unbreak (execs (list_of (statement given.now.nodes given.now.names) (cases_from given.now.nodes (parts given.now.nodes n.0 (n.0 + 1)) a)) r))) out.new result }
 {
     let at = start.taken;
     if given.answers.len() <= at {
@@ -442,8 +445,8 @@ fn walk_switch(given: &Given, out: &mut [u32], n: NodeId, start: Run) -> Run
         };
     }
     let a = given.answers[at];
-    let next = asked(given.answers, out, n, start);
-    let Some(c) = case_of(given.nodes, n, a) else {
+    let next = asked(given, out, n, start);
+    let Some(c) = case_of(given, n, a) else {
         return next;
     };
     let done = walk_parts(given, out, n, c.0, next);
@@ -453,20 +456,19 @@ fn walk_switch(given: &Given, out: &mut [u32], n: NodeId, start: Run) -> Run
 // 14.15.3, the Block of the Try n, and its catch where that throws.
 #[cycle(walk)]
 fn walk_caught(given: &Given, out: &mut [u32], n: NodeId, start: Run) -> Run
-    requires walkable { Walkable given.now.nodes.now given.now.names.now }
-    requires n_bound { n.0 < count given.now.nodes.now }
-    requires n_value { labels_of given.now.nodes.now given.now.names.now n.0 ≡ [] }
-    requires taken_in_bounds { start.taken ≤ length given.now.answers.now }
-    ensures { Walked given.now.nodes.now given.now.names.now given.now.answers.now out.old start (caught_by (statement given.now.nodes.now given.now.names.now) (role_in given.now.nodes.now n.0 role.Alternate) (ran_of (statement given.now.nodes.now given.now.names.now) (role_in given.now.nodes.now n.0 role.Held) (drop start.taken given.now.answers.now))) out.new result }
+    requires n_bound { n.0 < count given.now.nodes }
+    requires n_value { labels_of given.now.nodes given.now.names n.0 ≡ [] }
+    requires taken_in_bounds { start.taken ≤ length given.now.answers }
+    ensures { Walked given.now.nodes given.now.names given.now.answers out.old start (caught_by (statement given.now.nodes given.now.names) (role_in given.now.nodes n.0 role.Alternate) (ran_of (statement given.now.nodes given.now.names) (role_in given.now.nodes n.0 role.Held) (drop start.taken given.now.answers))) out.new result }
 {
-    let Some(block) = part_with_role(given.nodes, n, roles::HELD) else {
+    let Some(block) = part_with_role(given, n, roles::HELD) else {
         return Run {
             how: Completion::Normal,
             ..start
         };
     };
     let done = walk_node(given, out, block, start);
-    let Some(catch) = part_with_role(given.nodes, n, roles::ALTERNATE) else {
+    let Some(catch) = part_with_role(given, n, roles::ALTERNATE) else {
         return done;
     };
     if !is_throw(done.how) {
@@ -478,15 +480,14 @@ fn walk_caught(given: &Given, out: &mut [u32], n: NodeId, start: Run) -> Run
 // 14.15.3, the Try n: its finally runs on each way out, but where the answers are spent.
 #[cycle(walk)]
 fn walk_try(given: &Given, out: &mut [u32], n: NodeId, start: Run) -> Run
-    requires walkable { Walkable given.now.nodes.now given.now.names.now }
-    requires n_bound { n.0 < count given.now.nodes.now }
-    requires n_value { labels_of given.now.nodes.now given.now.names.now n.0 ≡ [] }
-    requires taken_in_bounds { start.taken ≤ length given.now.answers.now }
-    ensures { Walked given.now.nodes.now given.now.names.now given.now.answers.now out.old start (finally_by (statement given.now.nodes.now given.now.names.now) (role_in given.now.nodes.now n.0 role.Finally) (caught_by (statement given.now.nodes.now given.now.names.now) (role_in given.now.nodes.now n.0 role.Alternate) (ran_of (statement given.now.nodes.now given.now.names.now) (role_in given.now.nodes.now n.0 role.Held) (drop start.taken given.now.answers.now)))) out.new result }
+    requires n_bound { n.0 < count given.now.nodes }
+    requires n_value { labels_of given.now.nodes given.now.names n.0 ≡ [] }
+    requires taken_in_bounds { start.taken ≤ length given.now.answers }
+    ensures { Walked given.now.nodes given.now.names given.now.answers out.old start (finally_by (statement given.now.nodes given.now.names) (role_in given.now.nodes n.0 role.Finally) (caught_by (statement given.now.nodes given.now.names) (role_in given.now.nodes n.0 role.Alternate) (ran_of (statement given.now.nodes given.now.names) (role_in given.now.nodes n.0 role.Held) (drop start.taken given.now.answers)))) out.new result }
 {
     let done = walk_caught(given, out, n, start);
     let how = done.how;
-    let Some(last) = part_with_role(given.nodes, n, roles::FINALLY) else {
+    let Some(last) = part_with_role(given, n, roles::FINALLY) else {
         return done;
     };
     if is_spent(how) {
@@ -500,16 +501,16 @@ fn walk_try(given: &Given, out: &mut [u32], n: NodeId, start: Run) -> Run
 }
 
 // One statement, by its shape.
+#[tactic(auto, using(route_steps::proofs::StatementLaws::labels_off, route_steps::proofs::StatementLaws::leaf_is, route_steps::proofs::StatementLaws::if_is, route_steps::proofs::StatementLaws::block_is_lem, route_steps::proofs::StatementLaws::case_is, route_steps::proofs::StatementLaws::loop_is, route_steps::proofs::StatementLaws::switch_is, route_steps::proofs::StatementLaws::try_is, route_steps::proofs::StatementLaws::catch_is))]
 #[cycle(walk)]
 fn walk_node(given: &Given, out: &mut [u32], n: NodeId, start: Run) -> Run
-    requires walkable { Walkable given.now.nodes.now given.now.names.now }
     requires n_nonzero { 0 < n.0 }
-    requires n_bound { n.0 < count given.now.nodes.now }
-    requires taken_in_bounds { start.taken ≤ length given.now.answers.now }
-    ensures { Walked given.now.nodes.now given.now.names.now given.now.answers.now out.old start (exec (statement given.now.nodes.now given.now.names.now n.0) (labels_of given.now.nodes.now given.now.names.now (up_of given.now.nodes.now n.0)) (drop start.taken given.now.answers.now)) out.new result }
+    requires n_bound { n.0 < count given.now.nodes }
+    requires taken_in_bounds { start.taken ≤ length given.now.answers }
+    ensures { Walked given.now.nodes given.now.names given.now.answers out.old start (exec (statement given.now.nodes given.now.names n.0) (labels_of given.now.nodes given.now.names (up_of given.now.nodes n.0)) (drop start.taken given.now.answers)) out.new result }
 {
     match shape_of(given.nodes, n) {
-        Shape::Leaf => walk_leaf(given.nodes, given.names, out, n, start),
+        Shape::Leaf => walk_leaf(given, out, n, start),
         Shape::Class => {
             let next = listed(out, n, start);
             walk_parts(given, out, n, n.0 + 1, next)
@@ -522,7 +523,7 @@ fn walk_node(given: &Given, out: &mut [u32], n: NodeId, start: Run) -> Run
         Shape::Block | Shape::Case => walk_parts(given, out, n, n.0 + 1, start),
         Shape::Label => {
             let done = walk_one(given, out, n, start);
-            left_label(given.nodes, given.names, n, done)
+            left_label(given, n, done)
         }
         Shape::Loop => walk_loop(given, out, n, start),
         Shape::Switch => walk_switch(given, out, n, start),
@@ -552,6 +553,7 @@ pub fn walk_unit(nodes: &[u32], names: &[u8], answers: &[u32], out: &mut [u32], 
     requires { Enterable nodes.now names.now u.0 }
     ensures { Shows nodes.now names.now (route (unit_of nodes.now names.now u.0) answers.now) out.old out.new result }
 {
+    let nodes = &Nodes { numbers: nodes };
     let start = Run {
         entries: 0,
         taken: 0,

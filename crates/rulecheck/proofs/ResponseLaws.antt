@@ -1,6 +1,6 @@
 -- The text as the code comes to it: from the answer of `check` and its slice, and from the slices that were read.
-use Rattle.std.specs.Prelude.{Result, Ok, Err, ℕ, ◌+◌, ◌*◌, ◌≡◌, Bool, leb, take}
-use Rattle.std.proofs.Math.Path.{refl, ap, sym, subst}
+use Rattle.std.specs.Prelude.{Result, Ok, Err, ℕ, ◌*◌, ◌≡◌, Bool, leb, take}
+use Rattle.std.proofs.Math.Path.{refl, ap, subst}
 use Rattle.std.proofs.Common.{◌∙◌, zero-add, leb-true}
 use Rattle.std.proofs.Math.Bool.{true, false, cond}
 use mathlib.Core.List.{List, [], ◌∷◌, ◌++◌}
@@ -9,7 +9,6 @@ use Rattle.base_common.specs.Wrote.{put}
 use Rattle.check_diagnostics.specs.declared.Finding.{Finding}
 use Rattle.check_diagnostics.specs.Finding.{numbers, flat}
 use Rattle.refusal_verdict.specs.declared.Refusal.TheVariants as refusal
-use Rattle.refusal_verdict.specs.declared.Refused.{Refused}
 use Rattle.refusal_verdict.specs.declared.Refused.TheVariants.{At, Short}
 use Rattle.refusal_verdict.specs.Verdict.{Verdict, Passed, unless}
 use Rattle.refusal_input.specs.Input.{input_refusal}
@@ -20,7 +19,7 @@ use Rattle.call_check.specs.Check.{report_answer, report_slice, check_answer, ch
 use Rattle.line_fields.specs.Split.{lines_of}
 use Rattle.line_input.specs.declared.Tables.{Tables}
 use Rattle.line_input.specs.declared.Unread.{Unread}
-use Rattle.line_input.specs.Format.{Room, Reading, lent, read_input, front, Given}
+use Rattle.line_input.specs.Format.{Reading, lent, read_input, front, Given}
 use Rattle.line_input.proofs.Sizes.{Sized, lines_told, part}
 use Rattle.line_input.proofs.Whole.{input_whole}
 use Rattle.line_input.specs.Route.{enough}
@@ -73,34 +72,23 @@ module _ (kind : ℕ) (ns ss source names : List ℕ) where
   unfolding check_answer
   check_counted len = by_counted (input_refusal kind ns ss source names) (reported (rule kind 0 ns ss source names)) len
 
--- the same of the slices as the code has them
-module _ (kind : ℕ) (s g : List ℕ) (r : Result ℕ Refused) (ns ss xs ms : List ℕ) (h : length s ≡ findings_room) (a : r ≡ check_answer (rule kind 0 ns ss xs ms) (length s)) (b : g ≡ check_slice (rule kind 0 ns ss xs ms) s) where
-  pub checked_counted : length g ≡ length s → Counted r (length g)
-  checked_counted e = rw (e, a) (check_counted kind ns ss xs ms (length s))
-
-  pub checked_text : (ns' ss' xs' ms' : List ℕ) → ns ≡ ns' → ss ≡ ss' → xs ≡ xs' → ms ≡ ms' → answer_text r g ≡ check_text kind ns' ss' xs' ms'
-  checked_text ns' ss' xs' ms' p q u v = rw (a, b, sym p, sym q, sym u, sym v) (check_text_lem kind ns ss xs ms s h)
-
 -- the text by what `read` answers
-module _ (room : Room) (b : List ℕ) (q : room ≡ lent) (r : Result Tables Unread) (a : r ≡ (read_input room b).answer) where
-  pub text_unread : (d : Unread) → r ≡ Err d → response b ≡ refusal_text (At refusal.Unread d.line)
+module _ (b : List ℕ) where
+  pub text_unread : (d : Unread) → (read_input lent b).answer ≡ Err d → response b ≡ refusal_text (At refusal.Unread d.line)
   unfolding response
-  text_unread d e = rw (sym q, sym a, e)
+  text_unread d e = rw e
 
-  pub text_tables : (got : Tables) (n₀ s₀ x₀ m₀ ns ss xs ms : List ℕ) → r ≡ Ok got → Given (read_input room b) n₀ s₀ x₀ m₀ ns ss xs ms
-      → response b ≡ check_text got.kind (take got.nodes ns) (take got.scopes ss) (take got.source xs) (take got.names ms)
+  pub text_tables : (got : Tables) (n₀ s₀ x₀ m₀ ns ss xs ms : List ℕ) → (read_input lent b).answer ≡ Ok got → Given (read_input lent b) n₀ s₀ x₀ m₀ ns ss xs ms
+      → check_text got.kind (take got.nodes ns) (take got.scopes ss) (take got.source xs) (take got.names ms) ≡ response b
   unfolding response
   text_tables got n₀ s₀ x₀ m₀ ns ss xs ms e g =
-      let d : Reading = read_input room b in
-      let t : Sized (Ok got) d = subst (λ (i : Result Tables Unread). Sized i d) (sym a ∙ e) (lines_told room (lines_of b)) in
-      rw (sym q, sym a, e, part d.nodes n₀ ns got.nodes t.0 g.nodes, part d.scopes s₀ ss got.scopes t.1 g.scopes, part d.source x₀ xs got.source t.2 g.source, part d.names m₀ ms got.names t.3 g.names)
+      let d : Reading = read_input lent b in
+      let t : Sized (Ok got) d = subst (λ (i : Result Tables Unread). Sized i d) e (lines_told lent (lines_of b)) in
+      rw (e, part d.nodes n₀ ns got.nodes t.0 g.nodes, part d.scopes s₀ ss got.scopes t.1 g.scopes, part d.source x₀ xs got.source t.2 g.source, part d.names m₀ ms got.names t.3 g.names)
 
 -- a text put at a slice's start
-pub front_put : (f g t u : List ℕ) (r : ℕ) → t ≡ u → (r ≡ length t) × (g ≡ put f 0 t) → (r ≡ length u) × (g ≡ front u f)
-front_put f g t u r e p = (p.0 ∙ ap length e, p.1 ∙ ap (λ (k : ℕ). t ++ drop k f) (zero-add (length t)) ∙ ap (λ (x : List ℕ). front x f) e)
-
-pub front_same : (f g t u : List ℕ) (r : ℕ) → t ≡ u → (r ≡ length t) × (g ≡ front t f) → (r ≡ length u) × (g ≡ front u f)
-front_same f g t u r e p = rw (sym e) p
+pub put_front : (f t : List ℕ) → put f 0 t ≡ front t f
+put_front f t = ap (λ (k : ℕ). t ++ drop k f) (zero-add (length t))
 
 -- Nothing is cut: the program reads at most `enough` bytes, and more of them change nothing.
 pub response_whole : (b : List ℕ) → response (take enough b) ≡ response b

@@ -18,6 +18,7 @@ use std::io::{Read, Write};
 const ASYNC_BODIES_OFF: u32 = 0;
 
 // Writes the text of the tables, which stand at the front of each slice. Says where it ends.
+#[tactic(auto, using(crate::proofs::ResponseLaws::check_text_lem, crate::proofs::ResponseLaws::check_counted, crate::proofs::ResponseLaws::put_front))]
 fn check_text(
     tables: Tables,
     nodes: &[u32],
@@ -44,6 +45,7 @@ fn check_text(
 
 // Writes what is printed for the bytes `input`, with slices for the tables and for the findings. Says where it ends. The tables' have room for
 // 1,024 nodes of ten numbers, 1,024 scopes of three, and 1,024 bytes of source and of names: the most that are read.
+#[tactic(auto, using(crate::proofs::ResponseLaws::text_unread, crate::proofs::ResponseLaws::text_tables, crate::proofs::ResponseLaws::put_front))]
 fn respond_by(
     input: &[u8],
     nodes: &mut [u32],

@@ -32,6 +32,7 @@ const CODE: usize = UNIT_NUMBER + MOST_NUMBER * (NODES - 1);
 const ROUTE: usize = 655360;
 
 // Writes the line of an entry. Says where it ends.
+#[tactic(auto, using(line_print::proofs::PrintLaws::line_numbers, line_answers::proofs::AnswerLaws::numbers_one))]
 fn entry_line(node: u32, out: &mut [u8]) -> usize
     requires { length out.old ≡ line_room }
     ensures { (result ≡ length (entry_line node)) × (out.new ≡ put out.old 0 (entry_line node)) }
@@ -41,6 +42,7 @@ fn entry_line(node: u32, out: &mut [u8]) -> usize
 }
 
 // Writes the line of a route's end. Says where it ends.
+#[tactic(auto, using(line_print::proofs::PrintLaws::line_words, crate::proofs::AnswerLaws::words_three))]
 fn end_line(end: u64, entries: u64, taken: u64, out: &mut [u8]) -> usize
     requires { length out.old ≡ line_room }
     ensures { (result ≡ length (line_of 90 (end ∷ entries ∷ taken ∷ []))) × (out.new ≡ put out.old 0 (line_of 90 (end ∷ entries ∷ taken ∷ []))) }
@@ -50,6 +52,7 @@ fn end_line(end: u64, entries: u64, taken: u64, out: &mut [u8]) -> usize
 }
 
 // Writes the last line that is printed. Says where it ends.
+#[tactic(auto, unfolding(crate::specs::Answer::last_line))]
 fn last_line(answer: Result<Route, Refused>, out: &mut [u8]) -> usize
     requires { length out.old ≡ line_room }
     ensures { (result ≡ length (last_line answer)) × (out.new ≡ put out.old 0 (last_line answer)) }
@@ -89,6 +92,7 @@ fn routed(
 
 // The answer for the bytes `input`, with slices for the tables and for the code; `out` holds the route then. The tables' have room for
 // 1,024 nodes of ten numbers, 1,024 scopes of three, and 1,024 bytes of source and of names: the most that are read.
+#[tactic(auto, using(crate::proofs::AnswerLaws::routed_unasked, crate::proofs::AnswerLaws::entries_unasked, crate::proofs::AnswerLaws::routed_asked, crate::proofs::AnswerLaws::entries_asked))]
 fn respond_by(
     input: &[u8],
     nodes: &mut [u32],
@@ -141,6 +145,7 @@ fn print_entry<O: Write>(writer: &mut O, node: u32, text: &mut [u8]) -> io::Resu
     writer.write_all(line_print::front(text, end))
 }
 
+#[tactic(auto, using(crate::proofs::AnswerLaws::lines_next), unfolding(crate::specs::Answer::lines_for))]
 fn print_entries<O: Write>(writer: &mut O, entries: &[u32], text: &mut [u8]) -> io::Result<()>
     requires { length text.old ≡ line_room }
     ensures { OnOk result (Appends (O.contents writer.old) (O.contents writer.new) (lines_for entries.now)) }

@@ -1,5 +1,6 @@
 -- Laws of walks up: a fold over the ancestors of a node, or over the scopes around a scope, is one step and the fold from there.
-use Rattle.std.specs.Prelude.{ℕ, ◌≤◌, ◌<◌, ◌≡◌, refl, Bool, true, false, cond, ◌||◌, eqb, Some, None}
+use Rattle.table_records.specs.declared.NodeId.{NodeId}
+use Rattle.std.specs.Prelude.{ℕ, ◌≤◌, ◌<◌, ◌≡◌, refl, Bool, true, false, cond, ◌||◌, eqb, Some, None, is_some}
 use Rattle.std.proofs.Common.{sym, subst, ◌∙◌, ⊎_elim, eq-or-lt_of_le, arith, eq-eqb, ne_eqb}
 use mathlib.Core.List.{List, [], ◌∷◌, foldr}
 use Rattle.base_common.specs.Upto.{any}
@@ -9,7 +10,7 @@ use Rattle.base_walk.specs.On.{on}
 use Rattle.base_walk.proofs.OnLaws.{on_self, on_le}
 use Rattle.table_records.specs.Table.{kind_of, parent_of, count, ancestors, count_scopes, scope_parent_of, outer}
 use Rattle.table_records.specs.Facts.{Tree, Chained}
-use Rattle.table_ancestry.specs.Ancestry.{nearest_of, has_ancestor, is_at}
+use Rattle.table_ancestry.specs.Ancestry.{nearest_of, has_ancestor}
 
 -- the parent of a node is a node
 pub parent_in : (ns : List ℕ) → Tree ns → (i : ℕ) → i < count ns → parent_of ns i < count ns
@@ -56,14 +57,14 @@ unfolding nearest_of
 nearest_root ns low high = ancestors_root _ _ ns
 
 -- there is a nearest one just where there is one
-pub nearest_some : (ns : List ℕ) (low high n : ℕ) → has_ancestor ns low high n ≡ is_at (nearest_of ns low high n)
+pub nearest_some : (ns : List ℕ) (low high n : ℕ) → has_ancestor ns low high n ≡ is_some (nearest_of ns low high n)
 unfolding nearest_of has_ancestor
 nearest_some ns low high n = go (ancestors ns n)
   where
-    go : (as' : List ℕ) → any (λ a. within (kind_of ns a) low high) as' ≡ is_at (foldr (λ a r. cond (within (kind_of ns a) low high) (Some (record { 0 = a })) r) None as')
+    go : (as' : List ℕ) → any (λ a. within (kind_of ns a) low high) as' ≡ is_some {T = NodeId} (foldr (λ a r. cond (within (kind_of ns a) low high) (Some (record { 0 = a })) r) None as')
     go [] = refl
     go (a ∷ l) = by (within (kind_of ns a) low high) (go l)
       where
-        by : (b : Bool) → any (λ a. within (kind_of ns a) low high) l ≡ is_at (foldr (λ a r. cond (within (kind_of ns a) low high) (Some (record { 0 = a })) r) None l) → (b || any (λ a. within (kind_of ns a) low high) l) ≡ is_at (cond b (Some (record { 0 = a })) (foldr (λ a r. cond (within (kind_of ns a) low high) (Some (record { 0 = a })) r) None l))
+        by : (b : Bool) → any (λ a. within (kind_of ns a) low high) l ≡ is_some {T = NodeId} (foldr (λ a r. cond (within (kind_of ns a) low high) (Some (record { 0 = a })) r) None l) → (b || any (λ a. within (kind_of ns a) low high) l) ≡ is_some {T = NodeId} (cond b (Some (record { 0 = a })) (foldr (λ a r. cond (within (kind_of ns a) low high) (Some (record { 0 = a })) r) None l))
         by true h = refl
         by false h = h

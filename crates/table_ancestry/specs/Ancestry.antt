@@ -1,6 +1,6 @@
 -- Searches among the ancestors of a node, which come nearest first.
 use Rattle.table_records.specs.declared.NodeId.{NodeId}
-use Rattle.std.specs.Prelude.{ℕ, Bool, cond, Option, Some, None, is_some}
+use Rattle.std.specs.Prelude.{ℕ, Bool, cond, Option, Some, None}
 use mathlib.Core.List.{List, foldr}
 use Rattle.base_common.specs.Upto.{any}
 use Rattle.base_common.specs.Tests.{within}
@@ -13,7 +13,3 @@ nearest_of ns low high n = foldr (λ a r. cond (within (kind_of ns a) low high) 
 -- some ancestor of n has a kind from low to high
 unfoldable pub has_ancestor : List ℕ → ℕ → ℕ → ℕ → Bool
 has_ancestor ns low high n = any (λ a. within (kind_of ns a) low high) (ancestors ns n)
-
--- something was found
-abbrev pub is_at : Option NodeId → Bool
-is_at o = is_some o

@@ -8,13 +8,14 @@ ghost use Rattle.table_records.specs.Facts.{Tree, Chained};
 ghost use Rattle.table_children.specs.Children.{below};
 ghost use Rattle.table_ancestry.specs.Ancestry.{nearest_of, has_ancestor};
 
+use table_records::nodes::Nodes;
 use table_records::{NodeId, ScopeId};
 
 // The parent of a node other than the program.
-pub fn up(nodes: &[u32], n: NodeId) -> NodeId
-    requires tree { Tree nodes.now }
+pub fn up(nodes: &Nodes, n: NodeId) -> NodeId
     requires n_nonzero { 0 < n.0 }
     requires n_bound { n.0 < count nodes.now }
+    ensures tree { Tree nodes.now }
     ensures result_value { result.0 ≡ parent_of nodes.now n.0 }
     ensures result_lt_n { result.0 < n.0 }
 {
@@ -22,8 +23,7 @@ pub fn up(nodes: &[u32], n: NodeId) -> NodeId
 }
 
 // The kind of a node's parent; the program is its own parent.
-pub fn parent_kind(nodes: &[u32], n: NodeId) -> u32
-    requires tree { Tree nodes.now }
+pub fn parent_kind(nodes: &Nodes, n: NodeId) -> u32
     requires n_bound { n.0 < count nodes.now }
     ensures { result ≡ kind_of nodes.now (parent_of nodes.now n.0) }
 {
@@ -32,11 +32,11 @@ pub fn parent_kind(nodes: &[u32], n: NodeId) -> u32
 
 // Whether the number a is that of n or of an ancestor of it: at most 512 steps.
 #[tactic(auto, using(base_walk::proofs::OnLaws::on_miss, crate::proofs::AncestryLaws::on_at))]
-pub fn is_on_path(nodes: &[u32], a: u32, n: NodeId) -> bool
-    requires tree { Tree nodes.now }
+pub fn is_on_path(nodes: &Nodes, a: u32, n: NodeId) -> bool
     requires n_bound { n.0 < count nodes.now }
     ensures { result ≡ on (parent_of nodes.now) a n.0 }
 {
+    let _ = &nodes.numbers; // names the field, so that its invariant is known
     let mut at = n;
     while a < at.0 {
         at = table_records::parent(nodes, at);
@@ -45,8 +45,7 @@ pub fn is_on_path(nodes: &[u32], a: u32, n: NodeId) -> bool
 }
 
 // The nearest ancestor with a kind from low to high.
-pub fn nearest(nodes: &[u32], n: NodeId, low: u32, high: u32) -> Option<NodeId>
-    requires tree { Tree nodes.now }
+pub fn nearest(nodes: &Nodes, n: NodeId, low: u32, high: u32) -> Option<NodeId>
     requires n_bound { n.0 < count nodes.now }
     ensures value { result ≡ nearest_of nodes.now low high n.0 }
     ensures below { below nodes.now result }
@@ -63,8 +62,7 @@ pub fn nearest(nodes: &[u32], n: NodeId, low: u32, high: u32) -> Option<NodeId>
 
 // Whether an ancestor has a kind from low to high.
 #[tactic(auto, using(crate::proofs::AncestryLaws::nearest_some))]
-pub fn has_ancestor(nodes: &[u32], n: NodeId, low: u32, high: u32) -> bool
-    requires tree { Tree nodes.now }
+pub fn has_ancestor(nodes: &Nodes, n: NodeId, low: u32, high: u32) -> bool
     requires n_bound { n.0 < count nodes.now }
     ensures { result ≡ has_ancestor nodes.now low high n.0 }
 {

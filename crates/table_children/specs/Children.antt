@@ -1,6 +1,6 @@
 -- The children of a node, and its parts: "the first child fit for a part is that part".
 use Rattle.table_records.specs.declared.NodeId.{NodeId}
-use Rattle.std.specs.Prelude.{ℕ, ◌+◌, ◌<◌, Bool, false, cond, ◌&&◌, eqb, length, Option, Some, None, is_some}
+use Rattle.std.specs.Prelude.{ℕ, ◌+◌, ◌<◌, Bool, false, cond, ◌&&◌, eqb, length, Option, Some, None}
 use mathlib.Core.List.{List, [], ◌∷◌, foldr}
 use Rattle.base_common.specs.Upto.{upto}
 use Rattle.base_common.specs.Tests.{within}
@@ -73,15 +73,17 @@ class_body_of ns p = first_child ns p k.ClassBody k.ClassBody 0 7
 abbrev pub inner_of : List ℕ → ℕ → Option NodeId
 inner_of ns p = first_child ns p 0 55 0 7
 
+-- with what was found, or else
+abbrev pub when_found : {R : Type 0} → Option NodeId → (ℕ → R) → R → R
+when_found (Some m) f r = f m.0
+when_found None f r = r
+
 -- what was found is in the table
 abbrev pub below : List ℕ → Option NodeId → Type 0
 below ns (Some m) = m.0 < count ns
 below ns None = Unit {0}
 
--- whether a part is there, and whether it is node j
-abbrev pub found : Option NodeId → Bool
-found o = is_some o
-
+-- what was found is node j
 abbrev pub is_node : Option NodeId → ℕ → Bool
 is_node (Some m) j = eqb m.0 j
 is_node None j = false

@@ -3,9 +3,9 @@
 
 ghost use Rattle.std.specs.Prelude.{◌≡◌, ◌+◌, ◌<◌, ◌≤◌};
 ghost use Rattle.table_records.specs.Table.{count};
-ghost use Rattle.table_records.specs.Facts.{Tree};
 ghost use Rattle.table_children.specs.Children.{is_child, next_child, first_child, how_many, label_of, key_of, value_of, held_of, alternate_of, function_body_of, class_body_of, inner_of, below};
 
+use table_records::nodes::Nodes;
 use table_records::{NodeId, kinds, roles};
 
 // A part of a node: its children with a kind from `low` to `high` and a role from `first` to `last`.
@@ -74,13 +74,13 @@ pub fn is_child(nodes: &[u32], p: NodeId, part: Part, i: NodeId) -> bool
 
 // The first such child of p from `from` on: reads the nodes below p, and one more.
 #[tactic(auto, using(crate::proofs::ChildrenLaws::child_out, crate::proofs::ChildrenLaws::node_past, crate::proofs::ChildrenLaws::node_stop, crate::proofs::ChildrenLaws::node_on, crate::proofs::ChildrenLaws::node_end))]
-pub fn next_child(nodes: &[u32], p: NodeId, part: Part, from: u32) -> Option<NodeId>
-    requires tree { Tree nodes.now }
+pub fn next_child(nodes: &Nodes, p: NodeId, part: Part, from: u32) -> Option<NodeId>
     requires p_lt_from { p.0 < from }
     requires from_bound { from ≤ count nodes.now }
     ensures value { result ≡ next_child nodes.now p.0 part.low part.high part.first part.last from }
     ensures below { below nodes.now result }
 {
+    let _ = &nodes.numbers; // names the field, so that its invariant is known
     for i in from.. {
         if !table_records::is_node(nodes, i) {
             break;
@@ -96,22 +96,22 @@ pub fn next_child(nodes: &[u32], p: NodeId, part: Part, from: u32) -> Option<Nod
 }
 
 // The first such child of p.
-pub fn first_child(nodes: &[u32], p: NodeId, part: Part) -> Option<NodeId>
-    requires tree { Tree nodes.now }
+pub fn first_child(nodes: &Nodes, p: NodeId, part: Part) -> Option<NodeId>
     requires p_bound { p.0 < count nodes.now }
     ensures value { result ≡ first_child nodes.now p.0 part.low part.high part.first part.last }
     ensures below { below nodes.now result }
 {
+    let _ = &nodes.numbers; // names the field, so that its invariant is known
     next_child(nodes, p, part, p.0 + 1)
 }
 
 // How many children of p are fit for this part: reads the nodes below p, and one more.
 #[tactic(auto, using(crate::proofs::ChildrenLaws::one_more, crate::proofs::ChildrenLaws::tally_all, crate::proofs::ChildrenLaws::tally_turn, crate::proofs::ChildrenLaws::tally_end, crate::proofs::ChildrenLaws::tally_out))]
-pub fn how_many(nodes: &[u32], p: NodeId, part: Part) -> u32
-    requires tree { Tree nodes.now }
+pub fn how_many(nodes: &Nodes, p: NodeId, part: Part) -> u32
     requires p_bound { p.0 < count nodes.now }
     ensures { result ≡ how_many nodes.now p.0 part.low part.high part.first part.last }
 {
+    let _ = &nodes.numbers; // names the field, so that its invariant is known
     let mut c = 0;
     for i in p.0 + 1..table_records::size(nodes) {
         if table_records::parent(nodes, NodeId(i)).0 < p.0 {
@@ -123,8 +123,7 @@ pub fn how_many(nodes: &[u32], p: NodeId, part: Part) -> u32
 }
 
 // The label of a Labeled, a Break or a Continue.
-pub fn label_of(nodes: &[u32], n: NodeId) -> Option<NodeId>
-    requires tree { Tree nodes.now }
+pub fn label_of(nodes: &Nodes, n: NodeId) -> Option<NodeId>
     requires n_bound { n.0 < count nodes.now }
     ensures value { result ≡ label_of nodes.now n.0 }
     ensures below { below nodes.now result }
@@ -133,8 +132,7 @@ pub fn label_of(nodes: &[u32], n: NodeId) -> Option<NodeId>
 }
 
 // The key of an element or a property.
-pub fn key_of(nodes: &[u32], n: NodeId) -> Option<NodeId>
-    requires tree { Tree nodes.now }
+pub fn key_of(nodes: &Nodes, n: NodeId) -> Option<NodeId>
     requires n_bound { n.0 < count nodes.now }
     ensures value { result ≡ key_of nodes.now n.0 }
     ensures below { below nodes.now result }
@@ -143,8 +141,7 @@ pub fn key_of(nodes: &[u32], n: NodeId) -> Option<NodeId>
 }
 
 // The value of an element or a property, the argument of a unary expression.
-pub fn value_of(nodes: &[u32], n: NodeId) -> Option<NodeId>
-    requires tree { Tree nodes.now }
+pub fn value_of(nodes: &Nodes, n: NodeId) -> Option<NodeId>
     requires n_bound { n.0 < count nodes.now }
     ensures value { result ≡ value_of nodes.now n.0 }
     ensures below { below nodes.now result }
@@ -153,8 +150,7 @@ pub fn value_of(nodes: &[u32], n: NodeId) -> Option<NodeId>
 }
 
 // The statement that a statement holds.
-pub fn held_of(nodes: &[u32], n: NodeId) -> Option<NodeId>
-    requires tree { Tree nodes.now }
+pub fn held_of(nodes: &Nodes, n: NodeId) -> Option<NodeId>
     requires n_bound { n.0 < count nodes.now }
     ensures value { result ≡ held_of nodes.now n.0 }
     ensures below { below nodes.now result }
@@ -163,8 +159,7 @@ pub fn held_of(nodes: &[u32], n: NodeId) -> Option<NodeId>
 }
 
 // The alternate of an If.
-pub fn alternate_of(nodes: &[u32], n: NodeId) -> Option<NodeId>
-    requires tree { Tree nodes.now }
+pub fn alternate_of(nodes: &Nodes, n: NodeId) -> Option<NodeId>
     requires n_bound { n.0 < count nodes.now }
     ensures value { result ≡ alternate_of nodes.now n.0 }
     ensures below { below nodes.now result }
@@ -173,8 +168,7 @@ pub fn alternate_of(nodes: &[u32], n: NodeId) -> Option<NodeId>
 }
 
 // The body of a function or an arrow.
-pub fn function_body_of(nodes: &[u32], n: NodeId) -> Option<NodeId>
-    requires tree { Tree nodes.now }
+pub fn function_body_of(nodes: &Nodes, n: NodeId) -> Option<NodeId>
     requires n_bound { n.0 < count nodes.now }
     ensures value { result ≡ function_body_of nodes.now n.0 }
     ensures below { below nodes.now result }
@@ -183,8 +177,7 @@ pub fn function_body_of(nodes: &[u32], n: NodeId) -> Option<NodeId>
 }
 
 // The body of a class.
-pub fn class_body_of(nodes: &[u32], n: NodeId) -> Option<NodeId>
-    requires tree { Tree nodes.now }
+pub fn class_body_of(nodes: &Nodes, n: NodeId) -> Option<NodeId>
     requires n_bound { n.0 < count nodes.now }
     ensures value { result ≡ class_body_of nodes.now n.0 }
     ensures below { below nodes.now result }
@@ -193,8 +186,7 @@ pub fn class_body_of(nodes: &[u32], n: NodeId) -> Option<NodeId>
 }
 
 // What a parenthesis or a chain holds.
-pub fn inner_of(nodes: &[u32], n: NodeId) -> Option<NodeId>
-    requires tree { Tree nodes.now }
+pub fn inner_of(nodes: &Nodes, n: NodeId) -> Option<NodeId>
     requires n_bound { n.0 < count nodes.now }
     ensures value { result ≡ inner_of nodes.now n.0 }
     ensures below { below nodes.now result }

@@ -5,8 +5,7 @@ use Rattle.base_walk.specs.On.{on}
 use Rattle.base_walk.specs.Preorder.{Preorder}
 use Rattle.table_records.specs.Table.{count, kind_of, parent_of, depth_of, scope_of, extra_of, span_start_of, span_end_of, name_start_of, name_len_of, count_scopes, scope_parent_of, scope_flags_of, scope_node_of}
 
--- What is known where no node is out of place. Functions ask for it by `requires tree { Tree nodes.now }`, and no type of table carries it: a struct of the table with this
--- as a ghost field was tried. Its functions then speak of the struct's field in each clause (`nodes.entry.numbers.now`), so that the clauses grow, while the one `requires` goes.
+-- What is known where no node is out of place. Functions that ask for it take a `Nodes`, whose invariant it is.
 pub record Tree (ns : List ℕ) : Type 0 where
   pub some : 0 < count ns
   pub small : count ns ≤ 65535
@@ -16,6 +15,11 @@ pub record Tree (ns : List ℕ) : Type 0 where
   pub order : Preorder (parent_of ns) (count ns)
   pub falls : Falls (parent_of ns) (count ns)
   pub depth : (i : ℕ) → i < count ns → depth_of ns i ≤ 512
+
+-- What `Nodes` lends: its own numbers, and that they are a tree.
+pub record IsOfTree (ns numbers : List ℕ) : Type 0 where
+  pub same : numbers ≡ ns
+  pub tree : Tree ns
 
 -- what is known where no scope record is broken
 -- A `requires` and no struct's invariant: the scopes are lent as a slice that no struct holds alone, and `broken` (refusal_scopes) takes the same slice before this is known.

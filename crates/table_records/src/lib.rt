@@ -7,6 +7,7 @@ ghost use Rattle.table_records.specs.Table.{count, kind_of, parent_of, role_of, 
 pub mod extras;
 pub mod kinds;
 pub mod node_flag;
+pub mod nodes;
 pub mod roles;
 pub mod scope_flag;
 

@@ -15,7 +15,7 @@ returns-in_default c = let a = c.args in
 
 pub undeclared_in-requires : goal.undeclared_in-requires
 undeclared_in-requires c = let a = c.args in
-    record { tree = c.requires.tree; named = c.requires.named; indexed = c.requires.indexed; c_bound = subst (λ (r : Option ClassId). in_table a.nodes.now r) c.in-Some.is c.current_class.ensures.in_table; raised_bound = c.requires.raised_bound }
+    record { named = c.requires.named; indexed = c.requires.indexed; c_bound = subst (λ (r : Option ClassId). in_table a.nodes.now r) c.in-Some.is c.current_class.ensures.in_table; raised_bound = c.requires.raised_bound }
 
 pub returns : goal.returns
 returns c = let a = c.args in

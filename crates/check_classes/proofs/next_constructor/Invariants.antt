@@ -1,5 +1,5 @@
 use mathlib.Core.Path.{◌≡◌}
-use Rattle.check_classes.specs.ClassChecksLaws.{next_constructor}
+use Rattle.check_classes.specs.ClassChecks.{next_constructor}
 use Rattle.check_classes.proofs.next_constructor.Given as goal
 
 abbrev pub invariant-loop-i : goal.invariant-loop-i

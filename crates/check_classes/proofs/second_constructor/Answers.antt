@@ -7,8 +7,8 @@ use native.Mathlib.Omega.{arith}
 use Rattle.table_records.specs.Table.{count}
 use Rattle.table_children.specs.Children.{below}
 use Rattle.check_diagnostics.proofs.Gather.{found_from}
-use Rattle.check_classes.specs.ClassChecksLaws.{is_constructor_of, next_constructor, none_found, one_found, two_found}
-use Rattle.check_classes.specs.ClassChecks.{second_by}
+use Rattle.check_classes.proofs.ClassChecksLaws.{none_found, one_found, two_found}
+use Rattle.check_classes.specs.ClassChecks.{second_by, is_constructor_of, next_constructor}
 use Rattle.check_classes.proofs.second_constructor.Goals as goal
 
 pub returns-in_err-a : goal.returns-in_err-a
@@ -20,7 +20,7 @@ next_constructor-requires-2 c = let a = c.args in
     let h : c.in_ok-a.a.0 < count a.nodes.now = subst (λ (f : Option NodeId). below a.nodes.now f) c.in_ok-a.was c.next_constructor.ensures.below in
     let e : c.from-c.result.0 ≡ c.in_ok-body.body.0 = ap (λ (x : ClassId). x.0) c.from-c.ensures in
     let l : c.in_ok-body.body.0 + 1 ≤ c.in_ok-a.a.0 = found_from (is_constructor_of a.nodes.now c.in_ok-body.body.0) (count a.nodes.now) (c.in_ok-body.body.0 + 1) c.in_ok-a.a.0 (ap (λ (x : ClassId). next_constructor a.nodes.now x.0 (c.in_ok-body.body.0 + 1)) (sym c.from-c.ensures) ∙ sym c.next_constructor.ensures.value ∙ c.in_ok-a.was) in
-    record { tree = c.requires.tree; c_lt_from = omega arith; from_bound = omega arith }
+    record { c_lt_from = omega arith; from_bound = omega arith }
 
 pub returns-in_err-b : goal.returns-in_err-b
 returns-in_err-b c = let a = c.args in

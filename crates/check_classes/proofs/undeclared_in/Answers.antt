@@ -7,7 +7,7 @@ use native.Mathlib.Omega.{arith}
 use Rattle.table_records.specs.Table.{count}
 use Rattle.check_diagnostics.specs.Finding.{listed}
 use Rattle.check_diagnostics.proofs.Gather.{left_start, left_turn, left_end}
-use Rattle.check_classes.specs.ClassChecksLaws.{undeclared_from, from_start_lem, from_turn, from_end_lem, from_out}
+use Rattle.check_classes.proofs.ClassChecksLaws.{undeclared_from, from_start_lem, from_turn, from_end_lem, from_out}
 use Rattle.check_classes.proofs.undeclared_in.Goals as goal
 
 pub loop-i-init : goal.loop-i-init
@@ -16,18 +16,22 @@ loop-i-init c = let a = c.args in
 
 pub returns-then-parent-c : goal.returns-then-parent-c
 returns-then-parent-c c = let a = c.args in
+    let n = ap count c.deref.ensures.same in
     let h : c.loop-i.i < count c.args.nodes.now = omega arith in
-    let s = c.requires.tree.small in
-    let o : undeclared_from a.source_type a.nodes.now a.names.now a.n.0 a.c.0 c.loop-i.i ≡ [] = from_out a.source_type a.nodes.now a.names.now a.n.0 a.c.0 c.requires.tree c.loop-i.i (omega arith) h (omega arith) in
+    let s = c.deref.ensures.tree.small in
+    let q = rw c.deref-in-loop-i.ensures.same at c.parent.ensures in
+    let o : undeclared_from a.source_type a.nodes.now a.names.now a.n.0 a.c.0 c.loop-i.i ≡ [] = from_out a.source_type a.nodes.now a.names.now a.n.0 a.c.0 c.deref.ensures.tree c.loop-i.i (omega arith) h (omega arith) in
     record { adds = left_end _ _ _ _ c.loop-i.invariant.1 o; upper_bound = omega arith }
 
 pub raise-requires : goal.raise-requires
-raise-requires c = let s = c.requires.tree.small in
+raise-requires c = let n = ap count c.deref.ensures.same in
+    let s = c.deref.ensures.tree.small in
     let p = c.requires.raised_bound in
     omega arith
 
 pub loop-i-preserved : goal.loop-i-preserved
 loop-i-preserved c = let a = c.args in
+    let n = ap count c.deref.ensures.same in
     let h : c.loop-i.i < count c.args.nodes.now = omega arith in
     let rest = undeclared_from a.source_type a.nodes.now a.names.now a.n.0 a.c.0 (c.loop-i.i + 1) in
     let e : undeclared_from a.source_type a.nodes.now a.names.now a.n.0 a.c.0 c.loop-i.i ≡ listed c.raised_at.result ++ rest = from_turn a.source_type a.nodes.now a.names.now a.n.0 a.c.0 c.loop-i.i h ∙ ap (λ (x : Option Finding). listed x ++ rest) (sym c.raised_at.ensures) in
@@ -35,6 +39,8 @@ loop-i-preserved c = let a = c.args in
 
 pub returns : goal.returns
 returns c = let a = c.args in
+    let n = ap count c.deref.ensures.same in
     let h : count c.args.nodes.now ≤ c.loop-i.i = omega arith in
-    let s = c.requires.tree.small in
+    let b = c.loop-i.auto.i-end (omega arith) in
+    let s = c.deref.ensures.tree.small in
     record { adds = left_end _ _ _ _ c.loop-i.invariant.1 (from_end_lem a.source_type a.nodes.now a.names.now a.n.0 a.c.0 c.loop-i.i h); upper_bound = omega arith }

@@ -1,6 +1,6 @@
 use Prim.Native.Nat.{◌+◌, ◌*◌, ◌≤◌}
 use Rattle.check_diagnostics.proofs.Gather.{Left}
-use Rattle.check_classes.specs.ClassChecksLaws.{undeclared_from}
+use Rattle.check_classes.proofs.ClassChecksLaws.{undeclared_from}
 use Rattle.check_classes.specs.ClassChecks.{undeclared_in}
 use Rattle.check_classes.proofs.undeclared_in.Given as goal
 

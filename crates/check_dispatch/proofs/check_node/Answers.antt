@@ -5,13 +5,13 @@ use native.Mathlib.Omega.{arith}
 use Rattle.check_dispatch.proofs.check_node.Goals as goal
 
 pub check_class-requires : goal.check_class-requires
-check_class-requires c = let i = c.requires.input in let h = c.requires.n_bound in record { tree = i.tree; named = i.named; indexed = c.requires.indexed; n_bound = h; n_bound_2 = omega (arith, i.spanned.span c.args.n.0 h, i.spanned.small c.args.n.0 h); raised_bound = omega arith }
+check_class-requires c = let i = c.requires.input in let h = c.requires.n_bound in record { named = i.named; indexed = c.requires.indexed; n_bound = h; n_bound_2 = omega (arith, i.spanned.span c.args.n.0 h, i.spanned.small c.args.n.0 h); raised_bound = omega arith }
 
 pub check_await_expression-requires : goal.check_await_expression-requires
-check_await_expression-requires c = let i = c.requires.input in record { tree = i.tree; chained = i.chained; scoped = i.scoped; spanned = i.spanned; n_bound = c.requires.n_bound; raised_bound = omega arith }
+check_await_expression-requires c = let i = c.requires.input in record { chained = i.chained; scoped = i.scoped; spanned = i.spanned; n_bound = c.requires.n_bound; raised_bound = omega arith }
 
 pub check_object_expression-requires : goal.check_object_expression-requires
-check_object_expression-requires c = let i = c.requires.input in record { tree = i.tree; named = i.named; n_bound = c.requires.n_bound; raised_bound = omega arith }
+check_object_expression-requires c = let i = c.requires.input in record { named = i.named; n_bound = c.requires.n_bound; raised_bound = omega arith }
 
 pub returns-in-31 : goal.returns-in-31
 unfolding findings_at

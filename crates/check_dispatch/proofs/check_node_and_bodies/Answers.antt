@@ -12,7 +12,7 @@ unfolding reported_at
 returns-then-rule-eq0 c = let a = c.args in record { adds = rw (eq-eqb _ _ c.if-rule-eq0.true, nil_right_lem (findings_at a.rule.now.source_type a.rule.now.nodes.now a.rule.now.scopes.now a.rule.now.source.now a.rule.now.names.now a.n.0)) c.check_node.ensures.adds; upper_bound = omega (arith, c.check_node.ensures.upper_bound) }
 
 pub check_async_bodies-requires : goal.check_async_bodies-requires
-check_async_bodies-requires c = let i = c.requires.input in record { tree = i.tree; scoped = i.scoped; n_bound = c.requires.n_bound; raised_bound = omega (arith, c.check_node.ensures.upper_bound) }
+check_async_bodies-requires c = let i = c.requires.input in record { scoped = i.scoped; n_bound = c.requires.n_bound; raised_bound = omega (arith, c.check_node.ensures.upper_bound) }
 
 pub returns : goal.returns
 unfolding reported_at

@@ -1,4 +1,5 @@
 use Prim.Native.Nat.{◌+◌, ◌<◌, ◌≤◌}
+use mathlib.Core.Path.{ap}
 use native.Mathlib.Omega.{arith}
 use Rattle.table_records.specs.Table.{count}
 use Rattle.check_diagnostics.proofs.Gather.{left_start, left_turn, left_end}
@@ -11,13 +12,15 @@ loop-i-init c = let a = c.args in
     (omega arith, left_start _ _ _ (all_start a.source_type a.nodes.now a.names.now))
 
 pub duplicates_at-requires : goal.duplicates_at-requires
-duplicates_at-requires c = let h : c.loop-i.i < count c.args.nodes.now = omega arith in
-    let s = c.requires.tree.small in
+duplicates_at-requires c = let n = ap count c.deref.ensures.same in
+    let h : c.loop-i.i < count c.args.nodes.now = omega arith in
+    let s = c.deref.ensures.tree.small in
     let p = c.requires.raised_bound in
-    record { tree = c.requires.tree; named = c.requires.named; indexed = c.requires.indexed; i_bound = h; raised_bound = omega arith }
+    record { named = c.requires.named; indexed = c.requires.indexed; i_bound = h; raised_bound = omega arith }
 
 pub loop-i-preserved : goal.loop-i-preserved
 loop-i-preserved c = let a = c.args in
+    let n = ap count c.deref.ensures.same in
     let h : c.loop-i.i < count c.args.nodes.now = omega arith in (
       omega (arith, c.duplicates_at.ensures.upper_bound),
       left_turn _ _ _ _ _ (class_at a.source_type a.nodes.now a.names.now c.loop-i.i) (classes_from a.source_type a.nodes.now a.names.now (c.loop-i.i + 1)) c.loop-i.invariant.1
@@ -26,6 +29,7 @@ loop-i-preserved c = let a = c.args in
 
 pub returns : goal.returns
 returns c = let a = c.args in
+    let n = ap count c.deref.ensures.same in
     let h : count c.args.nodes.now ≤ c.loop-i.i = omega arith in
-    let s = c.requires.tree.small in
+    let s = c.deref.ensures.tree.small in
     record { adds = left_end _ _ _ _ c.loop-i.invariant.1 (all_end a.source_type a.nodes.now a.names.now c.loop-i.i h); upper_bound = omega arith }

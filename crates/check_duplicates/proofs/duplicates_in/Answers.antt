@@ -16,21 +16,26 @@ loop-i-init c = let a = c.args in
 
 pub returns-then-parent-c : goal.returns-then-parent-c
 returns-then-parent-c c = let a = c.args in
+    let n = ap count c.deref.ensures.same in
     let h : c.loop-i.i < count c.args.nodes.now = omega arith in
-    let s = c.requires.tree.small in
-    let o : duplicates_from a.source_type a.nodes.now a.names.now a.c.0 c.loop-i.i ≡ [] = from_out a.source_type a.nodes.now a.names.now a.c.0 c.requires.tree c.loop-i.i (omega arith) h (omega arith) in
+    let s = c.deref.ensures.tree.small in
+    let q = rw c.deref-in-loop-i.ensures.same at c.parent.ensures in
+    let o : duplicates_from a.source_type a.nodes.now a.names.now a.c.0 c.loop-i.i ≡ [] = from_out a.source_type a.nodes.now a.names.now a.c.0 c.deref.ensures.tree c.loop-i.i (omega arith) h (omega arith) in
     record { adds = left_end _ _ _ _ c.loop-i.invariant.1 o; upper_bound = omega arith }
 
 pub raised_at-requires : goal.raised_at-requires
-raised_at-requires c = let h : c.loop-i.i < count c.args.nodes.now = omega arith in record { tree = c.requires.tree; named = c.requires.named; indexed = c.requires.indexed; i_bound = h; c_lt_i = omega arith }
+raised_at-requires c = let n = ap count c.deref.ensures.same in
+    let h : c.loop-i.i < count c.args.nodes.now = omega arith in record { named = c.requires.named; indexed = c.requires.indexed; i_bound = h; c_lt_i = omega arith }
 
 pub raise-requires : goal.raise-requires
-raise-requires c = let s = c.requires.tree.small in
+raise-requires c = let n = ap count c.deref.ensures.same in
+    let s = c.deref.ensures.tree.small in
     let p = c.requires.raised_bound in
     omega arith
 
 pub loop-i-preserved : goal.loop-i-preserved
 loop-i-preserved c = let a = c.args in
+    let n = ap count c.deref.ensures.same in
     let h : c.loop-i.i < count c.args.nodes.now = omega arith in
     let rest = duplicates_from a.source_type a.nodes.now a.names.now a.c.0 (c.loop-i.i + 1) in
     let e : duplicates_from a.source_type a.nodes.now a.names.now a.c.0 c.loop-i.i ≡ listed c.raised_at.result ++ rest = from_turn a.source_type a.nodes.now a.names.now a.c.0 c.loop-i.i h ∙ ap (λ (x : Option Finding). listed x ++ rest) (sym c.raised_at.ensures) in
@@ -38,6 +43,8 @@ loop-i-preserved c = let a = c.args in
 
 pub returns : goal.returns
 returns c = let a = c.args in
+    let n = ap count c.deref.ensures.same in
     let h : count c.args.nodes.now ≤ c.loop-i.i = omega arith in
-    let s = c.requires.tree.small in
+    let b = c.loop-i.auto.i-end (omega arith) in
+    let s = c.deref.ensures.tree.small in
     record { adds = left_end _ _ _ _ c.loop-i.invariant.1 (from_end_lem a.source_type a.nodes.now a.names.now a.c.0 c.loop-i.i h); upper_bound = omega arith }

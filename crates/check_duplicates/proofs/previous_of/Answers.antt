@@ -1,4 +1,4 @@
-use Rattle.std.proofs.Common.{◌≡◌, ◌∙◌, ◌+◌, ◌-◌, ◌≤◌, sym, ap, length, get_or, ℕ, Bool, List, arith, refl}
+use Rattle.std.proofs.Common.{◌≡◌, ◌∙◌, ◌+◌, ◌-◌, ◌≤◌, sym, ap, length, get_or, ℕ, arith, refl}
 use Rattle.table_records.specs.Table.{count}
 use Rattle.check_class_table.specs.Elements.{is_private, element_name}
 use Rattle.check_element_index.proofs.SearchLaws.{step_element, step_bound, step_chained, step_same, named_chained}
@@ -26,19 +26,17 @@ loop-at-init c = let a = c.args in
 
 pub see-seen-requires-clause-element : goal.see-seen-requires-clause-element
 see-seen-requires-clause-element c = let a = c.args in
-    step_element a.source_type a.nodes.now a.names.now (length a.index.now.last.now) a.index.now.last.now a.index.now.earlier.now a.index.now.keys.now c.requires.indexed a.c.0 (is_private a.nodes.now a.e.0) (element_name a.nodes.now a.names.now a.e.0) c.loop-at.at (c.loop-at.at - 1) (let z : c.loop-at.at ≡ c.loop-at.at - 1 + 1 = omega arith in z) c.loop-at.invariant.in_table c.loop-at.invariant.in_chain
+    rw c.deref-in-loop-at.ensures.same (step_element a.source_type a.nodes.now a.names.now (length a.index.now.last.now) a.index.now.last.now a.index.now.earlier.now a.index.now.keys.now c.requires.indexed a.c.0 (is_private a.nodes.now a.e.0) (element_name a.nodes.now a.names.now a.e.0) c.loop-at.at (c.loop-at.at - 1) (let z : c.loop-at.at ≡ c.loop-at.at - 1 + 1 = omega arith in z) c.loop-at.invariant.in_table c.loop-at.invariant.in_chain)
 
 pub returns-then-is_some : goal.returns-then-is_some
 returns-then-is_some c = let a = c.args in
     let p = is_private a.nodes.now a.e.0 in
     let x = element_name a.nodes.now a.names.now a.e.0 in
     let d = c.loop-at.at - 1 in
-    let q : c.see-seen.result ≡ seen a.source_type a.nodes.now a.names.now a.c.0 p x c.loop-at.previous d = c.see-seen.ensures
-    ∙ ap (λ (b : Bool). seen a.source_type a.nodes.now a.names.now a.c.0 b c.element_name-name.result.now c.loop-at.previous d) c.is_private-private.ensures
-    ∙ ap (λ (l : List ℕ). seen a.source_type a.nodes.now a.names.now a.c.0 p l c.loop-at.previous d) c.element_name-name.ensures in
+    let q : c.see-seen.result ≡ seen a.source_type a.nodes.now a.names.now a.c.0 p x c.loop-at.previous d = rw (c.deref-in-loop-at.ensures.same, c.is_private-private.ensures, c.deref.ensures.same, c.element_name-name.ensures) at c.see-seen.ensures in
     let w = left_turn a.source_type a.nodes.now a.names.now a.c.0 p x c.loop-at.previous c.loop-at.at d a.e.0 (omega arith) (omega arith) c.loop-at.invariant.left in
     own_seen a.source_type a.nodes.now a.names.now a.c.0 a.e.0 (omega arith) c.see-seen.result d (rw q w)
-    (ap (λ (s : ℕ). there (get_or c.see-seen.result s nowhere)) (sym c.side-own.ensures.value) ∙ sym c.is_some.ensures ∙ c.if-is_some.true)
+    (ap (λ (s : ℕ). there (get_or c.see-seen.result s nowhere)) (sym (rw c.deref-2.ensures.same at c.side-own.ensures.value)) ∙ sym c.is_some.ensures ∙ c.if-is_some.true)
 
 pub loop-at-smaller : goal.loop-at-smaller
 loop-at-smaller c = let a = c.args in
@@ -58,9 +56,7 @@ loop-at-preserved c = let a = c.args in
     let r = c.loop-at.invariant.in_table in
     let h = c.loop-at.invariant.in_chain in
     let b = step_bound a.source_type a.nodes.now a.names.now n a.index.now.last.now a.index.now.earlier.now a.index.now.keys.now c.requires.indexed a.c.0 p x c.loop-at.at d z r h in
-    let q : c.see-seen.result ≡ seen a.source_type a.nodes.now a.names.now a.c.0 p x c.loop-at.previous d = c.see-seen.ensures
-    ∙ ap (λ (b : Bool). seen a.source_type a.nodes.now a.names.now a.c.0 b c.element_name-name.result.now c.loop-at.previous d) c.is_private-private.ensures
-    ∙ ap (λ (l : List ℕ). seen a.source_type a.nodes.now a.names.now a.c.0 p l c.loop-at.previous d) c.element_name-name.ensures in
+    let q : c.see-seen.result ≡ seen a.source_type a.nodes.now a.names.now a.c.0 p x c.loop-at.previous d = rw (c.deref-in-loop-at.ensures.same, c.is_private-private.ensures, c.deref.ensures.same, c.element_name-name.ensures) at c.see-seen.ensures in
     let w = left_turn a.source_type a.nodes.now a.names.now a.c.0 p x c.loop-at.previous c.loop-at.at d a.e.0 z (omega arith) c.loop-at.invariant.left in
     rw (c.earlier-at-in-loop-at.ensures, q) (record {
       in_table = omega (arith, b, z, r);

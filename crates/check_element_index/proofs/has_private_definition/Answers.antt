@@ -19,11 +19,11 @@ loop-at-init c = let a = c.args in
 
 pub has_key-requires-clause-element : goal.has_key-requires-clause-element
 has_key-requires-clause-element c = let a = c.args in
-    step_element a.source_type a.nodes.now a.names.now (length a.index.now.last.now) a.index.now.last.now a.index.now.earlier.now a.index.now.keys.now c.requires.indexed a.c.0 true a.name.now c.loop-at.at (c.loop-at.at - 1) (let z : c.loop-at.at ≡ c.loop-at.at - 1 + 1 = omega arith in z) c.loop-at.invariant.in_table c.loop-at.invariant.in_chain
+    rw c.deref.ensures.same (step_element a.source_type a.nodes.now a.names.now (length a.index.now.last.now) a.index.now.last.now a.index.now.earlier.now a.index.now.keys.now c.requires.indexed a.c.0 true a.name.now c.loop-at.at (c.loop-at.at - 1) (let z : c.loop-at.at ≡ c.loop-at.at - 1 + 1 = omega arith in z) c.loop-at.invariant.in_table c.loop-at.invariant.in_chain)
 
 pub returns-then-has_key : goal.returns-then-has_key
 returns-then-has_key c = let a = c.args in
-    sym (to_hit a.source_type a.nodes.now a.names.now a.c.0 a.name.now c.loop-at.at (c.loop-at.at - 1) (omega arith) (omega arith) (sym (step_key a.source_type a.nodes.now a.names.now (length a.index.now.last.now) a.index.now.last.now a.index.now.earlier.now a.index.now.keys.now c.requires.indexed a.c.0 true a.name.now c.loop-at.at (c.loop-at.at - 1) (let z : c.loop-at.at ≡ c.loop-at.at - 1 + 1 = omega arith in z) c.loop-at.invariant.in_table c.loop-at.invariant.in_chain) ∙ sym c.has_key.ensures ∙ c.if-has_key.true)) ∙ c.loop-at.invariant.left
+    sym (to_hit a.source_type a.nodes.now a.names.now a.c.0 a.name.now c.loop-at.at (c.loop-at.at - 1) (omega arith) (omega arith) (sym (step_key a.source_type a.nodes.now a.names.now (length a.index.now.last.now) a.index.now.last.now a.index.now.earlier.now a.index.now.keys.now c.requires.indexed a.c.0 true a.name.now c.loop-at.at (c.loop-at.at - 1) (let z : c.loop-at.at ≡ c.loop-at.at - 1 + 1 = omega arith in z) c.loop-at.invariant.in_table c.loop-at.invariant.in_chain) ∙ sym (rw c.deref.ensures.same at c.has_key.ensures) ∙ c.if-has_key.true)) ∙ c.loop-at.invariant.left
 
 pub loop-at-smaller : goal.loop-at-smaller
 loop-at-smaller c = let a = c.args in
@@ -43,7 +43,7 @@ loop-at-preserved c = let a = c.args in
       in_chain = step_chained a.source_type a.nodes.now a.names.now n a.index.now.last.now a.index.now.earlier.now a.index.now.keys.now c.requires.indexed a.c.0 true a.name.now c.loop-at.at d z r c.loop-at.invariant.in_chain;
       left = step_same a.source_type a.nodes.now a.names.now n a.index.now.last.now a.index.now.earlier.now a.index.now.keys.now c.requires.indexed a.c.0 true a.name.now c.loop-at.at d z r c.loop-at.invariant.in_chain
           (has_private_to a.source_type a.nodes.now a.names.now a.c.0 a.name.now) (to_miss a.source_type a.nodes.now a.names.now a.c.0 a.name.now)
-          ∙ sym (ap (has_private_to a.source_type a.nodes.now a.names.now a.c.0 a.name.now) z ∙ to_miss a.source_type a.nodes.now a.names.now a.c.0 a.name.now d (sym (step_key a.source_type a.nodes.now a.names.now (length a.index.now.last.now) a.index.now.last.now a.index.now.earlier.now a.index.now.keys.now c.requires.indexed a.c.0 true a.name.now c.loop-at.at (c.loop-at.at - 1) (let z : c.loop-at.at ≡ c.loop-at.at - 1 + 1 = omega arith in z) c.loop-at.invariant.in_table c.loop-at.invariant.in_chain) ∙ sym c.has_key.ensures ∙ c.if-has_key.false))
+          ∙ sym (ap (has_private_to a.source_type a.nodes.now a.names.now a.c.0 a.name.now) z ∙ to_miss a.source_type a.nodes.now a.names.now a.c.0 a.name.now d (sym (step_key a.source_type a.nodes.now a.names.now (length a.index.now.last.now) a.index.now.last.now a.index.now.earlier.now a.index.now.keys.now c.requires.indexed a.c.0 true a.name.now c.loop-at.at (c.loop-at.at - 1) (let z : c.loop-at.at ≡ c.loop-at.at - 1 + 1 = omega arith in z) c.loop-at.invariant.in_table c.loop-at.invariant.in_chain) ∙ sym (rw c.deref.ensures.same at c.has_key.ensures) ∙ c.if-has_key.false))
           ∙ c.loop-at.invariant.left;
     })
 

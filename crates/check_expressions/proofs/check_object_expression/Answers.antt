@@ -2,36 +2,20 @@ use Rattle.std.specs.Prelude.{Option}
 use Rattle.table_records.specs.declared.NodeId.{NodeId}
 use mathlib.Core.List.{[], ◌++◌}
 use native.Mathlib.Omega.{arith}
-use Prim.Native.Nat.{◌<◌, ◌+◌}
+use Prim.Native.Nat.{◌+◌}
 use mathlib.Core.Path.{◌≡◌, sym, subst, ◌∙◌}
 use Rattle.table_records.specs.Kinds as k
-use Rattle.table_records.specs.Table.{count}
 use Rattle.check_diagnostics.specs.Finding.{listed}
 use Rattle.table_children.specs.Children.{below}
 use Rattle.table_children.proofs.ChildrenLaws.{found_child}
 use Rattle.check_diagnostics.proofs.Gather.{left_start, left_turn, left_end}
-use Rattle.check_expressions.specs.ExpressionLaws.{repeats_from, keys_from, keys_start, later_below, object_turn, object_end}
+use Rattle.check_expressions.proofs.ExpressionLaws.{repeats_from, keys_from, keys_start, later_below, object_turn, object_end}
 use borrow.Author.Rules.{rules}
 use Rattle.check_expressions.proofs.check_object_expression.Goals as goal
 
 pub loop-p-init : goal.loop-p-init
 loop-p-init c = let a = c.args in
     (omega arith, omega arith, omega arith, search rules, left_start _ _ _ (sym (keys_start a.nodes.now a.names.now a.n.0)))
-
-pub next_child-requires : goal.next_child-requires
-next_child-requires c = record { tree = c.requires.tree; p_lt_from = omega arith; from_bound = omega arith }
-
-pub proto_key-key-requires : goal.proto_key-key-requires
-proto_key-key-requires c = record { tree = c.requires.tree; named = c.requires.named; p_bound = subst (λ (x : Option NodeId). below c.args.nodes.now x) c.in-Some.is c.next_child.ensures.below }
-
-pub repeated-requires : goal.repeated-requires
-repeated-requires c = record { below = c.loop-p.invariant.3; below_2 = c.proto_key-key.ensures.below }
-
-pub raise-requires : goal.raise-requires
-raise-requires c = let s = c.requires.tree.small in omega arith
-
-pub overflow_add-from-in-loop-p : goal.overflow_add-from-in-loop-p
-overflow_add-from-in-loop-p c = let s = c.requires.tree.small in let q : c.in-Some.p.0 < count c.args.nodes.now = subst (λ (x : Option NodeId). below c.args.nodes.now x) c.in-Some.is c.next_child.ensures.below in omega arith
 
 pub loop-p-smaller : goal.loop-p-smaller
 loop-p-smaller c = let g = found_child c.args.nodes.now c.args.n.0 k.ObjectProperty k.ObjectProperty 0 7 c.loop-p.from c.in-Some.p.0 (sym (rw c.of_kind.ensures at c.next_child.ensures.value) ∙ c.in-Some.is) in let x = g.from in let y = g.below in omega arith
@@ -50,8 +34,7 @@ loop-p-preserved c = let a = c.args in
       left_turn _ _ _ _ _ (listed c.repeated.result) _ c.loop-p.invariant.4 t c.raise.ensures.adds,
     )
 
-pub returns-in_default : goal.returns-in_default
-returns-in_default c = let a = c.args in
-    let s = c.requires.tree.small in
+pub returns-in_default-clause-adds : goal.returns-in_default-clause-adds
+returns-in_default-clause-adds c = let a = c.args in
     let e : repeats_from a.nodes.now a.n.0 c.loop-p.previous (keys_from a.nodes.now a.names.now a.n.0 c.loop-p.from) ≡ [] = object_end a.nodes.now a.names.now a.n.0 c.loop-p.from c.loop-p.previous (sym (rw c.of_kind.ensures at c.next_child.ensures.value) ∙ c.in_default.is) in
-    record { adds = left_end _ _ _ _ c.loop-p.invariant.4 e; upper_bound = omega arith }
+    left_end _ _ _ _ c.loop-p.invariant.4 e

@@ -3,7 +3,7 @@ use Rattle.table_records.specs.Table.{count}
 use Rattle.check_diagnostics.proofs.Gather.{Left}
 use Rattle.table_children.specs.Children.{below}
 use Rattle.check_expressions.specs.Expressions.{check_object_expression}
-use Rattle.check_expressions.specs.ExpressionLaws.{repeats_from, keys_from}
+use Rattle.check_expressions.proofs.ExpressionLaws.{repeats_from, keys_from}
 use Rattle.check_expressions.proofs.check_object_expression.Given as goal
 
 abbrev pub invariant-loop-p : goal.invariant-loop-p

@@ -9,7 +9,7 @@ use Prim.Native.Nat.{◌<◌}
 use Rattle.code_branch.proofs.has_label_above.Given as goal
 
 abbrev pub invariant-loop-at : goal.invariant-loop-at
-invariant-loop-at l = (l.at < count l.laid.nodes.now) × (in_unit l.laid.nodes.now l.laid.body.0 l.at ≡ true) × (elem (name_id l.laid.nodes.now l.laid.names.now l.l.0) (labels_at l.laid.nodes.now l.laid.names.now l.laid.body.0 l.at) ≡ elem (name_id l.laid.nodes.now l.laid.names.now l.l.0) (labels_at l.laid.nodes.now l.laid.names.now l.laid.body.0 l.initial.at))
+invariant-loop-at l = (l.at < count l.laid.nodes) × (in_unit l.laid.nodes l.laid.body l.at ≡ true) × (elem (name_id l.laid.nodes l.laid.names l.l.0) (labels_at l.laid.nodes l.laid.names l.laid.body l.at) ≡ elem (name_id l.laid.nodes l.laid.names l.l.0) (labels_at l.laid.nodes l.laid.names l.laid.body l.initial.at))
 
 abbrev pub decreases-loop-at : goal.decreases-loop-at
 decreases-loop-at l = l.at

@@ -8,7 +8,7 @@ use Rattle.code_branch.specs.Branch.{comp_by}
 use Rattle.code_branch.proofs.jump_target.Given as goal
 
 abbrev pub invariant-loop-at : goal.invariant-loop-at
-invariant-loop-at l = (l.at < count l.laid.nodes.now) × (in_unit l.laid.nodes.now l.laid.body.0 l.at ≡ true) × (target l.laid.nodes.now l.laid.names.now l.laid.body.0 l.at (comp_by l.laid.nodes.now l.laid.names.now l.jump) ≡ target l.laid.nodes.now l.laid.names.now l.laid.body.0 l.initial.at (comp_by l.laid.nodes.now l.laid.names.now l.jump))
+invariant-loop-at l = (l.at < count l.laid.nodes) × (in_unit l.laid.nodes l.laid.body l.at ≡ true) × (target l.laid.nodes l.laid.names l.laid.body l.at (comp_by l.laid.nodes l.laid.names l.jump) ≡ target l.laid.nodes l.laid.names l.laid.body l.initial.at (comp_by l.laid.nodes l.laid.names l.jump))
 
 abbrev pub decreases-loop-at : goal.decreases-loop-at
 decreases-loop-at l = l.at

@@ -24,7 +24,7 @@ pub overflow_sub-result : goal.overflow_sub-result
 overflow_sub-result c =
     let a = c.args in
     let t = c.requires.turn in
-    let q : role_of a.nodes.now a.n.0 ≡ 5 = sym c.role-r.ensures ∙ c.if-r-eq-FINALLY.true in
+    let q : role_of a.nodes.now a.n.0 ≡ 5 = cc in
     let l = finally_room a.nodes.now a.names.now a.b.0 t.ready a.draft.now.widths.now t.wide a.n.0 t.behind t.inside t.member a.p.0 (get_or a.draft.now.offsets.now a.p.0 0) c.requires.p_value (holder_offset t a.p.0 c.requires.p_value) c.requires.p_value_2 q in
     omega (arith, l)
 
@@ -32,7 +32,7 @@ pub returns-then-r-eq-FINALLY : goal.returns-then-r-eq-FINALLY
 returns-then-r-eq-FINALLY c =
     let a = c.args in
     let t = c.requires.turn in
-    let q : role_of a.nodes.now a.n.0 ≡ 5 = sym c.role-r.ensures ∙ c.if-r-eq-FINALLY.true in
+    let q : role_of a.nodes.now a.n.0 ≡ 5 = cc in
     (finally_is a.nodes.now a.names.now a.b.0 t.ready a.draft.now.widths.now t.wide a.n.0 t.behind t.inside t.member a.p.0 (get_or a.draft.now.offsets.now a.p.0 0) c.requires.p_value (holder_offset t a.p.0 c.requires.p_value) c.requires.p_value_2 q)
 
 pub own_of_try-requires : goal.own_of_try-requires
@@ -57,7 +57,7 @@ pub returns-then-r-eq-HELD : goal.returns-then-r-eq-HELD
 returns-then-r-eq-HELD c =
     let a = c.args in
     let t = c.requires.turn in
-    let q : role_of a.nodes.now a.n.0 ≡ 3 = sym c.role-r.ensures ∙ c.if-r-eq-HELD.true in
+    let q : role_of a.nodes.now a.n.0 ≡ 3 = cc in
     rw c.own_of_try.ensures.value (block_is_lem a.nodes.now a.names.now a.b.0 t.ready a.draft.now.widths.now t.wide a.n.0 t.behind t.inside t.member a.p.0 (get_or a.draft.now.offsets.now a.p.0 0) c.requires.p_value (holder_offset t a.p.0 c.requires.p_value) c.requires.p_value_2 q)
 
 pub returns-in_default : goal.returns-in_default
@@ -77,7 +77,7 @@ overflow_add-result-2 c =
     let l = up_lt ns a.names.now a.b.0 t.ready a.draft.now.widths.now t.wide a.n.0 t.behind t.inside t.member a.p.0 (get_or a.draft.now.offsets.now a.p.0 0) c.requires.p_value (holder_offset t a.p.0 c.requires.p_value) in
     let w = child_part ns a.names.now a.b.0 t.ready a.p.0 (omega (arith, l, t.inside)) c.requires.p_value_2 3 c.in-Some.block.0 (inl refl) (sym (rw c.of.ensures at c.first_child.ensures.value) ∙ c.in-Some.is) in
     let z = catch_room ns a.names.now a.b.0 t.ready a.draft.now.widths.now t.wide a.n.0 t.behind t.inside t.member a.p.0 (get_or a.draft.now.offsets.now a.p.0 0) c.requires.p_value (holder_offset t a.p.0 c.requires.p_value) c.requires.p_value_2
-    (λ y. c.if-r-eq-HELD.false (c.role-r.ensures ∙ y)) (λ y. c.if-r-eq-FINALLY.false (c.role-r.ensures ∙ y)) c.in-Some.block.0 w.0 w.1 in
+    (λ y. c.if-r-eq-HELD.false (cc)) (λ y. c.if-r-eq-FINALLY.false (cc)) c.in-Some.block.0 w.0 w.1 in
     omega (arith, z, c.own_of_try.ensures.value)
 
 pub returns : goal.returns
@@ -88,4 +88,4 @@ returns c =
     let l = up_lt ns a.names.now a.b.0 t.ready a.draft.now.widths.now t.wide a.n.0 t.behind t.inside t.member a.p.0 (get_or a.draft.now.offsets.now a.p.0 0) c.requires.p_value (holder_offset t a.p.0 c.requires.p_value) in
     let w = child_part ns a.names.now a.b.0 t.ready a.p.0 (omega (arith, l, t.inside)) c.requires.p_value_2 3 c.in-Some.block.0 (inl refl) (sym (rw c.of.ensures at c.first_child.ensures.value) ∙ c.in-Some.is) in
     rw (c.own_of_try.ensures.value) (catch_is ns a.names.now a.b.0 t.ready a.draft.now.widths.now t.wide a.n.0 t.behind t.inside t.member a.p.0 (get_or a.draft.now.offsets.now a.p.0 0) c.requires.p_value (holder_offset t a.p.0 c.requires.p_value) c.requires.p_value_2
-    (λ y. c.if-r-eq-HELD.false (c.role-r.ensures ∙ y)) (λ y. c.if-r-eq-FINALLY.false (c.role-r.ensures ∙ y)) c.in-Some.block.0 w.0 w.1)
+    (λ y. c.if-r-eq-HELD.false (cc)) (λ y. c.if-r-eq-FINALLY.false (cc)) c.in-Some.block.0 w.0 w.1)

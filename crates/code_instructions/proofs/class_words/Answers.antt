@@ -13,8 +13,8 @@ use Rattle.code_instructions.proofs.class_words.Goals as goal
 
 pub returns : goal.returns
 returns c = let a = c.args in
-    let ns = a.laid.now.nodes.now in
-    let nm = a.laid.now.names.now in
-    let b = a.laid.now.body.0 in
+    let ns = a.laid.now.nodes in
+    let nm = a.laid.now.names in
+    let b = a.laid.now.body in
     let n = a.n.0 in
     subst (λ r. Has r 0 (words_at ns nm b n)) (sym c.listing.ensures) (class_has ns nm b n c.requires.b_lt_n c.requires.n_value_2 (stat_of c.entry_of-t.result) (c.entry_of-t.ensures ∙ ap (λ k. ifz (head0 (order ns n)) (target ns nm b n normal) (at (offset_at ns nm b n + k) (depth_at ns nm b n))) c.number_by-own.ensures.value))

@@ -8,9 +8,9 @@ use Rattle.code_instructions.proofs.default_at.Given as goal
 abbrev pub invariant-loop-next : goal.invariant-loop-next
 invariant-loop-next l =
     let y = l.laid in
-    let ns = y.nodes.now in
-    let z = offset_at ns y.names.now y.body.0 l.n.0 + 4 in
-    record { found : IsFound ns l.n.0 l.next; same : default_of ns y.names.now y.body.0 (rest_of ns l.n.0 l.next) z ≡ default_of ns y.names.now y.body.0 (parts ns l.n.0 (l.n.0 + 1)) z }
+    let ns = y.nodes in
+    let z = offset_at ns y.names y.body l.n.0 + 4 in
+    record { found : IsFound ns l.n.0 l.next; same : default_of ns y.names y.body (rest_of ns l.n.0 l.next) z ≡ default_of ns y.names y.body (parts ns l.n.0 (l.n.0 + 1)) z }
 
 abbrev pub decreases-loop-next : goal.decreases-loop-next
-decreases-loop-next l = left_of l.laid.nodes.now l.n.0 l.next
+decreases-loop-next l = left_of l.laid.nodes l.n.0 l.next

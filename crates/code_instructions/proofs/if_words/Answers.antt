@@ -7,83 +7,102 @@ use mathlib.Core.Bool.{true, false, cond}
 use borrow.Author.Tests.{eq-eqb, ne_eqb}
 use lib.Dec.{eqb}
 use lib.ListN.{get_or}
-use Rattle.table_records.specs.Table.{role_of}
-use Rattle.code_layout.specs.Context.{offset_at}
+use Rattle.table_records.specs.Table.{role_of, count}
+use Rattle.code_tree.specs.Parts.{parts}
+use Rattle.code_tree.specs.First.{first_of}
 use Rattle.code_layout.specs.Words.{words_at}
 use Rattle.code_flat.specs.Has.{Has}
-use Rattle.code_branch.specs.Branch.{stat_of}
+use Rattle.code_branch.specs.Branch.{stat_of, Plan, Laid}
 use Rattle.code_branch.proofs.JumpLaws as array
 use Rattle.code_instructions.proofs.if_words.Goals as goal
 
-pub overflow_add-second : goal.overflow_add-second
-overflow_add-second c = let a = c.args in
-    let n = a.n.0 in
-    let s = array.end_small c.requires.arrays n c.requires.n_bound c.requires.n_value in omega (arith, s)
-
 pub overflow_add-second-2 : goal.overflow_add-second-2
-overflow_add-second-2 c = let a = c.args in
-    let n = a.n.0 in
-    let w = if_part c.requires.arrays n c.requires.b_lt_n c.requires.n_bound c.requires.n_value c.requires.n_value_2 c.in-Some.c.0 (first_head _ _ (sym c.in-Some.is ∙ c.next_part.ensures)) in let t = array.end_small c.requires.arrays c.in-Some.c.0 w.inside (if_in c.requires.arrays n c.requires.b_lt_n c.requires.n_bound c.requires.n_value c.requires.n_value_2 c.in-Some.c.0 (first_head _ _ (sym c.in-Some.is ∙ c.next_part.ensures))) in let s = array.end_small c.requires.arrays n c.requires.n_bound c.requires.n_value in omega (arith, s, t)
+overflow_add-second-2 c =
+    let n = c.args.n.0 in
+    let r = c.requires in
+    let k = c.in-Some.c.0 in
+    let v = c.laid.view_is in
+    let A = subst Laid v c.laid.invariant in
+    let e = first_head _ _ (sym c.in-Some.is ∙ c.next_part.ensures ∙ ap (λ (p : Plan). first_of (parts p.nodes n (n + 1))) v) in
+    let s = array.end_small A n r.n_bound r.n_value in
+    let t = array.end_small A k (if_part A n r.b_lt_n r.n_bound r.n_value r.n_value_2 k e).inside (if_in A n r.b_lt_n r.n_bound r.n_value r.n_value_2 k e) in
+    omega (arith, s, t, ap (λ (p : Plan). get_or p.offsets n 0) v, ap (λ (p : Plan). get_or p.widths k 0) v)
 
 pub returns-then-second-o : goal.returns-then-second-o
-returns-then-second-o c = let a = c.args in
-    let ns = a.laid.now.nodes.now in
-    let nm = a.laid.now.names.now in
-    let b = a.laid.now.body.0 in
-    let n = a.n.0 in
-    let ws = a.laid.now.widths.now in
-    let os = a.laid.now.offsets.now in
-    let o = get_or os n 0 in
-    let cc' = c.in-Some.c.0 in
-    let eo : o ≡ offset_at ns nm b n = array.offset_is c.requires.arrays n c.requires.n_bound c.requires.n_value in
-    let w = if_alone c.requires.arrays n c.requires.b_lt_n c.requires.n_bound c.requires.n_value c.requires.n_value_2 c.in-Some.c.0 (first_head _ _ (sym c.in-Some.is ∙ c.next_part.ensures)) (let g : get_or ws cc' 0 + 7 ≡ get_or ws n 0 = omega (arith, c.if-second-o.true) in g) o eo in
-    subst (λ r. Has r 0 (words_at ns nm b n)) (sym c.asking.ensures) (if_has ns nm b n c.requires.b_lt_n c.requires.n_value_2 (stat_of c.normal_target-t.result) c.normal_target-t.ensures (o + 7) (o + 4) w.0 w.1)
+returns-then-second-o c =
+    let l = c.args.laid.now in
+    let n = c.args.n.0 in
+    let r = c.requires in
+    let k = c.in-Some.c.0 in
+    let v = c.laid.view_is in
+    let A = subst Laid v c.laid.invariant in
+    let o = get_or c.laid.inside.offsets.now n 0 in
+    let e = first_head _ _ (sym c.in-Some.is ∙ c.next_part.ensures ∙ ap (λ (p : Plan). first_of (parts p.nodes n (n + 1))) v) in
+    let g : get_or l.widths k 0 + 7 ≡ get_or l.widths n 0 = omega (arith, c.if-second-o.true, ap (λ (p : Plan). get_or p.widths n 0) v, ap (λ (p : Plan). get_or p.widths k 0) v) in
+    let w = if_alone A n r.b_lt_n r.n_bound r.n_value r.n_value_2 k e g o (ap (λ (p : Plan). get_or p.offsets n 0) v ∙ array.offset_is A n r.n_bound r.n_value) in
+    subst (λ x. Has x 0 (words_at l.nodes l.names l.body n)) (sym c.asking.ensures) (if_has l.nodes l.names l.body n r.b_lt_n r.n_value_2 (stat_of c.normal_target-t.result) c.normal_target-t.ensures (o + 7) (o + 4) w.0 w.1)
 
 pub role-requires : goal.role-requires
-role-requires c = let a = c.args in
-    let n = a.n.0 in
-    (if_part c.requires.arrays n c.requires.b_lt_n c.requires.n_bound c.requires.n_value c.requires.n_value_2 c.in-Some.c.0 (first_head _ _ (sym c.in-Some.is ∙ c.next_part.ensures))).inside
+role-requires c =
+    let n = c.args.n.0 in
+    let r = c.requires in
+    let k = c.in-Some.c.0 in
+    let v = c.laid.view_is in
+    let A = subst Laid v c.laid.invariant in
+    let e = first_head _ _ (sym c.in-Some.is ∙ c.next_part.ensures ∙ ap (λ (p : Plan). first_of (parts p.nodes n (n + 1))) v) in
+    rw (c.deref.ensures.same, ap (λ (p : Plan). p.nodes) v) (if_part A n r.b_lt_n r.n_bound r.n_value r.n_value_2 k e).inside
 
-pub returns-then-role-eq-ALTERNATE : goal.returns-then-role-eq-ALTERNATE
-returns-then-role-eq-ALTERNATE c = let a = c.args in
-    let ns = a.laid.now.nodes.now in
-    let nm = a.laid.now.names.now in
-    let b = a.laid.now.body.0 in
-    let n = a.n.0 in
-    let ws = a.laid.now.widths.now in
-    let os = a.laid.now.offsets.now in
-    let o = get_or os n 0 in
-    let cc' = c.in-Some.c.0 in
-    let eo : o ≡ offset_at ns nm b n = array.offset_is c.requires.arrays n c.requires.n_bound c.requires.n_value in
-    let w = if_both c.requires.arrays n c.requires.b_lt_n c.requires.n_bound c.requires.n_value c.requires.n_value_2 c.in-Some.c.0 (first_head _ _ (sym c.in-Some.is ∙ c.next_part.ensures)) (λ q. c.if-second-o.false (let g : o + 7 + get_or ws c.in-Some.c.0 0 ≡ o + get_or ws n 0 = omega (arith, q) in g)) o eo in
-    let k : eqb (role_of ns cc') 4 ≡ true = eq-eqb (role_of ns cc') 4 (sym c.role.ensures ∙ c.if-role-eq-ALTERNATE.true) in
-    let second = o + 7 + get_or ws c.in-Some.c.0 0 in
-    let ex = ap (λ t. cond t (o + 7 + get_or ws cc' 0) (o + 7)) (sym k) ∙ w.0 in
-    let ey = ap (λ t. cond t (o + 7) (o + 7 + get_or ws cc' 0)) (sym k) ∙ w.1 in
-    subst (λ r. Has r 0 (words_at ns nm b n)) (sym c.asking-then-role-eq-ALTERNATE.ensures) (if_has ns nm b n c.requires.b_lt_n c.requires.n_value_2 (stat_of c.normal_target-t.result) c.normal_target-t.ensures second (o + 7) ex ey)
-
-pub returns : goal.returns
-returns c = let a = c.args in
-    let ns = a.laid.now.nodes.now in
-    let nm = a.laid.now.names.now in
-    let b = a.laid.now.body.0 in
-    let n = a.n.0 in
-    let ws = a.laid.now.widths.now in
-    let os = a.laid.now.offsets.now in
-    let o = get_or os n 0 in
-    let cc' = c.in-Some.c.0 in
-    let eo : o ≡ offset_at ns nm b n = array.offset_is c.requires.arrays n c.requires.n_bound c.requires.n_value in
-    let w = if_both c.requires.arrays n c.requires.b_lt_n c.requires.n_bound c.requires.n_value c.requires.n_value_2 c.in-Some.c.0 (first_head _ _ (sym c.in-Some.is ∙ c.next_part.ensures)) (λ q. c.if-second-o.false (let g : o + 7 + get_or ws c.in-Some.c.0 0 ≡ o + get_or ws n 0 = omega (arith, q) in g)) o eo in
-    let k : eqb (role_of ns cc') 4 ≡ false = ne_eqb (role_of ns cc') 4 (λ q. c.if-role-eq-ALTERNATE.false (c.role.ensures ∙ q)) in
-    let second = o + 7 + get_or ws c.in-Some.c.0 0 in
-    let ex = ap (λ t. cond t (o + 7 + get_or ws cc' 0) (o + 7)) (sym k) ∙ w.0 in
-    let ey = ap (λ t. cond t (o + 7) (o + 7 + get_or ws cc' 0)) (sym k) ∙ w.1 in
-    subst (λ r. Has r 0 (words_at ns nm b n)) (sym c.asking-2.ensures) (if_has ns nm b n c.requires.b_lt_n c.requires.n_value_2 (stat_of c.normal_target-t.result) c.normal_target-t.ensures (o + 7) second ex ey)
-
-pub bounds-laid-c : goal.bounds-laid-c
-bounds-laid-c c =
-    let w = if_part c.requires.arrays c.args.n.0 c.requires.b_lt_n c.requires.n_bound c.requires.n_value c.requires.n_value_2 c.in-Some.c.0 (first_head _ _ (sym c.in-Some.is ∙ c.next_part.ensures)) in
-    omega (arith, w.inside, c.requires.arrays.wide.long)
+pub bounds-laid-inside-c : goal.bounds-laid-inside-c
+bounds-laid-inside-c c =
+    let n = c.args.n.0 in
+    let r = c.requires in
+    let k = c.in-Some.c.0 in
+    let v = c.laid.view_is in
+    let A = subst Laid v c.laid.invariant in
+    let e = first_head _ _ (sym c.in-Some.is ∙ c.next_part.ensures ∙ ap (λ (p : Plan). first_of (parts p.nodes n (n + 1))) v) in
+    omega (arith, (if_part A n r.b_lt_n r.n_bound r.n_value r.n_value_2 k e).inside, ap (λ (p : Plan). count p.nodes) v, c.laid.invariant.wide.long)
 
 pub returns-in_default : goal.returns-in_default
-returns-in_default c = absurd (if_some c.requires.arrays c.args.n.0 c.requires.b_lt_n c.requires.n_bound c.requires.n_value c.requires.n_value_2 (sym c.in_default.is ∙ c.next_part.ensures))
+returns-in_default c =
+    let n = c.args.n.0 in
+    let r = c.requires in
+    let v = c.laid.view_is in
+    absurd (if_some (subst Laid v c.laid.invariant) n r.b_lt_n r.n_bound r.n_value r.n_value_2 (sym c.in_default.is ∙ c.next_part.ensures ∙ ap (λ (p : Plan). first_of (parts p.nodes n (n + 1))) v))
+
+pub returns-then-role-eq-ALTERNATE : goal.returns-then-role-eq-ALTERNATE
+returns-then-role-eq-ALTERNATE c =
+    let l = c.args.laid.now in
+    let n = c.args.n.0 in
+    let r = c.requires in
+    let k = c.in-Some.c.0 in
+    let v = c.laid.view_is in
+    let A = subst Laid v c.laid.invariant in
+    let e = first_head _ _ (sym c.in-Some.is ∙ c.next_part.ensures ∙ ap (λ (p : Plan). first_of (parts p.nodes n (n + 1))) v) in
+    let o = get_or c.laid.inside.offsets.now n 0 in
+    let second = o + 7 + get_or c.laid.inside.widths.now k 0 in
+    let m = ap (λ (p : Plan). get_or p.widths k 0) v in
+    let g : get_or l.widths k 0 + 7 ≡ get_or l.widths n 0 → o + 7 + get_or c.laid.inside.widths.now k 0 ≡ o + get_or c.laid.inside.widths.now n 0 = λ q. omega (arith, q, m, ap (λ (p : Plan). get_or p.widths n 0) v) in
+    let w = if_both A n r.b_lt_n r.n_bound r.n_value r.n_value_2 k e (λ q. c.if-second-o.false (g q)) o (ap (λ (p : Plan). get_or p.offsets n 0) v ∙ array.offset_is A n r.n_bound r.n_value) in
+    let i : eqb (role_of l.nodes k) 4 ≡ true = eq-eqb (role_of l.nodes k) 4 (cc (ap (λ (p : Plan). p.nodes) v)) in
+    let x = ap (λ t. cond t (o + 7 + get_or l.widths k 0) (o + 7)) (sym i) ∙ w.0 in
+    let y = ap (λ t. cond t (o + 7) (o + 7 + get_or l.widths k 0)) (sym i) ∙ w.1 in
+    subst (λ x. Has x 0 (words_at l.nodes l.names l.body n)) (sym c.asking-then-role-eq-ALTERNATE.ensures) (if_has l.nodes l.names l.body n r.b_lt_n r.n_value_2 (stat_of c.normal_target-t.result) c.normal_target-t.ensures second (o + 7) (ap (λ j. o + 7 + j) m ∙ x) y)
+
+pub returns : goal.returns
+returns c =
+    let l = c.args.laid.now in
+    let n = c.args.n.0 in
+    let r = c.requires in
+    let k = c.in-Some.c.0 in
+    let v = c.laid.view_is in
+    let A = subst Laid v c.laid.invariant in
+    let e = first_head _ _ (sym c.in-Some.is ∙ c.next_part.ensures ∙ ap (λ (p : Plan). first_of (parts p.nodes n (n + 1))) v) in
+    let o = get_or c.laid.inside.offsets.now n 0 in
+    let second = o + 7 + get_or c.laid.inside.widths.now k 0 in
+    let m = ap (λ (p : Plan). get_or p.widths k 0) v in
+    let g : get_or l.widths k 0 + 7 ≡ get_or l.widths n 0 → o + 7 + get_or c.laid.inside.widths.now k 0 ≡ o + get_or c.laid.inside.widths.now n 0 = λ q. omega (arith, q, m, ap (λ (p : Plan). get_or p.widths n 0) v) in
+    let w = if_both A n r.b_lt_n r.n_bound r.n_value r.n_value_2 k e (λ q. c.if-second-o.false (g q)) o (ap (λ (p : Plan). get_or p.offsets n 0) v ∙ array.offset_is A n r.n_bound r.n_value) in
+    let i : eqb (role_of l.nodes k) 4 ≡ false = ne_eqb (role_of l.nodes k) 4 (λ q. c.if-role-eq-ALTERNATE.false (cc (ap (λ (p : Plan). p.nodes) v))) in
+    let x = ap (λ t. cond t (o + 7 + get_or l.widths k 0) (o + 7)) (sym i) ∙ w.0 in
+    let y = ap (λ t. cond t (o + 7) (o + 7 + get_or l.widths k 0)) (sym i) ∙ w.1 in
+    subst (λ x. Has x 0 (words_at l.nodes l.names l.body n)) (sym c.asking-2.ensures) (if_has l.nodes l.names l.body n r.b_lt_n r.n_value_2 (stat_of c.normal_target-t.result) c.normal_target-t.ensures (o + 7) second x (ap (λ j. o + 7 + j) m ∙ y))

@@ -1,12 +1,8 @@
-use Prim.Native.Nat.{◌-◌, ◌<◌}
 use mathlib.Core.Path.{◌≡◌}
-use Rattle.table_records.specs.Table.{count}
+use Prim.Native.Nat.{◌<◌}
 use Rattle.code_tree.specs.Parts.{parts}
 use Rattle.code_tree.specs.First.{first_of}
 use Rattle.code_shapes.proofs.next_part.Given as goal
 
-abbrev pub invariant-loop-p : goal.invariant-loop-p
-invariant-loop-p l = (0 < l.i) × (first_of (parts l.nodes l.p.0 l.i) ≡ first_of (parts l.nodes l.p.0 l.initial.i))
-
-abbrev pub decreases-loop-p : goal.decreases-loop-p
-decreases-loop-p l = count l.nodes - l.i
+abbrev pub invariant-loop-i : goal.invariant-loop-i
+invariant-loop-i l = (0 < l.i-iterator.start) × (first_of (parts l.nodes l.p.0 l.i-iterator.start) ≡ first_of (parts l.nodes l.p.0 l.from))

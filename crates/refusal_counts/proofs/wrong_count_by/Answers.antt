@@ -1,4 +1,5 @@
 use Rattle.std.proofs.Common.{ap, ◌∙◌, rules}
+use Rattle.table_records.specs.Table.{count}
 use Rattle.refusal_verdict.specs.First.{first}
 use Rattle.refusal_verdict.proofs.FirstLaws.{first_found}
 use Rattle.refusal_counts.specs.Counts.{wrong_count_at}
@@ -6,4 +7,4 @@ use Rattle.refusal_counts.proofs.wrong_count_by.Goals as goal
 
 pub returns : goal.returns
 returns c = let p = wrong_count_at c.args.nodes.now in
-    first_found p _ _ _ c.find.result c.find.ensures.ran (λ x q k. search rules) (λ x q k. search rules) ∙ ap (first p 0) c.size.ensures
+    first_found p _ _ _ c.find.result c.find.ensures.ran (λ x q k. search rules) (λ x q k. search rules) ∙ ap (first p 0) (c.size.ensures ∙ ap count c.deref.ensures.same)

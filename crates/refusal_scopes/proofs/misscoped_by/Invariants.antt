@@ -1,7 +1,8 @@
-use Rattle.std.proofs.Common.{◌≡◌, ◌<◌, ℕ, false}
+use Rattle.std.proofs.Common.{◌≡◌}
+use Rattle.table_records.specs.Table.{count}
+use Rattle.refusal_verdict.specs.First.{first}
 use Rattle.refusal_scopes.specs.Scopes.{misscoped_at}
 use Rattle.refusal_scopes.proofs.misscoped_by.Given as goal
 
--- no node before this one is misscoped
 abbrev pub invariant-loop-i : goal.invariant-loop-i
-invariant-loop-i l = (j : ℕ) → j < l.i → misscoped_at l.nodes l.scopes j ≡ false
+invariant-loop-i l = (first (misscoped_at l.nodes l.scopes) l.i (count l.nodes) ≡ first (misscoped_at l.nodes l.scopes) 0 (count l.nodes))

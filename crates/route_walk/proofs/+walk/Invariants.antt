@@ -14,40 +14,40 @@ use Prim.Native.Nat.{ℕ, ◌<◌}
 use Rattle.route_walk.proofs.+walk.Given as goal
 
 abbrev pub decreases-walk_caught : goal.decreases-walk_caught
-decreases-walk_caught l = 4 * (count l.given.now.nodes.now - l.n.0) + 1
+decreases-walk_caught l = 4 * (count l.given.now.nodes - l.n.0) + 1
 
 abbrev pub decreases-walk_if : goal.decreases-walk_if
-decreases-walk_if l = 4 * (count l.given.now.nodes.now - l.n.0) + 2
+decreases-walk_if l = 4 * (count l.given.now.nodes - l.n.0) + 2
 
 abbrev pub decreases-walk_loop : goal.decreases-walk_loop
-decreases-walk_loop l = 4 * (count l.given.now.nodes.now - l.n.0) + 2
+decreases-walk_loop l = 4 * (count l.given.now.nodes - l.n.0) + 2
 
 abbrev pub decreases-walk_node : goal.decreases-walk_node
-decreases-walk_node l = 4 * (count l.given.now.nodes.now - l.n.0) + 3
+decreases-walk_node l = 4 * (count l.given.now.nodes - l.n.0) + 3
 
 abbrev pub decreases-walk_one : goal.decreases-walk_one
-decreases-walk_one l = 4 * (count l.given.now.nodes.now - l.n.0)
+decreases-walk_one l = 4 * (count l.given.now.nodes - l.n.0)
 
 abbrev pub decreases-walk_parts : goal.decreases-walk_parts
-decreases-walk_parts l = 4 * (count l.given.now.nodes.now - l.n.0)
+decreases-walk_parts l = 4 * (count l.given.now.nodes - l.n.0)
 
 abbrev pub invariant-walk_parts-loop-c : goal.invariant-walk_parts-loop-c
-invariant-walk_parts-loop-c l = (l.n.0 < l.i) × (l.i ≤ count l.given.nodes.now) × (l.run.taken ≤ L.length l.given.answers.now) × (L.length l.out ≡ L.length l.initial.out) × ((h : List ℕ) (r : Run) → Walked l.given.nodes.now l.given.names.now l.given.answers.now l.out l.run (execs (list_of (statementOf l.given.nodes.now l.given.names.now) (parts l.given.nodes.now l.n.0 l.i)) (drop l.run.taken l.given.answers.now)) h r → Walked l.given.nodes.now l.given.names.now l.given.answers.now l.initial.out l.initial.run (execs (list_of (statementOf l.given.nodes.now l.given.names.now) (parts l.given.nodes.now l.n.0 l.from)) (drop l.initial.run.taken l.given.answers.now)) h r)
+invariant-walk_parts-loop-c l = (l.n.0 < l.i) × (l.i ≤ count l.given.nodes) × (l.run.taken ≤ L.length l.given.answers) × (L.length l.out ≡ L.length l.initial.out) × ((h : List ℕ) (r : Run) → Walked l.given.nodes l.given.names l.given.answers l.out l.run (execs (list_of (statementOf l.given.nodes l.given.names) (parts l.given.nodes l.n.0 l.i)) (drop l.run.taken l.given.answers)) h r → Walked l.given.nodes l.given.names l.given.answers l.initial.out l.initial.run (execs (list_of (statementOf l.given.nodes l.given.names) (parts l.given.nodes l.n.0 l.from)) (drop l.initial.run.taken l.given.answers)) h r)
 
 abbrev pub decreases-walk_parts-loop-c : goal.decreases-walk_parts-loop-c
-decreases-walk_parts-loop-c l = count l.given.nodes.now - l.i
+decreases-walk_parts-loop-c l = count l.given.nodes - l.i
 
 abbrev pub decreases-walk_switch : goal.decreases-walk_switch
-decreases-walk_switch l = 4 * (count l.given.now.nodes.now - l.n.0) + 2
+decreases-walk_switch l = 4 * (count l.given.now.nodes - l.n.0) + 2
 
 abbrev pub decreases-walk_try : goal.decreases-walk_try
-decreases-walk_try l = 4 * (count l.given.now.nodes.now - l.n.0) + 2
+decreases-walk_try l = 4 * (count l.given.now.nodes - l.n.0) + 2
 
 abbrev pub decreases-walk_turns : goal.decreases-walk_turns
-decreases-walk_turns l = 4 * (count l.given.now.nodes.now - l.n.0) + 1
+decreases-walk_turns l = 4 * (count l.given.now.nodes - l.n.0) + 1
 
 abbrev pub invariant-walk_turns-loop-run : goal.invariant-walk_turns-loop-run
-invariant-walk_turns-loop-run l = (l.run.taken ≤ L.length l.given.answers.now) × (L.length l.out ≡ L.length l.initial.out) × (l.heeds ≡ test_at l.given.nodes.now l.n.0) × ((h : List ℕ) (r : Run) → Walked l.given.nodes.now l.given.names.now l.given.answers.now l.out l.run (rounds l.n.0 (test_at l.given.nodes.now l.n.0) (labels_of l.given.nodes.now l.given.names.now (up_of l.given.nodes.now l.n.0)) (λ x. exec (one_of (statementOf l.given.nodes.now l.given.names.now) (parts l.given.nodes.now l.n.0 (l.n.0 + 1))) [] x) (drop l.run.taken l.given.answers.now)) h r → Walked l.given.nodes.now l.given.names.now l.given.answers.now l.initial.out l.initial.run (rounds l.n.0 (test_at l.given.nodes.now l.n.0) (labels_of l.given.nodes.now l.given.names.now (up_of l.given.nodes.now l.n.0)) (λ x. exec (one_of (statementOf l.given.nodes.now l.given.names.now) (parts l.given.nodes.now l.n.0 (l.n.0 + 1))) [] x) (drop l.initial.run.taken l.given.answers.now)) h r)
+invariant-walk_turns-loop-run l = (l.run.taken ≤ L.length l.given.answers) × (L.length l.out ≡ L.length l.initial.out) × (l.heeds ≡ test_at l.given.nodes l.n.0) × ((h : List ℕ) (r : Run) → Walked l.given.nodes l.given.names l.given.answers l.out l.run (rounds l.n.0 (test_at l.given.nodes l.n.0) (labels_of l.given.nodes l.given.names (up_of l.given.nodes l.n.0)) (λ x. exec (one_of (statementOf l.given.nodes l.given.names) (parts l.given.nodes l.n.0 (l.n.0 + 1))) [] x) (drop l.run.taken l.given.answers)) h r → Walked l.given.nodes l.given.names l.given.answers l.initial.out l.initial.run (rounds l.n.0 (test_at l.given.nodes l.n.0) (labels_of l.given.nodes l.given.names (up_of l.given.nodes l.n.0)) (λ x. exec (one_of (statementOf l.given.nodes l.given.names) (parts l.given.nodes l.n.0 (l.n.0 + 1))) [] x) (drop l.initial.run.taken l.given.answers)) h r)
 
 abbrev pub decreases-walk_turns-loop-run : goal.decreases-walk_turns-loop-run
-decreases-walk_turns-loop-run l = L.length l.given.answers.now - l.run.taken
+decreases-walk_turns-loop-run l = L.length l.given.answers - l.run.taken

@@ -6,4 +6,4 @@ use lib.ListN.{drop}
 use Rattle.route_walk.proofs.nth_part.Given as goal
 
 abbrev pub invariant-loop-passed : goal.invariant-loop-passed
-invariant-loop-passed l = (l.p.0 < l.from) × (l.from ≤ count l.nodes) × (drop (l.a - l._passed) (parts l.nodes l.p.0 l.from) ≡ drop l.a (parts l.nodes l.p.0 (l.p.0 + 1)))
+invariant-loop-passed l = (l.p.0 < l.from) × (l.from ≤ count l.given.nodes) × (drop (l.a - l._passed) (parts l.given.nodes l.p.0 l.from) ≡ drop l.a (parts l.given.nodes l.p.0 (l.p.0 + 1)))

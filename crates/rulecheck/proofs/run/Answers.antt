@@ -1,13 +1,9 @@
-use Rattle.std.specs.Prelude.{◌≡◌, IfSome, length, take}
-use Rattle.std.proofs.Common.{rules, sym, subst}
+use Rattle.std.specs.Prelude.{length}
+use Rattle.std.proofs.Common.{rules}
 use Rattle.std.proofs.lemmas.Result.{on_ok_weaker}
-use Rattle.rulecheck.proofs.Whole.{answered, appended}
+use Rattle.rulecheck.proofs.Whole.{appended}
 use Rattle.rulecheck.proofs.run.Goals as goal
 
 pub returns : goal.returns
 returns g c =
-    let left = g.I.Read.remaining c.args.reader.now in
-    let n = length c.args.input.now in
-    let read = subst (λ read. IfSome left (λ bytes. read ≡ take n bytes)) (sym c.front.ensures) c.in_ok-got.ensures.bytes in
-    let all = answered left n c.front.result.now c.front-2.result.now c.respond-end.new.out _ c.respond-end.result (search rules) read c.respond-end.ensures c.front-2.ensures in
-    on_ok_weaker c.write_all.result (appended left _ _ _ all) c.write_all.ensures.bytes
+    on_ok_weaker _ (appended (g.I.Read.remaining c.args.reader.now) _ _ (length c.args.input.now) _ _ _ _ _ _ (search rules) c.in_ok-got.ensures.bytes c.front.ensures c.respond-end.ensures c.front-2.ensures) c.write_all.ensures.bytes

@@ -1,6 +1,5 @@
 -- Laws of the checks at a Class: references and constructors as scans of the nodes after a ClassBody meet them.
 use Rattle.table_records.specs.declared.ClassId.{ClassId}
-use Rattle.table_records.specs.declared.NodeId.{NodeId}
 use Rattle.std.specs.Prelude.{ℕ, ◌+◌, ◌*◌, ◌≤◌, ◌<◌, ◌≡◌, Bool, cond, ◌&&◌, eqb, length, Option, Some, None}
 use Rattle.std.proofs.Math.Path.{refl, sym}
 use Rattle.std.proofs.Common.{ap, ◌∙◌, ne_eqb, eqb-true}
@@ -16,25 +15,17 @@ use Rattle.base_walk.proofs.PreorderLaws.{interval, leaves, no_child}
 use Rattle.table_records.specs.Table.{count, kind_of, parent_of}
 use Rattle.table_records.specs.Facts.{Tree}
 use Rattle.table_records.specs.Kinds as k
-use Rattle.table_children.specs.Children.{keep, children, first_node}
+use Rattle.table_children.specs.Children.{keep, children}
 use Rattle.table_children.proofs.ChildrenLaws.{keep_keep, no_node}
 use Rattle.check_diagnostics.specs.declared.Finding.{Finding}
 use Rattle.check_diagnostics.specs.Finding.{listed, sink}
 use Rattle.check_diagnostics.proofs.FindingLaws.{sink_append}
 use Rattle.check_class_table.specs.Classes.{class_at, body_above, current_class}
 use Rattle.check_class_table.proofs.ClassesLaws.{over, class_found}
-use Rattle.check_class_table.specs.Elements.{is_constructor, has_body}
 use Rattle.check_diagnostics.proofs.Gather.{flat_turn, flat_end, flat_none, flat_keep, flat_same_lem, listed_cond, kept_first_lem, kept_none}
-use Rattle.check_classes.specs.ClassChecks.{is_class, is_reference, references, undeclared_at, undeclared_in, constructors, first_pair, private_undeclared, require_class_name, second_constructor, check_class}
+use Rattle.check_classes.specs.ClassChecks.{is_class, is_reference, references, undeclared_at, undeclared_in, constructors, first_pair, private_undeclared, require_class_name, second_constructor, check_class, is_reference_of, raised_at, is_constructor_of, next_constructor}
 
--- node m is a private reference of class c
-unfoldable pub is_reference_of : List ℕ → ℕ → ℕ → Bool
-is_reference_of ns c m = is_reference ns m && is_class c (current_class ns m)
-
--- what node m raises as a reference of class c
-unfoldable pub raised_at : ℕ → List ℕ → List ℕ → ℕ → ℕ → ℕ → Option Finding
-raised_at t ns names n c m = cond (is_reference_of ns c m) (undeclared_at t ns names n c m) None
-
+-- what the nodes from i on raise as references of class c
 unfoldable pub undeclared_from : ℕ → List ℕ → List ℕ → ℕ → ℕ → ℕ → List Finding
 undeclared_from t ns names n c i = flat_map (λ m. listed (raised_at t ns names n c m)) (upto i (count ns))
 
@@ -85,14 +76,6 @@ module _ (t : ℕ) (ns names : List ℕ) (n c : ℕ) where
   from_out v i h l u =
       flat_none (λ m. listed (raised_at t ns names n c m)) i (count ns)
       (λ j x y. raised_none j (λ e. leaves (parent_of ns) (count ns) v.order c i h l u (interval (parent_of ns) (count ns) v.order c i j y (reference_on ns v c j y e) (omega arith) x)))
-
--- node e is a constructor of class c with a body
-unfoldable pub is_constructor_of : List ℕ → ℕ → ℕ → Bool
-is_constructor_of ns c e = eqb (parent_of ns e) c && (is_constructor ns e && has_body ns e)
-
--- the first one from node i on
-abbrev pub next_constructor : List ℕ → ℕ → ℕ → Option NodeId
-next_constructor ns c i = first_node (is_constructor_of ns c) i (count ns)
 
 module _ (ns : List ℕ) (c : ℕ) where
   constructors_scan : constructors ns c ≡ keep (is_constructor_of ns c) (upto (c + 1) (count ns))

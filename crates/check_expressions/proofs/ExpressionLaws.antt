@@ -15,11 +15,10 @@ use Rattle.table_records.specs.Kinds as k
 use Rattle.table_children.specs.Children.{keep, is_child, inner_of, next_child, below}
 use Rattle.table_children.proofs.ChildrenLaws.{found_child}
 use Rattle.table_ancestry.proofs.AncestryLaws.{ancestors_up, ancestors_root}
-use Rattle.check_diagnostics.specs.Finding.{listed, error_between}
-use Rattle.check_diagnostics.specs.Codes as code
+use Rattle.check_diagnostics.specs.Finding.{listed}
 use Rattle.check_diagnostics.specs.declared.Finding.{Finding}
 use Rattle.check_diagnostics.proofs.Gather.{kept_first_lem, kept_none}
-use Rattle.check_expressions.specs.Expressions.{proto_key, to_list, repeats_after, repeats, check_object_expression, is_parenthesis, inside, stripped, inner_expression, is_parameter, in_formal_parameters}
+use Rattle.check_expressions.specs.Expressions.{proto_key, to_list, repeats_after, repeats, check_object_expression, is_parenthesis, inside, stripped, inner_expression, is_parameter, in_formal_parameters, repeated, later}
 
 -- the search for a parameter: a is the parent of i
 module _ (ns : List ℕ) (t : Tree ns) (i a : ℕ) (h : 0 < i) (l : i < count ns) (e : a ≡ parent_of ns i) where
@@ -87,17 +86,6 @@ module _ (ns : List ℕ) where
 abbrev pub repeats_from : List ℕ → ℕ → Option NodeId → List ℕ → List Finding
 repeats_from ns n None l = repeats ns n l
 repeats_from ns n (Some a) l = repeats_after ns n a.0 l
-
--- a key is raised where one came before it ..
-abbrev pub repeated : List ℕ → ℕ → Option NodeId → Option NodeId → Option Finding
-repeated ns n None b = None
-repeated ns n (Some a) None = None
-repeated ns n (Some a) (Some b) = error_between ns code.redeclaration n a.0 b.0
-
--- .. and is the last one from there on
-abbrev pub later : Option NodeId → Option NodeId → Option NodeId
-later a None = a
-later a (Some b) = Some b
 
 pub repeats_turn : (ns : List ℕ) (n : ℕ) (a b : Option NodeId) (l : List ℕ) → repeats_from ns n a (to_list b ++ l) ≡ listed (repeated ns n a b) ++ repeats_from ns n (later a b) l
 unfolding repeats repeats_after
