@@ -63,7 +63,7 @@ extern "C" {
 #define VELKUNSHE_CODE 10
 
 /* The most bytes of stack that a call needs. */
-#define VELKUNSHE_STACK 1085440
+#define VELKUNSHE_STACK 954368
 
 /* Source types. */
 enum velkunshe_source_types {

@@ -169,4 +169,4 @@ pub const FINDING: usize = 7;
 /// an empty slice says how long it must be.
 pub const CODE: usize = 10;
 /// The most bytes of stack that a call of the library needs.
-pub const STACK: usize = 1_085_440;
+pub const STACK: usize = 954_368;

@@ -44,3 +44,8 @@ pub record Ready (ns names : List ℕ) (kept : Kept) : Type 0 where
   pub whole : length ns ≡ count ns * 10
   pub small : length names ≤ most_bytes
   pub firsts : Firsts ns names kept.nodes kept.size (label_names ns names)
+
+-- What a clause sees of `Labels`, which holds them: the tables.
+pub record Tables : Type 0 where
+  pub nodes : List ℕ
+  pub names : List ℕ

@@ -12,9 +12,10 @@ ghost use Rattle.call_labels.specs.Reserved.{is_reserved};
 ghost use Rattle.call_labels.specs.Short.{letter_a, letters, most, pair_of, short_name};
 ghost use Rattle.call_labels.specs.Order.{seen_before, place_in};
 ghost use Rattle.call_labels.specs.Written.{most_bytes, new_name_of, record_with, nodes_renamed, names_renamed};
-ghost use Rattle.call_labels.specs.Firsts.{kept_from, AreNodes, Firsts, Entered, Listed, Ready};
+ghost use Rattle.call_labels.specs.Firsts.{kept_from, AreNodes, Firsts, Entered, Listed};
 
 use check_identifiers::is_strict_word;
+use std::marker::Model;
 use table_names::{name, name_is, same_name};
 use table_records::nodes::Nodes;
 use table_records::{NodeId, kinds, roles};
@@ -31,6 +32,24 @@ pub const MOST: usize = 699;
 pub struct Kept {
     pub nodes: [u32; MOST],
     pub size: usize,
+}
+
+// The tables, with the first label of each name. That they are `Ready` is known where a function names a field.
+#[derive(Drop)]
+pub struct Labels<'a> {
+    pub nodes: &'a Nodes<'a>,
+    pub names: &'a [u8],
+    pub kept: &'a Kept,
+}
+
+impl<'a> Model for Labels<'a> {
+    ghost use Rattle.call_labels.specs.Firsts.{Ready, Tables};
+
+    ghost Value = { Tables };
+
+    ghost view = { λ a. record { nodes = a.nodes.now; names = a.names.now } };
+
+    ghost invariant = { λ a. Ready a.nodes.now a.names.now a.kept.now };
 }
 
 fn is_label(nodes: &[u32], n: NodeId) -> bool
@@ -166,50 +185,47 @@ fn put_short(k: usize, out: &mut [u8], w: usize)
 
 // How long the new name of n is.
 #[tactic(auto, using(crate::proofs::ShortLaws::short_most, crate::proofs::WrittenLaws::nameless_new, crate::proofs::WrittenLaws::other_new, crate::proofs::WrittenLaws::short_new, table_names::proofs::NameLaws::name_length))]
-fn new_length(nodes: &[u32], names: &[u8], kept: &Kept, n: NodeId) -> usize
-    requires ready { Ready nodes.now names.now kept.now }
-    requires n_bound { n.0 < count nodes.now }
-    ensures { (result ≡ length (new_name_of nodes.now names.now n.0)) × (result ≤ most_bytes) }
+fn new_length(labels: &Labels, n: NodeId) -> usize
+    requires n_bound { n.0 < count labels.now.nodes }
+    ensures { (result ≡ length (new_name_of labels.now.nodes labels.now.names n.0)) × (result ≤ most_bytes) }
 {
-    let len = table_records::name_len(nodes, n);
+    let len = table_records::name_len(labels.nodes, n);
     if len == 0 {
         return 0;
     }
-    if !is_label(nodes, n) {
+    if !is_label(labels.nodes, n) {
         return len;
     }
-    short_length(place_in(nodes, names, kept, n))
+    short_length(place_in(labels.nodes, labels.names, labels.kept, n))
 }
 
 // How long all new names are together. Names may overlap in the old slice, so it can be far above 1,048,576.
 #[tactic(auto, using(crate::proofs::WrittenLaws::next_length, check_diagnostics::proofs::Gather::flat_end), unfolding(crate::specs::Written::names_renamed))]
-pub fn names_length(nodes: &[u32], names: &[u8], kept: &Kept) -> usize
-    requires { Ready nodes.now names.now kept.now }
-    ensures { result ≡ length (names_renamed nodes.now names.now) }
+pub fn names_length(labels: &Labels) -> usize
+    ensures { result ≡ length (names_renamed labels.now.nodes labels.now.names) }
 {
     let mut w: usize = 0;
-    for i in 0..table_records::size(nodes) {
-        w += new_length(nodes, names, kept, NodeId(i));
+    for i in 0..table_records::size(labels.nodes) {
+        w += new_length(labels, NodeId(i));
     }
     w
 }
 
 // Writes the new name of n at w.
 #[tactic(auto, using(crate::proofs::ShortLaws::put_none, crate::proofs::FirstsLaws::firsts_length, crate::proofs::WrittenLaws::nameless_new, crate::proofs::WrittenLaws::other_new, crate::proofs::WrittenLaws::short_new, crate::proofs::WrittenLaws::label_below, table_names::proofs::NameLaws::name_length))]
-fn put_name(nodes: &[u32], names: &[u8], kept: &Kept, n: NodeId, out: &mut [u8], w: usize)
-    requires ready { Ready nodes.now names.now kept.now }
-    requires n_bound { n.0 < count nodes.now }
-    requires n_in_bounds { w + length (new_name_of nodes.now names.now n.0) ≤ length out.old }
-    ensures { out.new ≡ put out.old w (new_name_of nodes.now names.now n.0) }
+fn put_name(labels: &Labels, n: NodeId, out: &mut [u8], w: usize)
+    requires n_bound { n.0 < count labels.now.nodes }
+    requires n_in_bounds { w + length (new_name_of labels.now.nodes labels.now.names n.0) ≤ length out.old }
+    ensures { out.new ≡ put out.old w (new_name_of labels.now.nodes labels.now.names n.0) }
 {
-    if table_records::name_len(nodes, n) == 0 {
+    if table_records::name_len(labels.nodes, n) == 0 {
         return;
     }
-    if !is_label(nodes, n) {
-        table_put::copy(name(nodes, names, n), out, w);
+    if !is_label(labels.nodes, n) {
+        table_put::copy(name(labels.nodes, labels.names, n), out, w);
         return;
     }
-    put_short(place_in(nodes, names, kept, n), out, w);
+    put_short(place_in(labels.nodes, labels.names, labels.kept, n), out, w);
 }
 
 // Writes the record of n with another name.
@@ -237,25 +253,18 @@ fn put_record(nodes: &[u32], n: NodeId, start: usize, len: usize, out: &mut [u32
 
 // Writes the node table and the names, where there is room for both.
 #[tactic(auto, using(base_common::proofs::WroteLaws::wrote_start, check_diagnostics::proofs::Gather::flat_end, crate::proofs::WriteLaws::written_length, crate::proofs::WriteLaws::write_end), unfolding(crate::specs::Written::nodes_renamed, crate::specs::Written::names_renamed))]
-pub fn write(
-    nodes: &[u32],
-    names: &[u8],
-    kept: &Kept,
-    renamed_nodes: &mut [u32],
-    renamed_names: &mut [u8],
-)
-    requires ready { Ready nodes.now names.now kept.now }
-    requires names_in_bounds { length (nodes_renamed nodes.now names.now) ≤ length renamed_nodes.old }
-    requires names_in_bounds_2 { length (names_renamed nodes.now names.now) ≤ length renamed_names.old }
-    requires names_len_bound { length (names_renamed nodes.now names.now) ≤ most_bytes }
-    ensures renamed_nodes_after { renamed_nodes.new ≡ over (nodes_renamed nodes.now names.now) renamed_nodes.old }
-    ensures renamed_names_after { renamed_names.new ≡ over (names_renamed nodes.now names.now) renamed_names.old }
+pub fn write(labels: &Labels, renamed_nodes: &mut [u32], renamed_names: &mut [u8])
+    requires names_in_bounds { length (nodes_renamed labels.now.nodes labels.now.names) ≤ length renamed_nodes.old }
+    requires names_in_bounds_2 { length (names_renamed labels.now.nodes labels.now.names) ≤ length renamed_names.old }
+    requires names_len_bound { length (names_renamed labels.now.nodes labels.now.names) ≤ most_bytes }
+    ensures renamed_nodes_after { renamed_nodes.new ≡ over (nodes_renamed labels.now.nodes labels.now.names) renamed_nodes.old }
+    ensures renamed_names_after { renamed_names.new ≡ over (names_renamed labels.now.nodes labels.now.names) renamed_names.old }
 {
     let mut w: usize = 0;
-    for i in 0..table_records::size(nodes) {
-        let len = new_length(nodes, names, kept, NodeId(i));
-        put_record(nodes, NodeId(i), w, len, renamed_nodes);
-        put_name(nodes, names, kept, NodeId(i), renamed_names, w);
+    for i in 0..table_records::size(labels.nodes) {
+        let len = new_length(labels, NodeId(i));
+        put_record(labels.nodes, NodeId(i), w, len, renamed_nodes);
+        put_name(labels, NodeId(i), renamed_names, w);
         w += len;
     }
 }

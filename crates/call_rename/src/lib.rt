@@ -2,11 +2,10 @@
 #![tactic(auto)]
 
 ghost use Rattle.std.specs.Prelude.{◌≡◌};
-ghost use Rattle.call_labels.specs.Firsts.{Ready};
 ghost use Rattle.call_rename.specs.Rename.{written, labelled, renaming};
 ghost use Rattle.call_rename.specs.Sized.{Sized};
 
-use call_labels::Kept;
+use call_labels::Labels;
 use refusal_verdict::{Refusal, Refused};
 use table_records::nodes::Nodes;
 
@@ -16,18 +15,16 @@ const MOST_BYTES: usize = 1048576;
 // How many bytes of names are written, with the node table, from each slice's start. The lengths first, so that nothing is written where either slice is too short.
 #[tactic(auto, using(crate::proofs::RenameLaws::short_nodes, crate::proofs::RenameLaws::short_names_lem, crate::proofs::RenameLaws::long_names, crate::proofs::RenameLaws::room, call_labels::proofs::WrittenLaws::records_length))]
 fn write_all(
-    nodes: &[u32],
-    names: &[u8],
-    kept: &Kept,
+    labels: &Labels,
     renamed_nodes: &mut [u32],
     renamed_names: &mut [u8],
 ) -> Result<usize, Refused>
-    requires { Ready nodes.now names.now kept.now }
-    ensures value { result ≡ (written nodes.now names.now renamed_nodes.old renamed_names.old).answer }
-    ensures renamed_nodes_after { renamed_nodes.new ≡ (written nodes.now names.now renamed_nodes.old renamed_names.old).nodes }
-    ensures renamed_names_after { renamed_names.new ≡ (written nodes.now names.now renamed_nodes.old renamed_names.old).names }
+    ensures value { result ≡ (written labels.now.nodes labels.now.names renamed_nodes.old renamed_names.old).answer }
+    ensures renamed_nodes_after { renamed_nodes.new ≡ (written labels.now.nodes labels.now.names renamed_nodes.old renamed_names.old).nodes }
+    ensures renamed_names_after { renamed_names.new ≡ (written labels.now.nodes labels.now.names renamed_nodes.old renamed_names.old).names }
 {
-    let needed = call_labels::names_length(nodes, names, kept);
+    let nodes: &[u32] = labels.nodes;
+    let needed = call_labels::names_length(labels);
     if renamed_nodes.len() < nodes.len() {
         return Err(Refused::Short(Refusal::RenamedSlices, needed as u64));
     }
@@ -37,7 +34,7 @@ fn write_all(
     if MOST_BYTES < needed {
         return Err(Refused::Short(Refusal::RenamedSlices, needed as u64));
     }
-    call_labels::write(nodes, names, kept, renamed_nodes, renamed_names);
+    call_labels::write(labels, renamed_nodes, renamed_names);
     Ok(needed)
 }
 
@@ -54,10 +51,18 @@ fn labels(
     ensures renamed_nodes_after { renamed_nodes.new ≡ (labelled nodes.now names.now renamed_nodes.old renamed_names.old).nodes }
     ensures renamed_names_after { renamed_names.new ≡ (labelled nodes.now names.now renamed_nodes.old renamed_names.old).names }
 {
-    let found = call_labels::first_labels(&Nodes { numbers: nodes }, names);
+    let nodes = &Nodes { numbers: nodes };
+    let found = call_labels::first_labels(nodes, names);
     match found {
         Err(n) => Err(Refused::At(Refusal::Label, n.0)),
-        Ok(kept) => write_all(nodes, names, &kept, renamed_nodes, renamed_names),
+        Ok(kept) => {
+            let labels = Labels {
+                nodes,
+                names,
+                kept: &kept,
+            };
+            write_all(&labels, renamed_nodes, renamed_names)
+        }
     }
 }
 

@@ -3,15 +3,13 @@
 
 ghost use Rattle.std.specs.Prelude.{◌≡◌, ◌+◌, ◌<◌, ◌≤◌};
 ghost use Rattle.table_records.specs.Table.{count, span_start_of};
-ghost use Rattle.table_records.specs.Facts.{Named};
 ghost use Rattle.table_children.specs.Children.{below};
 ghost use Rattle.check_diagnostics.specs.Raises.{Adds};
-ghost use Rattle.check_element_index.specs.Index.{Indexed};
 ghost use Rattle.check_classes.specs.ClassChecks.{private_outside, is_reference, undeclared_at, undeclared_in, private_undeclared, has_id, require_class_name, constructor_span, duplicate_constructor, second_constructor, check_class, is_reference_of, raised_at, is_constructor_of, next_constructor};
 
 use check_class_table::Span;
 use check_diagnostics::{Finding, Findings, codes, contexts};
-use check_element_index::Index;
+use check_element_index::Elements;
 use table_children::Part;
 use table_records::nodes::Nodes;
 use table_records::{ClassId, ElementId, NodeId, kinds, node_flag};
@@ -55,103 +53,68 @@ fn is_reference_of(nodes: &Nodes, c: ClassId, m: NodeId) -> bool
 
 // What a private reference of class c raises at node n.
 #[tactic(auto, unfolding(crate::specs::ClassChecks::undeclared_at))]
-fn undeclared_at(
-    source_type: u32,
-    nodes: &Nodes,
-    names: &[u8],
-    index: &Index,
-    n: NodeId,
-    c: ClassId,
-    m: NodeId,
-) -> Option<Finding>
-    requires named { Named nodes.now names.now }
-    requires indexed { Indexed source_type nodes.now names.now index.now.last.now index.now.earlier.now index.now.keys.now }
-    requires c_bound { c.0 < count nodes.now }
-    requires m_bound { m.0 < count nodes.now }
-    ensures { result ≡ undeclared_at source_type nodes.now names.now n.0 c.0 m.0 }
+fn undeclared_at(elements: &Elements, n: NodeId, c: ClassId, m: NodeId) -> Option<Finding>
+    requires c_bound { c.0 < count elements.now.nodes }
+    requires m_bound { m.0 < count elements.now.nodes }
+    ensures { result ≡ undeclared_at elements.now.source_type elements.now.nodes elements.now.names n.0 c.0 m.0 }
 {
     if check_element_index::is_declared(
-        source_type,
-        nodes,
-        names,
-        index,
+        elements,
         c,
-        table_names::name(nodes, names, m),
+        table_names::name(elements.nodes, elements.names, m),
     ) {
         return None;
     }
-    check_diagnostics::error_at(nodes, codes::PRIVATE_FIELD_UNDECLARED, n, m, contexts::NONE)
+    check_diagnostics::error_at(
+        elements.nodes,
+        codes::PRIVATE_FIELD_UNDECLARED,
+        n,
+        m,
+        contexts::NONE,
+    )
 }
 
 // What a node raises as a private reference of class c.
 #[tactic(auto, unfolding(crate::specs::ClassChecks::raised_at))]
-fn raised_at(
-    source_type: u32,
-    nodes: &Nodes,
-    names: &[u8],
-    index: &Index,
-    n: NodeId,
-    c: ClassId,
-    m: NodeId,
-) -> Option<Finding>
-    requires named { Named nodes.now names.now }
-    requires indexed { Indexed source_type nodes.now names.now index.now.last.now index.now.earlier.now index.now.keys.now }
-    requires c_bound { c.0 < count nodes.now }
-    requires m_bound { m.0 < count nodes.now }
-    ensures { result ≡ raised_at source_type nodes.now names.now n.0 c.0 m.0 }
+fn raised_at(elements: &Elements, n: NodeId, c: ClassId, m: NodeId) -> Option<Finding>
+    requires c_bound { c.0 < count elements.now.nodes }
+    requires m_bound { m.0 < count elements.now.nodes }
+    ensures { result ≡ raised_at elements.now.source_type elements.now.nodes elements.now.names n.0 c.0 m.0 }
 {
-    if is_reference_of(nodes, c, m) {
-        return undeclared_at(source_type, nodes, names, index, n, c, m);
+    if is_reference_of(elements.nodes, c, m) {
+        return undeclared_at(elements, n, c, m);
     }
     None
 }
 
 // What the private references of class c raise at node n.
-fn undeclared_in(
-    source_type: u32,
-    nodes: &Nodes,
-    names: &[u8],
-    index: &Index,
-    n: NodeId,
-    c: ClassId,
-    findings: &mut Findings,
-)
-    requires named { Named nodes.now names.now }
-    requires indexed { Indexed source_type nodes.now names.now index.now.last.now index.now.earlier.now index.now.keys.now }
-    requires c_bound { c.0 < count nodes.now }
+fn undeclared_in(elements: &Elements, n: NodeId, c: ClassId, findings: &mut Findings)
+    requires c_bound { c.0 < count elements.now.nodes }
     requires raised_bound { findings.old.raised ≤ 999999000000 }
-    ensures adds { Adds findings.old findings.new (undeclared_in source_type nodes.now names.now n.0 c.0) }
+    ensures adds { Adds findings.old findings.new (undeclared_in elements.now.source_type elements.now.nodes elements.now.names n.0 c.0) }
     ensures upper_bound { findings.new.raised ≤ findings.old.raised + 458745 }
 {
+    let nodes = elements.nodes;
     let _ = &nodes.numbers; // names the field, so that its invariant is known
     for i in c.0 + 1..table_records::size(nodes) {
         if table_records::parent(nodes, NodeId(i)).0 < c.0 {
             return;
         }
-        findings.raise(raised_at(source_type, nodes, names, index, n, c, NodeId(i)));
+        findings.raise(raised_at(elements, n, c, NodeId(i)));
     }
 }
 
 // Private names of the class that is current at node n which it and the classes around it do not declare.
-fn check_private_identifier(
-    source_type: u32,
-    nodes: &Nodes,
-    names: &[u8],
-    index: &Index,
-    n: NodeId,
-    findings: &mut Findings,
-)
-    requires named { Named nodes.now names.now }
-    requires indexed { Indexed source_type nodes.now names.now index.now.last.now index.now.earlier.now index.now.keys.now }
-    requires n_bound { n.0 < count nodes.now }
+fn check_private_identifier(elements: &Elements, n: NodeId, findings: &mut Findings)
+    requires n_bound { n.0 < count elements.now.nodes }
     requires raised_bound { findings.old.raised ≤ 999999000000 }
-    ensures adds { Adds findings.old findings.new (private_undeclared source_type nodes.now names.now n.0) }
+    ensures adds { Adds findings.old findings.new (private_undeclared elements.now.source_type elements.now.nodes elements.now.names n.0) }
     ensures upper_bound { findings.new.raised ≤ findings.old.raised + 458745 }
 {
-    let Some(c) = check_class_table::current_class(nodes, n) else {
+    let Some(c) = check_class_table::current_class(elements.nodes, n) else {
         return;
     };
-    undeclared_in(source_type, nodes, names, index, n, c, findings);
+    undeclared_in(elements, n, c, findings);
 }
 
 fn has_id(nodes: &Nodes, n: NodeId) -> bool
@@ -277,23 +240,14 @@ fn second_constructor(source_type: u32, nodes: &Nodes, n: NodeId) -> Option<Find
     )
 }
 
-pub fn check_class(
-    source_type: u32,
-    nodes: &Nodes,
-    names: &[u8],
-    index: &Index,
-    n: NodeId,
-    findings: &mut Findings,
-)
-    requires named { Named nodes.now names.now }
-    requires indexed { Indexed source_type nodes.now names.now index.now.last.now index.now.earlier.now index.now.keys.now }
-    requires n_bound { n.0 < count nodes.now }
-    requires n_bound_2 { span_start_of nodes.now n.0 ≤ 1048576 }
+pub fn check_class(elements: &Elements, n: NodeId, findings: &mut Findings)
+    requires n_bound { n.0 < count elements.now.nodes }
+    requires n_bound_2 { span_start_of elements.now.nodes n.0 ≤ 1048576 }
     requires raised_bound { findings.old.raised ≤ 999999000000 }
-    ensures adds { Adds findings.old findings.new (check_class source_type nodes.now names.now n.0) }
+    ensures adds { Adds findings.old findings.new (check_class elements.now.source_type elements.now.nodes elements.now.names n.0) }
     ensures upper_bound { findings.new.raised ≤ findings.old.raised + 458759 }
 {
-    check_private_identifier(source_type, nodes, names, index, n, findings);
-    findings.raise(require_class_name(nodes, n));
-    findings.raise(second_constructor(source_type, nodes, n));
+    check_private_identifier(elements, n, findings);
+    findings.raise(require_class_name(elements.nodes, n));
+    findings.raise(second_constructor(elements.source_type, elements.nodes, n));
 }

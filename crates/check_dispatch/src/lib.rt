@@ -5,14 +5,14 @@ ghost use Rattle.std.specs.Prelude.{◌≡◌, ◌+◌, ◌<◌, ◌≤◌};
 ghost use Rattle.table_records.specs.Table.{count};
 ghost use Rattle.table_records.specs.Facts.{Input, Sourced};
 ghost use Rattle.check_diagnostics.specs.Raises.{Adds, Raises};
-ghost use Rattle.check_element_index.specs.Index.{Indexed};
 ghost use Rattle.check_dispatch.specs.Findings.{findings_at};
-ghost use Rattle.check_dispatch.specs.Lent.{rule_of};
+ghost use Rattle.check_dispatch.specs.Lent.{rule_of, SameTable};
 ghost use Rattle.check_dispatch.specs.Reported.{reported_at, reported};
 
 use check_diagnostics::Findings;
-use check_element_index::Index;
+use check_element_index::Elements;
 use table_records::nodes::Nodes;
+use table_records::scopes::Scopes;
 use table_records::{NodeId, kinds};
 
 // For how many nodes the arrays of the index have room: rules of an office have a hundred nodes and less, or some hundreds; the last is room for any table.
@@ -36,110 +36,140 @@ pub struct Rule<'a> {
 }
 
 // The findings of a node, by its kind: the `match` of mod.rs.
-fn check_node(
-    source_type: u32,
-    nodes: &[u32],
-    scopes: &[u32],
-    source: &[u8],
-    names: &[u8],
-    index: &Index,
-    n: NodeId,
-    findings: &mut Findings,
-)
-    requires input { Input nodes.now scopes.now names.now }
-    requires sourced { Sourced nodes.now source.now }
-    requires indexed { Indexed source_type nodes.now names.now index.now.last.now index.now.earlier.now index.now.keys.now }
-    requires n_bound { n.0 < count nodes.now }
+fn check_node(rule: &Rule, elements: &Elements, n: NodeId, findings: &mut Findings)
+    requires input { Input rule.now.nodes.now rule.now.scopes.now rule.now.names.now }
+    requires sourced { Sourced rule.now.nodes.now rule.now.source.now }
+    requires same { SameTable rule.now elements.now }
+    requires n_bound { n.0 < count rule.now.nodes.now }
     requires raised_bound { findings.old.raised ≤ 800000000000 }
-    ensures adds { Adds findings.old findings.new (findings_at source_type nodes.now scopes.now source.now names.now n.0) }
+    ensures adds { Adds findings.old findings.new (findings_at rule.now.source_type rule.now.nodes.now rule.now.scopes.now rule.now.source.now rule.now.names.now n.0) }
     ensures upper_bound { findings.new.raised ≤ findings.old.raised + 458780 }
 {
-    let tree = &Nodes { numbers: nodes };
-    match table_records::kind(nodes, n) {
+    let tree = &Nodes {
+        numbers: rule.nodes,
+    };
+    let chain = &Scopes {
+        numbers: rule.scopes,
+    };
+    match table_records::kind(rule.nodes, n) {
         kinds::BINDING_IDENTIFIER => {
-            let a = check_identifiers::check_identifier(source_type, nodes, scopes, names, n);
+            let a = check_identifiers::check_identifier(
+                rule.source_type,
+                rule.nodes,
+                rule.scopes,
+                rule.names,
+                n,
+            );
             let b = check_identifiers::check_binding_identifier(
-                source_type,
-                nodes,
-                scopes,
-                names,
+                rule.source_type,
+                rule.nodes,
+                rule.scopes,
+                rule.names,
                 n,
             );
             findings.raise_all(&[a, b]);
         }
         kinds::IDENTIFIER_REFERENCE => {
-            let a = check_identifiers::check_identifier(source_type, nodes, scopes, names, n);
+            let a = check_identifiers::check_identifier(
+                rule.source_type,
+                rule.nodes,
+                rule.scopes,
+                rule.names,
+                n,
+            );
             let b = check_identifiers::check_identifier_reference(
-                source_type,
-                nodes,
-                scopes,
-                names,
+                rule.source_type,
+                rule.nodes,
+                rule.scopes,
+                rule.names,
                 n,
             );
             findings.raise_all(&[a, b]);
         }
         kinds::LABEL_IDENTIFIER => findings.raise(check_identifiers::check_identifier(
-            source_type,
-            nodes,
-            scopes,
-            names,
+            rule.source_type,
+            rule.nodes,
+            rule.scopes,
+            rule.names,
             n,
         )),
         kinds::PRIVATE_IDENTIFIER => findings.raise(
             check_classes::check_private_identifier_outside_class(tree, n),
         ),
         kinds::NUMERIC_LITERAL => findings.raise(check_literals::check_number_literal(
-            nodes, scopes, source, n,
+            rule.nodes,
+            rule.scopes,
+            rule.source,
+            n,
         )),
         kinds::STRING_LITERAL => findings.raise(check_literals::check_string_literal(
-            tree, scopes, source, n,
+            tree,
+            rule.scopes,
+            rule.source,
+            n,
         )),
         kinds::DIRECTIVE => findings.raise(check_identifiers::check_directive(
-            nodes, scopes, names, n,
+            rule.nodes,
+            rule.scopes,
+            rule.names,
+            n,
         )),
         kinds::WITH => {
-            let a = check_statements::check_body(tree, scopes, n);
-            let b = check_statements::check_with_statement(source_type, nodes, scopes, n);
+            let a = check_statements::check_body(tree, rule.scopes, n);
+            let b = check_statements::check_with_statement(
+                rule.source_type,
+                rule.nodes,
+                rule.scopes,
+                n,
+            );
             findings.raise_all(&[a, b]);
         }
-        kinds::BREAK => findings.raise(check_jumps::check_break_statement(tree, names, n)),
-        kinds::CONTINUE => findings.raise(check_jumps::check_continue_statement(tree, names, n)),
+        kinds::BREAK => findings.raise(check_jumps::check_break_statement(tree, rule.names, n)),
+        kinds::CONTINUE => findings.raise(check_jumps::check_continue_statement(
+            tree, rule.names, n,
+        )),
         kinds::LABELED => {
-            let a = check_jumps::check_labeled_statement(tree, names, n);
+            let a = check_jumps::check_labeled_statement(tree, rule.names, n);
             let b = check_statements::check_function_declaration_in_labeled_statement(
-                tree, scopes, n,
+                tree,
+                rule.scopes,
+                n,
             );
             findings.raise_all(&[a, b]);
         }
         kinds::FOR_IN => {
-            let a = check_statements::check_body(tree, scopes, n);
-            let b = check_statements::check_for_statement_left(tree, scopes, n, true);
+            let a = check_statements::check_body(tree, rule.scopes, n);
+            let b = check_statements::check_for_statement_left(tree, rule.scopes, n, true);
             findings.raise_all(&[a, b]);
         }
         kinds::FOR_OF => {
-            let a = check_statements::check_body(tree, scopes, n);
-            let b = check_statements::check_for_of_statement(nodes, scopes, n);
-            let d = check_statements::check_for_statement_left(tree, scopes, n, false);
+            let a = check_statements::check_body(tree, rule.scopes, n);
+            let b = check_statements::check_for_of_statement(rule.nodes, chain, n);
+            let d = check_statements::check_for_statement_left(tree, rule.scopes, n, false);
             findings.raise_all(&[a, b, d]);
         }
         // Three arms: one arm for the three kinds was tried, and its proof did not close.
-        kinds::WHILE => findings.raise(check_statements::check_body(tree, scopes, n)),
-        kinds::DO_WHILE => findings.raise(check_statements::check_body(tree, scopes, n)),
-        kinds::FOR => findings.raise(check_statements::check_body(tree, scopes, n)),
+        kinds::WHILE => findings.raise(check_statements::check_body(tree, rule.scopes, n)),
+        kinds::DO_WHILE => findings.raise(check_statements::check_body(tree, rule.scopes, n)),
+        kinds::FOR => findings.raise(check_statements::check_body(tree, rule.scopes, n)),
         kinds::IF => {
-            let a = check_statements::check_consequent(tree, scopes, n);
-            let b = check_statements::check_alternate(tree, scopes, n);
+            let a = check_statements::check_consequent(tree, rule.scopes, n);
+            let b = check_statements::check_alternate(tree, rule.scopes, n);
             findings.raise_all(&[a, b]);
         }
-        kinds::CLASS => check_classes::check_class(source_type, tree, names, index, n, findings),
-        kinds::SUPER => findings.raise(check_super_search::check_super(tree, scopes, n)),
-        kinds::AWAIT => check_expressions::check_await_expression(tree, scopes, n, findings),
-        kinds::OBJECT => check_expressions::check_object_expression(tree, names, n, findings),
-        kinds::UNARY => findings.raise(check_expressions::check_unary_expression(tree, scopes, n)),
+        kinds::CLASS => check_classes::check_class(elements, n, findings),
+        kinds::SUPER => findings.raise(check_super_search::check_super(tree, chain, n)),
+        kinds::AWAIT => check_expressions::check_await_expression(tree, chain, n, findings),
+        kinds::OBJECT => check_expressions::check_object_expression(tree, rule.names, n, findings),
+        kinds::UNARY => findings.raise(check_expressions::check_unary_expression(
+            tree,
+            rule.scopes,
+            n,
+        )),
         kinds::YIELD => findings.raise(check_expressions::check_yield_expression(tree, n)),
         kinds::VARIABLE_DECLARATION => {
-            let a = check_statements::check_using(source_type, nodes, scopes, n);
-            let b = check_statements::check_await_using(nodes, scopes, n);
+            let a = check_statements::check_using(rule.source_type, rule.nodes, rule.scopes, n);
+            let b = check_statements::check_await_using(rule.nodes, chain, n);
             findings.raise_all(&[a, b]);
         }
         _ => (),
@@ -147,25 +177,16 @@ fn check_node(
 }
 
 // The findings of a node, and with the option on those of async bodies behind them.
-fn check_node_and_bodies(rule: &Rule, index: &Index, n: NodeId, findings: &mut Findings)
+fn check_node_and_bodies(rule: &Rule, elements: &Elements, n: NodeId, findings: &mut Findings)
     requires input { Input rule.now.nodes.now rule.now.scopes.now rule.now.names.now }
     requires sourced { Sourced rule.now.nodes.now rule.now.source.now }
-    requires indexed { Indexed rule.now.source_type rule.now.nodes.now rule.now.names.now index.now.last.now index.now.earlier.now index.now.keys.now }
+    requires same { SameTable rule.now elements.now }
     requires n_bound { n.0 < count rule.now.nodes.now }
     requires raised_bound { findings.old.raised ≤ 800000000000 }
     ensures adds { Adds findings.old findings.new (reported_at (rule_of rule.now) n.0) }
     ensures upper_bound { findings.new.raised ≤ findings.old.raised + 458794 }
 {
-    check_node(
-        rule.source_type,
-        rule.nodes,
-        rule.scopes,
-        rule.source,
-        rule.names,
-        index,
-        n,
-        findings,
-    );
+    check_node(rule, elements, n, findings);
     if rule.async_bodies == 0 {
         return;
     }
@@ -176,25 +197,16 @@ fn check_node_and_bodies(rule: &Rule, index: &Index, n: NodeId, findings: &mut F
 }
 
 // The findings of the tree, over the index of its class elements.
-fn check_tree_by(rule: &Rule, index: &Index, findings: &mut [u32]) -> usize
+fn check_tree_by(rule: &Rule, elements: &Elements, findings: &mut [u32]) -> usize
     requires input { Input rule.now.nodes.now rule.now.scopes.now rule.now.names.now }
     requires sourced { Sourced rule.now.nodes.now rule.now.source.now }
-    requires indexed { Indexed rule.now.source_type rule.now.nodes.now rule.now.names.now index.now.last.now index.now.earlier.now index.now.keys.now }
+    requires same { SameTable rule.now elements.now }
     ensures { Raises findings.old findings.new 0 result (reported (rule_of rule.now)) }
 {
-    let tree = &Nodes {
-        numbers: rule.nodes,
-    };
     let mut all = Findings::new(findings);
-    check_duplicates::check_duplicate_class_elements(
-        rule.source_type,
-        tree,
-        rule.names,
-        index,
-        &mut all,
-    );
+    check_duplicates::check_duplicate_class_elements(elements, &mut all);
     for i in 0..table_records::size(rule.nodes) {
-        check_node_and_bodies(rule, index, NodeId(i), &mut all);
+        check_node_and_bodies(rule, elements, NodeId(i), &mut all);
     }
     all.raised
 }
@@ -222,12 +234,15 @@ fn check_tree_within<const N: usize>(rule: &Rule, findings: &mut [u32]) -> usize
         &mut earlier,
         &mut keys,
     );
-    let index = Index {
+    let elements = Elements {
+        source_type: rule.source_type,
+        nodes: tree,
+        names: rule.names,
         last: &last,
         earlier: &earlier,
         keys: &keys,
     };
-    check_tree_by(rule, &index, findings)
+    check_tree_by(rule, &elements, findings)
 }
 
 // The findings of the tree, each written where there is room for it; answers how many numbers they are.

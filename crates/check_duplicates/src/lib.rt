@@ -4,15 +4,14 @@
 
 ghost use Rattle.std.specs.Prelude.{◌≡◌, true, ◌+◌, ◌<◌, ◌≤◌};
 ghost use Rattle.table_records.specs.Table.{count};
-ghost use Rattle.table_records.specs.Facts.{Named};
 ghost use Rattle.check_diagnostics.specs.Raises.{Adds};
 ghost use Rattle.check_class_table.specs.Elements.{is_compared_element};
-ghost use Rattle.check_element_index.specs.Index.{is_element, Indexed};
+ghost use Rattle.check_element_index.specs.Index.{is_element};
 ghost use Rattle.check_duplicates.specs.Duplicates.{side_of, previous_of, is_pair, is_apart, clashes, clash_code, redeclaration, duplicate_at, duplicates_in, duplicate_elements};
 ghost use Rattle.check_duplicates.specs.Scans.{seen, prev_of, raised_at, class_at};
 
 use check_diagnostics::{Finding, Findings, codes, contexts};
-use check_element_index::Index;
+use check_element_index::Elements;
 use table_records::nodes::Nodes;
 use table_records::{ClassId, ElementId, NodeId, kinds};
 use table_source::is_typescript;
@@ -41,24 +40,19 @@ fn side(nodes: &[u32], e: ElementId) -> usize
 // The two places of a key after element d, where the elements are met from the last to the first: what is there stays.
 #[tactic(auto, using(check_element_index::proofs::IndexLaws::key_named), unfolding(crate::specs::Scans::seen))]
 fn see(
-    source_type: u32,
-    nodes: &[u32],
-    names: &[u8],
-    index: &Index,
+    elements: &Elements,
     c: ClassId,
     private: bool,
     name: &[u8],
     previous: [Place; 2],
     d: ElementId,
 ) -> [Place; 2]
-    requires named { Named nodes.now names.now }
-    requires indexed { Indexed source_type nodes.now names.now index.now.last.now index.now.earlier.now index.now.keys.now }
-    requires d_bound { d.0 < count nodes.now }
-    requires element { is_element source_type nodes.now d.0 ≡ true }
-    ensures { result ≡ seen source_type nodes.now names.now c.0 private name.now previous d.0 }
+    requires d_bound { d.0 < count elements.now.nodes }
+    requires element { is_element elements.now.source_type elements.now.nodes d.0 ≡ true }
+    ensures { result ≡ seen elements.now.source_type elements.now.nodes elements.now.names c.0 private name.now previous d.0 }
 {
-    if check_element_index::has_key(source_type, nodes, names, index, c, private, name, d) {
-        let i = side(nodes, d);
+    if check_element_index::has_key(elements, c, private, name, d) {
+        let i = side(elements.nodes, d);
         if previous[i].element.is_none() {
             let mut seen = previous;
             seen[i] = Place { element: Some(d) };
@@ -69,45 +63,26 @@ fn see(
 }
 
 // The two places of the key of element e of class c, where e is met, as far as `prev_element` reads them: the place of e's own side, and where none is there the other.
-fn previous_of(
-    source_type: u32,
-    nodes: &Nodes,
-    names: &[u8],
-    index: &Index,
-    c: ClassId,
-    e: ElementId,
-) -> [Place; 2]
-    requires named { Named nodes.now names.now }
-    requires indexed { Indexed source_type nodes.now names.now index.now.last.now index.now.earlier.now index.now.keys.now }
-    requires e_bound { e.0 < count nodes.now }
+fn previous_of(elements: &Elements, c: ClassId, e: ElementId) -> [Place; 2]
+    requires e_bound { e.0 < count elements.now.nodes }
     requires c_lt_e { c.0 < e.0 }
-    requires compared { is_compared_element source_type nodes.now c.0 e.0 ≡ true }
-    ensures { prev_of result (side_of nodes.now e.0) ≡ previous_of source_type nodes.now names.now c.0 e.0 }
+    requires compared { is_compared_element elements.now.source_type elements.now.nodes c.0 e.0 ≡ true }
+    ensures { prev_of result (side_of elements.now.nodes e.0) ≡ previous_of elements.now.source_type elements.now.nodes elements.now.names c.0 e.0 }
 {
-    let private = check_class_table::is_private(nodes, e);
-    let name = check_class_table::element_name(nodes, names, e);
-    let own = side(nodes, e);
+    let private = check_class_table::is_private(elements.nodes, e);
+    let name = check_class_table::element_name(elements.nodes, elements.names, e);
+    let own = side(elements.nodes, e);
     let mut previous = [Place { element: None }; 2];
-    let mut at = check_element_index::earlier(index, e);
+    let mut at = check_element_index::earlier(elements, e);
     while c.0 + 1 < at {
         let d = ElementId(at - 1);
         // A call whose array goes straight into `previous` was tried: the check covers none.
-        let seen = see(
-            source_type,
-            nodes,
-            names,
-            index,
-            c,
-            private,
-            name,
-            previous,
-            d,
-        );
+        let seen = see(elements, c, private, name, previous, d);
         previous = seen;
         if previous[own].element.is_some() {
             return previous;
         }
-        at = check_element_index::earlier(index, d);
+        at = check_element_index::earlier(elements, d);
     }
     previous
 }
@@ -202,113 +177,70 @@ fn redeclaration(source_type: u32, nodes: &Nodes, d: ElementId, e: ElementId) ->
 }
 
 // What element e of class c raises.
-fn duplicate_at(
-    source_type: u32,
-    nodes: &Nodes,
-    names: &[u8],
-    index: &Index,
-    c: ClassId,
-    e: ElementId,
-) -> Option<Finding>
-    requires named { Named nodes.now names.now }
-    requires indexed { Indexed source_type nodes.now names.now index.now.last.now index.now.earlier.now index.now.keys.now }
-    requires e_bound { e.0 < count nodes.now }
+fn duplicate_at(elements: &Elements, c: ClassId, e: ElementId) -> Option<Finding>
+    requires e_bound { e.0 < count elements.now.nodes }
     requires c_lt_e { c.0 < e.0 }
-    requires compared { is_compared_element source_type nodes.now c.0 e.0 ≡ true }
-    ensures { result ≡ duplicate_at source_type nodes.now names.now c.0 e.0 }
+    requires compared { is_compared_element elements.now.source_type elements.now.nodes c.0 e.0 ≡ true }
+    ensures { result ≡ duplicate_at elements.now.source_type elements.now.nodes elements.now.names c.0 e.0 }
 {
-    let previous = previous_of(source_type, nodes, names, index, c, e);
-    let d = prev_element(nodes, e, previous).element?;
-    if clashes(nodes, d, e) {
-        return redeclaration(source_type, nodes, d, e);
+    let previous = previous_of(elements, c, e);
+    let d = prev_element(elements.nodes, e, previous).element?;
+    if clashes(elements.nodes, d, e) {
+        return redeclaration(elements.source_type, elements.nodes, d, e);
     }
     None
 }
 
 // What node i raises as an element of class c.
 #[tactic(auto, unfolding(crate::specs::Scans::raised_at))]
-fn raised_at(
-    source_type: u32,
-    nodes: &Nodes,
-    names: &[u8],
-    index: &Index,
-    c: ClassId,
-    i: ElementId,
-) -> Option<Finding>
-    requires named { Named nodes.now names.now }
-    requires indexed { Indexed source_type nodes.now names.now index.now.last.now index.now.earlier.now index.now.keys.now }
-    requires i_bound { i.0 < count nodes.now }
+fn raised_at(elements: &Elements, c: ClassId, i: ElementId) -> Option<Finding>
+    requires i_bound { i.0 < count elements.now.nodes }
     requires c_lt_i { c.0 < i.0 }
-    ensures { result ≡ raised_at source_type nodes.now names.now c.0 i.0 }
+    ensures { result ≡ raised_at elements.now.source_type elements.now.nodes elements.now.names c.0 i.0 }
 {
-    if check_class_table::is_compared_element(source_type, nodes, c, i) {
-        return duplicate_at(source_type, nodes, names, index, c, i);
+    if check_class_table::is_compared_element(elements.source_type, elements.nodes, c, i) {
+        return duplicate_at(elements, c, i);
     }
     None
 }
 
 // The findings of one class.
-fn duplicates_in(
-    source_type: u32,
-    nodes: &Nodes,
-    names: &[u8],
-    index: &Index,
-    c: ClassId,
-    findings: &mut Findings,
-)
-    requires named { Named nodes.now names.now }
-    requires indexed { Indexed source_type nodes.now names.now index.now.last.now index.now.earlier.now index.now.keys.now }
-    requires c_bound { c.0 < count nodes.now }
+fn duplicates_in(elements: &Elements, c: ClassId, findings: &mut Findings)
+    requires c_bound { c.0 < count elements.now.nodes }
     requires raised_bound { findings.old.raised ≤ 999999000000 }
-    ensures adds { Adds findings.old findings.new (duplicates_in source_type nodes.now names.now c.0) }
+    ensures adds { Adds findings.old findings.new (duplicates_in elements.now.source_type elements.now.nodes elements.now.names c.0) }
     ensures upper_bound { findings.new.raised ≤ findings.old.raised + 458745 }
 {
+    let nodes = elements.nodes;
     let _ = &nodes.numbers; // names the field, so that its invariant is known
     for i in c.0 + 1..table_records::size(nodes) {
         if table_records::parent(nodes, NodeId(i)).0 < c.0 {
             return;
         }
-        findings.raise(raised_at(source_type, nodes, names, index, c, ElementId(i)));
+        findings.raise(raised_at(elements, c, ElementId(i)));
     }
 }
 
 // The findings of node i as a class.
 #[tactic(auto, using(check_diagnostics::proofs::RaisesLaws::adds_none), unfolding(crate::specs::Scans::class_at))]
-fn duplicates_at(
-    source_type: u32,
-    nodes: &Nodes,
-    names: &[u8],
-    index: &Index,
-    i: NodeId,
-    findings: &mut Findings,
-)
-    requires named { Named nodes.now names.now }
-    requires indexed { Indexed source_type nodes.now names.now index.now.last.now index.now.earlier.now index.now.keys.now }
-    requires i_bound { i.0 < count nodes.now }
+fn duplicates_at(elements: &Elements, i: NodeId, findings: &mut Findings)
+    requires i_bound { i.0 < count elements.now.nodes }
     requires raised_bound { findings.old.raised ≤ 999999000000 }
-    ensures adds { Adds findings.old findings.new (class_at source_type nodes.now names.now i.0) }
+    ensures adds { Adds findings.old findings.new (class_at elements.now.source_type elements.now.nodes elements.now.names i.0) }
     ensures upper_bound { findings.new.raised ≤ findings.old.raised + 458745 }
 {
-    if table_records::kind(nodes, i) == kinds::CLASS_BODY {
-        duplicates_in(source_type, nodes, names, index, ClassId::from(i), findings);
+    if table_records::kind(elements.nodes, i) == kinds::CLASS_BODY {
+        duplicates_in(elements, ClassId::from(i), findings);
     }
 }
 
 // The findings of all classes, in the order of their bodies.
-pub fn check_duplicate_class_elements(
-    source_type: u32,
-    nodes: &Nodes,
-    names: &[u8],
-    index: &Index,
-    findings: &mut Findings,
-)
-    requires named { Named nodes.now names.now }
-    requires indexed { Indexed source_type nodes.now names.now index.now.last.now index.now.earlier.now index.now.keys.now }
+pub fn check_duplicate_class_elements(elements: &Elements, findings: &mut Findings)
     requires raised_bound { findings.old.raised ≤ 900000000000 }
-    ensures adds { Adds findings.old findings.new (duplicate_elements source_type nodes.now names.now) }
+    ensures adds { Adds findings.old findings.new (duplicate_elements elements.now.source_type elements.now.nodes elements.now.names) }
     ensures upper_bound { findings.new.raised ≤ findings.old.raised + 30100000000 }
 {
-    for i in 0..table_records::size(nodes) {
-        duplicates_at(source_type, nodes, names, index, NodeId(i), findings);
+    for i in 0..table_records::size(elements.nodes) {
+        duplicates_at(elements, NodeId(i), findings);
     }
 }

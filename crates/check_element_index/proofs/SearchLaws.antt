@@ -1,5 +1,5 @@
 -- Laws of searches down a chain: what is left out has another key.
-use Rattle.std.specs.Prelude.{ℕ, ◌+◌, ◌≤◌, ◌<◌, ◌≡◌, refl, List, [], ◌∷◌, ◌++◌, Bool, true, false, ◌||◌, get_or}
+use Rattle.std.specs.Prelude.{ℕ, ◌+◌, ◌≤◌, ◌<◌, ◌≡◌, refl, List, [], ◌∷◌, ◌++◌, Bool, true, false, ◌||◌, length, get_or}
 use Rattle.std.proofs.Common.{ap, ◌∙◌, ⊎_elim, true≢false, arith}
 use Rattle.std.proofs.Math.Path.{sym}
 use Rattle.base_common.specs.Upto.{upto, any}
@@ -8,7 +8,7 @@ use Rattle.base_walk.proofs.PreorderLaws.{lt_or_ge}
 use Rattle.table_records.specs.Table.{count}
 use Rattle.check_class_table.specs.Elements.{has_private, is_named}
 use Rattle.check_class_table.proofs.ElementsLaws.{has_private_from, has_start}
-use Rattle.check_element_index.specs.Index.{hash, bucket, is_element, in_bucket, last_below, Entered, has_key}
+use Rattle.check_element_index.specs.Index.{hash, bucket, is_element, in_bucket, last_below, Buckets, Known, has_key}
 use Rattle.check_element_index.proofs.IndexLaws.{skip, last_last, last_le, last_here, named_in, key_named, chain_start, chain_element, chain_step}
 
 -- a test of some number from lo on, as the end moves on
@@ -50,58 +50,64 @@ abbrev pub of_key : ℕ → List ℕ → List ℕ → ℕ → ℕ → Bool → L
 of_key t ns names size c private name = in_bucket t ns names size (bucket size c private (hash name))
 
 -- the chain of a key in class c
-module _ (t : ℕ) (ns names : List ℕ) (size : ℕ) (last earlier keys : List ℕ) (w : Entered t ns names size last earlier keys (count ns)) (c : ℕ) (private : Bool) (name : List ℕ) where
+module _ (s : Buckets) (w : Known s) (c : ℕ) (private : Bool) (name : List ℕ) where
+  abbrev own : ℕ
+  own = bucket (length s.last) c private (hash name)
+
   abbrev keyed : ℕ → Bool
-  keyed = of_key t ns names size c private name
+  keyed = of_key s.source_type s.nodes s.names (length s.last) c private name
+
+  abbrev named : ℕ → Bool
+  named = is_named s.source_type s.nodes s.names c private name
 
   -- an element of this key is in the chain
-  pub named_chained : (d : ℕ) → is_named t ns names c private name d ≡ true → last_below keyed (d + 1) ≡ d + 1
-  named_chained d e = last_here keyed d (named_in t ns names size c private name d e)
+  pub named_chained : (d : ℕ) → named d ≡ true → last_below keyed (d + 1) ≡ d + 1
+  named_chained d e = last_here keyed d (named_in _ _ _ _ c private name d e)
 
   -- outside of the bucket there is none of this key
-  pub not_named : (n : ℕ) → keyed n ≡ false → is_named t ns names c private name n ≡ false
-  not_named n e = go (is_named t ns names c private name n) refl
+  pub not_named : (n : ℕ) → keyed n ≡ false → named n ≡ false
+  not_named n e = go (named n) refl
     where
-      go : (b : Bool) → is_named t ns names c private name n ≡ b → b ≡ false
-      go true q = absurd (true≢false (sym (named_in t ns names size c private name n q) ∙ e))
+      go : (b : Bool) → named n ≡ b → b ≡ false
+      go true q = absurd (true≢false (sym (named_in _ _ _ _ c private name n q) ∙ e))
       go false q = refl
 
-  module _ (l : bucket size c private (hash name) < size) where
-    start : get_or last (bucket size c private (hash name)) 0 ≡ last_below keyed (count ns)
-    start = chain_start t ns names size last earlier keys w (bucket size c private (hash name)) l
+  module _ (l : own < length s.last) where
+    start : get_or s.last own 0 ≡ last_below keyed (count s.nodes)
+    start = chain_start _ _ _ _ _ _ _ w.indexed own l
 
-    pub start_bound : get_or last (bucket size c private (hash name)) 0 ≤ count ns
-    start_bound = rw start (last_le keyed (count ns))
+    pub start_bound : get_or s.last own 0 ≤ count s.nodes
+    start_bound = rw start (last_le keyed (count s.nodes))
 
-    pub start_chained : last_below keyed (get_or last (bucket size c private (hash name)) 0) ≡ get_or last (bucket size c private (hash name)) 0
-    start_chained = rw start (last_last keyed (count ns))
+    pub start_chained : last_below keyed (get_or s.last own 0) ≡ get_or s.last own 0
+    start_chained = rw start (last_last keyed (count s.nodes))
 
     -- what changes only at elements of this key is at the chain's start as at the table's end
-    pub start_same : {A : Type 0} (f : ℕ → A) → ((n : ℕ) → is_named t ns names c private name n ≡ false → f (n + 1) ≡ f n) → f (get_or last (bucket size c private (hash name)) 0) ≡ f (count ns)
-    start_same f h = ap f start ∙ sym (skip keyed f (λ n e. h n (not_named n e)) (count ns))
+    pub start_same : {A : Type 0} (f : ℕ → A) → ((n : ℕ) → named n ≡ false → f (n + 1) ≡ f n) → f (get_or s.last own 0) ≡ f (count s.nodes)
+    start_same f h = ap f start ∙ sym (skip keyed f (λ n e. h n (not_named n e)) (count s.nodes))
 
   -- one step down, from element d
-  module _ (at d : ℕ) (z : at ≡ d + 1) (l : at ≤ count ns) (e : last_below keyed at ≡ at) where
+  module _ (at d : ℕ) (z : at ≡ d + 1) (l : at ≤ count s.nodes) (e : last_below keyed at ≡ at) where
     here : last_below keyed (d + 1) ≡ d + 1
     here = sym (ap (last_below keyed) z) ∙ e ∙ z
 
-    step : get_or earlier d 0 ≡ last_below keyed d
-    step = chain_step t ns names size last earlier keys w (bucket size c private (hash name)) d (omega arith) here
+    step : get_or s.earlier d 0 ≡ last_below keyed d
+    step = chain_step _ _ _ _ _ _ _ w.indexed own d (omega arith) here
 
-    pub step_key : has_key ns names c private name d ≡ is_named t ns names c private name d
-    step_key = key_named t ns names c private name d (chain_element t ns names size last earlier keys w (bucket size c private (hash name)) d here)
+    pub step_element : is_element s.source_type s.nodes d ≡ true
+    step_element = chain_element _ _ _ _ _ _ _ w.indexed own d here
 
-    pub step_element : is_element t ns d ≡ true
-    step_element = chain_element t ns names size last earlier keys w (bucket size c private (hash name)) d here
+    pub step_key : has_key s.nodes s.names c private name d ≡ named d
+    step_key = key_named _ _ _ c private name d step_element
 
-    pub step_bound : get_or earlier d 0 ≤ d
+    pub step_bound : get_or s.earlier d 0 ≤ d
     step_bound = rw step (last_le keyed d)
 
-    pub step_chained : last_below keyed (get_or earlier d 0) ≡ get_or earlier d 0
+    pub step_chained : last_below keyed (get_or s.earlier d 0) ≡ get_or s.earlier d 0
     step_chained = rw step (last_last keyed d)
 
     -- .. and as below d
-    pub step_same : {A : Type 0} (f : ℕ → A) → ((n : ℕ) → is_named t ns names c private name n ≡ false → f (n + 1) ≡ f n) → f (get_or earlier d 0) ≡ f d
+    pub step_same : {A : Type 0} (f : ℕ → A) → ((n : ℕ) → named n ≡ false → f (n + 1) ≡ f n) → f (get_or s.earlier d 0) ≡ f d
     step_same f h = ap f step ∙ sym (skip keyed f (λ n x. h n (not_named n x)) d)
 
 -- the search for a private element of a name, where it stands

@@ -3,6 +3,7 @@ use Rattle.std.specs.Prelude.{ℕ, zero, suc, ◌+◌, ◌*◌, ◌-◌, ◌%◌
 use Rattle.std.specs.Int.Bits.{bit_and}
 use Rattle.std.specs.List.{fold}
 use Rattle.table_records.specs.Table.{count, parent_of}
+use Rattle.table_records.specs.Facts.{Named}
 use Rattle.table_records.specs.declared.NodeId.{NodeId}
 use Rattle.table_names.specs.Name.{same}
 use Rattle.table_children.specs.Children.{key_of, below}
@@ -62,6 +63,20 @@ pub record Entered (source_type : ℕ) (ns names : List ℕ) (size : ℕ) (last 
 -- all nodes are
 abbrev pub Indexed : ℕ → List ℕ → List ℕ → List ℕ → List ℕ → List ℕ → Type 0
 Indexed source_type ns names last earlier keys = Entered source_type ns names (length last) last earlier keys (count ns)
+
+-- what a clause sees of `Elements`
+pub record Buckets : Type 0 where
+  pub source_type : ℕ
+  pub nodes : List ℕ
+  pub names : List ℕ
+  pub last : List ℕ
+  pub earlier : List ℕ
+  pub keys : List ℕ
+
+-- the invariant of `Elements`
+pub record Known (s : Buckets) : Type 0 where
+  pub named : Named s.nodes s.names
+  pub indexed : Indexed s.source_type s.nodes s.names s.last s.earlier s.keys
 
 -- element e has this key in class c: as `is_named`, but that e is an element is known
 unfoldable pub has_key : List ℕ → List ℕ → ℕ → Bool → List ℕ → ℕ → Bool

@@ -8,19 +8,34 @@ ghost use Rattle.table_children.specs.Children.{below};
 ghost use Rattle.check_class_table.specs.Elements.{element_name, has_private, is_declared};
 ghost use Rattle.check_element_index.specs.Index.{hash, seed, bucket, bucket_of, is_element, key_number, Entered, Indexed, has_key};
 
+use std::marker::Model;
 use table_records::nodes::Nodes;
 use table_records::{ClassId, ElementId, NodeId};
 
-// The elements of the table, in buckets. A node is told by its number plus one, and 0 is none: there are at most 65,535 nodes.
+// A table and its elements, in buckets. A node is told by its number plus one, and 0 is none: there are at most 65,535 nodes.
 // Arrays of u16 and no Option: fixed memory, half of what u32 takes.
-#[derive(Clone, Copy)]
-pub struct Index<'a> {
+#[derive(Drop)]
+pub struct Elements<'a> {
+    pub source_type: u32,
+    pub nodes: &'a Nodes<'a>,
+    pub names: &'a [u8],
     // the last element of each bucket
     pub last: &'a [u16],
     // for each element the one before it in its bucket
     pub earlier: &'a [u16],
     // for each element its key
     pub keys: &'a [u16],
+}
+
+// In a clause it is their numbers. That all elements of the table are in their buckets is known where a function names a field.
+impl<'a> Model for Elements<'a> {
+    ghost use Rattle.check_element_index.specs.Index.{Buckets, Known};
+
+    ghost Value = { Buckets };
+
+    ghost view = { λ s. record { source_type = s.source_type; nodes = s.nodes.now; names = s.names.now; last = s.last.now; earlier = s.earlier.now; keys = s.keys.now } };
+
+    ghost invariant = { λ s. Known (record { source_type = s.source_type; nodes = s.nodes.now; names = s.names.now; last = s.last.now; earlier = s.earlier.now; keys = s.keys.now }) };
 }
 
 // What the bytes of a name are hashed to. A shift and two additions a byte, since long names are read whole for each reference to them.
@@ -132,114 +147,71 @@ pub fn build(
     }
 }
 
-// The last element of a bucket, plus one.
-fn last_in(index: &Index, b: usize) -> u32
-    requires { b < length index.now.last.now }
-    ensures { result ≡ get_or index.now.last.now b 0 }
-{
-    index.last[b] as u32
-}
-
 // The element before e in its bucket, plus one.
-pub fn earlier(index: &Index, e: ElementId) -> u32
-    requires { e.0 < length index.now.earlier.now }
-    ensures { result ≡ get_or index.now.earlier.now e.0 0 }
+pub fn earlier(elements: &Elements, e: ElementId) -> u32
+    requires { e.0 < count elements.now.nodes }
+    ensures { result ≡ get_or elements.now.earlier e.0 0 }
 {
-    index.earlier[e.0 as usize] as u32
+    elements.earlier[e.0 as usize] as u32
 }
 
 // The name of an element, without a look for its key.
-fn key_name<'a>(
-    source_type: u32,
-    nodes: &[u32],
-    names: &'a [u8],
-    index: &Index,
-    e: ElementId,
-) -> &'a [u8]
-    requires named { Named nodes.now names.now }
-    requires indexed { Indexed source_type nodes.now names.now index.now.last.now index.now.earlier.now index.now.keys.now }
-    requires e_bound { e.0 < count nodes.now }
-    requires element { is_element source_type nodes.now e.0 ≡ true }
-    ensures { result.now ≡ element_name nodes.now names.now e.0 }
+fn key_name<'a>(elements: &'a Elements, e: ElementId) -> &'a [u8]
+    requires e_bound { e.0 < count elements.now.nodes }
+    requires element { is_element elements.now.source_type elements.now.nodes e.0 ≡ true }
+    ensures { result.now ≡ element_name elements.now.nodes elements.now.names e.0 }
 {
-    let key = index.keys[e.0 as usize];
+    let key = elements.keys[e.0 as usize];
     if key == 0 {
-        return &names[0..0];
+        return &elements.names[0..0];
     }
-    table_names::name(nodes, names, NodeId(key as u32 - 1))
+    table_names::name(elements.nodes, elements.names, NodeId(key as u32 - 1))
 }
 
 // Whether an element has this key in class c.
 #[tactic(auto, unfolding(crate::specs::Index::has_key))]
-pub fn has_key(
-    source_type: u32,
-    nodes: &[u32],
-    names: &[u8],
-    index: &Index,
-    c: ClassId,
-    private: bool,
-    name: &[u8],
-    e: ElementId,
-) -> bool
-    requires named { Named nodes.now names.now }
-    requires indexed { Indexed source_type nodes.now names.now index.now.last.now index.now.earlier.now index.now.keys.now }
-    requires e_bound { e.0 < count nodes.now }
-    requires element { is_element source_type nodes.now e.0 ≡ true }
-    ensures { result ≡ has_key nodes.now names.now c.0 private name.now e.0 }
+pub fn has_key(elements: &Elements, c: ClassId, private: bool, name: &[u8], e: ElementId) -> bool
+    requires e_bound { e.0 < count elements.now.nodes }
+    requires element { is_element elements.now.source_type elements.now.nodes e.0 ≡ true }
+    ensures { result ≡ has_key elements.now.nodes elements.now.names c.0 private name.now e.0 }
 {
-    table_records::parent(nodes, NodeId::from(e)) == NodeId::from(c)
-        && check_class_table::is_private(nodes, e) == private
-        && table_names::same(key_name(source_type, nodes, names, index, e), name)
+    table_records::parent(elements.nodes, NodeId::from(e)) == NodeId::from(c)
+        && check_class_table::is_private(elements.nodes, e) == private
+        && table_names::same(key_name(elements, e), name)
 }
 
 // Whether a class has a private element of this name, which is hashed to `hashed`.
-pub fn has_private_definition(
-    source_type: u32,
-    nodes: &Nodes,
-    names: &[u8],
-    index: &Index,
-    c: ClassId,
-    name: &[u8],
-    hashed: u32,
-) -> bool
-    requires named { Named nodes.now names.now }
-    requires indexed { Indexed source_type nodes.now names.now index.now.last.now index.now.earlier.now index.now.keys.now }
-    requires c_bound { c.0 < count nodes.now }
+pub fn has_private_definition(elements: &Elements, c: ClassId, name: &[u8], hashed: u32) -> bool
+    requires c_bound { c.0 < count elements.now.nodes }
     requires hashed { hashed ≡ hash name.now }
-    ensures { result ≡ has_private source_type nodes.now names.now c.0 name.now }
+    ensures { result ≡ has_private elements.now.source_type elements.now.nodes elements.now.names c.0 name.now }
 {
+    let nodes = elements.nodes;
     let _ = &nodes.numbers; // names the field, so that its invariant is known
-    let mut at = last_in(index, bucket(index.last.len(), c, true, hashed));
+    let b = bucket(elements.last.len(), c, true, hashed);
+    let mut at = elements.last[b] as u32;
     while c.0 + 1 < at {
         let e = ElementId(at - 1);
-        if has_key(source_type, nodes, names, index, c, true, name, e) {
+        if has_key(elements, c, true, name, e) {
             return true;
         }
-        at = earlier(index, e);
+        at = earlier(elements, e);
     }
     false
 }
 
 // Whether a class or a class around it has a private element of this name.
 #[tactic(auto, using(check_class_table::proofs::ElementsLaws::declared_here, check_class_table::proofs::ElementsLaws::declared_outer, check_class_table::proofs::ElementsLaws::declared_none, check_class_table::proofs::ClassesLaws::class_found, check_class_table::proofs::ClassesLaws::class_none))]
-pub fn is_declared(
-    source_type: u32,
-    nodes: &Nodes,
-    names: &[u8],
-    index: &Index,
-    c: ClassId,
-    name: &[u8],
-) -> bool
-    requires named { Named nodes.now names.now }
-    requires indexed { Indexed source_type nodes.now names.now index.now.last.now index.now.earlier.now index.now.keys.now }
-    requires c_bound { c.0 < count nodes.now }
-    ensures { result ≡ is_declared source_type nodes.now names.now c.0 name.now }
+pub fn is_declared(elements: &Elements, c: ClassId, name: &[u8]) -> bool
+    requires c_bound { c.0 < count elements.now.nodes }
+    ensures { result ≡ is_declared elements.now.source_type elements.now.nodes elements.now.names c.0 name.now }
 {
+    let nodes = elements.nodes;
     let _ = &nodes.numbers; // names the field, so that its invariant is known
     let hashed = hash(name);
     let mut at = c;
     loop {
-        if has_private_definition(source_type, nodes, names, index, at, name, hashed) {
+        if has_private_definition(elements, at, name, hashed) {
             return true;
         }
         let Some(outer) = check_class_table::parent_class(nodes, at) else {

@@ -3,7 +3,7 @@
 
 ghost use Rattle.std.specs.Prelude.{◌≡◌, ◌+◌, ◌<◌, ◌≤◌};
 ghost use Rattle.table_records.specs.Table.{count};
-ghost use Rattle.table_records.specs.Facts.{Chained, Scoped, Spanned, Named};
+ghost use Rattle.table_records.specs.Facts.{Scoped, Spanned, Named};
 ghost use Rattle.table_children.specs.Children.{inner_of, below};
 ghost use Rattle.check_diagnostics.specs.Raises.{Adds};
 ghost use Rattle.check_expressions.specs.Expressions.{proto_key, check_object_expression, is_parenthesis, inner_expression, chain_finding, delete_of, check_unary_expression, is_parameter, in_formal_parameters, in_parameter, in_block, check_await_expression, check_yield_expression, repeated, later};
@@ -11,6 +11,7 @@ ghost use Rattle.check_expressions.specs.Expressions.{proto_key, check_object_ex
 use check_diagnostics::{Finding, Findings, codes, contexts, error_at};
 use table_children::Part;
 use table_records::nodes::Nodes;
+use table_records::scopes::Scopes;
 use table_records::{NodeId, extras, kinds, node_flag};
 
 // The key of a property, where it is written `__proto__: value`.
@@ -224,8 +225,7 @@ fn in_parameter(nodes: &Nodes, n: NodeId) -> Option<Finding>
 
 // `await` in a static block: the span is that of the word.
 #[tactic(auto, unfolding(crate::specs::Expressions::in_block))]
-fn in_block(nodes: &Nodes, scopes: &[u32], n: NodeId) -> Option<Finding>
-    requires chained { Chained scopes.now }
+fn in_block(nodes: &Nodes, scopes: &Scopes, n: NodeId) -> Option<Finding>
     requires scoped { Scoped nodes.now scopes.now }
     requires spanned { Spanned nodes.now }
     requires n_bound { n.0 < count nodes.now }
@@ -247,8 +247,7 @@ fn in_block(nodes: &Nodes, scopes: &[u32], n: NodeId) -> Option<Finding>
 // `await` in parameters, and in a static block.
 // > It is a Syntax Error if FormalParameters Contains AwaitExpression is true.
 // > It is a Syntax Error if ClassStaticBlockStatementList Contains await is true.
-pub fn check_await_expression(nodes: &Nodes, scopes: &[u32], n: NodeId, findings: &mut Findings)
-    requires chained { Chained scopes.now }
+pub fn check_await_expression(nodes: &Nodes, scopes: &Scopes, n: NodeId, findings: &mut Findings)
     requires scoped { Scoped nodes.now scopes.now }
     requires spanned { Spanned nodes.now }
     requires n_bound { n.0 < count nodes.now }

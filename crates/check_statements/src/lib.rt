@@ -3,13 +3,14 @@
 
 ghost use Rattle.std.specs.Prelude.{◌≡◌, ◌<◌, None};
 ghost use Rattle.table_records.specs.Table.{count};
-ghost use Rattle.table_records.specs.Facts.{Chained, Scoped, Spanned};
+ghost use Rattle.table_records.specs.Facts.{Scoped, Spanned};
 ghost use Rattle.table_children.specs.Children.{below, when_found};
 ghost use Rattle.check_statements.specs.Statements.{check_function_declaration, check_body, check_consequent, check_alternate, labelled_function, check_labeled_item, check_function_declaration_in_labeled_statement, check_with_statement, check_initialiser, check_left, check_for_statement_left, check_for_of_statement, check_using, check_await_using};
 
 use check_diagnostics::{Finding, codes, contexts, error, error_at};
 use table_children::Part;
 use table_records::nodes::Nodes;
+use table_records::scopes::Scopes;
 use table_records::{NodeId, extras, kinds, node_flag, roles, scope_flag};
 
 // A function declaration as the statement that n holds.
@@ -271,8 +272,7 @@ pub fn check_for_statement_left(
 // > ClassStaticBlockBody : ClassStaticBlockStatementList
 // >   It is a Syntax Error if ClassStaticBlockStatementList Contains await is true.
 #[tactic(auto, unfolding(crate::specs::Statements::check_for_of_statement))]
-pub fn check_for_of_statement(nodes: &[u32], scopes: &[u32], n: NodeId) -> Option<Finding>
-    requires chained { Chained scopes.now }
+pub fn check_for_of_statement(nodes: &[u32], scopes: &Scopes, n: NodeId) -> Option<Finding>
     requires scoped { Scoped nodes.now scopes.now }
     requires n_bound { n.0 < count nodes.now }
     ensures { result ≡ check_for_of_statement nodes.now scopes.now n.0 }
@@ -319,8 +319,7 @@ pub fn check_using(source_type: u32, nodes: &[u32], scopes: &[u32], n: NodeId) -
 
 // The second half: no `await using` in a static block.
 #[tactic(auto, unfolding(crate::specs::Statements::check_await_using))]
-pub fn check_await_using(nodes: &[u32], scopes: &[u32], n: NodeId) -> Option<Finding>
-    requires chained { Chained scopes.now }
+pub fn check_await_using(nodes: &[u32], scopes: &Scopes, n: NodeId) -> Option<Finding>
     requires scoped { Scoped nodes.now scopes.now }
     requires n_bound { n.0 < count nodes.now }
     ensures { result ≡ check_await_using nodes.now scopes.now n.0 }

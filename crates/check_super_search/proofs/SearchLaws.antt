@@ -32,7 +32,7 @@ use Rattle.check_supers.specs.declared.Reach.{Reach}
 use Rattle.check_supers.specs.declared.Reach.TheVariants.{Legal, Illegal, Underived, Fails}
 use Rattle.check_supers.specs.declared.Step.{Step}
 use Rattle.check_supers.specs.declared.Step.TheVariants.{Stop, Leave, On}
-use Rattle.check_super_search.specs.Search.{is_stop, stop_reach, underived_in, around_of, scopes_in, at_most, AroundSuper}
+use Rattle.check_super_search.specs.Search.{is_stop, stop_reach, underived_in, around_of, scopes_in, AroundSuper}
 
 -- a step that is none that ends the search
 pub not_stop : (x : Step) → ((r : Reach) → x ≡ Stop r → ⊥) → is_stop x ≡ false
@@ -221,9 +221,6 @@ module _ (ss : List ℕ) (c : Chained ss) (s : ℕ) (l : s < count_scopes ss) (l
       go true e = p (eqb-true s 0 e)
       go false e = q (let h = eqb-false s 0 e in omega arith)
 
-  pub around_less : at_most left < suc s
-  around_less = around_by (λ x. at_most x < suc s) (λ e. omega arith) (λ h. omega (arith, c.falls s h l))
-
   pub around_super : (ns : List ℕ) (n : ℕ) → scope_of ns n < count_scopes ss → on (scope_parent_of ss) s (scope_of ns n) ≡ true → AroundSuper ns ss n left
   around_super ns n k o =
       around_by (AroundSuper ns ss n) (λ e. tt) (λ h. (omega (arith, c.falls s h l), around ss c (scope_of ns n) s (scope_parent_of ss s) k l h refl o))
@@ -258,7 +255,7 @@ module _ (ns ss : List ℕ) (n : ℕ) (call : Bool) (class : Option NodeId) (sta
       go false true false e = never e
 
 -- the search as the loop has it: what is left of it equals the whole
-module _ (ns ss : List ℕ) (t : Tree ns) (c : Chained ss) (n : ℕ) (l : n < count ns) where
+module _ (ns ss : List ℕ) (t : Tree ns) (n : ℕ) (l : n < count ns) where
   abbrev pub Answers : Reach → Type 0
   Answers r = (r ≡ reach_of ns ss n) × underived_in ns r
 
@@ -278,16 +275,16 @@ module _ (ns ss : List ℕ) (t : Tree ns) (c : Chained ss) (n : ℕ) (l : n < co
     pub class_value : is_class_scope ns class s ≡ true → place_of ns start ≡ Some Value → (r : Reach) → r ≡ if_call call → Answers r
     class_value e p r f = stops (Stop (if_call call)) (sym (step_class ns ss n call class start s e (Some Value) p)) refl r f
 
-    pub class_key : is_class_scope ns class s ≡ true → place_of ns start ≡ Some Key → s < count_scopes ss → (left : Option ScopeId) → left ≡ around_of ss s → (k : Option NodeId) → k ≡ leave_class ns class → (b : ℕ) → b ≡ scope_node_of ss s
+    pub class_key : Chained ss → is_class_scope ns class s ≡ true → place_of ns start ≡ Some Key → s < count_scopes ss → (left : Option ScopeId) → left ≡ around_of ss s → (k : Option NodeId) → k ≡ leave_class ns class → (b : ℕ) → b ≡ scope_node_of ss s
         → reach_from ns ss n call (scopes_in ss left) k b ≡ reach_of ns ss n
-    class_key e p h left f k g b d = rw (g, d) (sym (next_scopes ss c s h left f ns n call class start Leave (sym (step_class ns ss n call class start s e (Some Key) p)) refl) ∙ i)
+    class_key c e p h left f k g b d = rw (g, d) (sym (next_scopes ss c s h left f ns n call class start Leave (sym (step_class ns ss n call class start s e (Some Key) p)) refl) ∙ i)
 
     pub scope_stops : is_class_scope ns class s ≡ false → (x : Step) → x ≡ scope_step ns ss n call class s → is_stop x ≡ true → (r : Reach) → r ≡ stop_reach x → Answers r
     scope_stops e x f q r g = stops x (f ∙ sym (step_other ns ss n call class start s e)) q r g
 
-    pub scope_goes : is_class_scope ns class s ≡ false → (x : Step) → x ≡ scope_step ns ss n call class s → is_stop x ≡ false → s < count_scopes ss → (left : Option ScopeId) → left ≡ around_of ss s → (b : ℕ) → b ≡ scope_node_of ss s
+    pub scope_goes : Chained ss → is_class_scope ns class s ≡ false → (x : Step) → x ≡ scope_step ns ss n call class s → is_stop x ≡ false → s < count_scopes ss → (left : Option ScopeId) → left ≡ around_of ss s → (b : ℕ) → b ≡ scope_node_of ss s
         → reach_from ns ss n call (scopes_in ss left) class b ≡ reach_of ns ss n
-    scope_goes e x f q h left g b d =
+    scope_goes c e x f q h left g b d =
         let o : scope_step ns ss n call class s ≡ On = goes_on_lem ns ss n call class start s (ap is_stop (sym f) ∙ q) in
         rw d (sym (next_scopes ss c s h left g ns n call class start On (sym (step_other ns ss n call class start s e ∙ o)) refl) ∙ i)
 

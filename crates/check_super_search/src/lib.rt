@@ -3,7 +3,7 @@
 
 ghost use Rattle.std.specs.Prelude.{◌≡◌, ◌<◌};
 ghost use Rattle.table_records.specs.Table.{count, count_scopes};
-ghost use Rattle.table_records.specs.Facts.{Chained, Scoped};
+ghost use Rattle.table_records.specs.Facts.{Scoped};
 ghost use Rattle.table_children.specs.Children.{below};
 ghost use Rattle.check_supers.specs.Super.{reach_of, fails_at, by_reach, check_super};
 ghost use Rattle.check_super_search.specs.Search.{underived_in, around_of};
@@ -11,11 +11,11 @@ ghost use Rattle.check_super_search.specs.Search.{underived_in, around_of};
 use check_diagnostics::{Finding, codes, contexts, error_at};
 use check_supers::{ElementPart, Reach, Step};
 use table_records::nodes::Nodes;
+use table_records::scopes::Scopes;
 use table_records::{NodeId, ScopeId, kinds};
 
 // The scopes around s.
-fn around(scopes: &[u32], s: ScopeId) -> Option<ScopeId>
-    requires chained { Chained scopes.now }
+fn around(scopes: &Scopes, s: ScopeId) -> Option<ScopeId>
     requires s_bound { s.0 < count_scopes scopes.now }
     ensures { result ≡ around_of scopes.now s.0 }
 {
@@ -30,8 +30,7 @@ fn around(scopes: &[u32], s: ScopeId) -> Option<ScopeId>
 // > * It is a Syntax Error if ModuleItemList Contains super.
 // > ScriptBody : StatementList
 // > * It is a Syntax Error if StatementList Contains super
-pub fn reach(nodes: &Nodes, scopes: &[u32], n: NodeId) -> Reach
-    requires chained { Chained scopes.now }
+pub fn reach(nodes: &Nodes, scopes: &Scopes, n: NodeId) -> Reach
     requires scoped { Scoped nodes.now scopes.now }
     requires n_bound { n.0 < count nodes.now }
     ensures value { result ≡ reach_of nodes.now scopes.now n.0 }
@@ -76,8 +75,7 @@ pub fn reach(nodes: &Nodes, scopes: &[u32], n: NodeId) -> Reach
 
 // Whether n is a Super whose search the Rust ends in a failure.
 #[tactic(auto, unfolding(check_supers::specs::Super::fails_at))]
-pub fn fails_at(nodes: &Nodes, scopes: &[u32], n: NodeId) -> bool
-    requires chained { Chained scopes.now }
+pub fn fails_at(nodes: &Nodes, scopes: &Scopes, n: NodeId) -> bool
     requires scoped { Scoped nodes.now scopes.now }
     requires n_bound { n.0 < count nodes.now }
     ensures { result ≡ fails_at nodes.now scopes.now n.0 }
@@ -123,8 +121,7 @@ fn by_reach(nodes: &Nodes, n: NodeId, r: Reach) -> Option<Finding>
 }
 
 #[tactic(auto, unfolding(check_supers::specs::Super::check_super))]
-pub fn check_super(nodes: &Nodes, scopes: &[u32], n: NodeId) -> Option<Finding>
-    requires chained { Chained scopes.now }
+pub fn check_super(nodes: &Nodes, scopes: &Scopes, n: NodeId) -> Option<Finding>
     requires scoped { Scoped nodes.now scopes.now }
     requires n_bound { n.0 < count nodes.now }
     ensures { result ≡ check_super nodes.now scopes.now n.0 }

@@ -2,7 +2,7 @@
 #![tactic(auto)]
 
 ghost use Rattle.std.specs.Prelude.{ℕ, ◌≡◌, ◌≤◌, ◌<◌, ◌+◌, true, false, eqb, ltb, cond, ◌&&◌, length};
-ghost use Rattle.table_records.specs.Table.{count};
+ghost use Rattle.table_records.specs.Table.{count, kind_of};
 ghost use Rattle.refusal_verdict.specs.First.{first};
 ghost use Rattle.refusal_counts.specs.Counts.{is_default, wrong_body, wrong_alternate, wrong_default, wrong_try, wrong_clause, wrong_label, wrong_function, wrong_class, wrong_value, wrong_element, wrong_statement, wrong_part, wrong_home, wrong_count_at};
 ghost use Rattle.refusal_counts.specs.declared.Sort.{Sort};
@@ -153,180 +153,170 @@ fn tally(nodes: &Nodes, seen: &mut [u32])
     }
 }
 
-// Whether p has just one child of this sort ..
-#[tactic(auto, using(crate::proofs::TallyLaws::says_one))]
-fn has_one(nodes: &[u32], p: NodeId, seen: u32, sort: Sort) -> bool
-    requires { Notes nodes.now p.0 seen (count nodes.now) }
-    ensures { result ≡ eqb (number nodes.now p.0 sort) 1 }
-{
-    digit(seen, sort) == 1
+// A node, and what the pass has noted of it.
+#[derive(Drop)]
+struct Noted<'a> {
+    nodes: &'a Nodes<'a>,
+    node: NodeId,
+    seen: u32,
+    ghost in_table: { node.0 < count nodes.now },
+    ghost notes: { Notes nodes.now node.0 seen (count nodes.now) },
 }
 
-// .. or more than one ..
-#[tactic(auto, using(crate::proofs::TallyLaws::says_more))]
-fn has_more(nodes: &[u32], p: NodeId, seen: u32, sort: Sort) -> bool
-    requires { Notes nodes.now p.0 seen (count nodes.now) }
-    ensures { result ≡ ltb 1 (number nodes.now p.0 sort) }
-{
-    1 < digit(seen, sort)
-}
+impl Noted<'_> {
+    fn kind(&self) -> u32
+        ensures { result ≡ kind_of self.now.nodes.now self.now.node.0 }
+    {
+        table_records::kind(self.nodes, self.node)
+    }
 
-// .. or none.
-#[tactic(auto, using(crate::proofs::TallyLaws::says_none))]
-fn has_none(nodes: &[u32], p: NodeId, seen: u32, sort: Sort) -> bool
-    requires { Notes nodes.now p.0 seen (count nodes.now) }
-    ensures { result ≡ eqb (number nodes.now p.0 sort) 0 }
-{
-    digit(seen, sort) == 0
+    // Whether it has just one child of this sort ..
+    #[tactic(auto, using(crate::proofs::TallyLaws::says_one))]
+    fn has_one(&self, sort: Sort) -> bool
+        ensures { result ≡ eqb (number self.now.nodes.now self.now.node.0 sort) 1 }
+    {
+        digit(self.seen, sort) == 1
+    }
+
+    // .. or more than one ..
+    #[tactic(auto, using(crate::proofs::TallyLaws::says_more))]
+    fn has_more(&self, sort: Sort) -> bool
+        ensures { result ≡ ltb 1 (number self.now.nodes.now self.now.node.0 sort) }
+    {
+        1 < digit(self.seen, sort)
+    }
+
+    // .. or none.
+    #[tactic(auto, using(crate::proofs::TallyLaws::says_none))]
+    fn has_none(&self, sort: Sort) -> bool
+        ensures { result ≡ eqb (number self.now.nodes.now self.now.node.0 sort) 0 }
+    {
+        digit(self.seen, sort) == 0
+    }
 }
 
 #[tactic(auto, unfolding(crate::specs::Counts::wrong_body))]
-fn wrong_body(nodes: &[u32], n: NodeId, seen: u32) -> bool
-    requires n_bound { n.0 < count nodes.now }
-    requires seen { Notes nodes.now n.0 seen (count nodes.now) }
-    ensures { result ≡ wrong_body nodes.now n.0 }
+fn wrong_body(noted: &Noted) -> bool
+    ensures { result ≡ wrong_body noted.now.nodes.now noted.now.node.0 }
 {
-    matches!(table_records::kind(nodes, n), kinds::LABELED..=kinds::WITH)
-        && !has_one(nodes, n, seen, Sort::Held)
+    matches!(noted.kind(), kinds::LABELED..=kinds::WITH) && !noted.has_one(Sort::Held)
 }
 
 #[tactic(auto, unfolding(crate::specs::Counts::wrong_alternate))]
-fn wrong_alternate(nodes: &[u32], n: NodeId, seen: u32) -> bool
-    requires n_bound { n.0 < count nodes.now }
-    requires seen { Notes nodes.now n.0 seen (count nodes.now) }
-    ensures { result ≡ wrong_alternate nodes.now n.0 }
+fn wrong_alternate(noted: &Noted) -> bool
+    ensures { result ≡ wrong_alternate noted.now.nodes.now noted.now.node.0 }
 {
-    table_records::kind(nodes, n) == kinds::IF && has_more(nodes, n, seen, Sort::Alternate)
+    noted.kind() == kinds::IF && noted.has_more(Sort::Alternate)
 }
 
 #[tactic(auto, unfolding(crate::specs::Counts::wrong_default))]
-fn wrong_default(nodes: &[u32], n: NodeId, seen: u32) -> bool
-    requires n_bound { n.0 < count nodes.now }
-    requires seen { Notes nodes.now n.0 seen (count nodes.now) }
-    ensures { result ≡ wrong_default nodes.now n.0 }
+fn wrong_default(noted: &Noted) -> bool
+    ensures { result ≡ wrong_default noted.now.nodes.now noted.now.node.0 }
 {
-    table_records::kind(nodes, n) == kinds::SWITCH && has_more(nodes, n, seen, Sort::Default)
+    noted.kind() == kinds::SWITCH && noted.has_more(Sort::Default)
 }
 
 #[tactic(auto, unfolding(crate::specs::Counts::wrong_try))]
-fn wrong_try(nodes: &[u32], n: NodeId, seen: u32) -> bool
-    requires n_bound { n.0 < count nodes.now }
-    requires seen { Notes nodes.now n.0 seen (count nodes.now) }
-    ensures { result ≡ wrong_try nodes.now n.0 }
+fn wrong_try(noted: &Noted) -> bool
+    ensures { result ≡ wrong_try noted.now.nodes.now noted.now.node.0 }
 {
-    table_records::kind(nodes, n) == kinds::TRY
-        && (!has_one(nodes, n, seen, Sort::Held)
-            || has_more(nodes, n, seen, Sort::Alternate)
-            || has_more(nodes, n, seen, Sort::Finally)
-            || has_none(nodes, n, seen, Sort::Handler))
+    noted.kind() == kinds::TRY
+        && (!noted.has_one(Sort::Held)
+            || noted.has_more(Sort::Alternate)
+            || noted.has_more(Sort::Finally)
+            || noted.has_none(Sort::Handler))
 }
 
 #[tactic(auto, unfolding(crate::specs::Counts::wrong_clause))]
-fn wrong_clause(nodes: &[u32], n: NodeId, seen: u32) -> bool
-    requires n_bound { n.0 < count nodes.now }
-    requires seen { Notes nodes.now n.0 seen (count nodes.now) }
-    ensures { result ≡ wrong_clause nodes.now n.0 }
+fn wrong_clause(noted: &Noted) -> bool
+    ensures { result ≡ wrong_clause noted.now.nodes.now noted.now.node.0 }
 {
-    table_records::kind(nodes, n) == kinds::CATCH_CLAUSE && !has_one(nodes, n, seen, Sort::Held)
+    noted.kind() == kinds::CATCH_CLAUSE && !noted.has_one(Sort::Held)
 }
 
 #[tactic(auto, unfolding(crate::specs::Counts::wrong_label))]
-fn wrong_label(nodes: &[u32], n: NodeId, seen: u32) -> bool
-    requires n_bound { n.0 < count nodes.now }
-    requires seen { Notes nodes.now n.0 seen (count nodes.now) }
-    ensures { result ≡ wrong_label nodes.now n.0 }
+fn wrong_label(noted: &Noted) -> bool
+    ensures { result ≡ wrong_label noted.now.nodes.now noted.now.node.0 }
 {
-    match table_records::kind(nodes, n) {
-        kinds::LABELED => !has_one(nodes, n, seen, Sort::Label),
-        kinds::BREAK..=kinds::CONTINUE => has_more(nodes, n, seen, Sort::Label),
+    match noted.kind() {
+        kinds::LABELED => !noted.has_one(Sort::Label),
+        kinds::BREAK..=kinds::CONTINUE => noted.has_more(Sort::Label),
         _ => false,
     }
 }
 
 #[tactic(auto, unfolding(crate::specs::Counts::wrong_function))]
-fn wrong_function(nodes: &[u32], n: NodeId, seen: u32) -> bool
-    requires n_bound { n.0 < count nodes.now }
-    requires seen { Notes nodes.now n.0 seen (count nodes.now) }
-    ensures { result ≡ wrong_function nodes.now n.0 }
+fn wrong_function(noted: &Noted) -> bool
+    ensures { result ≡ wrong_function noted.now.nodes.now noted.now.node.0 }
 {
-    matches!(
-        table_records::kind(nodes, n),
-        kinds::FUNCTION..=kinds::ARROW
-    ) && has_more(nodes, n, seen, Sort::FunctionBody)
+    matches!(noted.kind(), kinds::FUNCTION..=kinds::ARROW) && noted.has_more(Sort::FunctionBody)
 }
 
 #[tactic(auto, unfolding(crate::specs::Counts::wrong_class))]
-fn wrong_class(nodes: &[u32], n: NodeId, seen: u32) -> bool
-    requires n_bound { n.0 < count nodes.now }
-    requires seen { Notes nodes.now n.0 seen (count nodes.now) }
-    ensures { result ≡ wrong_class nodes.now n.0 }
+fn wrong_class(noted: &Noted) -> bool
+    ensures { result ≡ wrong_class noted.now.nodes.now noted.now.node.0 }
 {
-    table_records::kind(nodes, n) == kinds::CLASS && !has_one(nodes, n, seen, Sort::ClassBody)
+    noted.kind() == kinds::CLASS && !noted.has_one(Sort::ClassBody)
 }
 
 #[tactic(auto, unfolding(crate::specs::Counts::wrong_value))]
-fn wrong_value(nodes: &[u32], n: NodeId, seen: u32) -> bool
-    requires n_bound { n.0 < count nodes.now }
-    requires seen { Notes nodes.now n.0 seen (count nodes.now) }
-    ensures { result ≡ wrong_value nodes.now n.0 }
+fn wrong_value(noted: &Noted) -> bool
+    ensures { result ≡ wrong_value noted.now.nodes.now noted.now.node.0 }
 {
-    if table_records::kind(nodes, n) == kinds::METHOD_DEFINITION {
-        !has_one(nodes, n, seen, Sort::Value)
+    if noted.kind() == kinds::METHOD_DEFINITION {
+        !noted.has_one(Sort::Value)
     } else {
-        has_more(nodes, n, seen, Sort::Value)
+        noted.has_more(Sort::Value)
     }
 }
 
 #[tactic(auto, unfolding(crate::specs::Counts::wrong_element))]
-fn wrong_element(nodes: &[u32], n: NodeId, seen: u32) -> bool
-    requires n_bound { n.0 < count nodes.now }
-    requires seen { Notes nodes.now n.0 seen (count nodes.now) }
-    ensures { result ≡ wrong_element nodes.now n.0 }
+fn wrong_element(noted: &Noted) -> bool
+    ensures { result ≡ wrong_element noted.now.nodes.now noted.now.node.0 }
 {
     matches!(
-        table_records::kind(nodes, n),
+        noted.kind(),
         kinds::METHOD_DEFINITION..=kinds::ACCESSOR_PROPERTY
-    ) && (!has_one(nodes, n, seen, Sort::Key) || wrong_value(nodes, n, seen))
+    ) && (!noted.has_one(Sort::Key) || wrong_value(noted))
 }
 
 #[tactic(auto, unfolding(crate::specs::Counts::wrong_statement))]
-fn wrong_statement(nodes: &[u32], n: NodeId, seen: u32) -> bool
-    requires n_bound { n.0 < count nodes.now }
-    requires seen { Notes nodes.now n.0 seen (count nodes.now) }
-    ensures { result ≡ wrong_statement nodes.now n.0 }
+fn wrong_statement(noted: &Noted) -> bool
+    ensures { result ≡ wrong_statement noted.now.nodes.now noted.now.node.0 }
 {
-    wrong_body(nodes, n, seen) || wrong_alternate(nodes, n, seen) || wrong_label(nodes, n, seen)
+    wrong_body(noted) || wrong_alternate(noted) || wrong_label(noted)
 }
 
 #[tactic(auto, unfolding(crate::specs::Counts::wrong_part))]
-fn wrong_part(nodes: &[u32], n: NodeId, seen: u32) -> bool
-    requires n_bound { n.0 < count nodes.now }
-    requires seen { Notes nodes.now n.0 seen (count nodes.now) }
-    ensures { result ≡ wrong_part nodes.now n.0 }
+fn wrong_part(noted: &Noted) -> bool
+    ensures { result ≡ wrong_part noted.now.nodes.now noted.now.node.0 }
 {
-    wrong_default(nodes, n, seen) || wrong_try(nodes, n, seen) || wrong_clause(nodes, n, seen)
+    wrong_default(noted) || wrong_try(noted) || wrong_clause(noted)
 }
 
 #[tactic(auto, unfolding(crate::specs::Counts::wrong_home))]
-fn wrong_home(nodes: &[u32], n: NodeId, seen: u32) -> bool
-    requires n_bound { n.0 < count nodes.now }
-    requires seen { Notes nodes.now n.0 seen (count nodes.now) }
-    ensures { result ≡ wrong_home nodes.now n.0 }
+fn wrong_home(noted: &Noted) -> bool
+    ensures { result ≡ wrong_home noted.now.nodes.now noted.now.node.0 }
 {
-    wrong_function(nodes, n, seen) || wrong_class(nodes, n, seen) || wrong_element(nodes, n, seen)
+    wrong_function(noted) || wrong_class(noted) || wrong_element(noted)
 }
 
 #[tactic(auto, unfolding(crate::specs::Counts::wrong_count_at), using(crate::proofs::CountsLaws::uncounted))]
-fn wrong_count_at(nodes: &[u32], n: NodeId, seen: u32) -> bool
+fn wrong_count_at(nodes: &Nodes, n: NodeId, seen: u32) -> bool
     requires n_bound { n.0 < count nodes.now }
     requires seen { Notes nodes.now n.0 seen (count nodes.now) }
     ensures { result ≡ wrong_count_at nodes.now n.0 }
 {
+    let noted = &Noted {
+        nodes,
+        node: n,
+        seen,
+    };
     // no sentence counts the children of a later kind
-    if kinds::ACCESSOR_PROPERTY < table_records::kind(nodes, n) {
+    if kinds::ACCESSOR_PROPERTY < noted.kind() {
         return false;
     }
-    wrong_statement(nodes, n, seen) || wrong_part(nodes, n, seen) || wrong_home(nodes, n, seen)
+    wrong_statement(noted) || wrong_part(noted) || wrong_home(noted)
 }
 
 // The lowest node with a wrong number of children, over the filled array.

@@ -4,7 +4,7 @@
 
 ghost use Rattle.std.specs.Prelude.{◌≡◌};
 ghost use Rattle.table_records.specs.Table.{count};
-ghost use Rattle.table_records.specs.Facts.{Chained, Scoped};
+ghost use Rattle.table_records.specs.Facts.{Scoped};
 ghost use Rattle.check_supers.specs.Super.{fails_at};
 ghost use Rattle.refusal_verdict.specs.First.{first};
 ghost use Rattle.refusal_input.specs.Input.{shape_refusal, input_refusal};
@@ -12,11 +12,11 @@ ghost use Rattle.refusal_input.specs.Input.{shape_refusal, input_refusal};
 use refusal_verdict::{Refusal, Refused};
 use table_records::NodeId;
 use table_records::nodes::Nodes;
+use table_records::scopes::Scopes;
 
 // The lowest Super whose search the Rust ends in a failure.
 #[tactic(auto, using(refusal_verdict::proofs::FirstLaws::first_on, refusal_verdict::proofs::FirstLaws::first_stop, refusal_verdict::proofs::FirstLaws::first_end))]
-fn failing(nodes: &Nodes, scopes: &[u32]) -> Option<u32>
-    requires chained { Chained scopes.now }
+fn failing(nodes: &Nodes, scopes: &Scopes) -> Option<u32>
     requires scoped { Scoped nodes.now scopes.now }
     ensures { result ≡ first (fails_at nodes.now scopes.now) 0 (count nodes.now) }
 {
@@ -30,8 +30,7 @@ fn failing(nodes: &Nodes, scopes: &[u32]) -> Option<u32>
 
 // 13, 14, 6 and 15, each over the whole tree.
 #[tactic(auto, using(refusal_verdict::proofs::VerdictLaws::handed, refusal_verdict::proofs::VerdictLaws::stopped, refusal_verdict::proofs::VerdictLaws::went_on), unfolding(crate::specs::Input::shape_refusal))]
-fn shape_refusal(nodes: &Nodes, scopes: &[u32]) -> Result<(), Refused>
-    requires chained { Chained scopes.now }
+fn shape_refusal(nodes: &Nodes, scopes: &Scopes) -> Result<(), Refused>
     requires scoped { Scoped nodes.now scopes.now }
     ensures { result ≡ shape_refusal nodes.now scopes.now }
 {
@@ -61,6 +60,8 @@ pub fn refusal(
     let nodes = &Nodes { numbers: nodes };
     Refusal::Bytes.at(refusal_fields::stray(nodes, source, names))?;
     Refusal::Scopes.at(refusal_scopes::broken(scopes))?;
+    // no scope record is broken
+    let scopes = &Scopes { numbers: scopes };
     Refusal::Scopes.at(refusal_scopes::misscoped(nodes, scopes))?;
     shape_refusal(nodes, scopes)
 }

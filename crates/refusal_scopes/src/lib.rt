@@ -4,12 +4,12 @@
 ghost use Rattle.std.specs.Prelude.{◌≡◌, ◌≤◌, ◌<◌, length};
 ghost use Rattle.table_records.specs.Table.{count, count_scopes, IsTableSize};
 ghost use Rattle.refusal_verdict.specs.First.{first};
-ghost use Rattle.table_records.specs.Facts.{Chained};
 ghost use Rattle.refusal_scopes.specs.Scopes.{broken_at, misscoped_at};
 ghost use Rattle.refusal_scopes.specs.OwnScopes.{Meets, Deep, shares_scope};
 
 use table_ancestry::is_on_path;
 use table_records::nodes::Nodes;
+use table_records::scopes::Scopes;
 use table_records::{NodeId, ScopeId, kinds};
 
 // No node has this number: there are at most 65,535. It stands in place of an Option: as Option<u32> the array of the chains' deepest nodes would take 512 KB
@@ -62,8 +62,7 @@ pub fn broken(scopes: &[u32]) -> Option<u32>
 
 // For each scope the deepest node of its chain, or none where the chain's nodes lie on no one way up: so that no chain is walked for each node anew.
 #[tactic(auto, using(std::proofs::lemmas::Grind::moves, crate::proofs::ScopesLaws::chain_root, crate::proofs::ScopesLaws::chain_up, crate::proofs::ScopesLaws::scope_falls))]
-fn deepest(nodes: &Nodes, scopes: &[u32], deep: &mut [u32])
-    requires chained { Chained scopes.now }
+fn deepest(nodes: &Nodes, scopes: &Scopes, deep: &mut [u32])
     requires scopes_in_bounds { count_scopes scopes.now ≤ length deep.old }
     ensures { Deep nodes.now scopes.now deep.new (count_scopes scopes.now) }
 {
@@ -77,8 +76,7 @@ fn deepest(nodes: &Nodes, scopes: &[u32], deep: &mut [u32])
 
 // Whether the scope of node n is missing or does not fit it.
 #[tactic(auto, unfolding(crate::specs::Scopes::misscoped_at))]
-fn misscoped_at(nodes: &Nodes, scopes: &[u32], deep: &[u32], n: NodeId) -> bool
-    requires chained { Chained scopes.now }
+fn misscoped_at(nodes: &Nodes, scopes: &Scopes, deep: &[u32], n: NodeId) -> bool
     requires scopes_in_bounds { count_scopes scopes.now ≤ length deep.now }
     requires deep { Deep nodes.now scopes.now deep.now (count_scopes scopes.now) }
     requires n_bound { n.0 < count nodes.now }
@@ -103,8 +101,7 @@ fn shares_scope(nodes: &Nodes, n: NodeId) -> bool
 
 // The lowest node whose scope is missing or does not fit it, over the filled array.
 #[tactic(auto, using(refusal_verdict::proofs::FirstLaws::first_on, refusal_verdict::proofs::FirstLaws::first_stop, refusal_verdict::proofs::FirstLaws::first_end, crate::proofs::ScopesLaws::shares_fits))]
-fn misscoped_by(nodes: &Nodes, scopes: &[u32], deep: &[u32]) -> Option<u32>
-    requires chained { Chained scopes.now }
+fn misscoped_by(nodes: &Nodes, scopes: &Scopes, deep: &[u32]) -> Option<u32>
     requires scopes_in_bounds { count_scopes scopes.now ≤ length deep.now }
     requires deep { Deep nodes.now scopes.now deep.now (count_scopes scopes.now) }
     ensures { result ≡ first (misscoped_at nodes.now scopes.now) 0 (count nodes.now) }
@@ -120,8 +117,7 @@ fn misscoped_by(nodes: &Nodes, scopes: &[u32], deep: &[u32]) -> Option<u32>
 
 // With an array of N numbers, which is on the stack while this function runs alone.
 #[inline(never)]
-fn misscoped_in<const N: usize>(nodes: &Nodes, scopes: &[u32]) -> Option<u32>
-    requires chained { Chained scopes.now }
+fn misscoped_in<const N: usize>(nodes: &Nodes, scopes: &Scopes) -> Option<u32>
     requires scopes_in_bounds { count_scopes scopes.now ≤ N }
     requires small { N ≤ 65536 }
     ensures { result ≡ first (misscoped_at nodes.now scopes.now) 0 (count nodes.now) }
@@ -132,8 +128,7 @@ fn misscoped_in<const N: usize>(nodes: &Nodes, scopes: &[u32]) -> Option<u32>
 }
 
 // The lowest node whose scope is missing or does not fit it.
-pub fn misscoped(nodes: &Nodes, scopes: &[u32]) -> Option<u32>
-    requires chained { Chained scopes.now }
+pub fn misscoped(nodes: &Nodes, scopes: &Scopes) -> Option<u32>
     ensures { result ≡ first (misscoped_at nodes.now scopes.now) 0 (count nodes.now) }
 {
     // an array that serves few scopes costs less to clear, and less of the stack

@@ -1,4 +1,4 @@
-// Refusal 13, a misplaced child: where a node of a kind and a role may stand. `above` is the kind of its parent.
+// Refusal 13, a misplaced child: where a node of a kind and a role may stand.
 #![tactic(auto)]
 
 ghost use Rattle.std.specs.Prelude.{◌≡◌, ◌<◌};
@@ -49,41 +49,51 @@ fn is_held(role: u32) -> bool
     matches!(role, roles::HELD..=roles::FINALLY)
 }
 
+// A child as it is judged: `above` is the kind of its parent.
+#[derive(Clone, Copy)]
+struct Child {
+    kind: u32,
+    role: u32,
+    above: u32,
+}
+
 #[tactic(auto, unfolding(crate::specs::Standing::stray_statement))]
-fn stray_statement(kind: u32, role: u32, above: u32) -> bool
-    ensures { result ≡ stray_statement kind role above }
+fn stray_statement(child: Child) -> bool
+    ensures { result ≡ stray_statement child.kind child.role child.above }
 {
-    is_statement(kind) && !(is_held(role) && is_holder(above))
+    is_statement(child.kind) && !(is_held(child.role) && is_holder(child.above))
 }
 
 #[tactic(auto, unfolding(crate::specs::Standing::stray_held))]
-fn stray_held(kind: u32, role: u32, above: u32) -> bool
-    ensures { result ≡ stray_held kind role above }
+fn stray_held(child: Child) -> bool
+    ensures { result ≡ stray_held child.kind child.role child.above }
 {
-    let clause = kind == kinds::CATCH_CLAUSE && above == kinds::TRY;
-    is_held(role) && is_holder(above) && !(is_statement(kind) || may_be_statement(kind) || clause)
+    let clause = child.kind == kinds::CATCH_CLAUSE && child.above == kinds::TRY;
+    is_held(child.role)
+        && is_holder(child.above)
+        && !(is_statement(child.kind) || may_be_statement(child.kind) || clause)
 }
 
 #[tactic(auto, unfolding(crate::specs::Standing::stray_alternate))]
-fn stray_alternate(role: u32, above: u32) -> bool
-    ensures { result ≡ stray_alternate role above }
+fn stray_alternate(child: Child) -> bool
+    ensures { result ≡ stray_alternate child.role child.above }
 {
-    let of_if = above == kinds::IF && role == roles::ALTERNATE;
-    matches!(role, roles::ALTERNATE..=roles::FINALLY) && !(above == kinds::TRY || of_if)
+    let of_if = child.above == kinds::IF && child.role == roles::ALTERNATE;
+    matches!(child.role, roles::ALTERNATE..=roles::FINALLY) && !(child.above == kinds::TRY || of_if)
 }
 
 #[tactic(auto, unfolding(crate::specs::Standing::stray_in_switch))]
-fn stray_in_switch(kind: u32, role: u32, above: u32) -> bool
-    ensures { result ≡ stray_in_switch kind role above }
+fn stray_in_switch(child: Child) -> bool
+    ensures { result ≡ stray_in_switch child.kind child.role child.above }
 {
-    above == kinds::SWITCH && role == roles::HELD && kind != kinds::SWITCH_CASE
+    child.above == kinds::SWITCH && child.role == roles::HELD && child.kind != kinds::SWITCH_CASE
 }
 
 #[tactic(auto, unfolding(crate::specs::Standing::stray_case))]
-fn stray_case(kind: u32, role: u32, above: u32) -> bool
-    ensures { result ≡ stray_case kind role above }
+fn stray_case(child: Child) -> bool
+    ensures { result ≡ stray_case child.kind child.role child.above }
 {
-    kind == kinds::SWITCH_CASE && !(above == kinds::SWITCH && role == roles::HELD)
+    child.kind == kinds::SWITCH_CASE && !(child.above == kinds::SWITCH && child.role == roles::HELD)
 }
 
 // What a Try holds with a role.
@@ -98,83 +108,87 @@ fn try_part(role: u32) -> u32
 }
 
 #[tactic(auto, unfolding(crate::specs::Standing::stray_in_try))]
-fn stray_in_try(kind: u32, role: u32, above: u32) -> bool
-    ensures { result ≡ stray_in_try kind role above }
+fn stray_in_try(child: Child) -> bool
+    ensures { result ≡ stray_in_try child.kind child.role child.above }
 {
-    above == kinds::TRY && is_held(role) && kind != try_part(role)
+    child.above == kinds::TRY && is_held(child.role) && child.kind != try_part(child.role)
 }
 
 #[tactic(auto, unfolding(crate::specs::Standing::stray_clause))]
-fn stray_clause(kind: u32, role: u32, above: u32) -> bool
-    ensures { result ≡ stray_clause kind role above }
+fn stray_clause(child: Child) -> bool
+    ensures { result ≡ stray_clause child.kind child.role child.above }
 {
-    kind == kinds::CATCH_CLAUSE && !(above == kinds::TRY && role == roles::ALTERNATE)
+    child.kind == kinds::CATCH_CLAUSE
+        && !(child.above == kinds::TRY && child.role == roles::ALTERNATE)
 }
 
 #[tactic(auto, unfolding(crate::specs::Standing::stray_in_clause))]
-fn stray_in_clause(kind: u32, role: u32, above: u32) -> bool
-    ensures { result ≡ stray_in_clause kind role above }
+fn stray_in_clause(child: Child) -> bool
+    ensures { result ≡ stray_in_clause child.kind child.role child.above }
 {
-    above == kinds::CATCH_CLAUSE && role == roles::HELD && kind != kinds::BLOCK
+    child.above == kinds::CATCH_CLAUSE && child.role == roles::HELD && child.kind != kinds::BLOCK
 }
 
 #[tactic(auto, unfolding(crate::specs::Standing::stray_function_body))]
-fn stray_function_body(kind: u32, above: u32) -> bool
-    ensures { result ≡ stray_function_body kind above }
+fn stray_function_body(child: Child) -> bool
+    ensures { result ≡ stray_function_body child.kind child.above }
 {
-    kind == kinds::FUNCTION_BODY && !matches!(above, kinds::FUNCTION..=kinds::ARROW)
+    child.kind == kinds::FUNCTION_BODY && !matches!(child.above, kinds::FUNCTION..=kinds::ARROW)
 }
 
 #[tactic(auto, unfolding(crate::specs::Standing::stray_class_body))]
-fn stray_class_body(kind: u32, above: u32) -> bool
-    ensures { result ≡ stray_class_body kind above }
+fn stray_class_body(child: Child) -> bool
+    ensures { result ≡ stray_class_body child.kind child.above }
 {
-    kind == kinds::CLASS_BODY && above != kinds::CLASS
+    child.kind == kinds::CLASS_BODY && child.above != kinds::CLASS
 }
 
 #[tactic(auto, unfolding(crate::specs::Standing::stray_element))]
-fn stray_element(kind: u32, above: u32) -> bool
-    ensures { result ≡ stray_element kind above }
+fn stray_element(child: Child) -> bool
+    ensures { result ≡ stray_element child.kind child.above }
 {
-    let element = matches!(kind, kinds::METHOD_DEFINITION..=kinds::ACCESSOR_PROPERTY);
-    (element || kind == kinds::STATIC_BLOCK) && above != kinds::CLASS_BODY
+    let element = matches!(
+        child.kind,
+        kinds::METHOD_DEFINITION..=kinds::ACCESSOR_PROPERTY
+    );
+    (element || child.kind == kinds::STATIC_BLOCK) && child.above != kinds::CLASS_BODY
 }
 
 #[tactic(auto, unfolding(crate::specs::Standing::stray_value))]
-fn stray_value(kind: u32, role: u32, above: u32) -> bool
-    ensures { result ≡ stray_value kind role above }
+fn stray_value(child: Child) -> bool
+    ensures { result ≡ stray_value child.kind child.role child.above }
 {
-    above == kinds::METHOD_DEFINITION && role == roles::VALUE && kind != kinds::FUNCTION
+    child.above == kinds::METHOD_DEFINITION
+        && child.role == roles::VALUE
+        && child.kind != kinds::FUNCTION
 }
 
 #[tactic(auto, unfolding(crate::specs::Standing::misplaced_statement))]
-fn misplaced_statement(kind: u32, role: u32, above: u32) -> bool
-    ensures { result ≡ misplaced_statement kind role above }
+fn misplaced_statement(child: Child) -> bool
+    ensures { result ≡ misplaced_statement child.kind child.role child.above }
 {
-    stray_statement(kind, role, above)
-        || stray_held(kind, role, above)
-        || stray_alternate(role, above)
+    stray_statement(child) || stray_held(child) || stray_alternate(child)
 }
 
 #[tactic(auto, unfolding(crate::specs::Standing::misplaced_part))]
-fn misplaced_part(kind: u32, role: u32, above: u32) -> bool
-    ensures { result ≡ misplaced_part kind role above }
+fn misplaced_part(child: Child) -> bool
+    ensures { result ≡ misplaced_part child.kind child.role child.above }
 {
-    stray_in_switch(kind, role, above)
-        || stray_case(kind, role, above)
-        || stray_in_try(kind, role, above)
-        || stray_clause(kind, role, above)
-        || stray_in_clause(kind, role, above)
+    stray_in_switch(child)
+        || stray_case(child)
+        || stray_in_try(child)
+        || stray_clause(child)
+        || stray_in_clause(child)
 }
 
 #[tactic(auto, unfolding(crate::specs::Standing::misplaced_element))]
-fn misplaced_element(kind: u32, role: u32, above: u32) -> bool
-    ensures { result ≡ misplaced_element kind role above }
+fn misplaced_element(child: Child) -> bool
+    ensures { result ≡ misplaced_element child.kind child.role child.above }
 {
-    stray_function_body(kind, above)
-        || stray_class_body(kind, above)
-        || stray_element(kind, above)
-        || stray_value(kind, role, above)
+    stray_function_body(child)
+        || stray_class_body(child)
+        || stray_element(child)
+        || stray_value(child)
 }
 
 // Whether a child is misplaced under its parent.
@@ -182,9 +196,8 @@ fn misplaced_element(kind: u32, role: u32, above: u32) -> bool
 pub fn misplaced(kind: u32, role: u32, above: u32) -> bool
     ensures { result ≡ misplaced kind role above }
 {
-    misplaced_statement(kind, role, above)
-        || misplaced_part(kind, role, above)
-        || misplaced_element(kind, role, above)
+    let child = Child { kind, role, above };
+    misplaced_statement(child) || misplaced_part(child) || misplaced_element(child)
 }
 
 #[tactic(auto, unfolding(crate::specs::Standing::misplaced_child_at))]

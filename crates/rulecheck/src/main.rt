@@ -1,7 +1,7 @@
 // rulecheck: reads the lines of a rule's tables from standard input, checks them, and prints the findings or the refusal.
 #![tactic(auto)]
 
-ghost use Rattle.std.specs.Prelude.{◌≡◌, IfSome, OnOk, length, take};
+ghost use Rattle.std.specs.Prelude.{◌≡◌, IfSome, OnOk, length};
 ghost use Rattle.std.specs.Io.KnownBytes.{Appends};
 ghost use Rattle.line_input.specs.Format.{front};
 ghost use Rattle.line_answers.specs.Answer.{findings_room, text_room};
@@ -9,7 +9,7 @@ ghost use Rattle.rulecheck.specs.Response.{check_text, response};
 
 use check_dispatch::Rule;
 use line_answers::{FINDINGS_ROOM, TEXT_ROOM};
-use line_input::{ENOUGH, Tables};
+use line_input::ENOUGH;
 use refusal_verdict::{Refusal, Refused};
 use std::io;
 use std::io::{Read, Write};
@@ -17,10 +17,10 @@ use std::io::{Read, Write};
 // The option on async and generator bodies, which `rulecheck` has off.
 const ASYNC_BODIES_OFF: u32 = 0;
 
-// Writes the text of the tables, which stand at the front of each slice. Says where it ends.
+// Writes the text of the tables. Says where it ends.
 #[tactic(auto, using(crate::proofs::ResponseLaws::check_text_lem, crate::proofs::ResponseLaws::check_counted, crate::proofs::ResponseLaws::put_front))]
 fn check_text(
-    tables: Tables,
+    source_type: u32,
     nodes: &[u32],
     scopes: &[u32],
     source: &[u8],
@@ -29,15 +29,15 @@ fn check_text(
     out: &mut [u8],
 ) -> usize
     requires { (length findings.old ≡ findings_room) × (length out.old ≡ text_room) }
-    ensures { (result ≡ length (check_text tables.kind (take tables.nodes nodes.now) (take tables.scopes scopes.now) (take tables.source source.now) (take tables.names names.now))) × (out.new ≡ front (check_text tables.kind (take tables.nodes nodes.now) (take tables.scopes scopes.now) (take tables.source source.now) (take tables.names names.now)) out.old) }
+    ensures { (result ≡ length (check_text source_type nodes.now scopes.now source.now names.now)) × (out.new ≡ front (check_text source_type nodes.now scopes.now source.now names.now) out.old) }
 {
     let rule = Rule {
-        source_type: tables.kind,
+        source_type,
         async_bodies: ASYNC_BODIES_OFF,
-        nodes: line_print::front(nodes, tables.nodes),
-        scopes: line_print::front(scopes, tables.scopes),
-        source: line_print::front(source, tables.source),
-        names: line_print::front(names, tables.names),
+        nodes,
+        scopes,
+        source,
+        names,
     };
     let answer = call_check::check(&rule, findings);
     line_answers::answer_text(answer, findings, out)
@@ -62,7 +62,15 @@ fn respond_by(
     let read = line_input::read(input, nodes, scopes, source, names);
     match read {
         Err(unread) => line_answers::refusal_text(Refused::At(Refusal::Unread, unread.line), out),
-        Ok(tables) => check_text(tables, nodes, scopes, source, names, findings, out),
+        Ok(tables) => check_text(
+            tables.kind,
+            line_print::front(nodes, tables.nodes),
+            line_print::front(scopes, tables.scopes),
+            line_print::front(source, tables.source),
+            line_print::front(names, tables.names),
+            findings,
+            out,
+        ),
     }
 }
 

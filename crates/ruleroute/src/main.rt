@@ -5,12 +5,10 @@ ghost use Rattle.std.specs.Prelude.{◌≡◌, [], ◌∷◌, IfSome, OnOk, leng
 ghost use Rattle.std.specs.Io.KnownBytes.{Appends};
 ghost use Rattle.base_common.specs.Wrote.{put};
 ghost use Rattle.line_print.specs.Print.{line_of};
-ghost use Rattle.check_dispatch.specs.Rule.{rule};
-ghost use Rattle.call_routes.specs.Calls.{route_answer, route_slice};
 ghost use Rattle.ruleroute.specs.Answer.{entry_line, last_line, line_room, answers_room, code_room, routed_of, entries_of, lines_for, listed, text_of, printed};
 
 use check_dispatch::Rule;
-use line_input::{Asked, ENOUGH};
+use line_input::ENOUGH;
 use refusal_verdict::{Refusal, Refused};
 use route_viewer::Route;
 use std::io;
@@ -63,33 +61,6 @@ fn last_line(answer: Result<Route, Refused>, out: &mut [u8]) -> usize
     }
 }
 
-// The answer for what was read, which stands at the front of each slice.
-fn routed(
-    asked: Asked,
-    nodes: &[u32],
-    scopes: &[u32],
-    source: &[u8],
-    names: &[u8],
-    answers: &[u32],
-    code: &mut [u32],
-    out: &mut [u32],
-) -> Result<Route, Refused>
-    requires { length code.old ≡ code_room }
-    ensures { (result ≡ route_answer (rule asked.tables.kind 0 (take asked.tables.nodes nodes.now) (take asked.tables.scopes scopes.now) (take asked.tables.source source.now) (take asked.tables.names names.now)) asked.unit (take asked.answers answers.now) code_room (length out.old)) × (out.new ≡ route_slice (rule asked.tables.kind 0 (take asked.tables.nodes nodes.now) (take asked.tables.scopes scopes.now) (take asked.tables.source source.now) (take asked.tables.names names.now)) asked.unit (take asked.answers answers.now) code_room out.old) }
-{
-    let tables = asked.tables;
-    let rule = Rule {
-        source_type: tables.kind,
-        async_bodies: ASYNC_BODIES_OFF,
-        nodes: line_print::front(nodes, tables.nodes),
-        scopes: line_print::front(scopes, tables.scopes),
-        source: line_print::front(source, tables.source),
-        names: line_print::front(names, tables.names),
-    };
-    let given = line_print::front(answers, asked.answers);
-    call_routes::route(&rule, asked.unit, given, code, out)
-}
-
 // The answer for the bytes `input`, with slices for the tables and for the code; `out` holds the route then. The tables' have room for
 // 1,024 nodes of ten numbers, 1,024 scopes of three, and 1,024 bytes of source and of names: the most that are read.
 #[tactic(auto, using(crate::proofs::AnswerLaws::routed_unasked, crate::proofs::AnswerLaws::entries_unasked, crate::proofs::AnswerLaws::routed_asked, crate::proofs::AnswerLaws::entries_asked))]
@@ -110,7 +81,19 @@ fn respond_by(
     let read = line_input::read_route(input, nodes, scopes, source, names, answers);
     match read {
         Err(unread) => Err(Refused::At(Refusal::Unread, unread.line)),
-        Ok(asked) => routed(asked, nodes, scopes, source, names, answers, code, out),
+        Ok(asked) => {
+            let tables = asked.tables;
+            let rule = Rule {
+                source_type: tables.kind,
+                async_bodies: ASYNC_BODIES_OFF,
+                nodes: line_print::front(nodes, tables.nodes),
+                scopes: line_print::front(scopes, tables.scopes),
+                source: line_print::front(source, tables.source),
+                names: line_print::front(names, tables.names),
+            };
+            let given = line_print::front(answers, asked.answers);
+            call_routes::route(&rule, asked.unit, given, code, out)
+        }
     }
 }
 

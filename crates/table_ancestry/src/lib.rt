@@ -4,11 +4,12 @@
 ghost use Rattle.std.specs.Prelude.{◌≡◌, ◌<◌, ◌≤◌};
 ghost use Rattle.base_walk.specs.On.{on};
 ghost use Rattle.table_records.specs.Table.{count, kind_of, parent_of, count_scopes, scope_parent_of};
-ghost use Rattle.table_records.specs.Facts.{Tree, Chained};
+ghost use Rattle.table_records.specs.Facts.{Tree};
 ghost use Rattle.table_children.specs.Children.{below};
 ghost use Rattle.table_ancestry.specs.Ancestry.{nearest_of, has_ancestor};
 
 use table_records::nodes::Nodes;
+use table_records::scopes::Scopes;
 use table_records::{NodeId, ScopeId};
 
 // The parent of a node other than the program.
@@ -70,8 +71,7 @@ pub fn has_ancestor(nodes: &Nodes, n: NodeId, low: u32, high: u32) -> bool
 }
 
 // The scope around a scope other than the outermost.
-pub fn scope_up(scopes: &[u32], s: ScopeId) -> ScopeId
-    requires chained { Chained scopes.now }
+pub fn scope_up(scopes: &Scopes, s: ScopeId) -> ScopeId
     requires s_nonzero { 0 < s.0 }
     requires s_bound { s.0 < count_scopes scopes.now }
     ensures result_value { result.0 ≡ scope_parent_of scopes.now s.0 }

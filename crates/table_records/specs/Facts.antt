@@ -21,14 +21,18 @@ pub record IsOfTree (ns numbers : List ℕ) : Type 0 where
   pub same : numbers ≡ ns
   pub tree : Tree ns
 
--- what is known where no scope record is broken
--- A `requires` and no struct's invariant: the scopes are lent as a slice that no struct holds alone, and `broken` (refusal_scopes) takes the same slice before this is known.
+-- What is known where no scope record is broken. Functions that ask for it take a `Scopes`, whose invariant it is.
 pub record Chained (ss : List ℕ) : Type 0 where
   pub some : 0 < count_scopes ss
   pub small : count_scopes ss ≤ 65535
   pub flags : (s : ℕ) → s < count_scopes ss → scope_flags_of ss s ≤ 31
   pub top : scope_parent_of ss 0 ≡ 0
   pub falls : Falls (scope_parent_of ss) (count_scopes ss)
+
+-- What `Scopes` lends: its own numbers, and that their records are not broken.
+pub record IsOfChain (ss numbers : List ℕ) : Type 0 where
+  pub same : numbers ≡ ss
+  pub chained : Chained ss
 
 -- every node's name lies within the bytes
 -- A `requires` and no struct's invariant: it ties two lent slices, and most functions that are lent the nodes take no names.

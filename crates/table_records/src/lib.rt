@@ -10,6 +10,7 @@ pub mod node_flag;
 pub mod nodes;
 pub mod roles;
 pub mod scope_flag;
+pub mod scopes;
 
 // A node, by its place in the node table.
 #[derive(Clone, Copy, PartialEq, Eq)]

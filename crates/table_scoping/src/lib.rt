@@ -3,9 +3,10 @@
 
 ghost use Rattle.std.specs.Prelude.{◌≡◌, ◌<◌};
 ghost use Rattle.table_records.specs.Table.{count, scope_of, scope_flags_of, count_scopes};
-ghost use Rattle.table_records.specs.Facts.{Chained, Scoped};
+ghost use Rattle.table_records.specs.Facts.{Scoped};
 ghost use Rattle.table_scoping.specs.Scoping.{is_strict, in_static_block, in_class_static_block};
 
+use table_records::scopes::Scopes;
 use table_records::{NodeId, ScopeId, scope_flag};
 
 // The flags of the scope that is current at a node.
@@ -28,8 +29,7 @@ pub fn strict_mode(nodes: &[u32], scopes: &[u32], n: NodeId) -> bool
 
 // Whether, from this scope outward, a static block comes before a function.
 #[tactic(auto, using(crate::proofs::ScopingLaws::static_here, crate::proofs::ScopingLaws::static_function, crate::proofs::ScopingLaws::static_up, crate::proofs::ScopingLaws::static_root))]
-fn in_static_block(scopes: &[u32], s: ScopeId) -> bool
-    requires chained { Chained scopes.now }
+fn in_static_block(scopes: &Scopes, s: ScopeId) -> bool
     requires s_bound { s.0 < count_scopes scopes.now }
     ensures { result ≡ in_static_block scopes.now s.0 }
 {
@@ -50,8 +50,7 @@ fn in_static_block(scopes: &[u32], s: ScopeId) -> bool
 }
 
 // Whether a node is in a static block, with no function between.
-pub fn is_in_class_static_block(nodes: &[u32], scopes: &[u32], n: NodeId) -> bool
-    requires chained { Chained scopes.now }
+pub fn is_in_class_static_block(nodes: &[u32], scopes: &Scopes, n: NodeId) -> bool
     requires scoped { Scoped nodes.now scopes.now }
     requires n_bound { n.0 < count nodes.now }
     ensures { result ≡ in_class_static_block nodes.now scopes.now n.0 }

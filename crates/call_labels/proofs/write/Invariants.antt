@@ -10,6 +10,6 @@ use Rattle.call_labels.proofs.write.Given as goal
 
 abbrev pub invariant-loop-i : goal.invariant-loop-i
 invariant-loop-i l =
-    (l.w ≡ length (names_to l.nodes l.names l.i))
-    × Wrote l.initial.renamed_nodes l.renamed_nodes (l.i * 10) (flat_map (record_of l.nodes l.names) (upto l.i (table.count l.nodes))) (nodes_renamed l.nodes l.names)
-    × Wrote l.initial.renamed_names l.renamed_names l.w (flat_map (new_name_of l.nodes l.names) (upto l.i (table.count l.nodes))) (names_renamed l.nodes l.names)
+    (l.w ≡ length (names_to l.labels.nodes l.labels.names l.i))
+    × Wrote l.initial.renamed_nodes l.renamed_nodes (l.i * 10) (flat_map (record_of l.labels.nodes l.labels.names) (upto l.i (table.count l.labels.nodes))) (nodes_renamed l.labels.nodes l.labels.names)
+    × Wrote l.initial.renamed_names l.renamed_names l.w (flat_map (new_name_of l.labels.nodes l.labels.names) (upto l.i (table.count l.labels.nodes))) (names_renamed l.labels.nodes l.labels.names)

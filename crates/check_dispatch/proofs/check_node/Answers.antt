@@ -5,10 +5,10 @@ use native.Mathlib.Omega.{arith}
 use Rattle.check_dispatch.proofs.check_node.Goals as goal
 
 pub check_class-requires : goal.check_class-requires
-check_class-requires c = let i = c.requires.input in let h = c.requires.n_bound in record { named = i.named; indexed = c.requires.indexed; n_bound = h; n_bound_2 = omega (arith, i.spanned.span c.args.n.0 h, i.spanned.small c.args.n.0 h); raised_bound = omega arith }
+check_class-requires c = let i = c.requires.input in let h = c.requires.n_bound in record { n_bound = rw c.requires.same.nodes h; n_bound_2 = rw c.requires.same.nodes (omega (arith, i.spanned.span c.args.n.0 h, i.spanned.small c.args.n.0 h)); raised_bound = omega arith }
 
 pub check_await_expression-requires : goal.check_await_expression-requires
-check_await_expression-requires c = let i = c.requires.input in record { chained = i.chained; scoped = i.scoped; spanned = i.spanned; n_bound = c.requires.n_bound; raised_bound = omega arith }
+check_await_expression-requires c = let i = c.requires.input in record { scoped = i.scoped; spanned = i.spanned; n_bound = c.requires.n_bound; raised_bound = omega arith }
 
 pub check_object_expression-requires : goal.check_object_expression-requires
 check_object_expression-requires c = let i = c.requires.input in record { named = i.named; n_bound = c.requires.n_bound; raised_bound = omega arith }
@@ -83,7 +83,7 @@ returns-in-12 c = record { adds = rw (← c.kind.ensures, c.in-12.is, ← c.chec
 
 pub returns-in-26 : goal.returns-in-26
 unfolding findings_at
-returns-in-26 c = record { adds = rw (← c.kind.ensures, c.in-26.is) c.check_class.ensures.adds; upper_bound = omega (arith, c.check_class.ensures.upper_bound) }
+returns-in-26 c = let t = c.requires.same in record { adds = rw (← c.kind.ensures, c.in-26.is) (rw (t.source_type, t.nodes, t.names) at c.check_class.ensures.adds); upper_bound = omega (arith, c.check_class.ensures.upper_bound) }
 
 pub returns-in-37 : goal.returns-in-37
 unfolding findings_at
@@ -110,4 +110,4 @@ unfolding findings_at
 returns-in-24 c = record { adds = rw (← c.kind.ensures, c.in-24.is, ← c.check_using-a.ensures, ← c.check_await_using-b.ensures) (rw of_two at c.raise_all-in-24.ensures.adds); upper_bound = omega (arith, c.raise_all-in-24.ensures.upper_bound) }
 
 pub returns-in_default : goal.returns-in_default
-returns-in_default c = let a = c.args in record { adds = rw (no_case a.source_type a.nodes.now a.scopes.now a.source.now a.names.now a.n.0 _ c.kind.ensures (λ q. omega arith) (λ q. omega arith) (λ q. omega arith) (λ q. omega arith) (λ q. omega arith) (λ q. omega arith) (λ q. omega arith) (λ q. omega arith) (λ q. omega arith) (λ q. omega arith) (λ q. omega arith) (λ q. omega arith) (λ q. omega arith) (λ q. omega arith) (λ q. omega arith) (λ q. omega arith) (λ q. omega arith) (λ q. omega arith) (λ q. omega arith) (λ q. omega arith) (λ q. omega arith) (λ q. omega arith) (λ q. omega arith) (λ q. omega arith)) (adds_none c.args.findings.now); upper_bound = omega arith }
+returns-in_default c = let r = c.args.rule.now in record { adds = rw (no_case r.source_type r.nodes.now r.scopes.now r.source.now r.names.now c.args.n.0 _ c.kind.ensures (λ q. omega arith) (λ q. omega arith) (λ q. omega arith) (λ q. omega arith) (λ q. omega arith) (λ q. omega arith) (λ q. omega arith) (λ q. omega arith) (λ q. omega arith) (λ q. omega arith) (λ q. omega arith) (λ q. omega arith) (λ q. omega arith) (λ q. omega arith) (λ q. omega arith) (λ q. omega arith) (λ q. omega arith) (λ q. omega arith) (λ q. omega arith) (λ q. omega arith) (λ q. omega arith) (λ q. omega arith) (λ q. omega arith) (λ q. omega arith)) (adds_none c.args.findings.now); upper_bound = omega arith }

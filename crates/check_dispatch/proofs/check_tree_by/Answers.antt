@@ -21,7 +21,7 @@ loop-i-init c = (omega arith, left_start _ _ _ refl)
 pub check_node_and_bodies-requires : goal.check_node_and_bodies-requires
 check_node_and_bodies-requires c = let h : c.loop-i.i < count c.args.rule.now.nodes.now = omega arith in
     let z = c.requires.input.tree.small in
-    record { input = c.requires.input; sourced = c.requires.sourced; indexed = c.requires.indexed; n_bound = h; raised_bound = omega (arith, c.loop-i.invariant.0, c.check_duplicate_class_elements.ensures.upper_bound, c.new-all.ensures.raised) }
+    record { input = c.requires.input; sourced = c.requires.sourced; same = c.requires.same; n_bound = h; raised_bound = omega (arith, c.loop-i.invariant.0, c.check_duplicate_class_elements.ensures.upper_bound, c.new-all.ensures.raised) }
 
 pub loop-i-preserved : goal.loop-i-preserved
 loop-i-preserved c = let a = c.args in
@@ -41,5 +41,5 @@ returns c = let a = c.args in
     let h : count c.args.rule.now.nodes.now ≤ c.loop-i.i = omega arith in
     let f = reported_at (rule_of a.rule.now) in
     finished a.findings.now _ c.new-all.result c.check_duplicate_class_elements.new.findings c.loop-i.all (duplicate_elements a.rule.now.source_type a.rule.now.nodes.now a.rule.now.names.now) (flat_map f (upto 0 (count a.rule.now.nodes.now)))
-    c.new-all.ensures.slice c.new-all.ensures.raised c.check_duplicate_class_elements.ensures.adds (left_end _ _ _ _ c.loop-i.invariant.1 (flat_end f c.loop-i.i (count a.rule.now.nodes.now) h))
+    c.new-all.ensures.slice c.new-all.ensures.raised (let t = c.requires.same in rw (t.source_type, t.nodes, t.names) at c.check_duplicate_class_elements.ensures.adds) (left_end _ _ _ _ c.loop-i.invariant.1 (flat_end f c.loop-i.i (count a.rule.now.nodes.now) h))
     (let g = c.loop-i.invariant.1.same_slice in let g2 = c.check_duplicate_class_elements.ensures.adds.same_slice in let g3 = c.new-all.ensures.same_slice in search rules)

@@ -5,4 +5,5 @@ use Rattle.check_duplicates.specs.Duplicates.{duplicate_elements}
 use Rattle.check_duplicates.proofs.check_duplicate_class_elements.Given as goal
 
 abbrev pub invariant-loop-i : goal.invariant-loop-i
-invariant-loop-i l = (l.findings.raised ≤ l.initial.findings.raised + 458745 * l.i) × Left l.initial.findings l.findings (duplicate_elements l.source_type l.nodes l.names) (classes_from l.source_type l.nodes l.names l.i)
+invariant-loop-i l = let s = l.elements in
+    (l.findings.raised ≤ l.initial.findings.raised + 458745 * l.i) × Left l.initial.findings l.findings (duplicate_elements s.source_type s.nodes s.names) (classes_from s.source_type s.nodes s.names l.i)

@@ -9,10 +9,10 @@ use Rattle.check_duplicates.proofs.PreviousLaws.{Left}
 use Rattle.check_duplicates.proofs.previous_of.Given as goal
 
 abbrev pub invariant-loop-at : goal.invariant-loop-at
-invariant-loop-at l = record {
-  in_table : l.at ≤ count l.nodes;
-  in_chain : last_below (of_key l.source_type l.nodes l.names (length l.index.last.now) l.c.0 (is_private l.nodes l.fn.e.0) (element_name l.nodes l.names l.fn.e.0)) l.at ≡ l.at;
-  left : Left l.source_type l.nodes l.names l.c.0 (is_private l.nodes l.fn.e.0) (element_name l.nodes l.names l.fn.e.0) l.previous l.at l.fn.e.0;
+invariant-loop-at l = let s = l.elements in record {
+  in_table : l.at ≤ count s.nodes;
+  in_chain : last_below (of_key s.source_type s.nodes s.names (length s.last) l.c.0 (is_private s.nodes l.fn.e.0) (element_name s.nodes s.names l.fn.e.0)) l.at ≡ l.at;
+  left : Left s.source_type s.nodes s.names l.c.0 (is_private s.nodes l.fn.e.0) (element_name s.nodes s.names l.fn.e.0) l.previous l.at l.fn.e.0;
 }
 
 abbrev pub decreases-loop-at : goal.decreases-loop-at
