@@ -12,6 +12,13 @@ use table_children::{Part, is_child};
 use table_records::nodes::Nodes;
 use table_records::{NodeId, kinds, node_flag, roles};
 
+// For how many nodes the array has room: rules of an office have a hundred nodes and less, or some hundreds; the last is room for any table.
+const FEW: usize = 128;
+
+const SMALL: usize = 2048;
+
+const MOST: usize = 65536;
+
 // A sort of child that a sentence of document 01 counts. The sentences ask for one, at most one or at least one: so what is noted of a node is a number in
 // base 4 with a digit for each sort, which is 2 for two or more.
 #[derive(Clone, Copy)]
@@ -347,11 +354,11 @@ pub fn wrong_count(nodes: &Nodes) -> Option<u32>
 {
     // an array that serves few nodes costs less to clear, and less of the stack: half a KiB, 8 KiB or 256 KiB
     let size = table_records::size(nodes);
-    if size <= 128 {
-        return wrong_count_in::<128>(nodes);
+    if size <= FEW as u32 {
+        return wrong_count_in::<FEW>(nodes);
     }
-    if size <= 2048 {
-        return wrong_count_in::<2048>(nodes);
+    if size <= SMALL as u32 {
+        return wrong_count_in::<SMALL>(nodes);
     }
-    wrong_count_in::<65536>(nodes)
+    wrong_count_in::<MOST>(nodes)
 }

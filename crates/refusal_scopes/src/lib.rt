@@ -13,9 +13,16 @@ use table_records::scopes::Scopes;
 use table_records::{NodeId, ScopeId, kinds};
 
 // No node has this number: there are at most 65,535. It stands in place of an Option: as Option<u32> the array of the chains' deepest nodes would take 512 KB
-// of stack in place of 256, and velkunshe_check promises to need up to 280 KB (include/velkunshe.h); as Option<u16> it would take 256, but a node's number
+// of stack in place of 256, and velkunshe_check promises to need up to 420 KB (include/velkunshe.h); as Option<u16> it would take 256, but a node's number
 // would be a u16 here alone.
 const NO_NODE: u32 = 65535;
+
+// For how many scopes the array has room: rules of an office have some dozens; the last is room for any table.
+const FEW: usize = 256;
+
+const SMALL: usize = 1024;
+
+const MOST: usize = 65536;
 
 // A number that is on the way up from a node just where both a and b are: the deeper of the two, or none.
 #[tactic(auto, using(crate::proofs::ScopesLaws::meets_left, crate::proofs::ScopesLaws::meets_right, crate::proofs::ScopesLaws::meets_second, crate::proofs::ScopesLaws::meets_first, crate::proofs::ScopesLaws::meets_apart))]
@@ -133,11 +140,11 @@ pub fn misscoped(nodes: &Nodes, scopes: &Scopes) -> Option<u32>
 {
     // an array that serves few scopes costs less to clear, and less of the stack
     let size = table_records::scopes_size(scopes);
-    if size <= 256 {
-        return misscoped_in::<256>(nodes, scopes);
+    if size <= FEW as u32 {
+        return misscoped_in::<FEW>(nodes, scopes);
     }
-    if size <= 1024 {
-        return misscoped_in::<1024>(nodes, scopes);
+    if size <= SMALL as u32 {
+        return misscoped_in::<SMALL>(nodes, scopes);
     }
-    misscoped_in::<65536>(nodes, scopes)
+    misscoped_in::<MOST>(nodes, scopes)
 }

@@ -248,6 +248,7 @@ fn part_with_role(given: &Given, p: NodeId, r: u32) -> Option<NodeId>
 }
 
 // A node is listed.
+#[inline(never)]
 fn listed(out: &mut [u32], n: NodeId, start: Run) -> Run
     ensures by_index { (ns names qs : List ℕ) → start.taken ≤ length qs → Walked ns names qs out.old start (outcome (plain n.0 ∷ []) normal (drop start.taken qs)) out.new result }
     ensures taken_value { result.taken ≡ start.taken }
@@ -260,6 +261,7 @@ fn listed(out: &mut [u32], n: NodeId, start: Run) -> Run
 }
 
 // A node is listed as it takes an answer.
+#[inline(never)]
 fn asked(given: &Given, out: &mut [u32], n: NodeId, start: Run) -> Run
     requires { start.taken < length given.now.answers }
     ensures by_index { (ns names : List ℕ) → Walked ns names given.now.answers out.old start (outcome (ask' n.0 ∷ []) normal (drop (start.taken + 1) given.now.answers)) out.new result }
@@ -274,6 +276,7 @@ fn asked(given: &Given, out: &mut [u32], n: NodeId, start: Run) -> Run
 }
 
 // A statement without parts.
+#[inline(never)]
 fn walk_leaf(given: &Given, out: &mut [u32], n: NodeId, start: Run) -> Run
     requires n_bound { n.0 < count given.now.nodes }
     ensures { (qs : List ℕ) → start.taken ≤ length qs → Walked given.now.nodes given.now.names qs out.old start (outcome (plain n.0 ∷ []) (comp_of (leaf_at given.now.nodes given.now.names n.0)) (drop start.taken qs)) out.new result }
@@ -297,6 +300,7 @@ fn left(run: Run) -> Run
 }
 
 // What the Labeled p leaves: a break to its label ends there.
+#[inline(never)]
 #[tactic(auto, using(crate::proofs::WalkLaws::ends_as))]
 fn left_label(given: &Given, p: NodeId, run: Run) -> Run
     requires p_bound { p.0 < count given.now.nodes }
@@ -309,7 +313,9 @@ fn left_label(given: &Given, p: NodeId, run: Run) -> Run
     }
 }
 
+// This and what else `walk_node` calls is `inline(never)`: put into it, the frames of all would be one, which each level of statements would take.
 // What the node n holds, where that is one statement.
+#[inline(never)]
 #[cycle(walk)]
 fn walk_one(given: &Given, out: &mut [u32], n: NodeId, start: Run) -> Run
     requires n_bound { n.0 < count given.now.nodes }
@@ -356,6 +362,7 @@ fn walk_parts(given: &Given, out: &mut [u32], n: NodeId, from: u32, start: Run) 
 }
 
 // 14.6.2, the If n.
+#[inline(never)]
 #[cycle(walk)]
 fn walk_if(given: &Given, out: &mut [u32], n: NodeId, start: Run) -> Run
     requires n_bound { n.0 < count given.now.nodes }
@@ -379,6 +386,7 @@ fn walk_if(given: &Given, out: &mut [u32], n: NodeId, start: Run) -> Run
 }
 
 // 14.7.3.2, the turns of the loop n, from its next answer on.
+#[inline(never)]
 #[cycle(walk)]
 fn walk_turns(given: &Given, out: &mut [u32], n: NodeId, start: Run) -> Run
     requires n_nonzero { 0 < n.0 }
@@ -409,6 +417,7 @@ fn walk_turns(given: &Given, out: &mut [u32], n: NodeId, start: Run) -> Run
 }
 
 // 14.7.1.2, the loop n: a DoWhile runs its body before the first answer.
+#[inline(never)]
 #[cycle(walk)]
 fn walk_loop(given: &Given, out: &mut [u32], n: NodeId, start: Run) -> Run
     requires n_nonzero { 0 < n.0 }
@@ -430,6 +439,7 @@ fn walk_loop(given: &Given, out: &mut [u32], n: NodeId, start: Run) -> Run
 }
 
 // 14.12.2, the switch n: from the case that the answer picks, "later cases follow".
+#[inline(never)]
 #[cycle(walk)]
 fn walk_switch(given: &Given, out: &mut [u32], n: NodeId, start: Run) -> Run
     requires n_bound { n.0 < count given.now.nodes }
@@ -454,6 +464,7 @@ fn walk_switch(given: &Given, out: &mut [u32], n: NodeId, start: Run) -> Run
 }
 
 // 14.15.3, the Block of the Try n, and its catch where that throws.
+#[inline(never)]
 #[cycle(walk)]
 fn walk_caught(given: &Given, out: &mut [u32], n: NodeId, start: Run) -> Run
     requires n_bound { n.0 < count given.now.nodes }
@@ -478,6 +489,7 @@ fn walk_caught(given: &Given, out: &mut [u32], n: NodeId, start: Run) -> Run
 }
 
 // 14.15.3, the Try n: its finally runs on each way out, but where the answers are spent.
+#[inline(never)]
 #[cycle(walk)]
 fn walk_try(given: &Given, out: &mut [u32], n: NodeId, start: Run) -> Run
     requires n_bound { n.0 < count given.now.nodes }
