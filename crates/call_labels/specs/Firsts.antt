@@ -4,7 +4,6 @@ use Rattle.base_common.specs.Upto.{upto}
 use Rattle.refusal_verdict.specs.First.{first}
 use Rattle.table_records.specs.declared.NodeId.{NodeId}
 use Rattle.table_records.specs.Table.{count}
-use Rattle.table_records.specs.Facts.{Tree, Named}
 use Rattle.table_names.specs.Name.{name_of}
 use Rattle.call_labels.specs.Short.{most}
 use Rattle.call_labels.specs.Order.{seen_before, label_names}
@@ -37,15 +36,8 @@ abbrev pub Listed : List ℕ → List ℕ → Result Kept NodeId → Type 0
 Listed ns names (Err n) = first (unfit_at ns names) 0 (count ns) ≡ Some n.0
 Listed ns names (Ok kept) = (first (unfit_at ns names) 0 (count ns) ≡ None) × Firsts ns names kept.nodes kept.size (label_names ns names)
 
--- the tables, with the first label of each name
+-- what is known of tables whose labels are kept: the invariant of `Labels`, beside that of the `NamedNodes` in it
 pub record Ready (ns names : List ℕ) (kept : Kept) : Type 0 where
-  pub tree : Tree ns
-  pub within : Named ns names
   pub whole : length ns ≡ count ns * 10
   pub small : length names ≤ most_bytes
   pub firsts : Firsts ns names kept.nodes kept.size (label_names ns names)
-
--- What a clause sees of `Labels`, which holds them: the tables.
-pub record Tables : Type 0 where
-  pub nodes : List ℕ
-  pub names : List ℕ

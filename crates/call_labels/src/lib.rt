@@ -4,7 +4,6 @@
 ghost use Rattle.std.specs.Prelude.{◌≡◌, [], ◌∷◌, ◌+◌, ◌*◌, ◌≤◌, ◌<◌, length};
 ghost use Rattle.base_common.specs.Wrote.{put};
 ghost use Rattle.table_records.specs.Table.{count};
-ghost use Rattle.table_records.specs.Facts.{Named};
 ghost use Rattle.table_names.specs.Name.{name_of};
 ghost use Rattle.route_list.specs.Over.{over};
 ghost use Rattle.code_tree.specs.Labels.{is_label};
@@ -16,8 +15,8 @@ ghost use Rattle.call_labels.specs.Firsts.{kept_from, AreNodes, Firsts, Entered,
 
 use check_identifiers::is_strict_word;
 use std::marker::Model;
+use table_names::named::NamedNodes;
 use table_names::{name, name_is, same_name};
-use table_records::nodes::Nodes;
 use table_records::{NodeId, kinds, roles};
 
 const LETTER_A: u8 = 97;
@@ -37,19 +36,19 @@ pub struct Kept {
 // The tables, with the first label of each name. That they are `Ready` is known where a function names a field.
 #[derive(Drop)]
 pub struct Labels<'a> {
-    pub nodes: &'a Nodes<'a>,
-    pub names: &'a [u8],
+    pub named: &'a NamedNodes<'a>,
     pub kept: &'a Kept,
 }
 
 impl<'a> Model for Labels<'a> {
-    ghost use Rattle.call_labels.specs.Firsts.{Ready, Tables};
+    ghost use Rattle.table_names.specs.Name.{NamedTable};
+    ghost use Rattle.call_labels.specs.Firsts.{Ready};
 
-    ghost Value = { Tables };
+    ghost Value = { NamedTable };
 
-    ghost view = { λ a. record { nodes = a.nodes.now; names = a.names.now } };
+    ghost view = { λ a. a.named.now };
 
-    ghost invariant = { λ a. Ready a.nodes.now a.names.now a.kept.now };
+    ghost invariant = { λ a. Ready a.named.now.nodes a.named.now.names a.kept.now };
 }
 
 fn is_label(nodes: &[u32], n: NodeId) -> bool
@@ -62,27 +61,25 @@ fn is_label(nodes: &[u32], n: NodeId) -> bool
 
 // Whether the reserved-word check looks for the name of n.
 #[tactic(auto, unfolding(check_identifiers::specs::Identifiers::is_strict_word))]
-fn is_reserved(nodes: &[u32], names: &[u8], n: NodeId) -> bool
-    requires named { Named nodes.now names.now }
-    requires n_bound { n.0 < count nodes.now }
-    ensures { result ≡ is_reserved (name_of nodes.now names.now n.0) }
+fn is_reserved(named: &NamedNodes, n: NodeId) -> bool
+    requires n_bound { n.0 < count named.now.nodes }
+    ensures { result ≡ is_reserved (name_of named.now.nodes named.now.names n.0) }
 {
-    if name_is(nodes, names, n, b"await") {
+    if name_is(named.nodes, named.names, n, b"await") {
         return true;
     }
-    is_strict_word(nodes, names, n)
+    is_strict_word(named.nodes, named.names, n)
 }
 
 // Where the name of n stands among those of the labels kept; their number where it is none of them.
 #[tactic(auto, using(crate::proofs::FirstsLaws::place_stop, crate::proofs::FirstsLaws::place_on, crate::proofs::FirstsLaws::place_end_lem))]
-fn place_in(nodes: &[u32], names: &[u8], kept: &Kept, n: NodeId) -> usize
-    requires named { Named nodes.now names.now }
-    requires nodes { AreNodes nodes.now kept.now.nodes kept.now.size }
-    requires n_bound { n.0 < count nodes.now }
-    ensures { result ≡ place_in (kept_from nodes.now names.now kept.now.nodes kept.now.size 0) (name_of nodes.now names.now n.0) }
+fn place_in(named: &NamedNodes, kept: &Kept, n: NodeId) -> usize
+    requires nodes { AreNodes named.now.nodes kept.now.nodes kept.now.size }
+    requires n_bound { n.0 < count named.now.nodes }
+    ensures { result ≡ place_in (kept_from named.now.nodes named.now.names kept.now.nodes kept.now.size 0) (name_of named.now.nodes named.now.names n.0) }
 {
     for k in 0..kept.size {
-        if same_name(nodes, names, NodeId(kept.nodes[k]), n) {
+        if same_name(named.nodes, named.names, NodeId(kept.nodes[k]), n) {
             return k;
         }
     }
@@ -91,22 +88,22 @@ fn place_in(nodes: &[u32], names: &[u8], kept: &Kept, n: NodeId) -> usize
 
 // Keeps the label i if it is the first of its name; or says that it cannot be renamed (19).
 #[tactic(auto, using(crate::proofs::UnfitLaws::reserved_unfit, crate::proofs::UnfitLaws::many_unfit, crate::proofs::FirstsLaws::firsts_length, table_names::proofs::NameLaws::name_length))]
-fn enter(nodes: &[u32], names: &[u8], kept: &mut Kept, i: u32) -> Result<(), NodeId>
-    requires named { Named nodes.now names.now }
-    requires firsts { Firsts nodes.now names.now kept.old.nodes kept.old.size (seen_before nodes.now names.now i) }
-    requires i_bound { i < count nodes.now }
-    ensures { Entered nodes.now names.now i kept.new result }
+fn enter(named: &NamedNodes, kept: &mut Kept, i: u32) -> Result<(), NodeId>
+    requires firsts { Firsts named.now.nodes named.now.names kept.old.nodes kept.old.size (seen_before named.now.nodes named.now.names i) }
+    requires i_bound { i < count named.now.nodes }
+    ensures { Entered named.now.nodes named.now.names i kept.new result }
 {
+    let nodes: &[u32] = named.nodes;
     if !is_label(nodes, NodeId(i)) {
         return Ok(());
     }
-    if is_reserved(nodes, names, NodeId(i)) {
+    if is_reserved(named, NodeId(i)) {
         return Err(NodeId(i));
     }
     if table_records::name_len(nodes, NodeId(i)) == 0 {
         return Ok(());
     }
-    if place_in(nodes, names, kept, NodeId(i)) < kept.size {
+    if place_in(named, kept, NodeId(i)) < kept.size {
         return Ok(());
     }
     if kept.size == MOST {
@@ -119,16 +116,15 @@ fn enter(nodes: &[u32], names: &[u8], kept: &mut Kept, i: u32) -> Result<(), Nod
 
 // The first label of each different name, in node order; or the first that cannot be renamed.
 #[tactic(auto, using(refusal_verdict::proofs::FirstLaws::first_on, refusal_verdict::proofs::FirstLaws::first_stop, refusal_verdict::proofs::FirstLaws::first_end, refusal_verdict::proofs::VerdictLaws::handed, crate::proofs::FirstsLaws::firsts_start))]
-pub fn first_labels(nodes: &Nodes, names: &[u8]) -> Result<Kept, NodeId>
-    requires named { Named nodes.now names.now }
-    ensures { Listed nodes.now names.now result }
+pub fn first_labels(named: &NamedNodes) -> Result<Kept, NodeId>
+    ensures { Listed named.now.nodes named.now.names result }
 {
     let mut kept = Kept {
         nodes: [0; MOST],
         size: 0,
     };
-    for i in 0..table_records::size(nodes) {
-        enter(nodes, names, &mut kept, i)?;
+    for i in 0..table_records::size(named.nodes) {
+        enter(named, &mut kept, i)?;
     }
     Ok(kept)
 }
@@ -189,14 +185,15 @@ fn new_length(labels: &Labels, n: NodeId) -> usize
     requires n_bound { n.0 < count labels.now.nodes }
     ensures { (result ≡ length (new_name_of labels.now.nodes labels.now.names n.0)) × (result ≤ most_bytes) }
 {
-    let len = table_records::name_len(labels.nodes, n);
+    let named = labels.named;
+    let len = table_records::name_len(named.nodes, n);
     if len == 0 {
         return 0;
     }
-    if !is_label(labels.nodes, n) {
+    if !is_label(named.nodes, n) {
         return len;
     }
-    short_length(place_in(labels.nodes, labels.names, labels.kept, n))
+    short_length(place_in(named, labels.kept, n))
 }
 
 // How long all new names are together. Names may overlap in the old slice, so it can be far above 1,048,576.
@@ -204,8 +201,9 @@ fn new_length(labels: &Labels, n: NodeId) -> usize
 pub fn names_length(labels: &Labels) -> usize
     ensures { result ≡ length (names_renamed labels.now.nodes labels.now.names) }
 {
+    let named = labels.named;
     let mut w: usize = 0;
-    for i in 0..table_records::size(labels.nodes) {
+    for i in 0..table_records::size(named.nodes) {
         w += new_length(labels, NodeId(i));
     }
     w
@@ -218,14 +216,15 @@ fn put_name(labels: &Labels, n: NodeId, out: &mut [u8], w: usize)
     requires n_in_bounds { w + length (new_name_of labels.now.nodes labels.now.names n.0) ≤ length out.old }
     ensures { out.new ≡ put out.old w (new_name_of labels.now.nodes labels.now.names n.0) }
 {
-    if table_records::name_len(labels.nodes, n) == 0 {
+    let named = labels.named;
+    if table_records::name_len(named.nodes, n) == 0 {
         return;
     }
-    if !is_label(labels.nodes, n) {
-        table_put::copy(name(labels.nodes, labels.names, n), out, w);
+    if !is_label(named.nodes, n) {
+        table_put::copy(name(named.nodes, named.names, n), out, w);
         return;
     }
-    put_short(place_in(labels.nodes, labels.names, labels.kept, n), out, w);
+    put_short(place_in(named, labels.kept, n), out, w);
 }
 
 // Writes the record of n with another name.
@@ -260,10 +259,11 @@ pub fn write(labels: &Labels, renamed_nodes: &mut [u32], renamed_names: &mut [u8
     ensures renamed_nodes_after { renamed_nodes.new ≡ over (nodes_renamed labels.now.nodes labels.now.names) renamed_nodes.old }
     ensures renamed_names_after { renamed_names.new ≡ over (names_renamed labels.now.nodes labels.now.names) renamed_names.old }
 {
+    let named = labels.named;
     let mut w: usize = 0;
-    for i in 0..table_records::size(labels.nodes) {
+    for i in 0..table_records::size(named.nodes) {
         let len = new_length(labels, NodeId(i));
-        put_record(labels.nodes, NodeId(i), w, len, renamed_nodes);
+        put_record(named.nodes, NodeId(i), w, len, renamed_nodes);
         put_name(labels, NodeId(i), renamed_names, w);
         w += len;
     }

@@ -28,7 +28,7 @@ module _ (t : ℕ) (ns ss source names : List ℕ) where
       record { tree = w.input.tree; within = w.input.named; whole = w.sizes.whole; small = w.sizes.name_bytes }
 
 pub ready : (ns names : List ℕ) (kept : Kept) → Sized ns names → Firsts ns names kept.nodes kept.size (label_names ns names) → Ready ns names kept
-ready ns names kept w f = record { tree = w.tree; within = w.within; whole = w.whole; small = w.small; firsts = f }
+ready ns names kept w f = record { whole = w.whole; small = w.small; firsts = f }
 
 -- by what the first labels came to
 module _ (ns names : List ℕ) (r : Result Kept NodeId) where

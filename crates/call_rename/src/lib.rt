@@ -7,6 +7,7 @@ ghost use Rattle.call_rename.specs.Sized.{Sized};
 
 use call_labels::Labels;
 use refusal_verdict::{Refusal, Refused};
+use table_names::named::NamedNodes;
 use table_records::nodes::Nodes;
 
 // The names of a table, as document 01 bounds them.
@@ -23,7 +24,8 @@ fn write_all(
     ensures renamed_nodes_after { renamed_nodes.new ≡ (written labels.now.nodes labels.now.names renamed_nodes.old renamed_names.old).nodes }
     ensures renamed_names_after { renamed_names.new ≡ (written labels.now.nodes labels.now.names renamed_nodes.old renamed_names.old).names }
 {
-    let nodes: &[u32] = labels.nodes;
+    let named = labels.named;
+    let nodes: &[u32] = named.nodes;
     let needed = call_labels::names_length(labels);
     if renamed_nodes.len() < nodes.len() {
         return Err(Refused::Short(Refusal::RenamedSlices, needed as u64));
@@ -52,15 +54,12 @@ fn labels(
     ensures renamed_names_after { renamed_names.new ≡ (labelled nodes.now names.now renamed_nodes.old renamed_names.old).names }
 {
     let nodes = &Nodes { numbers: nodes };
-    let found = call_labels::first_labels(nodes, names);
+    let named = &NamedNodes { nodes, names };
+    let found = call_labels::first_labels(named);
     match found {
         Err(n) => Err(Refused::At(Refusal::Label, n.0)),
         Ok(kept) => {
-            let labels = Labels {
-                nodes,
-                names,
-                kept: &kept,
-            };
+            let labels = Labels { named, kept: &kept };
             write_all(&labels, renamed_nodes, renamed_names)
         }
     }

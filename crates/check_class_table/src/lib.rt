@@ -3,12 +3,12 @@
 
 ghost use Rattle.std.specs.Prelude.{◌≡◌, ◌<◌};
 ghost use Rattle.table_records.specs.Table.{count, parent_of};
-ghost use Rattle.table_records.specs.Facts.{Named};
 ghost use Rattle.table_children.specs.Children.{below};
 ghost use Rattle.check_class_table.specs.Classes.{class_at, current_class, parent_class, in_table, before};
 ghost use Rattle.check_class_table.specs.Elements.{span_at, element_name, element_span, is_static, is_private, is_method_of, is_getter, is_setter, is_constructor, is_definition, has_name, has_body, fixed_name, enters, is_compared_definition, is_compared_element};
 
 use table_ancestry::nearest;
+use table_names::named::NamedNodes;
 use table_records::nodes::Nodes;
 use table_records::{ClassId, ElementId, NodeId, extras, kinds, node_flag};
 use table_source::is_typescript;
@@ -152,15 +152,14 @@ pub fn element_span(nodes: &Nodes, e: ElementId) -> Span
 
 // The name of an element: that of its key.
 #[tactic(auto, unfolding(crate::specs::Elements::element_name))]
-pub fn element_name<'a>(nodes: &Nodes, names: &'a [u8], e: ElementId) -> &'a [u8]
-    requires named { Named nodes.now names.now }
-    requires e_bound { e.0 < count nodes.now }
-    ensures { result.now ≡ element_name nodes.now names.now e.0 }
+pub fn element_name<'a>(named: &'a NamedNodes, e: ElementId) -> &'a [u8]
+    requires e_bound { e.0 < count named.now.nodes }
+    ensures { result.now ≡ element_name named.now.nodes named.now.names e.0 }
 {
-    let Some(m) = table_children::key_of(nodes, NodeId::from(e)) else {
-        return &names[0..0];
+    let Some(m) = table_children::key_of(named.nodes, NodeId::from(e)) else {
+        return &named.names[0..0];
     };
-    table_names::name(nodes, names, m)
+    table_names::name(named.nodes, named.names, m)
 }
 
 // Whether an element's key has a name: an IdentifierReference is the expression of a computed key, and gives the element none.

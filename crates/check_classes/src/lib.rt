@@ -58,15 +58,16 @@ fn undeclared_at(elements: &Elements, n: NodeId, c: ClassId, m: NodeId) -> Optio
     requires m_bound { m.0 < count elements.now.nodes }
     ensures { result ≡ undeclared_at elements.now.source_type elements.now.nodes elements.now.names n.0 c.0 m.0 }
 {
+    let named = elements.named;
     if check_element_index::is_declared(
         elements,
         c,
-        table_names::name(elements.nodes, elements.names, m),
+        table_names::name(named.nodes, named.names, m),
     ) {
         return None;
     }
     check_diagnostics::error_at(
-        elements.nodes,
+        named.nodes,
         codes::PRIVATE_FIELD_UNDECLARED,
         n,
         m,
@@ -81,7 +82,8 @@ fn raised_at(elements: &Elements, n: NodeId, c: ClassId, m: NodeId) -> Option<Fi
     requires m_bound { m.0 < count elements.now.nodes }
     ensures { result ≡ raised_at elements.now.source_type elements.now.nodes elements.now.names n.0 c.0 m.0 }
 {
-    if is_reference_of(elements.nodes, c, m) {
+    let named = elements.named;
+    if is_reference_of(named.nodes, c, m) {
         return undeclared_at(elements, n, c, m);
     }
     None
@@ -94,7 +96,8 @@ fn undeclared_in(elements: &Elements, n: NodeId, c: ClassId, findings: &mut Find
     ensures adds { Adds findings.old findings.new (undeclared_in elements.now.source_type elements.now.nodes elements.now.names n.0 c.0) }
     ensures upper_bound { findings.new.raised ≤ findings.old.raised + 458745 }
 {
-    let nodes = elements.nodes;
+    let named = elements.named;
+    let nodes = named.nodes;
     let _ = &nodes.numbers; // names the field, so that its invariant is known
     for i in c.0 + 1..table_records::size(nodes) {
         if table_records::parent(nodes, NodeId(i)).0 < c.0 {
@@ -111,7 +114,8 @@ fn check_private_identifier(elements: &Elements, n: NodeId, findings: &mut Findi
     ensures adds { Adds findings.old findings.new (private_undeclared elements.now.source_type elements.now.nodes elements.now.names n.0) }
     ensures upper_bound { findings.new.raised ≤ findings.old.raised + 458745 }
 {
-    let Some(c) = check_class_table::current_class(elements.nodes, n) else {
+    let named = elements.named;
+    let Some(c) = check_class_table::current_class(named.nodes, n) else {
         return;
     };
     undeclared_in(elements, n, c, findings);
@@ -247,7 +251,8 @@ pub fn check_class(elements: &Elements, n: NodeId, findings: &mut Findings)
     ensures adds { Adds findings.old findings.new (check_class elements.now.source_type elements.now.nodes elements.now.names n.0) }
     ensures upper_bound { findings.new.raised ≤ findings.old.raised + 458759 }
 {
+    let named = elements.named;
     check_private_identifier(elements, n, findings);
-    findings.raise(require_class_name(elements.nodes, n));
-    findings.raise(second_constructor(elements.source_type, elements.nodes, n));
+    findings.raise(require_class_name(named.nodes, n));
+    findings.raise(second_constructor(elements.source_type, named.nodes, n));
 }

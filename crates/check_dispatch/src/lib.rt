@@ -10,7 +10,8 @@ ghost use Rattle.check_dispatch.specs.Lent.{rule_of, SameTable};
 ghost use Rattle.check_dispatch.specs.Reported.{reported_at, reported};
 
 use check_diagnostics::Findings;
-use check_element_index::Elements;
+use check_element_index::{Elements, Entry};
+use table_names::named::NamedNodes;
 use table_records::nodes::Nodes;
 use table_records::scopes::Scopes;
 use table_records::{NodeId, kinds};
@@ -50,6 +51,10 @@ fn check_node(rule: &Rule, elements: &Elements, n: NodeId, findings: &mut Findin
     };
     let chain = &Scopes {
         numbers: rule.scopes,
+    };
+    let named = &NamedNodes {
+        nodes: tree,
+        names: rule.names,
     };
     match table_records::kind(rule.nodes, n) {
         kinds::BINDING_IDENTIFIER => {
@@ -124,12 +129,10 @@ fn check_node(rule: &Rule, elements: &Elements, n: NodeId, findings: &mut Findin
             );
             findings.raise_all(&[a, b]);
         }
-        kinds::BREAK => findings.raise(check_jumps::check_break_statement(tree, rule.names, n)),
-        kinds::CONTINUE => findings.raise(check_jumps::check_continue_statement(
-            tree, rule.names, n,
-        )),
+        kinds::BREAK => findings.raise(check_jumps::check_break_statement(named, n)),
+        kinds::CONTINUE => findings.raise(check_jumps::check_continue_statement(named, n)),
         kinds::LABELED => {
-            let a = check_jumps::check_labeled_statement(tree, rule.names, n);
+            let a = check_jumps::check_labeled_statement(named, n);
             let b = check_statements::check_function_declaration_in_labeled_statement(
                 tree,
                 rule.scopes,
@@ -160,7 +163,7 @@ fn check_node(rule: &Rule, elements: &Elements, n: NodeId, findings: &mut Findin
         kinds::CLASS => check_classes::check_class(elements, n, findings),
         kinds::SUPER => findings.raise(check_super_search::check_super(tree, chain, n)),
         kinds::AWAIT => check_expressions::check_await_expression(tree, chain, n, findings),
-        kinds::OBJECT => check_expressions::check_object_expression(tree, rule.names, n, findings),
+        kinds::OBJECT => check_expressions::check_object_expression(named, n, findings),
         kinds::UNARY => findings.raise(check_expressions::check_unary_expression(
             tree,
             rule.scopes,
@@ -223,24 +226,18 @@ fn check_tree_within<const N: usize>(rule: &Rule, findings: &mut [u32]) -> usize
     let tree = &Nodes {
         numbers: rule.nodes,
     };
-    let mut last: [u16; N] = [0; N];
-    let mut earlier: [u16; N] = [0; N];
-    let mut keys: [u16; N] = [0; N];
-    check_element_index::build(
-        rule.source_type,
-        tree,
-        rule.names,
-        &mut last,
-        &mut earlier,
-        &mut keys,
-    );
-    let elements = Elements {
-        source_type: rule.source_type,
+    let named = &NamedNodes {
         nodes: tree,
         names: rule.names,
+    };
+    let mut last: [u16; N] = [0; N];
+    let mut entries: [Entry; N] = [Entry { earlier: 0, key: 0 }; N];
+    check_element_index::build(rule.source_type, named, &mut last, &mut entries);
+    let elements = Elements {
+        source_type: rule.source_type,
+        named,
         last: &last,
-        earlier: &earlier,
-        keys: &keys,
+        entries: &entries,
     };
     check_tree_by(rule, &elements, findings)
 }

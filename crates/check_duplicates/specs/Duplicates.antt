@@ -1,5 +1,5 @@
 -- Names declared twice in a class: `check_duplicate_class_elements`, with public names in TypeScript (document 02, request 13). One definition for both kinds of key.
-use Rattle.std.specs.Prelude.{ℕ, ◌-◌, Bool, true, false, cond, not, ◌&&◌, ◌||◌, eqb, ltb, Option, Some, None, is_some}
+use Rattle.std.specs.Prelude.{ℕ, ◌-◌, Bool, cond, not, ◌&&◌, ◌||◌, eqb, ltb, Option, Some, None, is_some}
 use mathlib.Core.List.{List, foldl, flat_map}
 use Rattle.std.specs.Bool.{xor}
 use Rattle.table_source.specs.SourceType.{is_typescript}

@@ -51,8 +51,9 @@ fn see(
     requires element { is_element elements.now.source_type elements.now.nodes d.0 ≡ true }
     ensures { result ≡ seen elements.now.source_type elements.now.nodes elements.now.names c.0 private name.now previous d.0 }
 {
+    let named = elements.named;
     if check_element_index::has_key(elements, c, private, name, d) {
-        let i = side(elements.nodes, d);
+        let i = side(named.nodes, d);
         if previous[i].element.is_none() {
             let mut seen = previous;
             seen[i] = Place { element: Some(d) };
@@ -69,9 +70,10 @@ fn previous_of(elements: &Elements, c: ClassId, e: ElementId) -> [Place; 2]
     requires compared { is_compared_element elements.now.source_type elements.now.nodes c.0 e.0 ≡ true }
     ensures { prev_of result (side_of elements.now.nodes e.0) ≡ previous_of elements.now.source_type elements.now.nodes elements.now.names c.0 e.0 }
 {
-    let private = check_class_table::is_private(elements.nodes, e);
-    let name = check_class_table::element_name(elements.nodes, elements.names, e);
-    let own = side(elements.nodes, e);
+    let named = elements.named;
+    let private = check_class_table::is_private(named.nodes, e);
+    let name = check_class_table::element_name(named, e);
+    let own = side(named.nodes, e);
     let mut previous = [Place { element: None }; 2];
     let mut at = check_element_index::earlier(elements, e);
     while c.0 + 1 < at {
@@ -183,10 +185,11 @@ fn duplicate_at(elements: &Elements, c: ClassId, e: ElementId) -> Option<Finding
     requires compared { is_compared_element elements.now.source_type elements.now.nodes c.0 e.0 ≡ true }
     ensures { result ≡ duplicate_at elements.now.source_type elements.now.nodes elements.now.names c.0 e.0 }
 {
+    let named = elements.named;
     let previous = previous_of(elements, c, e);
-    let d = prev_element(elements.nodes, e, previous).element?;
-    if clashes(elements.nodes, d, e) {
-        return redeclaration(elements.source_type, elements.nodes, d, e);
+    let d = prev_element(named.nodes, e, previous).element?;
+    if clashes(named.nodes, d, e) {
+        return redeclaration(elements.source_type, named.nodes, d, e);
     }
     None
 }
@@ -198,7 +201,8 @@ fn raised_at(elements: &Elements, c: ClassId, i: ElementId) -> Option<Finding>
     requires c_lt_i { c.0 < i.0 }
     ensures { result ≡ raised_at elements.now.source_type elements.now.nodes elements.now.names c.0 i.0 }
 {
-    if check_class_table::is_compared_element(elements.source_type, elements.nodes, c, i) {
+    let named = elements.named;
+    if check_class_table::is_compared_element(elements.source_type, named.nodes, c, i) {
         return duplicate_at(elements, c, i);
     }
     None
@@ -211,7 +215,8 @@ fn duplicates_in(elements: &Elements, c: ClassId, findings: &mut Findings)
     ensures adds { Adds findings.old findings.new (duplicates_in elements.now.source_type elements.now.nodes elements.now.names c.0) }
     ensures upper_bound { findings.new.raised ≤ findings.old.raised + 458745 }
 {
-    let nodes = elements.nodes;
+    let named = elements.named;
+    let nodes = named.nodes;
     let _ = &nodes.numbers; // names the field, so that its invariant is known
     for i in c.0 + 1..table_records::size(nodes) {
         if table_records::parent(nodes, NodeId(i)).0 < c.0 {
@@ -229,7 +234,8 @@ fn duplicates_at(elements: &Elements, i: NodeId, findings: &mut Findings)
     ensures adds { Adds findings.old findings.new (class_at elements.now.source_type elements.now.nodes elements.now.names i.0) }
     ensures upper_bound { findings.new.raised ≤ findings.old.raised + 458745 }
 {
-    if table_records::kind(elements.nodes, i) == kinds::CLASS_BODY {
+    let named = elements.named;
+    if table_records::kind(named.nodes, i) == kinds::CLASS_BODY {
         duplicates_in(elements, ClassId::from(i), findings);
     }
 }
@@ -240,7 +246,8 @@ pub fn check_duplicate_class_elements(elements: &Elements, findings: &mut Findin
     ensures adds { Adds findings.old findings.new (duplicate_elements elements.now.source_type elements.now.nodes elements.now.names) }
     ensures upper_bound { findings.new.raised ≤ findings.old.raised + 30100000000 }
 {
-    for i in 0..table_records::size(elements.nodes) {
+    let named = elements.named;
+    for i in 0..table_records::size(named.nodes) {
         duplicates_at(elements, NodeId(i), findings);
     }
 }

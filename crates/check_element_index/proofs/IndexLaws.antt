@@ -11,7 +11,8 @@ use Rattle.table_names.specs.Name.{same, name_of}
 use Rattle.table_children.specs.Children.{key_of, below}
 use Rattle.table_names.proofs.NameLaws.{same_eq}
 use Rattle.check_class_table.specs.Elements.{name_at, element_name, is_private, is_definition, is_keyed, enters, is_definition_in, is_named}
-use Rattle.check_element_index.specs.Index.{hash, bucket, bucket_of, is_element, in_bucket, last_below, key_number, Entered, has_key}
+use Rattle.check_element_index.specs.Index.{hash, bucket, bucket_of, is_element, in_bucket, last_below, key_number, entry_in, Entered, has_key}
+use Rattle.check_element_index.specs.declared.Entry.{Entry}
 
 module _ (p : ℕ → Bool) where
   pub last_turn : (n : ℕ) → last_below p (n + 1) ≡ cond (p n) (n + 1) (last_below p n)
@@ -53,14 +54,13 @@ module _ (p : ℕ → Bool) where
 
 module _ (t : ℕ) (ns names : List ℕ) (size : ℕ) where
   -- the nodes are entered one after the other
-  pub entered_start : (last earlier keys : List ℕ) → 0 < size → length last ≡ size → last ≡ replicate size 0 → count ns ≤ length earlier → count ns ≤ length keys → Entered t ns names size last earlier keys 0
+  pub entered_start : (last : List ℕ) (entries : List Entry) → 0 < size → length last ≡ size → last ≡ replicate size 0 → count ns ≤ length entries → Entered t ns names size last entries 0
   unfolding last_below
-  entered_start last earlier keys h l c r k =
+  entered_start last entries h l c r =
       record {
         some = h;
         sized = l;
         room = r;
-        keys_room = k;
         is_last = λ b x. ap (λ (xs : List ℕ). get_or xs b 0) c ∙ get_or-replicate size b 0 0 x;
         is_earlier = λ e x y. absurd (omega arith);
         is_key = λ e x y. absurd (omega arith);
@@ -74,15 +74,14 @@ module _ (t : ℕ) (ns names : List ℕ) (size : ℕ) where
   by_newest : {P : Type 0} (i n : ℕ) → i < n + 1 → (i ≡ n → P) → (i < n → P) → P
   by_newest i n h f g = ⊎_elim (λ (z : suc i ≡ n + 1). f (omega arith)) (λ (z : suc i < n + 1). g (omega arith)) (eq-or-lt_of_le h)
 
-  module _ (last earlier keys : List ℕ) (n : ℕ) (w : Entered t ns names size last earlier keys n) where
-    pub entered_other : is_element t ns n ≡ false → Entered t ns names size last earlier keys (n + 1)
+  module _ (last : List ℕ) (entries : List Entry) (n : ℕ) (w : Entered t ns names size last entries n) where
+    pub entered_other : is_element t ns n ≡ false → Entered t ns names size last entries (n + 1)
     unfolding in_bucket
     entered_other e =
         record {
           some = w.some;
           sized = w.sized;
           room = w.room;
-          keys_room = w.keys_room;
           is_last = λ b x. w.is_last b x ∙ sym (other_turn b n (rw e));
           is_earlier = λ i x y. by_newest i n x (λ z. none i z y) (λ l. w.is_earlier i l y);
           is_key = λ i x y. by_newest i n x (λ z. none i z y) (λ l. w.is_key i l y);
@@ -92,18 +91,20 @@ module _ (t : ℕ) (ns names : List ℕ) (size : ℕ) where
         none : {P : Type 0} (i : ℕ) → i ≡ n → is_element t ns i ≡ true → P
         none i z y = absurd (true≢false (sym y ∙ ap (is_element t ns) z ∙ e))
 
+    abbrev kept : ℕ → ℕ → Entry
+    kept b k = record { earlier = get_or last b 0; key = k }
+
     pub entered_more : (b k : ℕ) → is_element t ns n ≡ true → n < count ns → b ≡ bucket_of ns names size n → b < size → k ≡ key_number (key_of ns n) → below ns (key_of ns n)
-        → Entered t ns names size (set last b (n + 1)) (set earlier n (get_or last b 0)) (set keys n k) (n + 1)
+        → Entered t ns names size (set last b (n + 1)) (set entries n (kept b k)) (n + 1)
     unfolding in_bucket
     entered_more b k e h q l v u =
         record {
           some = w.some;
           sized = length-set last b (n + 1) ∙ w.sized;
-          room = rw (length-set earlier n (get_or last b 0)) w.room;
-          keys_room = rw (length-set keys n k) w.keys_room;
+          room = rw (length-set entries n (kept b k)) w.room;
           is_last = λ a x. ⊎_elim (λ y. own a y.1) (λ y. others a x y.1) (eqb_tells a b);
-          is_earlier = λ i x y. by_newest i n x (newest i) (λ z. get_or-set_other earlier n i (get_or last b 0) 0 (λ (j : i ≡ n). absurd (omega arith)) ∙ w.is_earlier i z y);
-          is_key = λ i x y. by_newest i n x (newest_key i) (λ z. get_or-set_other keys n i k 0 (λ (j : i ≡ n). absurd (omega arith)) ∙ w.is_key i z y);
+          is_earlier = λ i x y. by_newest i n x (newest i) (λ z. ap (λ (x : Entry). x.earlier) (older i z) ∙ w.is_earlier i z y);
+          is_key = λ i x y. by_newest i n x (newest_key i) (λ z. ap (λ (x : Entry). x.key) (older i z) ∙ w.is_key i z y);
           key_below = λ i x y. by_newest i n x (λ z. subst (λ (j : ℕ). below ns (key_of ns j)) (sym z) u) (λ z. w.key_below i z y);
         }
       where
@@ -122,16 +123,19 @@ module _ (t : ℕ) (ns names : List ℕ) (size : ℕ) where
             ∙ w.is_last a x
             ∙ sym (other_turn a n (rw (e, ne_eqb (bucket_of ns names size n) a (λ z. y (sym z ∙ sym q)))))
 
-        newest : (i : ℕ) → i ≡ n → get_or (set earlier n (get_or last b 0)) i 0 ≡ last_below (in_bucket t ns names size (bucket_of ns names size i)) i
-        newest i z =
-            let r = w.room in
-            subst (λ (x : ℕ). get_or (set earlier n (get_or last b 0)) x 0 ≡ last_below (in_bucket t ns names size (bucket_of ns names size x)) x) (sym z)
-            (get_or-set_same earlier n (get_or last b 0) 0 (omega arith) ∙ w.is_last b l ∙ ap (λ (x : ℕ). last_below (in_bucket t ns names size x) n) q)
+        older : (i : ℕ) → i < n → entry_in (set entries n (kept b k)) i ≡ entry_in entries i
+        older i z = get_or-set_other entries n i (kept b k) _ (λ (j : i ≡ n). absurd (omega arith))
 
-        newest_key : (i : ℕ) → i ≡ n → get_or (set keys n k) i 0 ≡ key_number (key_of ns i)
-        newest_key i z =
-            let r = w.keys_room in
-            subst (λ (x : ℕ). get_or (set keys n k) x 0 ≡ key_number (key_of ns x)) (sym z) (get_or-set_same keys n k 0 (omega arith) ∙ v)
+        new : entry_in (set entries n (kept b k)) n ≡ kept b k
+        new = let r = w.room in get_or-set_same entries n (kept b k) _ (omega arith)
+
+        newest : (i : ℕ) → i ≡ n → (entry_in (set entries n (kept b k)) i).earlier ≡ last_below (in_bucket t ns names size (bucket_of ns names size i)) i
+        newest i z =
+            subst (λ (x : ℕ). (entry_in (set entries n (kept b k)) x).earlier ≡ last_below (in_bucket t ns names size (bucket_of ns names size x)) x) (sym z)
+            (ap (λ (x : Entry). x.earlier) new ∙ w.is_last b l ∙ ap (λ (x : ℕ). last_below (in_bucket t ns names size x) n) q)
+
+        newest_key : (i : ℕ) → i ≡ n → (entry_in (set entries n (kept b k)) i).key ≡ key_number (key_of ns i)
+        newest_key i z = subst (λ (x : ℕ). (entry_in (set entries n (kept b k)) x).key ≡ key_number (key_of ns x)) (sym z) (ap (λ (x : Entry). x.key) new ∙ v)
 
 -- an element with a key in class c is in the bucket of that key
 pub named_in : (t : ℕ) (ns names : List ℕ) (size c : ℕ) (private : Bool) (name : List ℕ) (e : ℕ) → is_named t ns names c private name e ≡ true → in_bucket t ns names size (bucket size c private (hash name)) e ≡ true
@@ -151,7 +155,7 @@ named_in t ns names size c private name e h =
     keyed false false e = refl
 
 -- The chain of bucket b. A number is in it, plus one, where it is the last of the bucket below it.
-module _ (t : ℕ) (ns names : List ℕ) (size : ℕ) (last earlier keys : List ℕ) (w : Entered t ns names size last earlier keys (count ns)) (b : ℕ) where
+module _ (t : ℕ) (ns names : List ℕ) (size : ℕ) (last : List ℕ) (entries : List Entry) (w : Entered t ns names size last entries (count ns)) (b : ℕ) where
   abbrev test : ℕ → Bool
   test = in_bucket t ns names size b
 
@@ -163,7 +167,7 @@ module _ (t : ℕ) (ns names : List ℕ) (size : ℕ) (last earlier keys : List 
   unfolding in_bucket
   chain_element d e = and_left_lem (is_element t ns d) (eqb (bucket_of ns names size d) b) (last_holds test d e)
 
-  pub chain_step : (d : ℕ) → d < count ns → last_below test (d + 1) ≡ d + 1 → get_or earlier d 0 ≡ last_below test d
+  pub chain_step : (d : ℕ) → d < count ns → last_below test (d + 1) ≡ d + 1 → (entry_in entries d).earlier ≡ last_below test d
   unfolding in_bucket
   chain_step d h e =
       let y = last_holds test d e in

@@ -8,7 +8,7 @@ use Rattle.base_walk.proofs.PreorderLaws.{lt_or_ge}
 use Rattle.table_records.specs.Table.{count}
 use Rattle.check_class_table.specs.Elements.{has_private, is_named}
 use Rattle.check_class_table.proofs.ElementsLaws.{has_private_from, has_start}
-use Rattle.check_element_index.specs.Index.{hash, bucket, is_element, in_bucket, last_below, Buckets, Known, has_key}
+use Rattle.check_element_index.specs.Index.{hash, bucket, is_element, in_bucket, last_below, entry_in, Buckets, Known, has_key}
 use Rattle.check_element_index.proofs.IndexLaws.{skip, last_last, last_le, last_here, named_in, key_named, chain_start, chain_element, chain_step}
 
 -- a test of some number from lo on, as the end moves on
@@ -74,7 +74,7 @@ module _ (s : Buckets) (w : Known s) (c : ℕ) (private : Bool) (name : List ℕ
 
   module _ (l : own < length s.last) where
     start : get_or s.last own 0 ≡ last_below keyed (count s.nodes)
-    start = chain_start _ _ _ _ _ _ _ w.indexed own l
+    start = chain_start _ _ _ _ _ _ w.indexed own l
 
     pub start_bound : get_or s.last own 0 ≤ count s.nodes
     start_bound = rw start (last_le keyed (count s.nodes))
@@ -91,23 +91,23 @@ module _ (s : Buckets) (w : Known s) (c : ℕ) (private : Bool) (name : List ℕ
     here : last_below keyed (d + 1) ≡ d + 1
     here = sym (ap (last_below keyed) z) ∙ e ∙ z
 
-    step : get_or s.earlier d 0 ≡ last_below keyed d
-    step = chain_step _ _ _ _ _ _ _ w.indexed own d (omega arith) here
+    step : (entry_in s.entries d).earlier ≡ last_below keyed d
+    step = chain_step _ _ _ _ _ _ w.indexed own d (omega arith) here
 
     pub step_element : is_element s.source_type s.nodes d ≡ true
-    step_element = chain_element _ _ _ _ _ _ _ w.indexed own d here
+    step_element = chain_element _ _ _ _ _ _ w.indexed own d here
 
     pub step_key : has_key s.nodes s.names c private name d ≡ named d
     step_key = key_named _ _ _ c private name d step_element
 
-    pub step_bound : get_or s.earlier d 0 ≤ d
+    pub step_bound : (entry_in s.entries d).earlier ≤ d
     step_bound = rw step (last_le keyed d)
 
-    pub step_chained : last_below keyed (get_or s.earlier d 0) ≡ get_or s.earlier d 0
+    pub step_chained : last_below keyed ((entry_in s.entries d).earlier) ≡ (entry_in s.entries d).earlier
     step_chained = rw step (last_last keyed d)
 
     -- .. and as below d
-    pub step_same : {A : Type 0} (f : ℕ → A) → ((n : ℕ) → named n ≡ false → f (n + 1) ≡ f n) → f (get_or s.earlier d 0) ≡ f d
+    pub step_same : {A : Type 0} (f : ℕ → A) → ((n : ℕ) → named n ≡ false → f (n + 1) ≡ f n) → f ((entry_in s.entries d).earlier) ≡ f d
     step_same f h = ap f step ∙ sym (skip keyed f (λ n x. h n (not_named n x)) d)
 
 -- the search for a private element of a name, where it stands

@@ -3,11 +3,11 @@ use Rattle.std.specs.Prelude.{ℕ, zero, suc, ◌+◌, ◌*◌, ◌-◌, ◌%◌
 use Rattle.std.specs.Int.Bits.{bit_and}
 use Rattle.std.specs.List.{fold}
 use Rattle.table_records.specs.Table.{count, parent_of}
-use Rattle.table_records.specs.Facts.{Named}
 use Rattle.table_records.specs.declared.NodeId.{NodeId}
 use Rattle.table_names.specs.Name.{same}
 use Rattle.table_children.specs.Children.{key_of, below}
 use Rattle.check_class_table.specs.Elements.{element_name, is_private, is_keyed, is_definition, enters}
+use Rattle.check_element_index.specs.declared.Entry.{Entry}
 
 -- arithmetic of 32 bits
 abbrev wrap : ℕ → ℕ
@@ -49,20 +49,23 @@ abbrev pub key_number : Option NodeId → ℕ
 key_number (Some m) = m.0 + 1
 key_number None = 0
 
+-- what is kept of element e; of nothing past the end
+abbrev pub entry_in : List Entry → ℕ → Entry
+entry_in entries e = get_or entries e (record { earlier = 0; key = 0 })
+
 -- The nodes below n are entered in `size` buckets: each bucket has its last element, and each element the one before it in its bucket, and its key.
-pub record Entered (source_type : ℕ) (ns names : List ℕ) (size : ℕ) (last earlier keys : List ℕ) (n : ℕ) : Type 0 where
+pub record Entered (source_type : ℕ) (ns names : List ℕ) (size : ℕ) (last : List ℕ) (entries : List Entry) (n : ℕ) : Type 0 where
   pub some : 0 < size
   pub sized : length last ≡ size
-  pub room : count ns ≤ length earlier
-  pub keys_room : count ns ≤ length keys
+  pub room : count ns ≤ length entries
   pub is_last : (b : ℕ) → b < size → get_or last b 0 ≡ last_below (in_bucket source_type ns names size b) n
-  pub is_earlier : (e : ℕ) → e < n → is_element source_type ns e ≡ true → get_or earlier e 0 ≡ last_below (in_bucket source_type ns names size (bucket_of ns names size e)) e
-  pub is_key : (e : ℕ) → e < n → is_element source_type ns e ≡ true → get_or keys e 0 ≡ key_number (key_of ns e)
+  pub is_earlier : (e : ℕ) → e < n → is_element source_type ns e ≡ true → (entry_in entries e).earlier ≡ last_below (in_bucket source_type ns names size (bucket_of ns names size e)) e
+  pub is_key : (e : ℕ) → e < n → is_element source_type ns e ≡ true → (entry_in entries e).key ≡ key_number (key_of ns e)
   pub key_below : (e : ℕ) → e < n → is_element source_type ns e ≡ true → below ns (key_of ns e)
 
 -- all nodes are
-abbrev pub Indexed : ℕ → List ℕ → List ℕ → List ℕ → List ℕ → List ℕ → Type 0
-Indexed source_type ns names last earlier keys = Entered source_type ns names (length last) last earlier keys (count ns)
+abbrev pub Indexed : ℕ → List ℕ → List ℕ → List ℕ → List Entry → Type 0
+Indexed source_type ns names last entries = Entered source_type ns names (length last) last entries (count ns)
 
 -- what a clause sees of `Elements`
 pub record Buckets : Type 0 where
@@ -70,13 +73,11 @@ pub record Buckets : Type 0 where
   pub nodes : List ℕ
   pub names : List ℕ
   pub last : List ℕ
-  pub earlier : List ℕ
-  pub keys : List ℕ
+  pub entries : List Entry
 
 -- the invariant of `Elements`
 pub record Known (s : Buckets) : Type 0 where
-  pub named : Named s.nodes s.names
-  pub indexed : Indexed s.source_type s.nodes s.names s.last s.earlier s.keys
+  pub indexed : Indexed s.source_type s.nodes s.names s.last s.entries
 
 -- element e has this key in class c: as `is_named`, but that e is an element is known
 unfoldable pub has_key : List ℕ → List ℕ → ℕ → Bool → List ℕ → ℕ → Bool

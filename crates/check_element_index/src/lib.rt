@@ -1,30 +1,34 @@
 // An index of all class elements by a hash of their keys: an element of a key is found among those of its bucket alone, and not among all nodes of its class.
 #![tactic(auto)]
 
-ghost use Rattle.std.specs.Prelude.{◌≡◌, true, ◌+◌, ◌<◌, ◌≤◌, length, get_or, replicate};
+ghost use Rattle.std.specs.Prelude.{◌≡◌, true, ◌+◌, ◌<◌, ◌≤◌, length, replicate};
 ghost use Rattle.table_records.specs.Table.{count};
-ghost use Rattle.table_records.specs.Facts.{Named};
 ghost use Rattle.table_children.specs.Children.{below};
 ghost use Rattle.check_class_table.specs.Elements.{element_name, has_private, is_declared};
-ghost use Rattle.check_element_index.specs.Index.{hash, seed, bucket, bucket_of, is_element, key_number, Entered, Indexed, has_key};
+ghost use Rattle.check_element_index.specs.Index.{hash, seed, bucket, bucket_of, is_element, key_number, entry_in, Entered, Indexed, has_key};
 
 use std::marker::Model;
+use table_names::named::NamedNodes;
 use table_records::nodes::Nodes;
 use table_records::{ClassId, ElementId, NodeId};
 
-// A table and its elements, in buckets. A node is told by its number plus one, and 0 is none: there are at most 65,535 nodes.
-// Arrays of u16 and no Option: fixed memory, half of what u32 takes.
+// What the index keeps of an element: the one before it in its bucket, and its key. A node is told by its number plus one, and 0 is none: there are at most
+// 65,535 nodes. Numbers of u16 and no Option, here and for the buckets: fixed memory, half of what u32 takes.
+#[derive(Clone, Copy)]
+pub struct Entry {
+    pub earlier: u16,
+    pub key: u16,
+}
+
+// A table and its elements, in buckets.
 #[derive(Drop)]
 pub struct Elements<'a> {
     pub source_type: u32,
-    pub nodes: &'a Nodes<'a>,
-    pub names: &'a [u8],
+    pub named: &'a NamedNodes<'a>,
     // the last element of each bucket
     pub last: &'a [u16],
-    // for each element the one before it in its bucket
-    pub earlier: &'a [u16],
-    // for each element its key
-    pub keys: &'a [u16],
+    // what is kept of each element
+    pub entries: &'a [Entry],
 }
 
 // In a clause it is their numbers. That all elements of the table are in their buckets is known where a function names a field.
@@ -33,9 +37,9 @@ impl<'a> Model for Elements<'a> {
 
     ghost Value = { Buckets };
 
-    ghost view = { λ s. record { source_type = s.source_type; nodes = s.nodes.now; names = s.names.now; last = s.last.now; earlier = s.earlier.now; keys = s.keys.now } };
+    ghost view = { λ s. record { source_type = s.source_type; nodes = s.named.now.nodes; names = s.named.now.names; last = s.last.now; entries = s.entries.now } };
 
-    ghost invariant = { λ s. Known (record { source_type = s.source_type; nodes = s.nodes.now; names = s.names.now; last = s.last.now; earlier = s.earlier.now; keys = s.keys.now }) };
+    ghost invariant = { λ s. Known (record { source_type = s.source_type; nodes = s.named.now.nodes; names = s.named.now.names; last = s.last.now; entries = s.entries.now }) };
 }
 
 // What the bytes of a name are hashed to. A shift and two additions a byte, since long names are read whole for each reference to them.
@@ -69,16 +73,15 @@ fn bucket(size: usize, c: ClassId, private: bool, hash: u32) -> usize
 
 // The bucket of element e.
 #[tactic(auto, unfolding(crate::specs::Index::bucket_of))]
-fn bucket_of(nodes: &Nodes, names: &[u8], size: usize, e: ElementId) -> usize
-    requires named { Named nodes.now names.now }
-    requires e_bound { e.0 < count nodes.now }
+fn bucket_of(named: &NamedNodes, size: usize, e: ElementId) -> usize
+    requires e_bound { e.0 < count named.now.nodes }
     requires some { 0 < size }
-    ensures value { result ≡ bucket_of nodes.now names.now size e.0 }
+    ensures value { result ≡ bucket_of named.now.nodes named.now.names size e.0 }
     ensures inside { result < size }
 {
-    let c = ClassId::from(table_records::parent(nodes, NodeId::from(e)));
-    let private = check_class_table::is_private(nodes, e);
-    let name = check_class_table::element_name(nodes, names, e);
+    let c = ClassId::from(table_records::parent(named.nodes, NodeId::from(e)));
+    let private = check_class_table::is_private(named.nodes, e);
+    let name = check_class_table::element_name(named, e);
     bucket(size, c, private, hash(name))
 }
 
@@ -105,54 +108,46 @@ fn key_number(nodes: &Nodes, key: Option<NodeId>) -> u16
 // Node e is entered, if it is an element.
 fn enter(
     source_type: u32,
-    nodes: &Nodes,
-    names: &[u8],
+    named: &NamedNodes,
     last: &mut [u16],
-    earlier: &mut [u16],
-    keys: &mut [u16],
+    entries: &mut [Entry],
     e: ElementId,
 )
-    requires named { Named nodes.now names.now }
-    requires e_bound { e.0 < count nodes.now }
-    requires entered { Entered source_type nodes.now names.now (length last.old) last.old earlier.old keys.old e.0 }
-    ensures { Entered source_type nodes.now names.now (length last.old) last.new earlier.new keys.new (e.0 + 1) }
+    requires e_bound { e.0 < count named.now.nodes }
+    requires entered { Entered source_type named.now.nodes named.now.names (length last.old) last.old entries.old e.0 }
+    ensures { Entered source_type named.now.nodes named.now.names (length last.old) last.new entries.new (e.0 + 1) }
 {
+    let nodes = named.nodes;
     let _ = &nodes.numbers; // names the field, so that its invariant is known
     if is_element(source_type, nodes, e) {
-        let b = bucket_of(nodes, names, last.len(), e);
-        keys[e.0 as usize] = key_number(nodes, table_children::key_of(nodes, NodeId::from(e)));
-        earlier[e.0 as usize] = last[b];
+        let b = bucket_of(named, last.len(), e);
+        let key = table_children::key_of(nodes, NodeId::from(e));
+        entries[e.0 as usize] = Entry {
+            earlier: last[b],
+            key: key_number(nodes, key),
+        };
         last[b] = (e.0 + 1) as u16;
     }
 }
 
 // Enters all elements of the table, in arrays that come cleared.
-pub fn build(
-    source_type: u32,
-    nodes: &Nodes,
-    names: &[u8],
-    last: &mut [u16],
-    earlier: &mut [u16],
-    keys: &mut [u16],
-)
-    requires named { Named nodes.now names.now }
+pub fn build(source_type: u32, named: &NamedNodes, last: &mut [u16], entries: &mut [Entry])
     requires some { 0 < length last.old }
     requires cleared { last.old ≡ replicate (length last.old) 0 }
-    requires room { count nodes.now ≤ length earlier.old }
-    requires keys_room { count nodes.now ≤ length keys.old }
-    ensures { Indexed source_type nodes.now names.now last.new earlier.new keys.new }
+    requires room { count named.now.nodes ≤ length entries.old }
+    ensures { Indexed source_type named.now.nodes named.now.names last.new entries.new }
 {
-    for i in 0..table_records::size(nodes) {
-        enter(source_type, nodes, names, last, earlier, keys, ElementId(i));
+    for i in 0..table_records::size(named.nodes) {
+        enter(source_type, named, last, entries, ElementId(i));
     }
 }
 
 // The element before e in its bucket, plus one.
 pub fn earlier(elements: &Elements, e: ElementId) -> u32
     requires { e.0 < count elements.now.nodes }
-    ensures { result ≡ get_or elements.now.earlier e.0 0 }
+    ensures { result ≡ (entry_in elements.now.entries e.0).earlier }
 {
-    elements.earlier[e.0 as usize] as u32
+    elements.entries[e.0 as usize].earlier as u32
 }
 
 // The name of an element, without a look for its key.
@@ -161,11 +156,12 @@ fn key_name<'a>(elements: &'a Elements, e: ElementId) -> &'a [u8]
     requires element { is_element elements.now.source_type elements.now.nodes e.0 ≡ true }
     ensures { result.now ≡ element_name elements.now.nodes elements.now.names e.0 }
 {
-    let key = elements.keys[e.0 as usize];
+    let named = elements.named;
+    let key = elements.entries[e.0 as usize].key;
     if key == 0 {
-        return &elements.names[0..0];
+        return &named.names[0..0];
     }
-    table_names::name(elements.nodes, elements.names, NodeId(key as u32 - 1))
+    table_names::name(named.nodes, named.names, NodeId(key as u32 - 1))
 }
 
 // Whether an element has this key in class c.
@@ -175,8 +171,9 @@ pub fn has_key(elements: &Elements, c: ClassId, private: bool, name: &[u8], e: E
     requires element { is_element elements.now.source_type elements.now.nodes e.0 ≡ true }
     ensures { result ≡ has_key elements.now.nodes elements.now.names c.0 private name.now e.0 }
 {
-    table_records::parent(elements.nodes, NodeId::from(e)) == NodeId::from(c)
-        && check_class_table::is_private(elements.nodes, e) == private
+    let named = elements.named;
+    table_records::parent(named.nodes, NodeId::from(e)) == NodeId::from(c)
+        && check_class_table::is_private(named.nodes, e) == private
         && table_names::same(key_name(elements, e), name)
 }
 
@@ -186,7 +183,8 @@ pub fn has_private_definition(elements: &Elements, c: ClassId, name: &[u8], hash
     requires hashed { hashed ≡ hash name.now }
     ensures { result ≡ has_private elements.now.source_type elements.now.nodes elements.now.names c.0 name.now }
 {
-    let nodes = elements.nodes;
+    let named = elements.named;
+    let nodes = named.nodes;
     let _ = &nodes.numbers; // names the field, so that its invariant is known
     let b = bucket(elements.last.len(), c, true, hashed);
     let mut at = elements.last[b] as u32;
@@ -206,7 +204,8 @@ pub fn is_declared(elements: &Elements, c: ClassId, name: &[u8]) -> bool
     requires c_bound { c.0 < count elements.now.nodes }
     ensures { result ≡ is_declared elements.now.source_type elements.now.nodes elements.now.names c.0 name.now }
 {
-    let nodes = elements.nodes;
+    let named = elements.named;
+    let nodes = named.nodes;
     let _ = &nodes.numbers; // names the field, so that its invariant is known
     let hashed = hash(name);
     let mut at = c;

@@ -3,37 +3,37 @@
 
 ghost use Rattle.std.specs.Prelude.{◌≡◌, ◌+◌, ◌<◌, ◌≤◌};
 ghost use Rattle.table_records.specs.Table.{count};
-ghost use Rattle.table_records.specs.Facts.{Scoped, Spanned, Named};
+ghost use Rattle.table_records.specs.Facts.{Scoped, Spanned};
 ghost use Rattle.table_children.specs.Children.{inner_of, below};
 ghost use Rattle.check_diagnostics.specs.Raises.{Adds};
 ghost use Rattle.check_expressions.specs.Expressions.{proto_key, check_object_expression, is_parenthesis, inner_expression, chain_finding, delete_of, check_unary_expression, is_parameter, in_formal_parameters, in_parameter, in_block, check_await_expression, check_yield_expression, repeated, later};
 
 use check_diagnostics::{Finding, Findings, codes, contexts, error_at};
 use table_children::Part;
+use table_names::named::NamedNodes;
 use table_records::nodes::Nodes;
 use table_records::scopes::Scopes;
 use table_records::{NodeId, extras, kinds, node_flag};
 
 // The key of a property, where it is written `__proto__: value`.
 #[tactic(auto, unfolding(crate::specs::Expressions::proto_key))]
-fn proto_key(nodes: &Nodes, names: &[u8], p: NodeId) -> Option<NodeId>
-    requires named { Named nodes.now names.now }
-    requires p_bound { p.0 < count nodes.now }
-    ensures value { result ≡ proto_key nodes.now names.now p.0 }
-    ensures below { below nodes.now result }
+fn proto_key(named: &NamedNodes, p: NodeId) -> Option<NodeId>
+    requires p_bound { p.0 < count named.now.nodes }
+    ensures value { result ≡ proto_key named.now.nodes named.now.names p.0 }
+    ensures below { below named.now.nodes result }
 {
-    if table_records::extra(nodes, p) != extras::INIT {
+    if table_records::extra(named.nodes, p) != extras::INIT {
         return None;
     }
-    if table_records::has_flag(table_records::flags(nodes, p), node_flag::METHOD) {
+    if table_records::has_flag(table_records::flags(named.nodes, p), node_flag::METHOD) {
         return None;
     }
-    let key = table_children::key_of(nodes, p)?;
+    let key = table_children::key_of(named.nodes, p)?;
     // An IdentifierReference as key is that of `[a]`: a computed key has no PropName.
-    if table_records::kind(nodes, key) == kinds::IDENTIFIER_REFERENCE {
+    if table_records::kind(named.nodes, key) == kinds::IDENTIFIER_REFERENCE {
         return None;
     }
-    if table_names::name_is(nodes, names, key, b"__proto__") {
+    if table_names::name_is(named.nodes, named.names, key, b"__proto__") {
         return Some(key);
     }
     None
@@ -61,13 +61,13 @@ fn later(a: Option<NodeId>, b: Option<NodeId>) -> Option<NodeId>
 // Of the keys `__proto__` of an object each but the first repeats the one before it.
 // > It is a Syntax Error if PropertyNameList of PropertyDefinitionList contains any duplicate entries for "__proto__" and at least two of those entries
 // > were obtained from productions of the form PropertyDefinition : PropertyName : AssignmentExpression.
-pub fn check_object_expression(nodes: &Nodes, names: &[u8], n: NodeId, findings: &mut Findings)
-    requires named { Named nodes.now names.now }
-    requires n_bound { n.0 < count nodes.now }
+pub fn check_object_expression(named: &NamedNodes, n: NodeId, findings: &mut Findings)
+    requires n_bound { n.0 < count named.now.nodes }
     requires raised_bound { findings.old.raised ≤ 900000000000 }
-    ensures adds { Adds findings.old findings.new (check_object_expression nodes.now names.now n.0) }
+    ensures adds { Adds findings.old findings.new (check_object_expression named.now.nodes named.now.names n.0) }
     ensures upper_bound { findings.new.raised ≤ findings.old.raised + 458745 }
 {
+    let nodes = named.nodes;
     let _ = &nodes.numbers; // names the field, so that its invariant is known
     let mut from = n.0 + 1;
     let mut previous = None;
@@ -80,7 +80,7 @@ pub fn check_object_expression(nodes: &Nodes, names: &[u8], n: NodeId, findings:
         ) else {
             return;
         };
-        let key = proto_key(nodes, names, p);
+        let key = proto_key(named, p);
         findings.raise(repeated(nodes, n, previous, key));
         previous = later(previous, key);
         from = p.0 + 1;

@@ -3,11 +3,11 @@
 
 ghost use Rattle.std.specs.Prelude.{◌≡◌, ◌<◌, cond};
 ghost use Rattle.table_records.specs.Table.{count};
-ghost use Rattle.table_records.specs.Facts.{Named};
 ghost use Rattle.table_children.specs.Children.{below};
 ghost use Rattle.check_jumps.specs.Jumps.{is_boundary, is_unit, is_iteration, walk_up, same_label, labeled_item, plain_break_at, no_label, labelled_break_at, plain_continue_at, continue_to, labelled_continue_at, labeled_at, check_break_statement, check_continue_statement, check_labeled_statement};
 
 use check_diagnostics::{Finding, codes, contexts, error_at, error_between};
+use table_names::named::NamedNodes;
 use table_records::nodes::Nodes;
 use table_records::{NodeId, kinds};
 
@@ -31,19 +31,18 @@ fn is_iteration_statement(kind: u32) -> bool
 
 // The label of a, where a is a Labeled with the name of this label.
 #[tactic(auto, unfolding(crate::specs::Jumps::same_label))]
-fn same_label(nodes: &Nodes, names: &[u8], label: NodeId, a: NodeId) -> Option<NodeId>
-    requires named { Named nodes.now names.now }
-    requires label_bound { label.0 < count nodes.now }
-    requires a_bound { a.0 < count nodes.now }
-    ensures value { result ≡ same_label nodes.now names.now label.0 a.0 }
-    ensures below { below nodes.now result }
+fn same_label(named: &NamedNodes, label: NodeId, a: NodeId) -> Option<NodeId>
+    requires label_bound { label.0 < count named.now.nodes }
+    requires a_bound { a.0 < count named.now.nodes }
+    ensures value { result ≡ same_label named.now.nodes named.now.names label.0 a.0 }
+    ensures below { below named.now.nodes result }
 {
-    let kind = table_records::kind(nodes, a);
+    let kind = table_records::kind(named.nodes, a);
     if kind != kinds::LABELED {
         return None;
     }
-    let own = table_children::label_of(nodes, a)?;
-    if table_names::same_name(nodes, names, own, label) {
+    let own = table_children::label_of(named.nodes, a)?;
+    if table_names::same_name(named.nodes, named.names, own, label) {
         return Some(own);
     }
     None
@@ -115,23 +114,22 @@ fn no_label(nodes: &[u32], n: NodeId, label: NodeId, kind: u32) -> Option<Findin
 }
 
 #[tactic(auto, using(crate::proofs::JumpsLaws::walk_up_lem, crate::proofs::JumpsLaws::walk_root), unfolding(crate::specs::Jumps::labelled_break_at))]
-fn labelled_break(nodes: &Nodes, names: &[u8], n: NodeId, label: NodeId) -> Option<Finding>
-    requires named { Named nodes.now names.now }
-    requires n_bound { n.0 < count nodes.now }
-    requires label_bound { label.0 < count nodes.now }
-    ensures { result ≡ walk_up nodes.now (labelled_break_at nodes.now names.now n.0 label.0) n.0 }
+fn labelled_break(named: &NamedNodes, n: NodeId, label: NodeId) -> Option<Finding>
+    requires n_bound { n.0 < count named.now.nodes }
+    requires label_bound { label.0 < count named.now.nodes }
+    ensures { result ≡ walk_up named.now.nodes (labelled_break_at named.now.nodes named.now.names n.0 label.0) n.0 }
 {
     let mut at = n;
     loop {
         if at.0 == 0 {
             break None;
         }
-        at = table_ancestry::up(nodes, at);
-        let kind = table_records::kind(nodes, at);
+        at = table_ancestry::up(named.nodes, at);
+        let kind = table_records::kind(named.nodes, at);
         if is_unit(kind) {
-            break no_label(nodes, n, label, kind);
+            break no_label(named.nodes, n, label, kind);
         }
-        let Some(_) = same_label(nodes, names, label, at) else {
+        let Some(_) = same_label(named, label, at) else {
             continue;
         };
         break None;
@@ -141,15 +139,14 @@ fn labelled_break(nodes: &Nodes, names: &[u8], n: NodeId, label: NodeId) -> Opti
 // A break has a target: without a label the nearest loop or switch, with one the nearest Labeled of that name.
 // > It is a Syntax Error if this BreakStatement is not nested, directly or indirectly (but not crossing function or static initialization block
 // > boundaries), within an IterationStatement or a SwitchStatement.
-pub fn check_break_statement(nodes: &Nodes, names: &[u8], n: NodeId) -> Option<Finding>
-    requires named { Named nodes.now names.now }
-    requires n_bound { n.0 < count nodes.now }
-    ensures { result ≡ check_break_statement nodes.now names.now n.0 }
+pub fn check_break_statement(named: &NamedNodes, n: NodeId) -> Option<Finding>
+    requires n_bound { n.0 < count named.now.nodes }
+    ensures { result ≡ check_break_statement named.now.nodes named.now.names n.0 }
 {
-    let Some(label) = table_children::label_of(nodes, n) else {
-        return plain_jump(nodes, n, true);
+    let Some(label) = table_children::label_of(named.nodes, n) else {
+        return plain_jump(named.nodes, n, true);
     };
-    labelled_break(nodes, names, n, label)
+    labelled_break(named, n, label)
 }
 
 // A continue at the Labeled of its label's name, whose own label is `outer`.
@@ -174,72 +171,68 @@ fn continue_to(
 }
 
 #[tactic(auto, using(crate::proofs::JumpsLaws::walk_up_lem, crate::proofs::JumpsLaws::walk_root), unfolding(crate::specs::Jumps::labelled_continue_at))]
-fn labelled_continue(nodes: &Nodes, names: &[u8], n: NodeId, label: NodeId) -> Option<Finding>
-    requires named { Named nodes.now names.now }
-    requires n_bound { n.0 < count nodes.now }
-    requires label_bound { label.0 < count nodes.now }
-    ensures { result ≡ walk_up nodes.now (labelled_continue_at nodes.now names.now n.0 label.0) n.0 }
+fn labelled_continue(named: &NamedNodes, n: NodeId, label: NodeId) -> Option<Finding>
+    requires n_bound { n.0 < count named.now.nodes }
+    requires label_bound { label.0 < count named.now.nodes }
+    ensures { result ≡ walk_up named.now.nodes (labelled_continue_at named.now.nodes named.now.names n.0 label.0) n.0 }
 {
     let mut at = n;
     loop {
         if at.0 == 0 {
             break None;
         }
-        at = table_ancestry::up(nodes, at);
-        let kind = table_records::kind(nodes, at);
+        at = table_ancestry::up(named.nodes, at);
+        let kind = table_records::kind(named.nodes, at);
         if is_unit(kind) {
-            break no_label(nodes, n, label, kind);
+            break no_label(named.nodes, n, label, kind);
         }
-        let Some(outer) = same_label(nodes, names, label, at) else {
+        let Some(outer) = same_label(named, label, at) else {
             continue;
         };
-        break continue_to(nodes, n, label, at, outer);
+        break continue_to(named.nodes, n, label, at, outer);
     }
 }
 
 // A continue has a target: the nearest loop, with a label the loop that the nearest Labeled of that name labels.
 // > It is a Syntax Error if this ContinueStatement is not nested, directly or indirectly (but not crossing function or static initialization block
 // > boundaries), within an IterationStatement.
-pub fn check_continue_statement(nodes: &Nodes, names: &[u8], n: NodeId) -> Option<Finding>
-    requires named { Named nodes.now names.now }
-    requires n_bound { n.0 < count nodes.now }
-    ensures { result ≡ check_continue_statement nodes.now names.now n.0 }
+pub fn check_continue_statement(named: &NamedNodes, n: NodeId) -> Option<Finding>
+    requires n_bound { n.0 < count named.now.nodes }
+    ensures { result ≡ check_continue_statement named.now.nodes named.now.names n.0 }
 {
-    let Some(label) = table_children::label_of(nodes, n) else {
-        return plain_jump(nodes, n, false);
+    let Some(label) = table_children::label_of(named.nodes, n) else {
+        return plain_jump(named.nodes, n, false);
     };
-    labelled_continue(nodes, names, n, label)
+    labelled_continue(named, n, label)
 }
 
 #[tactic(auto, using(crate::proofs::JumpsLaws::walk_up_lem, crate::proofs::JumpsLaws::walk_root), unfolding(crate::specs::Jumps::labeled_at))]
-fn redeclared_label(nodes: &Nodes, names: &[u8], n: NodeId, label: NodeId) -> Option<Finding>
-    requires named { Named nodes.now names.now }
-    requires n_bound { n.0 < count nodes.now }
-    requires label_bound { label.0 < count nodes.now }
-    ensures { result ≡ walk_up nodes.now (labeled_at nodes.now names.now n.0 label.0) n.0 }
+fn redeclared_label(named: &NamedNodes, n: NodeId, label: NodeId) -> Option<Finding>
+    requires n_bound { n.0 < count named.now.nodes }
+    requires label_bound { label.0 < count named.now.nodes }
+    ensures { result ≡ walk_up named.now.nodes (labeled_at named.now.nodes named.now.names n.0 label.0) n.0 }
 {
     let mut at = n;
     loop {
         if at.0 == 0 {
             break None;
         }
-        at = table_ancestry::up(nodes, at);
-        if is_boundary(table_records::kind(nodes, at)) {
+        at = table_ancestry::up(named.nodes, at);
+        if is_boundary(table_records::kind(named.nodes, at)) {
             break None;
         }
-        let Some(outer) = same_label(nodes, names, label, at) else {
+        let Some(outer) = same_label(named, label, at) else {
             continue;
         };
-        break error_between(nodes, codes::LABEL_REDECLARATION, n, outer, label);
+        break error_between(named.nodes, codes::LABEL_REDECLARATION, n, outer, label);
     }
 }
 
 // A label does not stand within a Labeled of the same name.
-pub fn check_labeled_statement(nodes: &Nodes, names: &[u8], n: NodeId) -> Option<Finding>
-    requires named { Named nodes.now names.now }
-    requires n_bound { n.0 < count nodes.now }
-    ensures { result ≡ check_labeled_statement nodes.now names.now n.0 }
+pub fn check_labeled_statement(named: &NamedNodes, n: NodeId) -> Option<Finding>
+    requires n_bound { n.0 < count named.now.nodes }
+    ensures { result ≡ check_labeled_statement named.now.nodes named.now.names n.0 }
 {
-    let label = table_children::label_of(nodes, n)?;
-    redeclared_label(nodes, names, n, label)
+    let label = table_children::label_of(named.nodes, n)?;
+    redeclared_label(named, n, label)
 }

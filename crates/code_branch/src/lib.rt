@@ -3,7 +3,6 @@
 
 ghost use Rattle.std.specs.Prelude.{◌≡◌, true, ◌&&◌, ◌+◌, ◌<◌, ◌≤◌, eqb};
 ghost use Rattle.table_records.specs.Table.{count, role_of};
-ghost use Rattle.table_records.specs.Facts.{Named};
 ghost use Rattle.route_completion.specs.Sem.{normal, breaks, continues, elem, comp_of};
 ghost use Rattle.code_flat.specs.Code.{at};
 ghost use Rattle.code_tree.specs.Labels.{name_id, lab_at, id_at};
@@ -18,6 +17,7 @@ ghost use Rattle.code_branch.specs.Branch.{stat_of, comp_by, end_by, LabelIn, st
 use code_shapes::{has_same_label, is_labeled, is_try, shape_of, up_of};
 use code_tree::Shape;
 use std::marker::Model;
+use table_names::named::NamedNodes;
 use table_records::nodes::Nodes;
 use table_records::{NodeId, kinds, roles};
 
@@ -145,13 +145,16 @@ fn catch_behind(laid: &Layout, n: NodeId) -> Target
 }
 
 // Whether p is a Labeled of the name of l.
-fn is_labeled_as(nodes: &Nodes, names: &[u8], p: NodeId, l: NodeId) -> bool
-    requires named { Named nodes.now names.now }
-    requires p_bound { p.0 < count nodes.now }
-    requires l_bound { l.0 < count nodes.now }
-    ensures { result ≡ (is_labeled (shape_at nodes.now p.0) && eqb (name_id nodes.now names.now l.0) (id_at nodes.now names.now p.0)) }
+fn is_labeled_as(laid: &Layout, p: NodeId, l: NodeId) -> bool
+    requires p_bound { p.0 < count laid.now.nodes }
+    requires l_bound { l.0 < count laid.now.nodes }
+    ensures { result ≡ (is_labeled (shape_at laid.now.nodes p.0) && eqb (name_id laid.now.nodes laid.now.names l.0) (id_at laid.now.nodes laid.now.names p.0)) }
 {
-    is_labeled(shape_of(nodes, p)) && has_same_label(nodes, names, p, l)
+    let named = &NamedNodes {
+        nodes: laid.nodes,
+        names: laid.names,
+    };
+    is_labeled(shape_of(laid.nodes, p)) && has_same_label(named, p, l)
 }
 
 // Whether a Labeled of the name of l stands over p, with no statement but Labeled between.
@@ -162,13 +165,17 @@ fn has_label_above(laid: &Layout, p: NodeId, l: NodeId) -> bool
     requires l_bound { l.0 < count laid.now.nodes }
     ensures { result ≡ elem (name_id laid.now.nodes laid.now.names l.0) (labels_at laid.now.nodes laid.now.names laid.now.body p.0) }
 {
+    let named = &NamedNodes {
+        nodes: laid.nodes,
+        names: laid.names,
+    };
     let mut at = p.0;
     while laid.body.0 < at {
         let q = up_of(laid.nodes, NodeId(at));
         if !is_labeled(shape_of(laid.nodes, q)) {
             return false;
         }
-        if has_same_label(laid.nodes, laid.names, q, l) {
+        if has_same_label(named, q, l) {
             return true;
         }
         at = q.0;
@@ -209,7 +216,7 @@ fn stops_at(laid: &Layout, n: NodeId, jump: Jump) -> bool
     let p = up_of(laid.nodes, n);
     match jump {
         Jump::Break(None) => is_breakable(shape_of(laid.nodes, p)),
-        Jump::Break(Some(l)) => is_labeled_as(laid.nodes, laid.names, p, l),
+        Jump::Break(Some(l)) => is_labeled_as(laid, p, l),
         Jump::Continue(None) => is_loop(shape_of(laid.nodes, p)),
         Jump::Continue(Some(l)) => takes_continue(laid, p, l),
         Jump::Return => false,

@@ -3,7 +3,6 @@
 
 ghost use Rattle.std.specs.Prelude.{◌≡◌, ◌&&◌, ◌+◌, ◌<◌, ◌≤◌, eqb};
 ghost use Rattle.table_records.specs.Table.{count};
-ghost use Rattle.table_records.specs.Facts.{Named};
 ghost use Rattle.table_children.specs.Children.{below};
 ghost use Rattle.code_tree.specs.Labels.{name_id, id_at};
 ghost use Rattle.code_tree.specs.First.{first_of};
@@ -13,6 +12,7 @@ ghost use Rattle.code_layout.specs.Widths.{is_try, number_by};
 ghost use Rattle.code_layout.specs.Exact.{open_at};
 
 use code_tree::Shape;
+use table_names::named::NamedNodes;
 use table_records::nodes::Nodes;
 use table_records::{NodeId, kinds, node_flag, roles};
 
@@ -67,16 +67,15 @@ pub fn is_labeled(s: Shape) -> bool
 
 // Whether the label of p has the name of the label l.
 #[tactic(auto, using(code_tree::proofs::LabelLaws::id_test))]
-pub fn has_same_label(nodes: &Nodes, names: &[u8], p: NodeId, l: NodeId) -> bool
-    requires named { Named nodes.now names.now }
-    requires p_bound { p.0 < count nodes.now }
-    requires l_bound { l.0 < count nodes.now }
-    ensures { result ≡ eqb (name_id nodes.now names.now l.0) (id_at nodes.now names.now p.0) }
+pub fn has_same_label(named: &NamedNodes, p: NodeId, l: NodeId) -> bool
+    requires p_bound { p.0 < count named.now.nodes }
+    requires l_bound { l.0 < count named.now.nodes }
+    ensures { result ≡ eqb (name_id named.now.nodes named.now.names l.0) (id_at named.now.nodes named.now.names p.0) }
 {
-    let Some(own) = table_children::label_of(nodes, p) else {
+    let Some(own) = table_children::label_of(named.nodes, p) else {
         return false;
     };
-    table_names::same_name(nodes, names, own, l)
+    table_names::same_name(named.nodes, named.names, own, l)
 }
 
 // Whether a node of this kind in the role r is a part of what has the shape s.

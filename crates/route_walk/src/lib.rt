@@ -17,6 +17,7 @@ use code_shapes::{has_same_label, is_labeled, shape_of, up_of};
 use code_tree::Shape;
 use route_list::run_end;
 use std::marker::Model;
+use table_names::named::NamedNodes;
 use table_records::nodes::Nodes;
 use table_records::{NodeId, kinds, roles};
 
@@ -95,9 +96,12 @@ fn unlabelled(given: &Given, p: NodeId, how: Completion) -> Completion
     ensures result_value { comp_at given.now.nodes given.now.names result ≡ no_label (id_at given.now.nodes given.now.names p.0) (comp_at given.now.nodes given.now.names how) }
     ensures label_in_2 { label_in given.now.nodes result }
 {
+    let named = &NamedNodes {
+        nodes: given.nodes,
+        names: given.names,
+    };
     match how {
-        Completion::BreakTo(l) if has_same_label(given.nodes, given.names, p, l) =>
-            Completion::Normal,
+        Completion::BreakTo(l) if has_same_label(named, p, l) => Completion::Normal,
         other => other,
     }
 }
@@ -109,9 +113,13 @@ fn has_label(given: &Given, p: NodeId, l: NodeId) -> bool
     requires l_bound { l.0 < count given.now.nodes }
     ensures { result ≡ elem (name_id given.now.nodes given.now.names l.0) (labels_of given.now.nodes given.now.names p.0) }
 {
+    let named = &NamedNodes {
+        nodes: given.nodes,
+        names: given.names,
+    };
     let mut at = p;
     while is_labeled(shape_of(given.nodes, at)) {
-        if has_same_label(given.nodes, given.names, at, l) {
+        if has_same_label(named, at, l) {
             return true;
         }
         at = up_of(given.nodes, at);

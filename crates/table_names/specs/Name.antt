@@ -25,3 +25,8 @@ name_is ns names n word = same (name_of ns names n) word
 -- a list of strings has a string
 abbrev pub has : List (List ℕ) → List ℕ → Bool
 has strings x = any (λ y. same y x) strings
+
+-- what a clause sees of a `NamedNodes`: the nodes and the bytes of their names
+pub record NamedTable : Type 0 where
+  pub nodes : List ℕ
+  pub names : List ℕ

@@ -8,6 +8,8 @@ ghost use Rattle.table_names.specs.Name.{same, name_of, same_name, name_is};
 
 use table_records::NodeId;
 
+pub mod named;
+
 // Whether two strings of bytes are the same.
 #[tactic(auto, using(crate::proofs::NameLaws::same_slices))]
 pub fn same(a: &[u8], b: &[u8]) -> bool

@@ -1,3 +1,4 @@
+use Rattle.table_records.specs.Facts.{Named}
 use Rattle.call_labels.specs.Order.{seen_before, place_in}
 use Rattle.call_labels.proofs.UnfitLaws.{other_fit, nameless_fit, known_fit, new_fit}
 use Rattle.call_labels.specs.Firsts.{Firsts}
@@ -13,34 +14,38 @@ use Rattle.call_labels.proofs.enter.Goals as goal
 pub returns-then-not-is_label : goal.returns-then-not-is_label
 returns-then-not-is_label c =
     let a = c.args in
-    let ns = a.nodes.now in
-    let names = a.names.now in
+    let ns = a.named.now.nodes in
+    let names = a.named.now.names in
     let f = c.requires.firsts in
     let h = c.requires.i_bound in
-    let w = other_fit ns names a.i (sym c.is_label.ensures ∙ c.if-not-is_label.true) in
+    let v = c.deref-nodes.ensures.same ∙ ap (λ v. v.nodes) c.named.view_is in
+    let w = other_fit ns names a.i (rw v at (sym c.is_label.ensures ∙ c.if-not-is_label.true)) in
     (w.0, subst (Firsts ns names a.kept.now.nodes a.kept.now.size) (sym w.1) f)
 
 pub returns-then-name_len-eq0 : goal.returns-then-name_len-eq0
 returns-then-name_len-eq0 c =
     let a = c.args in
-    let ns = a.nodes.now in
-    let names = a.names.now in
+    let ns = a.named.now.nodes in
+    let names = a.named.now.names in
     let f = c.requires.firsts in
     let h = c.requires.i_bound in
-    let e = sym c.is_label.ensures ∙ c.if-not-is_label.false in
+    let within = subst (λ t. Named t.nodes t.names) c.named.view_is c.named.invariant in
+    let v = c.deref-nodes.ensures.same ∙ ap (λ v. v.nodes) c.named.view_is in
+    let e = rw v at (sym c.is_label.ensures ∙ c.if-not-is_label.false) in
     let q = sym c.is_reserved.ensures ∙ c.if-is_reserved.false in
-    let z = name_length ns names c.requires.named a.i h ∙ sym c.name_len.ensures ∙ c.if-name_len-eq0.true in
+    let z = name_length ns names within a.i h ∙ sym (rw v at c.name_len.ensures) ∙ c.if-name_len-eq0.true in
     let w = nameless_fit ns names a.i e q z in
     (w.0, subst (Firsts ns names a.kept.now.nodes a.kept.now.size) (sym w.1) f)
 
 pub returns-then-place_in-kept : goal.returns-then-place_in-kept
 returns-then-place_in-kept c =
     let a = c.args in
-    let ns = a.nodes.now in
-    let names = a.names.now in
+    let ns = a.named.now.nodes in
+    let names = a.named.now.names in
     let f = c.requires.firsts in
     let h = c.requires.i_bound in
-    let e = sym c.is_label.ensures ∙ c.if-not-is_label.false in
+    let v = c.deref-nodes.ensures.same ∙ ap (λ v. v.nodes) c.named.view_is in
+    let e = rw v at (sym c.is_label.ensures ∙ c.if-not-is_label.false) in
     let q = sym c.is_reserved.ensures ∙ c.if-is_reserved.false in
     let p = c.place_in.ensures ∙ ap (λ s. place_in s (name_of ns names a.i)) f.named in
     let l = firsts_length ns names a.kept.now.nodes a.kept.now.size (seen_before ns names a.i) f in
@@ -50,13 +55,15 @@ returns-then-place_in-kept c =
 pub returns : goal.returns
 returns c =
     let a = c.args in
-    let ns = a.nodes.now in
-    let names = a.names.now in
+    let ns = a.named.now.nodes in
+    let names = a.named.now.names in
     let f = c.requires.firsts in
     let h = c.requires.i_bound in
-    let e = sym c.is_label.ensures ∙ c.if-not-is_label.false in
+    let within = subst (λ t. Named t.nodes t.names) c.named.view_is c.named.invariant in
+    let v = c.deref-nodes.ensures.same ∙ ap (λ v. v.nodes) c.named.view_is in
+    let e = rw v at (sym c.is_label.ensures ∙ c.if-not-is_label.false) in
     let q = sym c.is_reserved.ensures ∙ c.if-is_reserved.false in
-    let n : length (name_of ns names a.i) ≡ 0 → ⊥ = λ z. c.if-name_len-eq0.false (c.name_len.ensures ∙ sym (name_length ns names c.requires.named a.i h) ∙ z) in
+    let n : length (name_of ns names a.i) ≡ 0 → ⊥ = λ z. c.if-name_len-eq0.false ((rw v at c.name_len.ensures) ∙ sym (name_length ns names within a.i h) ∙ z) in
     let p = c.place_in.ensures ∙ ap (λ s. place_in s (name_of ns names a.i)) f.named in
     let l = firsts_length ns names a.kept.now.nodes a.kept.now.size (seen_before ns names a.i) f in
     let few = f.nodes.few in

@@ -1,7 +1,6 @@
 use lib.ListN.{length}
 use mathlib.Core.Path.{◌≡◌}
-use Prim.Native.Nat.{◌*◌, ◌-◌, ◌≤◌}
-use Rattle.table_records.specs.Table as table
+use Prim.Native.Nat.{◌*◌, ◌≤◌}
 use Rattle.call_labels.specs.Written.{names_to}
 use Rattle.call_labels.proofs.names_length.Given as goal
 

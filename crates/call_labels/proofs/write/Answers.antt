@@ -16,8 +16,8 @@ put_record-requires c =
     let v = c.loop-i.invariant in
     let i = c.loop-i.i in
     let n = table.count ns in
-    let size = ap table.count (c.deref.ensures.same ∙ ap (λ v. v.nodes) c.labels.view_is) in
-    let here = ap table.count (c.deref-in-loop-i.ensures.same ∙ ap (λ v. v.nodes) c.labels.view_is) in
+    let size = ap table.count (c.deref.ensures.same ∙ ap (λ v. v.nodes) (c.named.view_is ∙ c.labels.view_is)) in
+    let here = ap table.count (c.deref-in-loop-i.ensures.same ∙ ap (λ v. v.nodes) (c.named.view_is ∙ c.labels.view_is)) in
     record { n_bound = omega arith; start_bound = omega (arith, c.requires.names_len_bound, written_length (new_name_of ns names) a.renamed_names.now c.loop-i.renamed_names c.loop-i.w i n (names_renamed ns names) v.2); len_bound = c.new_length-len.ensures.1; n_in_bounds = write_room (record_of ns names) a.renamed_nodes.now c.loop-i.renamed_nodes (i * 10) i n (nodes_renamed ns names) v.1 (omega arith) }
 
 pub put_name-requires : goal.put_name-requires
@@ -28,7 +28,7 @@ put_name-requires c =
     let v = c.loop-i.invariant in
     let i = c.loop-i.i in
     let n = table.count ns in
-    let size = ap table.count (c.deref.ensures.same ∙ ap (λ v. v.nodes) c.labels.view_is) in
+    let size = ap table.count (c.deref.ensures.same ∙ ap (λ v. v.nodes) (c.named.view_is ∙ c.labels.view_is)) in
     record { n_bound = omega arith; n_in_bounds = write_room (new_name_of ns names) a.renamed_names.now c.loop-i.renamed_names c.loop-i.w i n (names_renamed ns names) v.2 (omega arith) }
 
 pub loop-i-preserved : goal.loop-i-preserved
@@ -39,8 +39,8 @@ loop-i-preserved c =
     let v = c.loop-i.invariant in
     let i = c.loop-i.i in
     let n = table.count ns in
-    let size = ap table.count (c.deref.ensures.same ∙ ap (λ v. v.nodes) c.labels.view_is) in
-    let here = c.deref-in-loop-i.ensures.same ∙ ap (λ v. v.nodes) c.labels.view_is in
+    let size = ap table.count (c.deref.ensures.same ∙ ap (λ v. v.nodes) (c.named.view_is ∙ c.labels.view_is)) in
+    let here = c.deref-in-loop-i.ensures.same ∙ ap (λ v. v.nodes) (c.named.view_is ∙ c.labels.view_is) in
     let k = c.new_length-len.ensures.0 in
     let s : record_with c.deref-in-loop-i.result.now i c.loop-i.w c.new_length-len.result ≡ record_of ns names i = rw (here, v.0, k) in (
       omega (arith, v.0, k, next_length (new_name_of ns names) i),

@@ -5,7 +5,7 @@ use Rattle.call_labels.specs.Written.{new_name_of, names_to, record_of, nodes_re
 use lib.ListN.{length}
 use mathlib.Core.List.{flat_map}
 use mathlib.Core.Path.{◌≡◌}
-use Prim.Native.Nat.{◌*◌, ◌-◌, ◌≤◌}
+use Prim.Native.Nat.{◌*◌}
 use Rattle.call_labels.proofs.write.Given as goal
 
 abbrev pub invariant-loop-i : goal.invariant-loop-i

@@ -11,7 +11,7 @@ pub check_await_expression-requires : goal.check_await_expression-requires
 check_await_expression-requires c = let i = c.requires.input in record { scoped = i.scoped; spanned = i.spanned; n_bound = c.requires.n_bound; raised_bound = omega arith }
 
 pub check_object_expression-requires : goal.check_object_expression-requires
-check_object_expression-requires c = let i = c.requires.input in record { named = i.named; n_bound = c.requires.n_bound; raised_bound = omega arith }
+check_object_expression-requires c = let i = c.requires.input in record { n_bound = c.requires.n_bound; raised_bound = omega arith }
 
 pub returns-in-31 : goal.returns-in-31
 unfolding findings_at

@@ -14,7 +14,7 @@ loop-i-init c = let a = c.args in
     (omega arith, left_start _ _ _ (all_start s.source_type s.nodes s.names))
 
 pub duplicates_at-requires : goal.duplicates_at-requires
-duplicates_at-requires c = let v = ap (λ v. v.nodes) c.elements.view_is in
+duplicates_at-requires c = let v = ap (λ v. v.nodes) c.named.view_is ∙ ap (λ v. v.nodes) c.elements.view_is in
     let n = ap count (c.deref.ensures.same ∙ v) in
     let h : c.loop-i.i < count c.args.elements.now.nodes = omega arith in
     let t = (subst Tree v c.deref.ensures.tree).small in
@@ -24,7 +24,7 @@ duplicates_at-requires c = let v = ap (λ v. v.nodes) c.elements.view_is in
 pub loop-i-preserved : goal.loop-i-preserved
 loop-i-preserved c = let a = c.args in
     let s = a.elements.now in
-    let v = ap (λ v. v.nodes) c.elements.view_is in
+    let v = ap (λ v. v.nodes) c.named.view_is ∙ ap (λ v. v.nodes) c.elements.view_is in
     let n = ap count (c.deref.ensures.same ∙ v) in
     let h : c.loop-i.i < count c.args.elements.now.nodes = omega arith in (
       omega (arith, c.duplicates_at.ensures.upper_bound),
@@ -35,7 +35,7 @@ loop-i-preserved c = let a = c.args in
 pub returns : goal.returns
 returns c = let a = c.args in
     let s = a.elements.now in
-    let v = ap (λ v. v.nodes) c.elements.view_is in
+    let v = ap (λ v. v.nodes) c.named.view_is ∙ ap (λ v. v.nodes) c.elements.view_is in
     let n = ap count (c.deref.ensures.same ∙ v) in
     let h : count c.args.elements.now.nodes ≤ c.loop-i.i = omega arith in
     let t = (subst Tree v c.deref.ensures.tree).small in

@@ -19,7 +19,7 @@ loop-i-init c = let a = c.args in
 pub returns-then-parent-c : goal.returns-then-parent-c
 returns-then-parent-c c = let a = c.args in
     let s = a.elements.now in
-    let v = ap (λ v. v.nodes) c.elements.view_is in
+    let v = ap (λ v. v.nodes) c.named.view_is ∙ ap (λ v. v.nodes) c.elements.view_is in
     let n = ap count (c.deref.ensures.same ∙ v) in
     let h : c.loop-i.i < count c.args.elements.now.nodes = omega arith in
     let t = (subst Tree v c.deref.ensures.tree).small in
@@ -28,12 +28,12 @@ returns-then-parent-c c = let a = c.args in
     record { adds = left_end _ _ _ _ c.loop-i.invariant.1 o; upper_bound = omega arith }
 
 pub raised_at-requires : goal.raised_at-requires
-raised_at-requires c = let v = ap (λ v. v.nodes) c.elements.view_is in
+raised_at-requires c = let v = ap (λ v. v.nodes) c.named.view_is ∙ ap (λ v. v.nodes) c.elements.view_is in
     let n = ap count (c.deref.ensures.same ∙ v) in
     let h : c.loop-i.i < count c.args.elements.now.nodes = omega arith in record { i_bound = h; c_lt_i = omega arith }
 
 pub raise-requires : goal.raise-requires
-raise-requires c = let v = ap (λ v. v.nodes) c.elements.view_is in
+raise-requires c = let v = ap (λ v. v.nodes) c.named.view_is ∙ ap (λ v. v.nodes) c.elements.view_is in
     let n = ap count (c.deref.ensures.same ∙ v) in
     let t = (subst Tree v c.deref.ensures.tree).small in
     let p = c.requires.raised_bound in
@@ -42,7 +42,7 @@ raise-requires c = let v = ap (λ v. v.nodes) c.elements.view_is in
 pub loop-i-preserved : goal.loop-i-preserved
 loop-i-preserved c = let a = c.args in
     let s = a.elements.now in
-    let v = ap (λ v. v.nodes) c.elements.view_is in
+    let v = ap (λ v. v.nodes) c.named.view_is ∙ ap (λ v. v.nodes) c.elements.view_is in
     let n = ap count (c.deref.ensures.same ∙ v) in
     let h : c.loop-i.i < count c.args.elements.now.nodes = omega arith in
     let rest = duplicates_from s.source_type s.nodes s.names a.c.0 (c.loop-i.i + 1) in
@@ -52,7 +52,7 @@ loop-i-preserved c = let a = c.args in
 pub returns : goal.returns
 returns c = let a = c.args in
     let s = a.elements.now in
-    let v = ap (λ v. v.nodes) c.elements.view_is in
+    let v = ap (λ v. v.nodes) c.named.view_is ∙ ap (λ v. v.nodes) c.elements.view_is in
     let n = ap count (c.deref.ensures.same ∙ v) in
     let h : count c.args.elements.now.nodes ≤ c.loop-i.i = omega arith in
     let b = c.loop-i.auto.i-end (omega arith) in

@@ -32,8 +32,8 @@ see-seen-requires-clause-element c = let i = c.loop-at.invariant in
 pub returns-then-is_some : goal.returns-then-is_some
 returns-then-is_some c = let a = c.args in
     let s = a.elements.now in
-    let v = ap (λ v. v.nodes) c.elements.view_is in
-    let q = rw (c.is_private-private.ensures, c.deref.ensures.same, c.element_name-name.ensures, v, ap (λ v. v.names) c.elements.view_is) at c.see-seen.ensures in
+    let v = ap (λ v. v.nodes) c.named.view_is ∙ ap (λ v. v.nodes) c.elements.view_is in
+    let q = rw (c.is_private-private.ensures, c.deref.ensures.same, c.element_name-name.ensures, v, ap (λ v. v.nodes) c.elements.view_is, ap (λ v. v.names) c.elements.view_is) at c.see-seen.ensures in
     let w = left_turn _ _ _ _ _ _ _ c.loop-at.at (c.loop-at.at - 1) _ (omega arith) (omega arith) c.loop-at.invariant.left in
     own_seen s.source_type s.nodes s.names a.c.0 a.e.0 (omega arith) c.see-seen.result (c.loop-at.at - 1) (rw q w)
     (ap (λ (i : ℕ). there (get_or c.see-seen.result i nowhere)) (sym (rw (c.deref-2.ensures.same, v) at c.side-own.ensures.value)) ∙ sym c.is_some.ensures ∙ c.if-is_some.true)
@@ -53,8 +53,8 @@ loop-at-preserved c = let a = c.args in
     let z : c.loop-at.at ≡ c.loop-at.at - 1 + 1 = omega arith in
     let i = c.loop-at.invariant in
     let b = step_bound s k _ _ _ _ _ z i.in_table i.in_chain in
-    let v = ap (λ v. v.nodes) c.elements.view_is in
-    let q = rw (c.is_private-private.ensures, c.deref.ensures.same, c.element_name-name.ensures, v, ap (λ v. v.names) c.elements.view_is) at c.see-seen.ensures in
+    let v = ap (λ v. v.nodes) c.named.view_is ∙ ap (λ v. v.nodes) c.elements.view_is in
+    let q = rw (c.is_private-private.ensures, c.deref.ensures.same, c.element_name-name.ensures, v, ap (λ v. v.nodes) c.elements.view_is, ap (λ v. v.names) c.elements.view_is) at c.see-seen.ensures in
     let w = left_turn _ _ _ _ _ _ _ c.loop-at.at (c.loop-at.at - 1) _ z (omega arith) i.left in
     rw (c.earlier-at-in-loop-at.ensures, q) (record {
       in_table = omega (arith, b, z, i.in_table);

@@ -1,4 +1,4 @@
-use Rattle.std.proofs.Common.{◌∙◌, sym}
+use Rattle.std.proofs.Common.{ap, ◌∙◌, sym}
 use Rattle.check_element_index.proofs.IndexLaws.{nameless, name_by_key}
 use Rattle.check_element_index.proofs.key_name.Goals as goal
 
@@ -10,4 +10,4 @@ returns-then-key-eq0 c = let e = rw (← c.elements.view_is) at c.requires in
 pub returns : goal.returns
 returns c = let e = rw (← c.elements.view_is) at c.requires in
     let w = c.elements.invariant.indexed in
-    rw (← c.elements.view_is) ((rw c.deref.ensures.same at c.name.ensures) ∙ sym (name_by_key _ _ _ _ (w.is_key _ e.e_bound e.element) (w.key_below _ e.e_bound e.element) c.if-key-eq0.false))
+    rw (← c.elements.view_is) ((rw (c.deref.ensures.same, ap (λ v. v.nodes) c.named.view_is, ap (λ v. v.names) c.named.view_is) at c.name.ensures) ∙ sym (name_by_key _ _ _ _ (w.is_key _ e.e_bound e.element) (w.key_below _ e.e_bound e.element) c.if-key-eq0.false))
