@@ -2,23 +2,22 @@
 // begins at its start or at a mark and may be stopped.
 #![tactic(auto)]
 
-ghost use Rattle.std.specs.Prelude.{◌≡◌, ◌+◌, ◌<◌, length};
+ghost use Rattle.std.specs.Prelude.{◌≡◌, length};
 ghost use Rattle.check_dispatch.specs.Lent.{rule_of};
 ghost use Rattle.refusal_state.specs.Targets.{refused_or};
 ghost use Rattle.code_flat.specs.Code.{unit as unitCode};
 ghost use Rattle.code_tree.specs.Statements.{unit_of};
 ghost use Rattle.code_assemble.specs.Assembled.{assembled_slice};
 ghost use Rattle.code_assemble.specs.Ready.{Ready};
-ghost use Rattle.route_marks.specs.Marks.{marks as marksMany};
-ghost use Rattle.route_marks.specs.Taken.{Ready as MarkReady, stop_of, gone_on};
+ghost use Rattle.route_marks.specs.Taken.{Ready as MarkReady, Tested, stop_of, gone_on};
 ghost use Rattle.route_marks.specs.declared.Begin.TheVariants as begins;
 ghost use Rattle.call_routes.specs.Calls.{code_refusal};
 ghost use Rattle.call_marks.specs.Marked.{code_of, to_refusal, from_refusal, place_refusal, sixteen_of, seventeen_of, mark_answer, mark_code, mark_slice, marks_left};
-ghost use Rattle.call_marks.specs.Made.{shown_or, list_or, marks_or, made_answer, made_slice, made_marks};
+ghost use Rattle.call_marks.specs.Made.{shown_or, list_or, marks_or, made_answer, made_slice, made_marks, leg_answer, leg_code, leg_slice, leg_marks};
 
 use check_dispatch::Rule;
 use refusal_verdict::{Refusal, Refused};
-use route_marks::{Begin, MARKS, Marks};
+use route_marks::{Begin, Leg, MARKS, Marks};
 use route_viewer::Route;
 use table_records::NodeId;
 
@@ -33,14 +32,14 @@ fn to_refusal(to: u32) -> Result<(), Refused>
 }
 
 // 16, of the mark taken up first.
-fn mark_refusal(marks: &Marks, begin: Begin, to: u32) -> Result<(), Refused>
-    ensures { result ≡ sixteen_of marks.now begin to }
+fn mark_refusal(marks: &Marks, leg: &Leg) -> Result<(), Refused>
+    ensures { result ≡ sixteen_of marks.now leg.now.begin leg.now.to }
 {
-    match begin {
-        Begin::Start => to_refusal(to),
+    match leg.begin {
+        Begin::Start => to_refusal(leg.to),
         Begin::Mark(mark) => {
             if route_marks::is_set(marks, mark) {
-                return to_refusal(to);
+                return to_refusal(leg.to);
             }
             Err(Refused::At(Refusal::Mark, mark))
         }
@@ -64,104 +63,70 @@ fn place_refusal(marks: &Marks, begin: Begin, code: &[u32]) -> Result<(), Refuse
     }
 }
 
-// The route on the unit's code, where 17 does not refuse it.
+// The leg on the unit's code, where 17 does not refuse it.
 #[tactic(auto, using(refusal_verdict::proofs::VerdictLaws::handed))]
-fn shown(
-    marks: &mut Marks,
-    begin: Begin,
-    to: u32,
-    stop: u64,
-    code: &[u32],
-    answers: &[u32],
-    out: &mut [u32],
-) -> Result<Route, Refused>
-    requires mark_ready { MarkReady marks.old begin }
-    requires to_lt_marks_many { to < marksMany }
-    ensures answer { result ≡ shown_or (seventeen_of marks.old code.now begin) (stop_of marks.old code.now answers.now begin stop) (length out.old) }
-    ensures list { out.new ≡ list_or (seventeen_of marks.old code.now begin) (stop_of marks.old code.now answers.now begin stop) out.old }
-    ensures marks { marks.new ≡ marks_or (seventeen_of marks.old code.now begin) (stop_of marks.old code.now answers.now begin stop) (length out.old) marks.old to }
+fn shown(marks: &mut Marks, leg: &Leg, code: &[u32], out: &mut [u32]) -> Result<Route, Refused>
+    requires { Tested marks.old leg.now }
+    ensures answer { result ≡ shown_or code.now marks.old leg.now (length out.old) }
+    ensures list { out.new ≡ list_or code.now marks.old leg.now out.old }
+    ensures marks { marks.new ≡ marks_or code.now marks.old leg.now (length out.old) }
 {
-    place_refusal(marks, begin, code)?;
-    route_marks::show(marks, begin, to, stop, code, answers, out)
+    place_refusal(marks, leg.begin, code)?;
+    route_marks::show(marks, leg, code, out)
 }
 
-// Makes the code of a unit that is not refused, and shows the route, where the code slice has room.
+// Makes the code of a unit that is not refused, and shows the leg, where the code slice has room.
 #[tactic(auto, using(crate::proofs::MarkedLaws::made_short, crate::proofs::MarkedLaws::list_short, crate::proofs::MarkedLaws::marks_short, call_routes::proofs::CallsLaws::over_length, call_routes::proofs::CallsLaws::told_code, call_routes::proofs::CallsLaws::told_short, call_routes::proofs::CallsLaws::slice_over, refusal_verdict::proofs::VerdictLaws::handed))]
 fn made(
     nodes: &[u32],
     names: &[u8],
     u: NodeId,
     marks: &mut Marks,
-    begin: Begin,
-    to: u32,
-    stop: u64,
-    answers: &[u32],
+    leg: &Leg,
     code: &mut [u32],
     out: &mut [u32],
 ) -> Result<Route, Refused>
     requires ready { Ready nodes.now names.now u.0 }
-    requires mark_ready { MarkReady marks.old begin }
-    requires to_lt_marks_many { to < marksMany }
-    ensures answer { result ≡ made_answer (unitCode (unit_of nodes.now names.now u.0)) marks.old begin stop answers.now (length code.old) (length out.old) }
+    requires tested { Tested marks.old leg.now }
+    ensures answer { result ≡ made_answer (unitCode (unit_of nodes.now names.now u.0)) marks.old leg.now (length code.old) (length out.old) }
     ensures code { code.new ≡ assembled_slice (unitCode (unit_of nodes.now names.now u.0)) code.old }
-    ensures list { out.new ≡ made_slice (unitCode (unit_of nodes.now names.now u.0)) marks.old begin stop answers.now (length code.old) out.old }
-    ensures marks { marks.new ≡ made_marks (unitCode (unit_of nodes.now names.now u.0)) marks.old begin stop answers.now (length code.old) (length out.old) to }
+    ensures list { out.new ≡ made_slice (unitCode (unit_of nodes.now names.now u.0)) marks.old leg.now (length code.old) out.old }
+    ensures marks { marks.new ≡ made_marks (unitCode (unit_of nodes.now names.now u.0)) marks.old leg.now (length code.old) (length out.old) }
 {
     let n = code_assemble::code_unit(nodes, names, u, code)?;
-    shown(
-        marks,
-        begin,
-        to,
-        stop,
-        call_routes::front(code, n),
-        answers,
-        out,
-    )
+    shown(marks, leg, call_routes::front(code, n), out)
 }
 
 // The refusals before 11.
 #[tactic(auto, using(refusal_verdict::proofs::VerdictLaws::handed))]
-fn refusal(rule: &Rule, unit: u32, marks: &Marks, begin: Begin, to: u32) -> Result<(), Refused>
-    ensures { result ≡ refused_or (code_refusal (rule_of rule.now) unit) (sixteen_of marks.now begin to) }
+fn refusal(rule: &Rule, unit: u32, marks: &Marks, leg: &Leg) -> Result<(), Refused>
+    ensures { result ≡ refused_or (code_refusal (rule_of rule.now) unit) (sixteen_of marks.now leg.now.begin leg.now.to) }
 {
     call_routes::refusal(rule, unit)?;
-    mark_refusal(marks, begin, to)
+    mark_refusal(marks, leg)
 }
 
-// A route that begins anywhere and is stopped behind so many answers, under the mark `to`.
-#[tactic(auto, using(crate::proofs::MarkedLaws::refused_answer, crate::proofs::MarkedLaws::refused_code, crate::proofs::MarkedLaws::refused_slice, crate::proofs::MarkedLaws::refused_marks, crate::proofs::MarkedLaws::unit_ready, crate::proofs::MarkedLaws::mark_ready, refusal_verdict::proofs::VerdictLaws::handed))]
+// What the three calls have in common: any leg of a unit's route.
+#[tactic(auto, using(crate::proofs::MarkedLaws::refused_answer, crate::proofs::MarkedLaws::refused_code, crate::proofs::MarkedLaws::refused_slice, crate::proofs::MarkedLaws::refused_marks, crate::proofs::MarkedLaws::unit_ready, crate::proofs::MarkedLaws::leg_tested, refusal_verdict::proofs::VerdictLaws::handed))]
 fn marked(
     rule: &Rule,
     unit: u32,
-    begin: Begin,
-    answers: &[u32],
-    to: u32,
-    stop: u64,
+    leg: &Leg,
     marks: &mut Marks,
     code: &mut [u32],
     out: &mut [u32],
 ) -> Result<Route, Refused>
-    ensures answer { result ≡ mark_answer (rule_of rule.now) unit (sixteen_of marks.old begin to) (seventeen_of marks.old (code_of (rule_of rule.now) unit) begin) (stop_of marks.old (code_of (rule_of rule.now) unit) answers.now begin stop) (length code.old) (length out.old) }
-    ensures code { code.new ≡ mark_code (rule_of rule.now) unit (sixteen_of marks.old begin to) code.old }
-    ensures list { out.new ≡ mark_slice (rule_of rule.now) unit (sixteen_of marks.old begin to) (seventeen_of marks.old (code_of (rule_of rule.now) unit) begin) (stop_of marks.old (code_of (rule_of rule.now) unit) answers.now begin stop) (length code.old) out.old }
-    ensures marks { marks.new ≡ marks_left (rule_of rule.now) unit (sixteen_of marks.old begin to) (seventeen_of marks.old (code_of (rule_of rule.now) unit) begin) (stop_of marks.old (code_of (rule_of rule.now) unit) answers.now begin stop) (length code.old) (length out.old) marks.old to }
+    ensures answer { result ≡ leg_answer (rule_of rule.now) unit marks.old leg.now (length code.old) (length out.old) }
+    ensures code { code.new ≡ leg_code (rule_of rule.now) unit marks.old leg.now code.old }
+    ensures list { out.new ≡ leg_slice (rule_of rule.now) unit marks.old leg.now (length code.old) out.old }
+    ensures marks { marks.new ≡ leg_marks (rule_of rule.now) unit marks.old leg.now (length code.old) (length out.old) }
 {
-    refusal(rule, unit, marks, begin, to)?;
-    made(
-        rule.nodes,
-        rule.names,
-        NodeId(unit),
-        marks,
-        begin,
-        to,
-        stop,
-        answers,
-        code,
-        out,
-    )
+    refusal(rule, unit, marks, leg)?;
+    made(rule.nodes, rule.names, NodeId(unit), marks, leg, code, out)
 }
 
 // From the start, stopped under `mark` behind `stop` answers.
+// This call and the next two take one by one what a `Leg` holds, as the C interface has it.
 pub fn route_stop(
     rule: &Rule,
     unit: u32,
@@ -177,17 +142,13 @@ pub fn route_stop(
     ensures list { out.new ≡ mark_slice (rule_of rule.now) unit (to_refusal mark) (seventeen_of marks.old (code_of (rule_of rule.now) unit) begins.Start) (stop_of marks.old (code_of (rule_of rule.now) unit) answers.now begins.Start stop) (length code.old) out.old }
     ensures marks { marks.new ≡ marks_left (rule_of rule.now) unit (to_refusal mark) (seventeen_of marks.old (code_of (rule_of rule.now) unit) begins.Start) (stop_of marks.old (code_of (rule_of rule.now) unit) answers.now begins.Start stop) (length code.old) (length out.old) marks.old mark }
 {
-    marked(
-        rule,
-        unit,
-        Begin::Start,
+    let leg = Leg {
+        begin: Begin::Start,
         answers,
-        mark,
+        to: mark,
         stop,
-        marks,
-        code,
-        out,
-    )
+    };
+    marked(rule, unit, &leg, marks, code, out)
 }
 
 // Taken up at `mark`, and not stopped again: more answers than there are never stop it.
@@ -206,17 +167,13 @@ pub fn route_resume(
     ensures list { out.new ≡ mark_slice (rule_of rule.now) unit (from_refusal marks.old mark) (place_refusal marks.old (code_of (rule_of rule.now) unit) mark) (gone_on marks.old (code_of (rule_of rule.now) unit) answers.now mark) (length code.old) out.old }
     ensures marks { marks.new ≡ marks.old }
 {
-    marked(
-        rule,
-        unit,
-        Begin::Mark(mark),
+    let leg = Leg {
+        begin: Begin::Mark(mark),
         answers,
-        mark,
-        answers.len() as u64 + 1,
-        marks,
-        code,
-        out,
-    )
+        to: mark,
+        stop: answers.len() as u64 + 1,
+    };
+    marked(rule, unit, &leg, marks, code, out)
 }
 
 // Taken up at `from`, and stopped again under `to` behind `stop` answers.
@@ -236,15 +193,11 @@ pub fn route_resume_stop(
     ensures list { out.new ≡ mark_slice (rule_of rule.now) unit (refused_or (from_refusal marks.old from) (to_refusal to)) (place_refusal marks.old (code_of (rule_of rule.now) unit) from) (stop_of marks.old (code_of (rule_of rule.now) unit) answers.now (begins.Mark from) stop) (length code.old) out.old }
     ensures marks { marks.new ≡ marks_left (rule_of rule.now) unit (refused_or (from_refusal marks.old from) (to_refusal to)) (place_refusal marks.old (code_of (rule_of rule.now) unit) from) (stop_of marks.old (code_of (rule_of rule.now) unit) answers.now (begins.Mark from) stop) (length code.old) (length out.old) marks.old to }
 {
-    marked(
-        rule,
-        unit,
-        Begin::Mark(from),
+    let leg = Leg {
+        begin: Begin::Mark(from),
         answers,
         to,
         stop,
-        marks,
-        code,
-        out,
-    )
+    };
+    marked(rule, unit, &leg, marks, code, out)
 }

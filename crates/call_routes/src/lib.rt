@@ -15,7 +15,8 @@ use refusal_verdict::Refused;
 use route_viewer::Route;
 use table_records::NodeId;
 
-// The refusals of both calls before 11, of the walk and of the calls of marks.
+// The refusals of both calls before 11, of the walk and of the calls of marks. Its body is that of check (call_check) by chance: behind the refusals of the
+// tables that one reports findings, this one asks for those of a unit.
 #[tactic(auto, using(refusal_input::proofs::InputLaws::input_well_formed, refusal_verdict::proofs::VerdictLaws::handed), unfolding(crate::specs::Calls::code_refusal))]
 pub fn refusal(rule: &Rule, unit: u32) -> Result<(), Refused>
     ensures { result ≡ code_refusal (rule_of rule.now) unit }

@@ -11,7 +11,7 @@ use Rattle.code_layout.specs.Widths.{width_at}
 use Rattle.code_layout.specs.Context.{offset_at}
 use Rattle.code_targets.specs.Targets.{is_loop, is_breakable, catches_at, target, depth_at, labels_at}
 use Rattle.code_contexts.specs.Contexts.{Ready, Wide, Places}
-use Rattle.code_branch.specs.declared.Target.{Target}
+use Rattle.code_machine.specs.declared.Target.{Target}
 use Rattle.code_branch.specs.declared.Jump.{Jump}
 use Rattle.code_branch.specs.declared.Jump.TheVariants.{Break, Continue, Return, Throw}
 

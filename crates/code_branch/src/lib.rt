@@ -14,19 +14,13 @@ ghost use Rattle.code_targets.specs.Targets.{is_loop, is_breakable, catches_at, 
 ghost use Rattle.code_contexts.specs.Contexts.{next_of};
 ghost use Rattle.code_branch.specs.Branch.{stat_of, comp_by, end_by, LabelIn, stops_at, land_at};
 
+use code_machine::Target;
 use code_shapes::{has_same_label, is_labeled, is_try, shape_of, up_of};
 use code_tree::Shape;
 use std::marker::Model;
 use table_names::named::NamedNodes;
 use table_records::nodes::Nodes;
 use table_records::{NodeId, kinds, roles};
-
-// A place of the code, and the depth of the pending ends there; the place 0 is what is pending.
-#[derive(Clone, Copy)]
-pub struct Target {
-    pub place: u32,
-    pub depth: u32,
-}
 
 // The tables, the node that holds the unit's statements, and the arrays of the code maker, once each node has its place.
 #[derive(Drop)]

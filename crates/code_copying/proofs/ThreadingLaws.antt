@@ -18,7 +18,7 @@ use Rattle.code_valid.specs.Instrs.{len, words, flat, parse, find, names}
 use Rattle.code_valid.specs.Valid.{Valid}
 use Rattle.code_valid.specs.Reading.{standing}
 use Rattle.code_valid.proofs.ReadingLaws.{whole}
-use Rattle.code_shorten.specs.declared.Aim.{Aim}
+use Rattle.code_machine.specs.declared.Target.{Target}
 use Rattle.code_shorten.specs.Short.{to, aim_of, hop, further, last, aimed, thread, threaded}
 use Rattle.code_shorten.specs.Longer.{thread_length, total, flat_length, map_length}
 use Rattle.code_shorten.specs.Reads.{fetched}
@@ -50,7 +50,7 @@ module _ (is : List Instr) (shut : (o v w : ℕ) → Begin is o → aim_of (find
   last_read zero t d b = refl
   last_read (suc f) t d b = ap (λ a. further (last_at (flat is) f) a t d) (hop_read t b) ∙ go (hop is t) refl (λ v w c. last_read f v w c)
     where
-      go : (a : Option Aim) → hop is t ≡ a → ((v w : ℕ) → Begin is v → last_at (flat is) f v w ≡ last is f v w) → further (last_at (flat is) f) a t d ≡ further (last is f) a t d
+      go : (a : Option Target) → hop is t ≡ a → ((v w : ℕ) → Begin is v → last_at (flat is) f v w ≡ last is f v w) → further (last_at (flat is) f) a t d ≡ further (last is f) a t d
       go None e h = refl
       go (Some aim) e h = let v : ℕ = aim.place in let w : ℕ = aim.depth in h v (min d w) (hop_begin t v w b e)
 
@@ -114,7 +114,7 @@ module _ (X : List ℕ) (p : ℕ) (at : length X ≡ p) where
       ap (λ c. set c (p + 1) u) (sym (append_snoc X x (y ∷ l))) ∙ set_at (X ++ x ∷ []) y l u (p + 1) (snoc_length x) ∙ append_snoc X x (u ∷ l)
 
 -- A place and a depth behind x.
-abbrev aim_behind : List ℕ → ℕ → ℕ → ℕ → List ℕ → Option Aim → List ℕ
+abbrev aim_behind : List ℕ → ℕ → ℕ → ℕ → List ℕ → Option Target → List ℕ
 aim_behind X x t d l None = X ++ x ∷ t ∷ d ∷ l
 aim_behind X x t d l (Some aim) = X ++ x ∷ aim.place ∷ aim.depth ∷ l
 
@@ -122,7 +122,7 @@ module _ (X : List ℕ) (p : ℕ) (at : length X ≡ p) (x t d : ℕ) (l : List 
   third : (y z : ℕ) → X ++ x ∷ y ∷ z ∷ l ≡ (X ++ x ∷ []) ++ y ∷ z ∷ l
   third y z = sym (append_snoc X x (y ∷ z ∷ l))
 
-  sent_is : (a : Option Aim) → last_at (X ++ x ∷ t ∷ d ∷ l) (length (X ++ x ∷ t ∷ d ∷ l) + 1) t d ≡ a → sent (X ++ x ∷ t ∷ d ∷ l) (p + 1) ≡ aim_behind X x t d l a
+  sent_is : (a : Option Target) → last_at (X ++ x ∷ t ∷ d ∷ l) (length (X ++ x ∷ t ∷ d ∷ l) + 1) t d ≡ a → sent (X ++ x ∷ t ∷ d ∷ l) (p + 1) ≡ aim_behind X x t d l a
   unfolding sent
   sent_is a e =
       ap (λ y. written C (p + 1) (last_at C (length C + 1) y (get_or C (p + 1 + 1) 0))) (get_second X p at x t (d ∷ l))
@@ -135,7 +135,7 @@ module _ (X : List ℕ) (p : ℕ) (at : length X ≡ p) (x t d : ℕ) (l : List 
       depth : get_or C (p + 1 + 1) 0 ≡ d
       depth = ap (λ c. get_or c (p + 1 + 1) 0) (third t d) ∙ get_second (X ++ x ∷ []) (p + 1) (snoc_length X p at x) t d l
 
-      go : (b : Option Aim) → written C (p + 1) b ≡ aim_behind X x t d l b
+      go : (b : Option Target) → written C (p + 1) b ≡ aim_behind X x t d l b
       go None = refl
       go (Some aim) = let u : ℕ = aim.place in let k : ℕ = aim.depth in
           ap (λ c. set c (p + 1 + 1) k) (set_second X p at x t u (d ∷ l))
@@ -236,11 +236,11 @@ module _ (is : List Instr) (s : Sound is) (a : List Instr) (i : Instr) (b : List
       by : (x : ℕ) (l : List ℕ) → C ≡ X ++ x ∷ l → threaded_at C p ≡ pick (eqb x op.Leave) (sent C (p + 1)) (pick (eqb x op.Case) (sent C (p + 2)) C)
       by x l q = ap (λ y. pick (eqb y op.Leave) (sent C (p + 1)) (pick (eqb y op.Case) (sent C (p + 2)) C)) (ap (λ c. get_or c p 0) q ∙ get_first X p length_x x l)
 
-      leave : (t d : ℕ) (k : Option Aim) → aim_behind X op.Leave t d R k ≡ X ++ (words (aimed k LEAVE (LEAVE t d)) ++ R)
+      leave : (t d : ℕ) (k : Option Target) → aim_behind X op.Leave t d R k ≡ X ++ (words (aimed k LEAVE (LEAVE t d)) ++ R)
       leave t d None = refl
       leave t d (Some aim) = refl
 
-      case' : (c t d : ℕ) (k : Option Aim) → aim_behind X' c t d R k ≡ X ++ (words (aimed k (CASE c) (CASE c t d)) ++ R)
+      case' : (c t d : ℕ) (k : Option Target) → aim_behind X' c t d R k ≡ X ++ (words (aimed k (CASE c) (CASE c t d)) ++ R)
       case' c t d None = append_snoc X op.Case (c ∷ t ∷ d ∷ R)
       case' c t d (Some aim) = let u : ℕ = aim.place in let w : ℕ = aim.depth in append_snoc X op.Case (c ∷ u ∷ w ∷ R)
 

@@ -4,17 +4,17 @@ use Rattle.route_completion.specs.Sem.{pick}
 use Rattle.code_flat.specs.Opcodes as op
 use Rattle.code_flat.specs.Machine.{Instr, fetch, is_zero}
 use Rattle.code_valid.specs.Instrs.{flat}
-use Rattle.code_shorten.specs.declared.Aim.{Aim}
+use Rattle.code_machine.specs.declared.Target.{Target}
 use Rattle.code_shorten.specs.Short.{aim_of, further, thread}
 use Rattle.code_shorten.specs.Longer.{total}
 use Rattle.code_shorten.specs.Threading.{written}
 
 -- The jump that is read at t.
-unfoldable pub hop_at : List ℕ → ℕ → Option Aim
+unfoldable pub hop_at : List ℕ → ℕ → Option Target
 hop_at C t = pick (is_zero t) None (aim_of (fetch C t))
 
 -- The last target from t on, with the least depth on the way, after at most f jumps.
-unfoldable pub last_at : List ℕ → ℕ → ℕ → ℕ → Option Aim
+unfoldable pub last_at : List ℕ → ℕ → ℕ → ℕ → Option Target
 last_at C zero t d = None
 last_at C (suc f) t d = further (last_at C f) (hop_at C t) t d
 

@@ -14,7 +14,7 @@ use Rattle.code_flat.specs.Machine.{Instr, NONE, LIST, LEAVE, ASK, SELECT, OPEN,
 use Rattle.code_flat.specs.Machine.{is_none}
 use Rattle.code_valid.specs.Instrs.{len, parse, find}
 use Rattle.code_valid.specs.Valid.{Valid}
-use Rattle.code_shorten.specs.declared.Aim.{Aim}
+use Rattle.code_machine.specs.declared.Target.{Target}
 use Rattle.code_shorten.specs.Short.{aim_of, thread, threaded, shorter}
 use Rattle.code_shorten.specs.Longer.{total, thread_length}
 use Rattle.code_shorten.specs.Sound.{AreInstrs, dec_eq, len_pos, find_here, find_there, find_low, none_in}
@@ -113,7 +113,7 @@ below_all p (x ∷ xs) = go (ltb x p) (below_all p xs)
 
 -- What one more instruction adds.
 module _ (C : List ℕ) (split : ℕ) where
-  elem_with : (x : ℕ) → dropped C split x ≡ true → (a : Option Aim) (xs : List ℕ) → elem x (with_entry C split a xs) ≡ (comes x a || elem x xs)
+  elem_with : (x : ℕ) → dropped C split x ≡ true → (a : Option Target) (xs : List ℕ) → elem x (with_entry C split a xs) ≡ (comes x a || elem x xs)
   elem_with x h None xs = refl
   elem_with x h (Some aim) xs = go (dec_eq aim.place x)
     where
@@ -156,7 +156,7 @@ module _ (C : List ℕ) (split : ℕ) where
       go false k = k
 
   -- And only dropped jumps are needed.
-  with_dropped : (x : ℕ) (a : Option Aim) (xs : List ℕ) → (In xs x → dropped C split x ≡ true) → In (with_entry C split a xs) x → dropped C split x ≡ true
+  with_dropped : (x : ℕ) (a : Option Target) (xs : List ℕ) → (In xs x → dropped C split x ≡ true) → In (with_entry C split a xs) x → dropped C split x ≡ true
   with_dropped x None xs k h = k h
   with_dropped x (Some aim) xs k h = go (dropped C split aim.place) refl h
     where
@@ -185,11 +185,11 @@ module _ (C : List ℕ) (split : ℕ) where
       go false m k = k m
 
   -- Only a kept jump has an entry; it takes three numbers at least.
-  entry_kept : (p : ℕ) (i : Instr) (a : Aim) → entry C split p i ≡ Some a → (elem p (kept_places C) ≡ true) × (3 ≤ len i)
+  entry_kept : (p : ℕ) (i : Instr) (a : Target) → entry C split p i ≡ Some a → (elem p (kept_places C) ≡ true) × (3 ≤ len i)
   unfolding entry
   entry_kept p i a h = go (elem p (kept_places C)) h
     where
-      jump : (j : Instr) (k : ℕ → ℕ → Option Aim) → follow k (aim_of j) ≡ Some a → 3 ≤ len j
+      jump : (j : Instr) (k : ℕ → ℕ → Option Target) → follow k (aim_of j) ≡ Some a → 3 ≤ len j
       jump NONE k e = let x : ◌≡◌ {A = ℕ} 0 1 = cc in absurd (omega arith)
       jump (LIST n) k e = let x : ◌≡◌ {A = ℕ} 0 1 = cc in absurd (omega arith)
       jump (LEAVE t d) k e = omega arith
@@ -199,14 +199,14 @@ module _ (C : List ℕ) (split : ℕ) where
       jump (END d) k e = let x : ◌≡◌ {A = ℕ} 0 1 = cc in absurd (omega arith)
       jump (CASE c t d) k e = omega arith
 
-      K : ℕ → ℕ → Option Aim
+      K : ℕ → ℕ → Option Target
       K = way (hop_behind C split) (length C + 1)
 
       go : (b : Bool) → pick b (follow K (aim_of i)) None ≡ Some a → (b ≡ true) × (3 ≤ len i)
       go true e = (refl, jump i K e)
       go false e = let x : ◌≡◌ {A = ℕ} 0 1 = cc in absurd (omega arith)
 
-  with_length : (a : Option Aim) (xs : List ℕ) → length (with_entry C split a xs) ≤ 1 + length xs
+  with_length : (a : Option Target) (xs : List ℕ) → length (with_entry C split a xs) ≤ 1 + length xs
   with_length None xs = omega arith
   with_length (Some aim) xs = go (dropped C split aim.place && not (elem aim.place xs))
     where
@@ -236,7 +236,7 @@ module _ (C : List ℕ) (split : ℕ) where
       all : pick (ltb p o && elem p S) (len i) 0 ≡ pick (elem p S) (len i) 0
       all = ap (λ b. pick (b && elem p S) (len i) 0) upper
 
-      room : (a : Option Aim) → entry C split p i ≡ a → 3 * length (with_entry C split a N) ≤ 3 * length N + pick (elem p S) (len i) 0
+      room : (a : Option Target) → entry C split p i ≡ a → 3 * length (with_entry C split a N) ≤ 3 * length N + pick (elem p S) (len i) 0
       room None e = omega arith
       room (Some aim) e =
           let k : (elem p S ≡ true) × (3 ≤ len i) = entry_kept p i aim e in

@@ -11,7 +11,7 @@ use Rattle.std.proofs.Math.Decide.{dec_lt}
 use Rattle.route_completion.specs.Sem.{pick, elem}
 use Rattle.code_valid.specs.Instrs.{len, parse, find}
 use Rattle.code_valid.specs.Valid.{Valid}
-use Rattle.code_shorten.specs.declared.Aim.{Aim}
+use Rattle.code_machine.specs.declared.Target.{Target}
 use Rattle.code_shorten.specs.Short.{to, aim_of}
 use Rattle.code_shorten.specs.Sound.{Begin, dec_eq}
 use Rattle.code_shorten.specs.Closes.{In}
@@ -36,7 +36,7 @@ module _ (C : List ℕ) (v : Valid C) (split p : ℕ) (b : Begin (parse C) p) (f
   abbrev x : ℕ
   x = p + size
 
-  step : (a : Option Aim) → a ≡ entry_read f split p → needed C split p ≡ with_entry C split a (needed C split x)
+  step : (a : Option Target) → a ≡ entry_read f split p → needed C split p ≡ with_entry C split a (needed C split x)
   step a q = needed_step C v split p b x (ap (λ k. p + k) e) ∙ ap (λ y. with_entry C split y (needed C split x)) (entry_at C v split p b f h l a q)
 
   -- Nothing less is needed.
@@ -57,7 +57,7 @@ module _ (C : List ℕ) (v : Valid C) (split p : ℕ) (b : Begin (parse C) p) (f
         all_saved = record { slots = s.slots; all = λ y k. let w = s.all y (more y k) in absurd (omega (arith, w.1)); few = omega arith };
       }
     where
-      kept_in : (y : ℕ) (a : Option Aim) → In (needed C split x) y → In (with_entry C split a (needed C split x)) y
+      kept_in : (y : ℕ) (a : Option Target) → In (needed C split x) y → In (with_entry C split a (needed C split x)) y
       kept_in y None k = k
       kept_in y (Some aim) k = go (dropped C split aim.place && not (elem aim.place (needed C split x)))
         where

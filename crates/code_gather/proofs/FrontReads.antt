@@ -12,7 +12,7 @@ use Rattle.code_flat.specs.Machine.{Instr, NONE, LIST, LEAVE, ASK, SELECT, OPEN,
 use Rattle.code_flat.specs.Machine.{is_none}
 use Rattle.code_valid.specs.Instrs.{len, words, parse, find}
 use Rattle.code_valid.specs.Valid.{Valid}
-use Rattle.code_shorten.specs.declared.Aim.{Aim}
+use Rattle.code_machine.specs.declared.Target.{Target}
 use Rattle.code_shorten.specs.Short.{aim_of}
 use Rattle.code_pass.proofs.KeptLaws.{sent_len, sent_none, kept_parse}
 use Rattle.code_shorten.specs.Sound.{Begin, len_pos, and_left, and_right, not_true}
@@ -64,7 +64,7 @@ module _ (C : List ℕ) (split x : ℕ) (d : dropped C split x ≡ true) where
   pub dropped_begin : Begin (parse C) x
   dropped_begin = go (aim_of (find (parse C) 0 x)) refl dropped_jump
     where
-      go : (a : Option Aim) → aim_of (find (parse C) 0 x) ≡ a → is_jump a ≡ true → Begin (parse C) x
+      go : (a : Option Target) → aim_of (find (parse C) 0 x) ≡ a → is_jump a ≡ true → Begin (parse C) x
       go None q j = absurd (true≢false (sym j))
       go (Some aim) q j = aim_some (find (parse C) 0 x) aim.place aim.depth q
 

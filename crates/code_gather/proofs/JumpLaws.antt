@@ -8,7 +8,7 @@ use Rattle.std.proofs.Math.ListN.{length, get_or}
 use native.Mathlib.Omega.{arith}
 use Rattle.route_completion.specs.Sem.{pick}
 use Rattle.code_flat.specs.Machine.{is_zero}
-use Rattle.code_shorten.specs.declared.Aim.{Aim}
+use Rattle.code_machine.specs.declared.Target.{Target}
 use Rattle.code_shorten.specs.Short.{to, aim_of, further}
 use Rattle.code_pass.specs.Stages.{mark}
 use Rattle.code_mark.specs.Read.{read_at, hop_in}
@@ -24,7 +24,7 @@ module _ (f : List ℕ) (split t : ℕ) where
   hop_on l = ap (λ b. pick b None (pick (is_zero t) None (aim_of (read_at f t)))) (le-ltb t split l)
 
 -- One hop of a way.
-module _ (h : ℕ → Option Aim) where
+module _ (h : ℕ → Option Target) where
   pub way_end : (n t d : ℕ) → h t ≡ None → way h (n + 1) t d ≡ to t d
   unfolding way
   way_end n t d e = let z : n + 1 ≡ suc n = omega arith in ap (λ k. way h k t d) z ∙ ap (λ a. further (way h n) a t d) e

@@ -12,7 +12,7 @@ use Rattle.route_completion.specs.Sem.{pick, elem}
 use Rattle.code_flat.specs.Machine.{is_zero}
 use Rattle.code_valid.specs.Instrs.{parse, find}
 use Rattle.code_valid.specs.Valid.{Valid}
-use Rattle.code_shorten.specs.declared.Aim.{Aim}
+use Rattle.code_machine.specs.declared.Target.{Target}
 use Rattle.code_shorten.specs.Short.{aim_of, hop}
 use Rattle.code_shorten.specs.Sound.{Begin, len_pos}
 use Rattle.code_shorten.specs.Closes.{In}
@@ -123,7 +123,7 @@ module _ (C : List ℕ) (v : Valid C) (f : List ℕ) (split : ℕ) (s : Fronted 
         out : dropped C split t ≡ true → ⊥
         out d = let w = k d in h w.0 (omega (arith, w.1)) w.2
 
-        go : (a : Option Aim) → aim_of (find (sent_on C) 0 t) ≡ a → a ≡ None
+        go : (a : Option Target) → aim_of (find (sent_on C) 0 t) ≡ a → a ≡ None
         go None q = refl
         go (Some aim) q =
             let j : is_jump (aim_of (find (parse C) 0 t)) ≡ true = sym (thread_aim (parse C) (find (parse C) 0 t)) ∙ ap (λ i. is_jump (aim_of i)) (sym (sent_find C v t)) ∙ ap is_jump q in

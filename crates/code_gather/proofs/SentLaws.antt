@@ -8,7 +8,7 @@ use mathlib.Core.List.{List, []}
 use Rattle.route_completion.specs.Sem.{elem}
 use Rattle.code_valid.specs.Instrs.{len, parse, find}
 use Rattle.code_valid.specs.Valid.{Valid}
-use Rattle.code_shorten.specs.declared.Aim.{Aim}
+use Rattle.code_machine.specs.declared.Target.{Target}
 use Rattle.code_shorten.specs.Short.{to, hop}
 use Rattle.code_shorten.specs.Sound.{Begin}
 use Rattle.code_shorten.specs.Closes.{In}
@@ -25,7 +25,7 @@ module _ (C : List ℕ) (v : Valid C) (split p : ℕ) (b : Begin (parse C) p) wh
   needed_step x e = back_next (needed_by C split) [] (parse C) 0 p x (sound C v).some b e
 
   module _ (f : List ℕ) (h : Behind C f split) (l : split ≤ p) where
-    pub entry_at : (a : Option Aim) → a ≡ entry_read f split p → entry C split p (find (parse C) 0 p) ≡ a
+    pub entry_at : (a : Option Target) → a ≡ entry_read f split p → entry C split p (find (parse C) 0 p) ≡ a
     entry_at a e = sym (e ∙ entry_same C v f split h p b l)
 
     module _ (k : In (kept_places C) p) where

@@ -12,7 +12,7 @@ use Rattle.route_completion.specs.Sem.{pick, elem}
 use Rattle.code_flat.specs.Machine.{Instr, NONE, LIST, LEAVE, ASK, SELECT, OPEN, END, CASE, is_zero}
 use Rattle.code_valid.specs.Instrs.{parse, find, leads}
 use Rattle.code_valid.specs.Valid.{Valid}
-use Rattle.code_shorten.specs.declared.Aim.{Aim}
+use Rattle.code_machine.specs.declared.Target.{Target}
 use Rattle.code_shorten.specs.Short.{to, place_in, depth_in, aim_of, hop, further, last, aimed, thread}
 use Rattle.code_shorten.specs.Longer.{total}
 use Rattle.code_shorten.specs.Sound.{AreInstrs, Begin, All, len_pos}
@@ -51,7 +51,7 @@ thread_aim is NONE = refl
 thread_aim is (LIST n) = refl
 thread_aim is (LEAVE t d) = go (last is (suc (length is)) t d)
   where
-    go : (a : Option Aim) → is_jump (aim_of (aimed a LEAVE (LEAVE t d))) ≡ true
+    go : (a : Option Target) → is_jump (aim_of (aimed a LEAVE (LEAVE t d))) ≡ true
     go None = refl
     go (Some aim) = refl
 thread_aim is (ASK n y z) = refl
@@ -60,23 +60,23 @@ thread_aim is (OPEN f) = refl
 thread_aim is (END e) = refl
 thread_aim is (CASE c t d) = go (last is (suc (length is)) t d)
   where
-    go : (a : Option Aim) → is_jump (aim_of (aimed a (CASE c) (CASE c t d))) ≡ true
+    go : (a : Option Target) → is_jump (aim_of (aimed a (CASE c) (CASE c t d))) ≡ true
     go None = refl
     go (Some aim) = refl
 
-abbrev sends : Option Aim → Option Aim → Option Aim
+abbrev sends : Option Target → Option Target → Option Target
 sends None a = a
 sends (Some aim) a = to aim.place aim.depth
 
 -- It goes to the last target, or stays in a ring.
-thread_to : (is : List Instr) (i : Instr) (a b : ℕ) → aim_of i ≡ to a b → (x : Option Aim) → last is (suc (length is)) a b ≡ x → aim_of (thread is i) ≡ sends x (to a b)
+thread_to : (is : List Instr) (i : Instr) (a b : ℕ) → aim_of i ≡ to a b → (x : Option Target) → last is (suc (length is)) a b ≡ x → aim_of (thread is i) ≡ sends x (to a b)
 thread_to is NONE a b h x q = let w : ◌≡◌ {A = ℕ} 0 1 = cc in absurd (omega arith)
 thread_to is (LIST n) a b h x q = let w : ◌≡◌ {A = ℕ} 0 1 = cc in absurd (omega arith)
 thread_to is (LEAVE t d) a b h x q =
     let p : t ≡ a = ap place_in h in let r : d ≡ b = ap depth_in h in
     (λ j. aim_of (aimed (last is (suc (length is)) (p j) (r j)) LEAVE (LEAVE (p j) (r j)))) ∙ ap (λ y. aim_of (aimed y LEAVE (LEAVE a b))) q ∙ go x
   where
-    go : (y : Option Aim) → aim_of (aimed y LEAVE (LEAVE a b)) ≡ sends y (to a b)
+    go : (y : Option Target) → aim_of (aimed y LEAVE (LEAVE a b)) ≡ sends y (to a b)
     go None = refl
     go (Some aim) = refl
 thread_to is (ASK n y z) a b h x q = let w : ◌≡◌ {A = ℕ} 0 1 = cc in absurd (omega arith)
@@ -87,7 +87,7 @@ thread_to is (CASE c t d) a b h x q =
     let p : t ≡ a = ap place_in h in let r : d ≡ b = ap depth_in h in
     (λ j. aim_of (aimed (last is (suc (length is)) (p j) (r j)) (CASE c) (CASE c (p j) (r j)))) ∙ ap (λ y. aim_of (aimed y (CASE c) (CASE c a b))) q ∙ go x
   where
-    go : (y : Option Aim) → aim_of (aimed y (CASE c) (CASE c a b)) ≡ sends y (to a b)
+    go : (y : Option Target) → aim_of (aimed y (CASE c) (CASE c a b)) ≡ sends y (to a b)
     go None = refl
     go (Some aim) = refl
 
@@ -143,7 +143,7 @@ module _ (C : List ℕ) (v : Valid C) (split : ℕ) where
   way_hops zero t d u e h = let x : ◌≡◌ {A = ℕ} 0 1 = cc in absurd (omega arith)
   way_hops (suc n) t d u e h = go (hop_behind C split t) refl h (λ y x. way_hops n y x u e)
     where
-      go : (a : Option Aim) → hop_behind C split t ≡ a → further (way (hop_behind C split) n) a t d ≡ to u e
+      go : (a : Option Target) → hop_behind C split t ≡ a → further (way (hop_behind C split) n) a t d ≡ to u e
           → ((y x : ℕ) → way (hop_behind C split) n y x ≡ to u e → ((k : ℕ) × Hops is k y x u e) × (hop_behind C split u ≡ None))
           → ((k : ℕ) × Hops is k t d u e) × (hop_behind C split u ≡ None)
       go None q m k = let x : t ≡ u = ap place_in m in let y : d ≡ e = ap depth_in m in ((0, (x, y)), ap (hop_behind C split) (sym x) ∙ q)
@@ -157,7 +157,7 @@ module _ (C : List ℕ) (v : Valid C) (split : ℕ) where
   way_none zero t d h = refl
   way_none (suc n) t d h = go (hop_behind C split t) refl h (λ y x. way_none n y x)
     where
-      go : (a : Option Aim) → hop_behind C split t ≡ a → further (way (hop_behind C split) n) a t d ≡ None
+      go : (a : Option Target) → hop_behind C split t ≡ a → further (way (hop_behind C split) n) a t d ≡ None
           → ((y x : ℕ) → way (hop_behind C split) n y x ≡ None → last is n y x ≡ None) → further (last is n) (hop is t) t d ≡ None
       go None q m k = let x : to t d ≡ None = m in let z : ◌≡◌ {A = ℕ} 0 1 = cc in absurd (omega arith)
       go (Some aim) q m k = let y : ℕ = aim.place in let w : ℕ = aim.depth in
@@ -167,7 +167,7 @@ module _ (C : List ℕ) (v : Valid C) (split : ℕ) where
   last_none : (t d : ℕ) → last is (length C + 1) t d ≡ None → last is (suc (length is)) t d ≡ None
   last_none t d h = go (last is (suc (length is)) t d) refl
     where
-      go : (a : Option Aim) → last is (suc (length is)) t d ≡ a → a ≡ None
+      go : (a : Option Target) → last is (suc (length is)) t d ≡ a → a ≡ None
       go None q = refl
       go (Some aim) q =
           let n : length is ≤ total is = count_total is (sound C v).some in
@@ -202,7 +202,7 @@ module _ (C : List ℕ) (v : Valid C) (split : ℕ) where
       at true e = let w : ◌≡◌ {A = ℕ} 0 1 = cc in absurd (omega arith)
       at false e = try (aim_of i) refl
         where
-          try : (a : Option Aim) → aim_of i ≡ a → (a : ℕ) × (b : ℕ) × (aim_of i ≡ to a b) × (sends (last is (suc (length is)) a b) (to a b) ≡ to x y)
+          try : (a : Option Target) → aim_of i ≡ a → (a : ℕ) × (b : ℕ) × (aim_of i ≡ to a b) × (sends (last is (suc (length is)) a b) (to a b) ≡ to x y)
           try None q =
               let r : false ≡ true = ap is_jump (sym q) ∙ sym (thread_aim is i) ∙ ap (λ j. is_jump (aim_of j)) (sym (sent_find C v t)) ∙ ap is_jump e in
               absurd (true≢false (sym r))
@@ -228,7 +228,7 @@ module _ (C : List ℕ) (v : Valid C) (split : ℕ) where
       at true e = refl
       at false e = try (aim_of i) refl
         where
-          try : (a : Option Aim) → aim_of i ≡ a → aim_of i ≡ None
+          try : (a : Option Target) → aim_of i ≡ a → aim_of i ≡ None
           try None q = q
           try (Some aim) q =
               let r : true ≡ false = ap is_jump (sym q) ∙ sym (thread_aim is i) ∙ ap (λ j. is_jump (aim_of j)) (sym (sent_find C v t)) ∙ ap is_jump e in
@@ -251,7 +251,7 @@ module _ (C : List ℕ) (v : Valid C) (split : ℕ) where
       pub begun : Begin (parse C) from
       pub ends : hop_behind C split t ≡ None
 
-    start : (a : Option Aim) (t d : ℕ) → aim_of jump ≡ a → follow (way (hop_behind C split) (length C + 1)) a ≡ to t d → Way t d
+    start : (a : Option Target) (t d : ℕ) → aim_of jump ≡ a → follow (way (hop_behind C split) (length C + 1)) a ≡ to t d → Way t d
     start None t d q h = let z : ◌≡◌ {A = ℕ} 0 1 = cc in absurd (omega arith)
     start (Some aim) t d q h =
         let r = way_hops (length C + 1) aim.place aim.depth t d h in
@@ -268,7 +268,7 @@ module _ (C : List ℕ) (v : Valid C) (split : ℕ) where
     pub target_none : entry C split p jump ≡ None → target C jump ≡ None
     target_none h = go (aim_of jump) refl (sym entry_is ∙ h)
       where
-        go : (a : Option Aim) → aim_of jump ≡ a → follow (way (hop_behind C split) (length C + 1)) a ≡ None → follow (last is (suc (length is))) a ≡ None
+        go : (a : Option Target) → aim_of jump ≡ a → follow (way (hop_behind C split) (length C + 1)) a ≡ None → follow (last is (suc (length is))) a ≡ None
         go None q m = refl
         go (Some aim) q m = last_none aim.place aim.depth (way_none (length C + 1) aim.place aim.depth m)
 
@@ -294,7 +294,7 @@ module _ (C : List ℕ) (v : Valid C) (split : ℕ) where
           let s = (sent_some t x y g).2 in
           go s.0 s.1 s.2 (last is (suc (length is)) s.0 s.1) refl s.3
         where
-          go : (a c : ℕ) → hop is t ≡ to a c → (z : Option Aim) → last is (suc (length is)) a c ≡ z → sends (last is (suc (length is)) a c) (to a c) ≡ to x y → P
+          go : (a c : ℕ) → hop is t ≡ to a c → (z : Option Target) → last is (suc (length is)) a c ≡ z → sends (last is (suc (length is)) a c) (to a c) ≡ to x y → P
           go a c j None q m =
               let e : to a c ≡ to x y = sym (ap (λ o. sends o (to a c)) q) ∙ m in
               let ex : a ≡ x = ap place_in e in let ey : c ≡ y = ap depth_in e in
@@ -328,7 +328,7 @@ module _ (C : List ℕ) (v : Valid C) (split : ℕ) where
           (λ n l z. let r = hops_more is w.hops.0 n w.from w.at t d x (min d y) w.hops.1 l in target_by t d w ∙ last_is is r.0 w.from w.at x (min d y) r.1 z)
           (λ rx rt m. absurd (ring_hops is x rx (none (hop is x) refl)))
         where
-          none : (a : Option Aim) → hop is x ≡ a → a ≡ None
+          none : (a : Option Target) → hop is x ≡ a → a ≡ None
           none None q = refl
           none (Some aim) q = absurd (true≢false (sym (ap is_jump q) ∙ j))
 

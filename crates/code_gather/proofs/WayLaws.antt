@@ -12,7 +12,7 @@ use Rattle.route_completion.specs.Sem.{pick, elem}
 use Rattle.code_flat.specs.Machine.{Instr, is_zero}
 use Rattle.code_valid.specs.Instrs.{parse, find}
 use Rattle.code_valid.specs.Valid.{Valid}
-use Rattle.code_shorten.specs.declared.Aim.{Aim}
+use Rattle.code_machine.specs.declared.Target.{Target}
 use Rattle.code_shorten.specs.Short.{to, aim_of, hop, further}
 use Rattle.code_shorten.specs.Sound.{Begin}
 use Rattle.code_shorten.specs.Threads.{hop_some, aim_all}
@@ -23,14 +23,14 @@ use Rattle.code_mark.proofs.ReadLaws.{behind_read, behind_standing}
 use Rattle.code_gather.specs.Gather.{way, follow, hop_behind, hop_read, entry, entry_read, Behind}
 
 -- A jump behind the split is one of the code.
-pub behind_hop : (b : Bool) (a : Option Aim) (v w : ℕ) → pick b None a ≡ to v w → (b ≡ false) × (a ≡ to v w)
+pub behind_hop : (b : Bool) (a : Option Target) (v w : ℕ) → pick b None a ≡ to v w → (b ≡ false) × (a ≡ to v w)
 behind_hop true a v w h = let x : ◌≡◌ {A = ℕ} 0 1 = cc in absurd (omega arith)
 behind_hop false a v w h = (refl, h)
 
 pub hop_begin : (C : List ℕ) (v : Valid C) (t u e : ℕ) → hop (parse C) t ≡ to u e → Begin (parse C) t → Begin (parse C) u
 hop_begin C v t u e h b = aim_all (Begin (parse C)) (find (parse C) 0 t) u e (hop_some (parse C) t u e h).1 ((sound C v).named t b)
 
-mark_or : (x : ℕ) (b : Bool) (a : Option Aim) → x < mark → pick (ltb (x + pick b mark 0) mark) None a ≡ pick b a None
+mark_or : (x : ℕ) (b : Bool) (a : Option Target) → x < mark → pick (ltb (x + pick b mark 0) mark) None a ≡ pick b a None
 mark_or x true a h = ap (λ c. pick c None a) (le-ltb (x + mark) mark (omega arith))
 mark_or x false a h = ap (λ c. pick c None a) (lt-ltb (x + 0) mark (omega arith))
 
@@ -56,7 +56,7 @@ module _ (C : List ℕ) (v : Valid C) (f : List ℕ) (split : ℕ) (h : Behind C
   way_same zero t d b = refl
   way_same (suc n) t d b = ap (λ a. further (way (hop_read f split) n) a t d) (hop_same t b) ∙ go (hop_behind C split t) refl (λ u e k. way_same n u e k)
     where
-      go : (a : Option Aim) → hop_behind C split t ≡ a → ((u e : ℕ) → Begin (parse C) u → way (hop_read f split) n u e ≡ way (hop_behind C split) n u e)
+      go : (a : Option Target) → hop_behind C split t ≡ a → ((u e : ℕ) → Begin (parse C) u → way (hop_read f split) n u e ≡ way (hop_behind C split) n u e)
           → further (way (hop_read f split) n) a t d ≡ further (way (hop_behind C split) n) a t d
       go None q k = refl
       go (Some aim) q k =
@@ -74,7 +74,7 @@ module _ (C : List ℕ) (v : Valid C) (f : List ℕ) (split : ℕ) (h : Behind C
       i : Instr
       i = find (parse C) 0 p
 
-      go : (a : Option Aim) → aim_of i ≡ a → follow (way (hop_read f split) (length C + 1)) a ≡ follow (way (hop_behind C split) (length C + 1)) a
+      go : (a : Option Target) → aim_of i ≡ a → follow (way (hop_read f split) (length C + 1)) a ≡ follow (way (hop_behind C split) (length C + 1)) a
       go None q = refl
       go (Some aim) q = way_same (length C + 1) aim.place aim.depth (aim_all (Begin (parse C)) i aim.place aim.depth q ((sound C v).named p b))
 

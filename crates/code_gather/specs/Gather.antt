@@ -4,7 +4,7 @@ use Rattle.std.specs.Prelude.{ℕ, zero, suc, ◌+◌, ◌*◌, ◌≤◌, ◌<�
 use Rattle.route_completion.specs.Sem.{pick, elem}
 use Rattle.code_flat.specs.Machine.{Instr, is_zero}
 use Rattle.code_valid.specs.Instrs.{len, parse, find}
-use Rattle.code_shorten.specs.declared.Aim.{Aim}
+use Rattle.code_machine.specs.declared.Target.{Target}
 use Rattle.code_shorten.specs.Short.{to, aim_of, hop, further, last}
 use Rattle.code_shorten.specs.Closes.{In}
 use Rattle.code_pass.specs.Stages.{sent_on, kept_places, kept_to, mark, marked, Fronted}
@@ -12,27 +12,27 @@ use Rattle.code_mark.specs.Read.{read_at}
 use Rattle.code_places.specs.Placing.{kept_place}
 
 -- Where at most n jumps lead from t on at the depth d, each read by h; none where more follow one another.
-unfoldable pub way : (ℕ → Option Aim) → ℕ → ℕ → ℕ → Option Aim
+unfoldable pub way : (ℕ → Option Target) → ℕ → ℕ → ℕ → Option Target
 way h zero t d = None
 way h (suc n) t d = further (way h n) (h t) t d
 
-abbrev pub follow : (ℕ → ℕ → Option Aim) → Option Aim → Option Aim
+abbrev pub follow : (ℕ → ℕ → Option Target) → Option Target → Option Target
 follow k None = None
 follow k (Some aim) = k aim.place aim.depth
 
 -- The jumps behind the split, of the code and as a function reads them.
-abbrev pub hop_behind : List ℕ → ℕ → ℕ → Option Aim
+abbrev pub hop_behind : List ℕ → ℕ → ℕ → Option Target
 hop_behind C split t = pick (ltb t split) None (hop (parse C) t)
 
-abbrev pub hop_read : List ℕ → ℕ → ℕ → Option Aim
+abbrev pub hop_read : List ℕ → ℕ → ℕ → Option Target
 hop_read f split t = pick (ltb t split) None (pick (is_zero t) None (aim_of (read_at f t)))
 
 -- THE ENTRY of the instruction i at p, if it is a kept jump: where it leads by jumps behind the split alone, to the front or to a place where no jump
 -- stands.
-unfoldable pub entry : List ℕ → ℕ → ℕ → Instr → Option Aim
+unfoldable pub entry : List ℕ → ℕ → ℕ → Instr → Option Target
 entry C split p i = pick (elem p (kept_places C)) (follow (way (hop_behind C split) (length C + 1)) (aim_of i)) None
 
-unfoldable pub entry_read : List ℕ → ℕ → ℕ → Option Aim
+unfoldable pub entry_read : List ℕ → ℕ → ℕ → Option Target
 entry_read f split p = pick (ltb (get_or f p 0) mark) None (follow (way (hop_read f split) (length f + 1)) (aim_of (read_at f p)))
 
 -- What the instructions at `from` and behind come to, from the last on; the list begins at p.
@@ -40,7 +40,7 @@ unfoldable pub back : {A : Type 0} → (ℕ → Instr → A → A) → A → ℕ
 back g z from [] p = z
 back g z from (i ∷ is) p = pick (leb from p) (g p i (back g z from is (p + len i))) (back g z from is (p + len i))
 
-abbrev pub comes : ℕ → Option Aim → Bool
+abbrev pub comes : ℕ → Option Target → Bool
 comes x None = false
 comes x (Some aim) = eqb aim.place x
 
@@ -51,7 +51,7 @@ entered_by C split x p i b = comes x (entry C split p i) || b
 abbrev pub entered : List ℕ → ℕ → ℕ → ℕ → Bool
 entered C split x from = back (entered_by C split x) false from (parse C) 0
 
-abbrev pub is_jump : Option Aim → Bool
+abbrev pub is_jump : Option Target → Bool
 is_jump None = false
 is_jump (Some aim) = true
 
@@ -60,7 +60,7 @@ abbrev pub dropped : List ℕ → ℕ → ℕ → Bool
 dropped C split x = ltb x split && (not (elem x (kept_places C)) && is_jump (aim_of (find (parse C) 0 x)))
 
 -- THE SAVED ONES: the dropped jumps where kept ones from a place on enter, each once: by the last that enters there.
-abbrev pub with_entry : List ℕ → ℕ → Option Aim → List ℕ → List ℕ
+abbrev pub with_entry : List ℕ → ℕ → Option Target → List ℕ → List ℕ
 with_entry C split None xs = xs
 with_entry C split (Some aim) xs = pick (dropped C split aim.place && not (elem aim.place xs)) (aim.place ∷ xs) xs
 
@@ -95,11 +95,11 @@ pub record Behind (C f : List ℕ) (split : ℕ) : Type 0 where
   pub behind : (x : ℕ) → split ≤ x → get_or f x 0 ≡ marked C x
 
 -- Where the last targets of the kept jump i lie.
-abbrev pub target : List ℕ → Instr → Option Aim
+abbrev pub target : List ℕ → Instr → Option Target
 target C i = follow (last (parse C) (suc (length (parse C)))) (aim_of i)
 
 -- The jump of the front at t, sent on.
-abbrev pub hop_sent : List ℕ → ℕ → ℕ → Option Aim
+abbrev pub hop_sent : List ℕ → ℕ → ℕ → Option Target
 hop_sent C split t = pick (ltb t split) (pick (is_zero t) None (aim_of (find (sent_on C) 0 t))) None
 
 -- f with w of some words put at o, before n numbers that stood there and move up.

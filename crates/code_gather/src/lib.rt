@@ -16,18 +16,17 @@ ghost use Rattle.code_mark.specs.Read.{read_at};
 ghost use Rattle.code_places.specs.Placing.{PlacedBy, Tagged};
 ghost use Rattle.code_gather.specs.Gather.{way, place_in, Freed, hop_read, hop_sent, entry_read, comes, entered, is_jump, dropped, needed, Slots, Says, Saved, Behind, Pushed, Found, Gathering, target};
 
-use code_machine::{opcodes, word};
+use code_machine::{Target, opcodes, word};
 use code_mark::{RAISE, aim_at, hop, opcode_at, size_at};
 use code_places::CYCLE;
 use code_places::index::Places;
-use code_shorten::Aim;
 
 // A saved jump takes three numbers: its old place, and where it leads: a place, and a depth.
 const SAVED: usize = 3;
 
 // The jump that stands at t behind the split.
 #[tactic(auto, using(crate::proofs::JumpLaws::hop_front, crate::proofs::JumpLaws::hop_on))]
-fn hop_behind(code: &[u32], split: usize, t: u32) -> Option<Aim>
+fn hop_behind(code: &[u32], split: usize, t: u32) -> Option<Target>
     ensures { result ≡ hop_read code.now split t }
 {
     if (t as usize) < split {
@@ -39,7 +38,7 @@ fn hop_behind(code: &[u32], split: usize, t: u32) -> Option<Aim>
 
 // Where jumps behind the split lead from a place on, with the least depth on the way: to a place where none stands, or to the front. None in a ring:
 // more jumps than the code has numbers come to no end.
-fn last_behind(code: &[u32], split: usize, from: Aim) -> Option<Aim>
+fn last_behind(code: &[u32], split: usize, from: Target) -> Option<Target>
     ensures { result ≡ way (hop_read code.now split) (length code.now + 1) from.place from.depth }
 {
     let mut aim = from;
@@ -47,7 +46,7 @@ fn last_behind(code: &[u32], split: usize, from: Aim) -> Option<Aim>
         let Some(next) = hop_behind(code, split, aim.place) else {
             return Some(aim);
         };
-        aim = Aim {
+        aim = Target {
             place: next.place,
             depth: aim.depth.min(next.depth),
         };
@@ -56,7 +55,7 @@ fn last_behind(code: &[u32], split: usize, from: Aim) -> Option<Aim>
 }
 
 // Where the kept jump at p leads by jumps behind the split.
-fn entry_of(code: &[u32], split: usize, p: usize) -> Option<Aim>
+fn entry_of(code: &[u32], split: usize, p: usize) -> Option<Target>
     ensures { result ≡ entry_read code.now split p }
 {
     if word(code, p) < RAISE {
@@ -231,7 +230,7 @@ fn place_now(code: &[u32], places: &Places, t: u32) -> Option<usize>
 }
 
 // The jump of the front that stood at t, which is sent on.
-fn hop_front(code: &[u32], places: &Places, block: usize, t: u32) -> Option<Aim>
+fn hop_front(code: &[u32], places: &Places, block: usize, t: u32) -> Option<Target>
     requires { places.now.split ≤ length code.now }
     ensures { (C : List ℕ) → PlacedBy C places.now → Fronted C code.now places.now.split → (n : ℕ) → block + 3 * n ≡ places.now.split → Slots C code.now places.now.split block n → Begin (parse C) t → (dropped C places.now.split t ≡ true → Says code.now block n t) → result ≡ hop_sent C places.now.split t }
 {
@@ -244,7 +243,7 @@ fn hop_front(code: &[u32], places: &Places, block: usize, t: u32) -> Option<Aim>
     let Some(at) = slot_of(code, block, places.split, t) else {
         return None;
     };
-    Some(Aim {
+    Some(Target {
         place: word(code, at + 1),
         depth: word(code, at + 2),
     })
@@ -265,7 +264,7 @@ fn is_kept_jump(code: &[u32], places: &Places, t: u32) -> bool
 
 // Where the kept jump at p goes when it is sent on; none where no jump stands, or it leads into a ring, and stays as it is. A jump of the front leads to a
 // place where no jump stands, unless to a ring.
-fn sent_at(code: &[u32], places: &Places, block: usize, p: usize) -> Option<Aim>
+fn sent_at(code: &[u32], places: &Places, block: usize, p: usize) -> Option<Target>
     requires { places.now.split ≤ length code.now }
     ensures { (C : List ℕ) → PlacedBy C places.now → Fronted C code.now places.now.split → (n : ℕ) → block + 3 * n ≡ places.now.split → Saved C code.now places.now.split p block n → places.now.split ≤ p → Begin (parse C) p → In (kept_places C) p → result ≡ target C (find (parse C) 0 p) }
 {
@@ -278,7 +277,7 @@ fn sent_at(code: &[u32], places: &Places, block: usize, p: usize) -> Option<Aim>
     if is_kept_jump(code, places, next.place) {
         return None;
     }
-    Some(Aim {
+    Some(Target {
         place: next.place,
         depth: last.depth.min(next.depth),
     })

@@ -18,8 +18,8 @@ ghost use Rattle.code_contexts.specs.Contexts.{Ready};
 ghost use Rattle.code_branch.specs.Branch.{stat_of};
 ghost use Rattle.code_tree.specs.First.{first_of};
 
-use code_branch::{Layout, Target, leaf_target, normal_target};
-use code_machine::opcodes;
+use code_branch::{Layout, leaf_target, normal_target};
+use code_machine::{Target, opcodes};
 use code_shapes::{is_try, next_part, number_by, shape_of, up_of};
 use code_tree::Shape;
 use table_records::nodes::Nodes;

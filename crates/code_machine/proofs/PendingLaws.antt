@@ -6,7 +6,7 @@ use Rattle.route_completion.specs.Sem.{pick}
 use Rattle.code_flat.specs.Machine.{Frame, open', pend, Pos, pos, is_zero, unwind}
 use Rattle.code_machine.specs.Pending.{half, frame_by, frame_of, stack, comes}
 use Rattle.code_machine.specs.declared.Passing.{Passing}
-use Rattle.code_machine.specs.declared.Way.{Way}
+use Rattle.code_machine.specs.declared.Target.{Target}
 use Rattle.code_machine.specs.declared.Passing.TheVariants.{Here, Into, Below}
 
 pub stack_length : (ends : List ℕ) (n : ℕ) → length (stack ends n) ≡ n
@@ -65,54 +65,54 @@ pub on_false : {A : Type 0} (t : Bool) (x y : A) → t ≡ false → pick t x y 
 on_false t x y h = ap (λ b. pick b x y) h
 
 -- A jump at the end on top, with K below.
-module _ (end : ℕ) (K : List Frame) (way : Way) where
+module _ (end : ℕ) (K : List Frame) (target : Target) where
   abbrev unwinds : Frame → Pos
-  unwinds f = unwind (f ∷ K) way.place way.depth
+  unwinds f = unwind (f ∷ K) target.place target.depth
 
   at_open : end < half → unwinds (frame_of end)
-      ≡ pick (ltb (length K) way.depth) (pos way.place (frame_of end ∷ K)) (pos (end % half) (pend way.place way.depth ∷ K))
+      ≡ pick (ltb (length K) target.depth) (pos target.place (frame_of end ∷ K)) (pos (end % half) (pend target.place target.depth ∷ K))
   unfolding unwind
   at_open h =
       ap unwinds (open_frame end h)
-      ∙ ap (λ f. pick (ltb (length K) way.depth) (pos way.place (f ∷ K)) (pos (end % half) (pend way.place way.depth ∷ K))) (sym (open_frame end h))
+      ∙ ap (λ f. pick (ltb (length K) target.depth) (pos target.place (f ∷ K)) (pos (end % half) (pend target.place target.depth ∷ K))) (sym (open_frame end h))
 
-  pub open_here : end < half → length K < way.depth → unwinds (frame_of end) ≡ comes (frame_of end) K way Here
-  open_here h l = at_open h ∙ on_true (ltb (length K) way.depth) _ _ (lt-ltb (length K) way.depth l)
+  pub open_here : end < half → length K < target.depth → unwinds (frame_of end) ≡ comes (frame_of end) K target Here
+  open_here h l = at_open h ∙ on_true (ltb (length K) target.depth) _ _ (lt-ltb (length K) target.depth l)
 
-  pub open_into : end < half → way.depth ≤ length K → (t : ℕ) → t ≡ end % half → unwinds (frame_of end) ≡ comes (frame_of end) K way (Into t)
+  pub open_into : end < half → target.depth ≤ length K → (t : ℕ) → t ≡ end % half → unwinds (frame_of end) ≡ comes (frame_of end) K target (Into t)
   open_into h l t e =
-      at_open h ∙ on_false (ltb (length K) way.depth) _ _ (le-ltb (length K) way.depth l) ∙ ap (λ u. pos u (pend way.place way.depth ∷ K)) (sym e)
+      at_open h ∙ on_false (ltb (length K) target.depth) _ _ (le-ltb (length K) target.depth l) ∙ ap (λ u. pos u (pend target.place target.depth ∷ K)) (sym e)
 
-  at_wait : (on : Way) → frame_of end ≡ pend on.place on.depth → unwinds (frame_of end)
-      ≡ pick (ltb (length K) way.depth) (pick (is_zero way.place) (unwind K on.place on.depth) (pos way.place (frame_of end ∷ K))) (unwind K way.place way.depth)
+  at_wait : (on : Target) → frame_of end ≡ pend on.place on.depth → unwinds (frame_of end)
+      ≡ pick (ltb (length K) target.depth) (pick (is_zero target.place) (unwind K on.place on.depth) (pos target.place (frame_of end ∷ K))) (unwind K target.place target.depth)
   unfolding unwind
   at_wait on e =
       ap unwinds e
-      ∙ ap (λ f. pick (ltb (length K) way.depth) (pick (is_zero way.place) (unwind K on.place on.depth) (pos way.place (f ∷ K))) (unwind K way.place way.depth)) (sym e)
+      ∙ ap (λ f. pick (ltb (length K) target.depth) (pick (is_zero target.place) (unwind K on.place on.depth) (pos target.place (f ∷ K))) (unwind K target.place target.depth)) (sym e)
 
-  pub wait_below : half ≤ end → way.depth ≤ length K → unwinds (frame_of end) ≡ comes (frame_of end) K way (Below way)
-  wait_below h l = at_wait (record { place = end % half; depth = end / half - 1 }) (wait_frame end h) ∙ on_false (ltb (length K) way.depth) _ _ (le-ltb (length K) way.depth l)
+  pub wait_below : half ≤ end → target.depth ≤ length K → unwinds (frame_of end) ≡ comes (frame_of end) K target (Below target)
+  wait_below h l = at_wait (record { place = end % half; depth = end / half - 1 }) (wait_frame end h) ∙ on_false (ltb (length K) target.depth) _ _ (le-ltb (length K) target.depth l)
 
-  pub wait_next : length K < way.depth → way.place ≡ 0 → (on : Way) → frame_of end ≡ pend on.place on.depth
-      → unwinds (frame_of end) ≡ comes (frame_of end) K way (Below on)
-  wait_next l z on e = at_wait on e ∙ on_true (ltb (length K) way.depth) _ _ (lt-ltb (length K) way.depth l) ∙ ap (λ t. pick (is_zero t) (unwind K on.place on.depth) (pos way.place (frame_of end ∷ K))) z
+  pub wait_next : length K < target.depth → target.place ≡ 0 → (on : Target) → frame_of end ≡ pend on.place on.depth
+      → unwinds (frame_of end) ≡ comes (frame_of end) K target (Below on)
+  wait_next l z on e = at_wait on e ∙ on_true (ltb (length K) target.depth) _ _ (lt-ltb (length K) target.depth l) ∙ ap (λ t. pick (is_zero t) (unwind K on.place on.depth) (pos target.place (frame_of end ∷ K))) z
 
-  pub wait_here : half ≤ end → length K < way.depth → way.place ≢ 0 → unwinds (frame_of end) ≡ comes (frame_of end) K way Here
+  pub wait_here : half ≤ end → length K < target.depth → target.place ≢ 0 → unwinds (frame_of end) ≡ comes (frame_of end) K target Here
   wait_here h l z =
-      at_wait (record { place = end % half; depth = end / half - 1 }) (wait_frame end h) ∙ on_true (ltb (length K) way.depth) _ _ (lt-ltb (length K) way.depth l)
-      ∙ ap (λ b. pick b (unwind K (end % half) (end / half - 1)) (pos way.place (frame_of end ∷ K))) (some way.place z)
+      at_wait (record { place = end % half; depth = end / half - 1 }) (wait_frame end h) ∙ on_true (ltb (length K) target.depth) _ _ (lt-ltb (length K) target.depth l)
+      ∙ ap (λ b. pick b (unwind K (end % half) (end / half - 1)) (pos target.place (frame_of end ∷ K))) (some target.place z)
     where
       some : (t : ℕ) → t ≢ 0 → is_zero t ≡ false
       some zero n = absurd (n refl)
       some (suc t) n = refl
 
 -- A jump with none pending.
-pub unwind_none : (ends : List ℕ) (left : ℕ) (on : Way) → left ≡ 0 → unwind (stack ends left) on.place on.depth ≡ pos on.place (stack ends 0)
+pub unwind_none : (ends : List ℕ) (left : ℕ) (on : Target) → left ≡ 0 → unwind (stack ends left) on.place on.depth ≡ pos on.place (stack ends 0)
 unfolding unwind stack
 unwind_none ends left on e = ap (λ n. unwind (stack ends n) on.place on.depth) e
 
 -- .. and at the end on top, where r says what it comes to.
-module _ (ends : List ℕ) (left top : ℕ) (on : Way) (r : Passing) (e : left ≡ suc top)
+module _ (ends : List ℕ) (left top : ℕ) (on : Target) (r : Passing) (e : left ≡ suc top)
     (m : (K : List Frame) → length K ≡ top → unwind (frame_of (get_or ends top 0) ∷ K) on.place on.depth ≡ comes (frame_of (get_or ends top 0)) K on r) where
   meets : (q : Passing) → r ≡ q → unwind (stack ends left) on.place on.depth ≡ comes (frame_of (get_or ends top 0)) (stack ends top) on q
   meets q h =
@@ -127,5 +127,5 @@ module _ (ends : List ℕ) (left top : ℕ) (on : Way) (r : Passing) (e : left �
   unwind_into t h end f l =
       meets (Into t) h ∙ ap (λ F. pos t (F ∷ stack ends top)) (sym f) ∙ ap (pos t) (sym (stack_push ends top end l)) ∙ ap (λ n. pos t (stack (set ends top end) n)) (sym e)
 
-  pub unwind_below : (b : Way) → r ≡ Below b → unwind (stack ends left) on.place on.depth ≡ unwind (stack ends top) b.place b.depth
+  pub unwind_below : (b : Target) → r ≡ Below b → unwind (stack ends left) on.place on.depth ≡ unwind (stack ends top) b.place b.depth
   unwind_below b h = meets (Below b) h

@@ -7,6 +7,7 @@ use Rattle.code_flat.specs.Machine.{room, Pos, pos}
 use Rattle.code_marks.specs.Stop.{Stop, held, over, stopped}
 use Rattle.code_machine.specs.Pending.{stack}
 use Rattle.code_machine.specs.declared.Landing.{Landing}
+use Rattle.code_machine.specs.declared.Ran.{Ran}
 
 -- "with end 4"
 abbrev pub stopped_end : ℕ
@@ -27,8 +28,8 @@ abbrev pub stop_from : List ℕ → List ℕ → List ℕ → Landing → ℕ �
 stop_from C qs ends begin stop = stopped room C stop (pos begin.place (stack ends begin.pending)) qs
 
 -- What a run that comes to s gives.
-pub record Told (s : Stop) (f₀ f : List ℕ) (e n i : ℕ) : Type 0 where
-  pub end : e ≡ (route_to s).end
-  pub entries : n ≡ saturated (length (route_to s).list)
-  pub taken : i ≡ (route_to s).taken
+pub record Told (s : Stop) (f₀ f : List ℕ) (ran : Ran) : Type 0 where
+  pub end : ran.end ≡ (route_to s).end
+  pub entries : ran.entries ≡ saturated (length (route_to s).list)
+  pub taken : ran.taken ≡ (route_to s).taken
   pub list : f ≡ laid (route_to s).list f₀

@@ -17,6 +17,7 @@ use Rattle.code_machine.specs.Pending.{half, stack}
 use Rattle.code_machine.specs.Turn.{up_to, Ends, Going}
 use Rattle.code_machine.specs.Halted.{stopped_end, route_to, StandsAt, Told, stop_from}
 use Rattle.code_machine.specs.declared.Place.{Place}
+use Rattle.code_machine.specs.declared.Ran.{Ran}
 
 -- The run that comes to s, stopped behind so many answers, stands at p after the entries so far; n of them are counted.
 pub record Kept (C qs : List ℕ) (stop : ℕ) (s : Stop) (ends f₀ f : List ℕ) (p : Place) (n : ℕ) : Type 0 where
@@ -80,7 +81,7 @@ kept_more C qs ends ends' f₀ f stop s p n m k d x q g =
     kept C qs ends ends' f₀ f stop s p n k d (x ∷ []) q g (omega arith) (set f n x) (next n) (listing_more f₀ f (map node_of k.shown) n x m k.listing)
 
 module _ (C qs ends f₀ f : List ℕ) (stop : ℕ) (s : Stop) (p : Place) (n : ℕ) (k : Kept C qs stop s ends f₀ f p n) where
-  told : (z : Stop) (e : ℕ) → s ≡ z → route_to z ≡ route_of k.shown e → Told s f₀ f e n p.at
+  told : (z : Stop) (e : ℕ) → s ≡ z → route_to z ≡ route_of k.shown e → Told s f₀ f (record { end = e; entries = n; taken = p.at })
   told z e h r =
       let w : route_to s ≡ route_of k.shown e = ap route_to h ∙ r in
       record {
@@ -97,7 +98,7 @@ module _ (C qs ends f₀ f : List ℕ) (stop : ℕ) (s : Stop) (p : Place) (n : 
       let z : stop - p.at ≡ 0 = omega arith in
       k.halts ∙ ap (λ m. after k.shown (up_to C qs ends p m)) z
 
-  pub kept_held : p.at ≡ stop → Told s f₀ f stopped_end n p.at
+  pub kept_held : p.at ≡ stop → Told s f₀ f (record { end = stopped_end; entries = n; taken = p.at })
   kept_held e = told (held (k.shown ++ []) (pos p.pc (stack ends p.pending)) (drop p.at qs)) stopped_end (held_now e) (ap (λ l. route_of l stopped_end) (append-nil k.shown))
 
   pub kept_stands : p.at ≡ stop → (t : ℕ) → t ≡ p.pc → StandsAt s (pos t (stack ends p.pending))
@@ -109,7 +110,7 @@ module _ (C qs ends f₀ f : List ℕ) (stop : ℕ) (s : Stop) (p : Place) (n : 
       let z : stop - p.at ≡ suc (stop - p.at - 1) = omega (arith, k.within) in
       k.halts ∙ ap (λ m. after k.shown (up_to C qs ends p m)) z ∙ ap (after k.shown) (h (stop - p.at - 1))
 
-  pub kept_over : p.at ≢ stop → (e : ℕ) → Ends C qs ends p e → Told s f₀ f e n p.at
+  pub kept_over : p.at ≢ stop → (e : ℕ) → Ends C qs ends p e → Told s f₀ f (record { end = e; entries = n; taken = p.at })
   kept_over d e h = told (over (res (k.shown ++ []) e (drop p.at qs))) e (over_now d e h) (ap (λ l. route_of l e) (append-nil k.shown))
 
   pub over_stands : p.at ≢ stop → (e : ℕ) → Ends C qs ends p e → (x : Pos) → StandsAt s x
@@ -120,8 +121,8 @@ never_held : (C qs ends : List ℕ) (n : ℕ) → n ≡ length qs + 1 → route_
 unfolding stack
 never_held C qs ends n e = ap route_to (never_stopped room C n (pos 0 []) qs (omega arith))
 
-pub told_run : (C qs ends f₀ f : List ℕ) (n e k i : ℕ) → Told (stop_from C qs ends (record { place = 0; pending = 0 }) n) f₀ f e k i → n ≡ length qs + 1
-    → (e ≡ (code_route C qs).end) × ((k ≡ saturated (length (code_route C qs).list)) × ((i ≡ (code_route C qs).taken) × (f ≡ laid (code_route C qs).list f₀)))
-told_run C qs ends f₀ f n e k i t h =
+pub told_run : (C qs ends f₀ f : List ℕ) (n : ℕ) (ran : Ran) → Told (stop_from C qs ends (record { place = 0; pending = 0 }) n) f₀ f ran → n ≡ length qs + 1
+    → (ran.end ≡ (code_route C qs).end) × ((ran.entries ≡ saturated (length (code_route C qs).list)) × ((ran.taken ≡ (code_route C qs).taken) × (f ≡ laid (code_route C qs).list f₀)))
+told_run C qs ends f₀ f n ran t h =
     let w = never_held C qs ends n h in
     (t.end ∙ ap (λ r. r.end) w, (t.entries ∙ ap (λ r. saturated (length r.list)) w, (t.taken ∙ ap (λ r. r.taken) w, t.list ∙ ap (λ r. laid r.list f₀) w)))

@@ -8,7 +8,7 @@ use Rattle.code_marks.specs.Stop.{Stop, over, after, stops}
 use Rattle.code_marks.specs.Steps.{pass, jump}
 use Rattle.code_machine.specs.Pending.{half, stack}
 use Rattle.code_machine.specs.declared.Place.{Place}
-use Rattle.code_machine.specs.declared.Way.{Way}
+use Rattle.code_machine.specs.declared.Target.{Target}
 use Rattle.code_machine.specs.declared.Landing.{Landing}
 use Rattle.code_machine.specs.declared.Step.{Step}
 use Rattle.code_machine.specs.declared.Step.TheVariants.{Over, On, Listed}
@@ -42,8 +42,8 @@ Jumps C qs ends p x = (m : ℕ) → up_to C qs ends p (suc m) ≡ jump (stops ro
 abbrev pub Lands : List ℕ → List ℕ → List ℕ → List ℕ → Place → Landing → Type 0
 Lands C qs ends ends' p to = Jumps C qs ends p (pos to.place (stack ends' to.pending))
 
-abbrev pub Leaves : List ℕ → List ℕ → List ℕ → Place → Way → Type 0
-Leaves C qs ends p way = Jumps C qs ends p (unwind (stack ends p.pending) way.place way.depth)
+abbrev pub Leaves : List ℕ → List ℕ → List ℕ → Place → Target → Type 0
+Leaves C qs ends p target = Jumps C qs ends p (unwind (stack ends p.pending) target.place target.depth)
 
 -- That n is listed, and the run goes on at t.
 abbrev pub Lists : List ℕ → List ℕ → List ℕ → Place → ℕ → ℕ → Type 0

@@ -47,19 +47,19 @@ pub struct Next {
     pub then: Place,
 }
 
-// The way of a jump: to a place, at a depth of the pending ends.
+// The target of a jump: a place of the code, and the depth of the pending ends there. The place 0 is what is pending.
 #[derive(Clone, Copy)]
-struct Way {
-    place: u32,
-    depth: u32,
+pub struct Target {
+    pub place: u32,
+    pub depth: u32,
 }
 
-// What a jump comes to at the end on top: its place, at this depth; the open finally block at a place, and the way waits; or a way on below.
+// What a jump comes to at the end on top: its place, at this depth; the open finally block at a place, and the jump waits; or a target further below.
 #[derive(Clone, Copy)]
 enum Passing {
     Here,
     Into(u32),
-    Below(Way),
+    Below(Target),
 }
 
 // Where a jump comes to, or a run begins: a place, and how many ends are pending there.
@@ -69,12 +69,10 @@ pub struct Landing {
     pub pending: usize,
 }
 
-// What a run comes to that may be stopped: its end, 4 if it is stopped; how many nodes it lists, and how many answers it takes; and where it stands then.
+// What a run comes to that may be stopped, with the end 4 if it is, and where it stands then.
 #[derive(Clone, Copy)]
 pub struct Halt {
-    pub end: u32,
-    pub entries: u64,
-    pub taken: u64,
+    pub ran: Ran,
     pub at: Landing,
 }
 
@@ -134,8 +132,14 @@ fn end_as(e: u32) -> u32
     run_end::ASTRAY
 }
 
+// How many ends can be pending.
+pub const ROOM: usize = 512;
+
+// The pending ends of a run.
+pub type Ends = [u64; ROOM];
+
 // A pending end is one number: in its lower half a place; in its upper half 0 if the finally block there is open, and else one more than the depth of
-// the way to that place, which waits.
+// the jump to that place, which waits.
 // Both halves stand in one number, since an array of 512 pending ends is all the memory that a run has.
 const HALF: u64 = 4294967296;
 
@@ -158,53 +162,52 @@ pub fn above_of(end: u64) -> u32
     (end / HALF) as u32
 }
 
-// The way waits.
-fn waiting_end(way: Way) -> u64
-    requires { way.depth < room }
-    ensures { frame_of result ≡ pend way.place way.depth }
+// The jump waits.
+fn waiting_end(target: Target) -> u64
+    requires { target.depth < room }
+    ensures { frame_of result ≡ pend target.place target.depth }
 {
-    pending_end(way.place, way.depth + 1)
+    pending_end(target.place, target.depth + 1)
 }
 
-// The way that waits.
-fn way_of(end: u64) -> Way
+// The target of the jump that waits.
+fn target_of(end: u64) -> Target
     requires { half ≤ end }
     ensures { frame_of end ≡ pend result.place result.depth }
 {
-    Way {
+    Target {
         place: place_of(end),
         depth: above_of(end) - 1,
     }
 }
 
 // What a jump comes to at the end on top, which has so many below it.
-fn met(end: u64, below: usize, way: Way) -> Passing
-    ensures depth_value { (K : List Frame) → length K ≡ below → unwind (frame_of end ∷ K) way.place way.depth ≡ comes (frame_of end) K way result }
-    ensures shallow { shallow below way result }
+fn met(end: u64, below: usize, target: Target) -> Passing
+    ensures depth_value { (K : List Frame) → length K ≡ below → unwind (frame_of end ∷ K) target.place target.depth ≡ comes (frame_of end) K target result }
+    ensures shallow { shallow below target result }
 {
     if end < HALF {
-        if below < way.depth as usize {
+        if below < target.depth as usize {
             return Passing::Here;
         }
         return Passing::Into(place_of(end));
     }
-    if way.depth as usize <= below {
-        return Passing::Below(way);
+    if target.depth as usize <= below {
+        return Passing::Below(target);
     }
-    if way.place == 0 {
-        return Passing::Below(way_of(end));
+    if target.place == 0 {
+        return Passing::Below(target_of(end));
     }
     Passing::Here
 }
 
 // Where a jump comes to.
-fn unwound(ends: &mut [u64], pending: usize, way: Way) -> Landing
-    requires ends_len { length ends.old ≡ room }
+fn unwound(ends: &mut Ends, pending: usize, target: Target) -> Landing
     requires pending_le_room { pending ≤ room }
-    ensures to { unwind (stack ends.old pending) way.place way.depth ≡ pos result.place (stack ends.new result.pending) }
+    ensures to { unwind (stack ends.old pending) target.place target.depth ≡ pos result.place (stack ends.new result.pending) }
     ensures most { result.pending ≤ room }
 {
-    let mut on = way;
+    let mut on = target;
     for top in (0..pending).rev() {
         let passing = met(ends[top], top, on);
         match passing {
@@ -258,18 +261,16 @@ fn landed(p: Place, to: Landing) -> Step
 }
 
 // A jump.
-fn left(ends: &mut [u64], p: Place, way: Way) -> Step
-    requires ends_len { length ends.old ≡ room }
+fn left(ends: &mut Ends, p: Place, target: Target) -> Step
     requires pending_le_room { p.pending ≤ room }
-    ensures { (C qs : List ℕ) → Leaves C qs ends.old p way → Turned C qs ends.old ends.new p result }
+    ensures { (C qs : List ℕ) → Leaves C qs ends.old p target → Turned C qs ends.old ends.new p result }
 {
-    let to = unwound(ends, p.pending, way);
+    let to = unwound(ends, p.pending, target);
     landed(p, to)
 }
 
 // The finally block at f is opened, and control goes to next.
-fn opened(ends: &mut [u64], p: Place, f: u32, next: usize) -> Step
-    requires ends_len { length ends.old ≡ room }
+fn opened(ends: &mut Ends, p: Place, f: u32, next: usize) -> Step
     requires pending_le_room { p.pending ≤ room }
     ensures { (C qs : List ℕ) → Opens C qs ends.old p f next → Turned C qs ends.old ends.new p result }
 {
@@ -354,8 +355,7 @@ fn listed(p: Place, n: u32, next: usize) -> Step
 }
 
 // One instruction. What is no instruction ends the run.
-fn turn(code: &[u32], answers: &[u32], ends: &mut [u64], p: Place) -> Step
-    requires ends_len { length ends.old ≡ room }
+fn turn(code: &[u32], answers: &[u32], ends: &mut Ends, p: Place) -> Step
     requires pending_le_room { p.pending ≤ room }
     ensures { Turned code.now answers.now ends.old ends.new p result }
 {
@@ -367,7 +367,7 @@ fn turn(code: &[u32], answers: &[u32], ends: &mut [u64], p: Place) -> Step
     let y = word(code, pc + 2);
     match word(code, pc) {
         opcodes::LIST => listed(p, x, pc + 2),
-        opcodes::LEAVE => left(ends, p, Way { place: x, depth: y }),
+        opcodes::LEAVE => left(ends, p, Target { place: x, depth: y }),
         opcodes::ASK => asked(code, answers, p),
         opcodes::SELECT => selected(code, answers, p),
         opcodes::OPEN => opened(ends, p, x, pc + 2),
@@ -375,7 +375,7 @@ fn turn(code: &[u32], answers: &[u32], ends: &mut [u64], p: Place) -> Step
         opcodes::CASE => left(
             ends,
             p,
-            Way {
+            Target {
                 place: y,
                 depth: word(code, pc + 3),
             },
@@ -397,8 +397,7 @@ pub fn start(code: &[u32]) -> Place
 }
 
 // Runs on to the next entry, or to the end.
-pub fn next_entry(code: &[u32], answers: &[u32], ends: &mut [u64], here: Place) -> Result<Next, u32>
-    requires ends_len { length ends.old ≡ room }
+pub fn next_entry(code: &[u32], answers: &[u32], ends: &mut Ends, here: Place) -> Result<Next, u32>
     requires pending_le_room { here.pending ≤ room }
     ensures { Coming code.now answers.now ends.old ends.new here result }
 {
@@ -418,14 +417,13 @@ pub fn next_entry(code: &[u32], answers: &[u32], ends: &mut [u64], here: Place) 
 pub fn run_to(
     code: &[u32],
     answers: &[u32],
-    ends: &mut [u64],
+    ends: &mut Ends,
     begin: Landing,
     stop: u64,
     out: &mut [u32],
 ) -> Halt
-    requires ends_len { length ends.old ≡ room }
     requires pending_le_room { begin.pending ≤ room }
-    ensures told { Told (stop_from code.now answers.now ends.old begin stop) out.old out.new result.end result.entries result.taken }
+    ensures told { Told (stop_from code.now answers.now ends.old begin stop) out.old out.new result.ran }
     ensures stands { StandsAt (stop_from code.now answers.now ends.old begin stop) (pos result.at.place (stack ends.new result.at.pending)) }
     ensures most { result.at.pending ≤ room }
 {
@@ -438,30 +436,30 @@ pub fn run_to(
     let mut entries = 0;
     loop {
         if p.at as u64 == stop {
+            let ran = Ran {
+                end: run_end::STOPPED,
+                entries,
+                taken: p.at as u64,
+            };
             let at = Landing {
                 place: p.pc as u32,
                 pending: p.pending,
             };
-            return Halt {
-                end: run_end::STOPPED,
-                entries,
-                taken: p.at as u64,
-                at,
-            };
+            return Halt { ran, at };
         }
         let s = turn(code, answers, ends, p);
         match s {
             Step::Over(end) => {
+                let ran = Ran {
+                    end,
+                    entries,
+                    taken: p.at as u64,
+                };
                 let at = Landing {
                     place: 0,
                     pending: 0,
                 };
-                return Halt {
-                    end,
-                    entries,
-                    taken: p.at as u64,
-                    at,
-                };
+                return Halt { ran, at };
             }
             Step::On(q) => p = q,
             Step::Listed(entry) => {
@@ -479,7 +477,7 @@ pub fn run(code: &[u32], answers: &[u32], out: &mut [u32]) -> Ran
     ensures taken { result.taken ≡ (code_route code.now answers.now).taken }
     ensures list { out.new ≡ laid (code_route code.now answers.now).list out.old }
 {
-    let mut ends: [u64; 512] = [0; 512];
+    let mut ends: Ends = [0; ROOM];
     let begin = Landing {
         place: 0,
         pending: 0,
@@ -492,9 +490,5 @@ pub fn run(code: &[u32], answers: &[u32], out: &mut [u32]) -> Ran
         answers.len() as u64 + 1,
         out,
     );
-    Ran {
-        end: halt.end,
-        entries: halt.entries,
-        taken: halt.taken,
-    }
+    halt.ran
 }

@@ -16,7 +16,7 @@ use Rattle.code_flat.specs.Opcodes as op
 use Rattle.code_flat.specs.Machine.{Instr, NONE, LEAVE, END, CASE, decode}
 use Rattle.code_valid.specs.Instrs.{len, parse, find, leads}
 use Rattle.code_valid.specs.Valid.{Valid}
-use Rattle.code_shorten.specs.declared.Aim.{Aim}
+use Rattle.code_machine.specs.declared.Target.{Target}
 use Rattle.code_shorten.specs.Short.{aimed}
 use Rattle.code_shorten.specs.Sound.{Begin, All, dec_eq, len_pos}
 use Rattle.code_shorten.specs.Closes.{In}
@@ -109,14 +109,14 @@ module _ (f : List ℕ) (p : ℕ) where
   pub leads_leave : mark ≤ get_or f p 0 → get_or f p 0 % mark ≡ op.Leave → leads_in f p ≡ target_in f a b ∷ []
   leads_leave h e = leads_by h op.Leave e ∙ go (rule_in f a b)
     where
-      go : (x : Option Aim) → leads p (aimed x LEAVE (LEAVE a b)) ≡ place_or x a ∷ []
+      go : (x : Option Target) → leads p (aimed x LEAVE (LEAVE a b)) ≡ place_or x a ∷ []
       go None = refl
       go (Some aim) = refl
 
   pub leads_case : mark ≤ get_or f p 0 → get_or f p 0 % mark ≡ op.Case → leads_in f p ≡ a ∷ target_in f b c ∷ []
   leads_case h e = leads_by h op.Case e ∙ go (rule_in f b c)
     where
-      go : (x : Option Aim) → leads p (aimed x (CASE a) (CASE a b c)) ≡ a ∷ place_or x b ∷ []
+      go : (x : Option Target) → leads p (aimed x (CASE a) (CASE a b c)) ≡ a ∷ place_or x b ∷ []
       go None = refl
       go (Some aim) = refl
 

@@ -12,7 +12,7 @@ use Rattle.code_flat.specs.Machine.{Instr, LIST, LEAVE, ASK, SELECT, OPEN, END, 
 use Rattle.code_flat.specs.Machine.{is_none}
 use Rattle.code_valid.specs.Instrs.{len, parse, find, names}
 use Rattle.code_valid.specs.Valid.{Valid}
-use Rattle.code_shorten.specs.declared.Aim.{Aim}
+use Rattle.code_machine.specs.declared.Target.{Target}
 use Rattle.code_shorten.specs.Short.{to, aim_of, hop, further, last, aimed, thread}
 use Rattle.code_shorten.specs.Longer.{thread_length, total}
 use Rattle.code_shorten.specs.Sound.{AreInstrs, Begin, All, len_pos}
@@ -29,7 +29,7 @@ use Rattle.code_mark.proofs.PlaceLaws.{sound, total_is, sent_find}
 pub last_more : (is : List Instr) (f t d : ℕ) → suc (length is) ≤ f → last is f t d ≡ last is (suc (length is)) t d
 last_more is f t d l = go (last is (suc (length is)) t d) refl
   where
-    go : (a : Option Aim) → last is (suc (length is)) t d ≡ a → last is f t d ≡ a
+    go : (a : Option Target) → last is (suc (length is)) t d ≡ a → last is f t d ≡ a
     go None q = ring is t d q f d
     go (Some aim) q = let u : ℕ = aim.place in let e : ℕ = aim.depth in last_up is f (suc (length is)) t d u e l q
 
@@ -119,7 +119,7 @@ module _ (C : List ℕ) (v : Valid C) (split : ℕ) where
     last_reads zero t d b = refl
     last_reads (suc n) t d b = ap (λ a. further (last_in f n) a t d) (hop_reads t b) ∙ go (hop (now C split) t) refl (λ u w c. last_reads n u w c)
       where
-        go : (a : Option Aim) → hop (now C split) t ≡ a → ((u w : ℕ) → Begin (parse C) u → last_in f n u w ≡ last (now C split) n u w)
+        go : (a : Option Target) → hop (now C split) t ≡ a → ((u w : ℕ) → Begin (parse C) u → last_in f n u w ≡ last (now C split) n u w)
             → further (last_in f n) a t d ≡ further (last (now C split) n) a t d
         go None e h = refl
         go (Some aim) e h = let u : ℕ = aim.place in let w : ℕ = aim.depth in h u (min d w) (hop_begin t u w b e)

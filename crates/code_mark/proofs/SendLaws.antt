@@ -18,7 +18,7 @@ use Rattle.code_flat.proofs.Correct.{has_self}
 use Rattle.code_valid.specs.Instrs.{len, words, flat, parse, find}
 use Rattle.code_valid.specs.Valid.{Valid}
 use Rattle.code_valid.proofs.ReadingLaws.{decode_none}
-use Rattle.code_shorten.specs.declared.Aim.{Aim}
+use Rattle.code_machine.specs.declared.Target.{Target}
 use Rattle.code_shorten.specs.Short.{to, aim_of, aimed, further, last, thread}
 use Rattle.code_shorten.specs.Longer.{thread_length, words_length}
 use Rattle.code_shorten.specs.Reads.{find_has}
@@ -197,7 +197,7 @@ thread_first is NONE = refl
 thread_first is (LIST a) = refl
 thread_first is (LEAVE t d) = go (last is (suc (length is)) t d)
   where
-    go : (x : Option Aim) → get_or (words (aimed x LEAVE (LEAVE t d))) 0 0 ≡ op.Leave
+    go : (x : Option Target) → get_or (words (aimed x LEAVE (LEAVE t d))) 0 0 ≡ op.Leave
     go None = refl
     go (Some aim) = refl
 thread_first is (ASK n y z) = refl
@@ -206,33 +206,33 @@ thread_first is (OPEN a) = refl
 thread_first is (END a) = refl
 thread_first is (CASE c t d) = go (last is (suc (length is)) t d)
   where
-    go : (x : Option Aim) → get_or (words (aimed x (CASE c) (CASE c t d))) 0 0 ≡ op.Case
+    go : (x : Option Target) → get_or (words (aimed x (CASE c) (CASE c t d))) 0 0 ≡ op.Case
     go None = refl
     go (Some aim) = refl
 
 -- A place and a depth, written at q.
 module _ (f : List ℕ) (q : ℕ) where
-  written_same : (k : Option Aim) → length (written f q k) ≡ length f
+  written_same : (k : Option Target) → length (written f q k) ≡ length f
   written_same None = refl
   written_same (Some aim) = let u : ℕ = aim.place in let w : ℕ = aim.depth in length-set (set f q u) (q + 1) w ∙ length-set f q u
 
-  written_other : (k : Option Aim) (y : ℕ) → y ≢ q → y ≢ q + 1 → get_or (written f q k) y 0 ≡ get_or f y 0
+  written_other : (k : Option Target) (y : ℕ) → y ≢ q → y ≢ q + 1 → get_or (written f q k) y 0 ≡ get_or f y 0
   written_other None y h l = refl
   written_other (Some aim) y h l = let u : ℕ = aim.place in let w : ℕ = aim.depth in get_or-set_other (set f q u) (q + 1) y w 0 l ∙ get_or-set_other f q y u 0 h
 
-  abbrev place_now : Option Aim → ℕ
+  abbrev place_now : Option Target → ℕ
   place_now None = get_or f q 0
   place_now (Some aim) = aim.place
 
-  abbrev depth_now : Option Aim → ℕ
+  abbrev depth_now : Option Target → ℕ
   depth_now None = get_or f (q + 1) 0
   depth_now (Some aim) = aim.depth
 
-  written_first : (k : Option Aim) → q < length f → get_or (written f q k) q 0 ≡ place_now k
+  written_first : (k : Option Target) → q < length f → get_or (written f q k) q 0 ≡ place_now k
   written_first None h = refl
   written_first (Some aim) h = let u : ℕ = aim.place in let w : ℕ = aim.depth in get_or-set_other (set f q u) (q + 1) q w 0 (λ e. omega arith) ∙ get_or-set_same f q u 0 h
 
-  written_second : (k : Option Aim) → q + 1 < length f → get_or (written f q k) (q + 1) 0 ≡ depth_now k
+  written_second : (k : Option Target) → q + 1 < length f → get_or (written f q k) (q + 1) 0 ≡ depth_now k
   written_second None h = refl
   written_second (Some aim) h = let u : ℕ = aim.place in let w : ℕ = aim.depth in get_or-set_same (set f q u) (q + 1) w 0 (omega (arith, length-set f q u))
 
@@ -298,7 +298,7 @@ module _ (f : List ℕ) (p : ℕ) where
       two : p + 1 + 1 ≡ p + 2
       two = omega arith
 
-      k : Option Aim
+      k : Option Target
       k = rule_in f a b
 
       g : threaded_in f p ≡ written f (p + 1) k
@@ -312,11 +312,11 @@ module _ (f : List ℕ) (p : ℕ) where
       off' y (inl w) z = omega arith
       off' y (inr w) z = omega arith
 
-      first : (x : Option Aim) → place_now f (p + 1) x ≡ get_or (words (aimed x LEAVE (LEAVE a b))) 1 0
+      first : (x : Option Target) → place_now f (p + 1) x ≡ get_or (words (aimed x LEAVE (LEAVE a b))) 1 0
       first None = refl
       first (Some aim) = refl
 
-      second : (x : Option Aim) → depth_now f (p + 1) x ≡ get_or (words (aimed x LEAVE (LEAVE a b))) 2 0
+      second : (x : Option Target) → depth_now f (p + 1) x ≡ get_or (words (aimed x LEAVE (LEAVE a b))) 2 0
       second None = ap (λ y. get_or f y 0) two
       second (Some aim) = refl
 
@@ -338,7 +338,7 @@ module _ (f : List ℕ) (p : ℕ) where
       three : p + 2 + 1 ≡ p + 3
       three = omega arith
 
-      k : Option Aim
+      k : Option Target
       k = rule_in f b c
 
       g : threaded_in f p ≡ written f (p + 2) k
@@ -352,15 +352,15 @@ module _ (f : List ℕ) (p : ℕ) where
       off' y (inl w) z = omega arith
       off' y (inr w) z = omega arith
 
-      link : (x : Option Aim) → a ≡ get_or (words (aimed x (CASE a) (CASE a b c))) 1 0
+      link : (x : Option Target) → a ≡ get_or (words (aimed x (CASE a) (CASE a b c))) 1 0
       link None = refl
       link (Some aim) = refl
 
-      first : (x : Option Aim) → place_now f (p + 2) x ≡ get_or (words (aimed x (CASE a) (CASE a b c))) 2 0
+      first : (x : Option Target) → place_now f (p + 2) x ≡ get_or (words (aimed x (CASE a) (CASE a b c))) 2 0
       first None = refl
       first (Some aim) = refl
 
-      second : (x : Option Aim) → depth_now f (p + 2) x ≡ get_or (words (aimed x (CASE a) (CASE a b c))) 3 0
+      second : (x : Option Target) → depth_now f (p + 2) x ≡ get_or (words (aimed x (CASE a) (CASE a b c))) 3 0
       second None = ap (λ y. get_or f y 0) three
       second (Some aim) = refl
 

@@ -2,14 +2,14 @@
 use Rattle.std.specs.Prelude.{ℕ, ◌+◌, ◌≡◌, Bool, false, List, [], length, get_or, ltb, Option, Some, None}
 use Rattle.route_completion.specs.Sem.{pick, elem}
 use Rattle.code_valid.specs.Instrs.{parse, leads}
-use Rattle.code_shorten.specs.declared.Aim.{Aim}
+use Rattle.code_machine.specs.declared.Target.{Target}
 use Rattle.code_shorten.specs.Sound.{Begin}
 use Rattle.code_shorten.specs.Closes.{In, Closed}
 use Rattle.code_pass.specs.Stages.{sent_on, kept_places, mark}
 use Rattle.code_mark.specs.Read.{read_at, sent_by, rule_in}
 
 -- Where a jump to t leads at the depth d.
-abbrev pub place_or : Option Aim → ℕ → ℕ
+abbrev pub place_or : Option Target → ℕ → ℕ
 place_or None t = t
 place_or (Some aim) t = aim.place
 

@@ -3,7 +3,7 @@ use Rattle.std.specs.Prelude.{ℕ, zero, suc, ◌+◌, ◌%◌, List, length, ge
 use Rattle.route_completion.specs.Sem.{pick}
 use Rattle.code_flat.specs.Opcodes as op
 use Rattle.code_flat.specs.Machine.{Instr, NONE, LIST, LEAVE, ASK, SELECT, OPEN, END, CASE, decode, is_zero}
-use Rattle.code_shorten.specs.declared.Aim.{Aim}
+use Rattle.code_machine.specs.declared.Target.{Target}
 use Rattle.code_shorten.specs.Short.{aim_of, further, aimed}
 use Rattle.code_valid.specs.Instrs.{len}
 use Rattle.code_pass.specs.Stages.{mark}
@@ -18,16 +18,16 @@ unfoldable pub standing_in : List ℕ → ℕ → Instr
 standing_in f o = pick (leb (o + len (read_at f o)) (length f)) (read_at f o) NONE
 
 -- The jump that is read at t.
-unfoldable pub hop_in : List ℕ → ℕ → Option Aim
+unfoldable pub hop_in : List ℕ → ℕ → Option Target
 hop_in f t = pick (is_zero t) None (aim_of (read_at f t))
 
 -- The last target from t on, with the least depth on the way, after at most n jumps.
-unfoldable pub last_in : List ℕ → ℕ → ℕ → ℕ → Option Aim
+unfoldable pub last_in : List ℕ → ℕ → ℕ → ℕ → Option Target
 last_in f zero t d = None
 last_in f (suc n) t d = further (last_in f n) (hop_in f t) t d
 
 -- An instruction, sent on by a rule that tells last targets.
-abbrev pub sent_by : (ℕ → ℕ → Option Aim) → Instr → Instr
+abbrev pub sent_by : (ℕ → ℕ → Option Target) → Instr → Instr
 sent_by rule NONE = NONE
 sent_by rule (LIST n) = LIST n
 sent_by rule (LEAVE t d) = aimed (rule t d) LEAVE (LEAVE t d)
@@ -38,7 +38,7 @@ sent_by rule (END e) = END e
 sent_by rule (CASE c t d) = aimed (rule t d) (CASE c) (CASE c t d)
 
 -- More jumps than the slice has numbers come to no end.
-abbrev pub rule_in : List ℕ → ℕ → ℕ → Option Aim
+abbrev pub rule_in : List ℕ → ℕ → ℕ → Option Target
 rule_in f = last_in f (length f + 1)
 
 -- The numbers with the jump sent on whose place and depth stand at q.

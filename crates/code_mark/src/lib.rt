@@ -11,8 +11,7 @@ ghost use Rattle.code_pass.specs.Stages.{mark, Marked, Split, Sent, kept_to};
 ghost use Rattle.code_mark.specs.Read.{read_at, standing_in, hop_in, rule_in, sent_in, threaded_in};
 ghost use Rattle.code_mark.specs.Marks.{leads_in, target_in, Inked, Rounded, Started, Reached};
 
-use code_machine::{opcodes, word};
-use code_shorten::Aim;
+use code_machine::{Target, opcodes, word};
 
 // What a mark adds to the number that begins an instruction: no instruction's number is as large.
 pub const RAISE: u32 = 8;
@@ -48,15 +47,15 @@ pub fn kept_at(code: &[u32], p: usize, size: usize) -> usize
 }
 
 // Where the jump at p goes; none where no jump stands. The number that begins it may be raised.
-pub fn aim_at(code: &[u32], p: usize) -> Option<Aim>
+pub fn aim_at(code: &[u32], p: usize) -> Option<Target>
     ensures { result ≡ aim_of (read_at code.now p) }
 {
     match opcode_at(code, p) {
-        opcodes::LEAVE => Some(Aim {
+        opcodes::LEAVE => Some(Target {
             place: word(code, p + 1),
             depth: word(code, p + 2),
         }),
-        opcodes::CASE => Some(Aim {
+        opcodes::CASE => Some(Target {
             place: word(code, p + 2),
             depth: word(code, p + 3),
         }),
@@ -66,7 +65,7 @@ pub fn aim_at(code: &[u32], p: usize) -> Option<Aim>
 
 // The jump that stands at t. The place 0 stands for what is pending, and no jump is there.
 #[tactic(auto, using(crate::proofs::SendLaws::hop_zero, crate::proofs::SendLaws::hop_on))]
-pub fn hop(code: &[u32], t: u32) -> Option<Aim>
+pub fn hop(code: &[u32], t: u32) -> Option<Target>
     ensures { result ≡ hop_in code.now t }
 {
     if t == 0 {
@@ -76,7 +75,7 @@ pub fn hop(code: &[u32], t: u32) -> Option<Aim>
 }
 
 // The last target from a place on, with the least depth on the way. In a ring there is none: more jumps than the code has numbers come to no end.
-pub fn last_target(code: &[u32], from: Aim) -> Option<Aim>
+pub fn last_target(code: &[u32], from: Target) -> Option<Target>
     ensures { result ≡ rule_in code.now from.place from.depth }
 {
     let mut aim = from;
@@ -84,7 +83,7 @@ pub fn last_target(code: &[u32], from: Aim) -> Option<Aim>
         let Some(next) = hop(code, aim.place) else {
             return Some(aim);
         };
-        aim = Aim {
+        aim = Target {
             place: next.place,
             depth: aim.depth.min(next.depth),
         };
@@ -96,7 +95,7 @@ pub fn last_target(code: &[u32], from: Aim) -> Option<Aim>
 fn target_of(code: &[u32], place: u32, depth: u32) -> usize
     ensures { result ≡ target_in code.now place depth }
 {
-    match last_target(code, Aim { place, depth }) {
+    match last_target(code, Target { place, depth }) {
         Some(aim) => aim.place as usize,
         None => place as usize,
     }
@@ -241,7 +240,7 @@ fn send_on(code: &mut [u32], q: usize)
     requires { q + 1 < length code.old }
     ensures { code.new ≡ sent_in code.old q }
 {
-    let from = Aim {
+    let from = Target {
         place: code[q],
         depth: code[q + 1],
     };

@@ -18,7 +18,7 @@ use Rattle.code_flat.proofs.Correct.{has_self}
 use Rattle.code_valid.specs.Instrs.{len, words, flat, parse, find}
 use Rattle.code_valid.specs.Valid.{Valid}
 use Rattle.code_shorten.specs.Short.{thread, aimed, last}
-use Rattle.code_shorten.specs.declared.Aim.{Aim}
+use Rattle.code_machine.specs.declared.Target.{Target}
 use Rattle.code_shorten.specs.Reads.{find_has}
 use Rattle.code_shorten.specs.Sound.{Begin, len_pos, dec_eq, flat_parse, valid_sound}
 use Rattle.code_shorten.specs.Threads.{threaded_find}
@@ -57,7 +57,7 @@ first_thread is NONE = refl
 first_thread is (LIST n) = refl
 first_thread is (LEAVE t d) = go (last is (suc (length is)) t d)
   where
-    go : (a : Rattle.std.specs.Prelude.Option Aim) → first (aimed a LEAVE (LEAVE t d)) ≡ 2
+    go : (a : Rattle.std.specs.Prelude.Option Target) → first (aimed a LEAVE (LEAVE t d)) ≡ 2
     go None = refl
     go (Some aim) = refl
 first_thread is (ASK n y z) = refl
@@ -66,7 +66,7 @@ first_thread is (OPEN f) = refl
 first_thread is (END e) = refl
 first_thread is (CASE c t d) = go (last is (suc (length is)) t d)
   where
-    go : (a : Rattle.std.specs.Prelude.Option Aim) → first (aimed a (CASE c) (CASE c t d)) ≡ 7
+    go : (a : Rattle.std.specs.Prelude.Option Target) → first (aimed a (CASE c) (CASE c t d)) ≡ 7
     go None = refl
     go (Some aim) = refl
 

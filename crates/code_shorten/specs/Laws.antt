@@ -6,7 +6,7 @@ use mathlib.Core.List.{List, [], ◌∷◌}
 use Rattle.route_completion.specs.Sem.{pick, elem}
 use Rattle.code_flat.specs.Machine.{Instr, NONE, LIST, LEAVE, ASK, SELECT, OPEN, END, CASE}
 use Rattle.code_valid.specs.Instrs.{len, find, leads}
-use Rattle.code_shorten.specs.declared.Aim.{Aim}
+use Rattle.code_machine.specs.declared.Target.{Target}
 use Rattle.code_shorten.specs.Short.{to, place_in, depth_in, hop, further, last, reached, moved, relocate, kept, close_up}
 use Rattle.code_shorten.specs.Sound.{Begin, All, Sound}
 use Rattle.code_shorten.specs.Closes.{In, Closed}
@@ -36,7 +36,7 @@ unfolding last
 last_hops is zero t d u e h = let x : ◌≡◌ {A = ℕ} 0 1 = cc in absurd (omega arith)
 last_hops is (suc f) t d u e h = go (hop is t) refl h (λ v w. last_hops is f v w u e)
   where
-    go : (a : Option Aim) → hop is t ≡ a → further (last is f) a t d ≡ to u e → ((v w : ℕ) → last is f v w ≡ to u e → (n : ℕ) × Hops is n v w u e) → (n : ℕ) × Hops is n t d u e
+    go : (a : Option Target) → hop is t ≡ a → further (last is f) a t d ≡ to u e → ((v w : ℕ) → last is f v w ≡ to u e → (n : ℕ) × Hops is n v w u e) → (n : ℕ) × Hops is n t d u e
     go None q m k = let x : t ≡ u = ap place_in m in let y : d ≡ e = ap depth_in m in (0, (x, y))
     go (Some aim) q m k = let v : ℕ = aim.place in let w : ℕ = aim.depth in let r : (n : ℕ) × Hops is n v (min d w) u e = k v (min d w) m in (suc r.0, (v, w, q, r.1))
 

@@ -4,7 +4,7 @@ use Rattle.std.proofs.Common.{length-append, arith}
 use Rattle.route_completion.specs.Sem.{pick, elem}
 use Rattle.code_flat.specs.Machine.{Instr, NONE, LIST, LEAVE, ASK, SELECT, OPEN, END, CASE}
 use Rattle.code_valid.specs.Instrs.{len, words, flat, parse}
-use Rattle.code_shorten.specs.declared.Aim.{Aim}
+use Rattle.code_machine.specs.declared.Target.{Target}
 use Rattle.code_shorten.specs.Short.{aimed, last, thread, threaded, reached, relocate, moved, kept, close_up, closed_up, shorter}
 
 pub words_length : (i : Instr) → length (words i) ≡ len i
@@ -32,7 +32,7 @@ thread_length is NONE = refl
 thread_length is (LIST n) = refl
 thread_length is (LEAVE t d) = go (last is (suc (length is)) t d)
   where
-    go : (a : Option Aim) → len (aimed a LEAVE (LEAVE t d)) ≡ 3
+    go : (a : Option Target) → len (aimed a LEAVE (LEAVE t d)) ≡ 3
     go None = refl
     go (Some aim) = refl
 thread_length is (ASK n y z) = refl
@@ -41,7 +41,7 @@ thread_length is (OPEN f) = refl
 thread_length is (END e) = refl
 thread_length is (CASE c t d) = go (last is (suc (length is)) t d)
   where
-    go : (a : Option Aim) → len (aimed a (CASE c) (CASE c t d)) ≡ 4
+    go : (a : Option Target) → len (aimed a (CASE c) (CASE c t d)) ≡ 4
     go None = refl
     go (Some aim) = refl
 

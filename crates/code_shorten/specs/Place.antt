@@ -6,7 +6,7 @@ use Rattle.std.proofs.Common.{sym, ◌∙◌, inl, inr, arith}
 use Rattle.route_completion.specs.Sem.{pick}
 use Rattle.code_flat.specs.Machine.{Instr, NONE, LIST, LEAVE, ASK, SELECT, OPEN, END, CASE, is_zero}
 use Rattle.code_valid.specs.Instrs.{find}
-use Rattle.code_shorten.specs.declared.Aim.{Aim}
+use Rattle.code_machine.specs.declared.Target.{Target}
 use Rattle.code_shorten.specs.Short.{to, place_in, depth_in, aim_of, hop, further, last, aimed, thread}
 use Rattle.code_shorten.specs.Threads.{hop_some}
 use Rattle.code_shorten.specs.Rings.{Ring, ring, ring_next}
@@ -48,7 +48,7 @@ no_aim is (OPEN f) h = refl
 no_aim is (END e) h = refl
 no_aim is (CASE c t d) h = let x : ◌≡◌ {A = ℕ} 0 1 = cc in absurd (omega arith)
 
-hop_is : (is : List Instr) (t : ℕ) (a : Option Aim) → is_zero t ≡ false → aim_of (find is 0 t) ≡ a → hop is t ≡ a
+hop_is : (is : List Instr) (t : ℕ) (a : Option Target) → is_zero t ≡ false → aim_of (find is 0 t) ≡ a → hop is t ≡ a
 unfolding hop
 hop_is is t a z h = ap (λ b. pick b None (aim_of (find is 0 t))) z ∙ h
 
@@ -97,7 +97,7 @@ module _ (is now : List Instr) (m : Mixed is now) where
   pub last_now : (t d : ℕ) → last now (suc (length now)) t d ≡ last is (suc (length is)) t d
   last_now t d = go (last is (suc (length is)) t d) refl
     where
-      go : (a : Option Aim) → last is (suc (length is)) t d ≡ a → last now (suc (length now)) t d ≡ a
+      go : (a : Option Target) → last is (suc (length is)) t d ≡ a → last now (suc (length now)) t d ≡ a
       go None q = ring_now (suc (length now)) t d (ring is t d q)
       go (Some aim) q = let u : ℕ = aim.place in let e : ℕ = aim.depth in
           let r : ((n : ℕ) × Hops is n t d u e) × (hop is u ≡ None) = is_last is t d u e q in

@@ -11,7 +11,7 @@ use Rattle.route_completion.specs.Sem.{pick}
 use Rattle.code_flat.specs.Machine.{Instr}
 use Rattle.code_flat.specs.Machine.{is_none}
 use Rattle.code_valid.specs.Instrs.{len, find}
-use Rattle.code_shorten.specs.declared.Aim.{Aim}
+use Rattle.code_machine.specs.declared.Target.{Target}
 use Rattle.code_shorten.specs.Short.{to, hop, further, last}
 use Rattle.code_shorten.specs.Sound.{Begin, dec_eq, find_there, none_in}
 use Rattle.code_shorten.specs.Threads.{aim_some, hop_some}
@@ -63,7 +63,7 @@ module _ (Q R : ℕ → Bool) (more : (o : ℕ) → Q o ≡ true → R o ≡ tru
       go (yes e) f = first (Q p) (R p) (ap Q e ∙ q) (ap R e ∙ r)
       go (no e) f = rest (Q p) refl (R p) refl (f (ap is_none (sym (find_there i is p x e)) ∙ n) q r)
 
-abbrev is_to : Option Aim → Bool
+abbrev is_to : Option Target → Bool
 is_to None = false
 is_to (Some aim) = true
 
@@ -74,7 +74,7 @@ module _ (is : List Instr) where
   any_depth zero t d e = refl
   any_depth (suc f) t d e = go (hop is t) (λ v x y. any_depth f v x y)
     where
-      go : (a : Option Aim) → ((v x y : ℕ) → is_to (last is f v x) ≡ is_to (last is f v y)) → is_to (further (last is f) a t d) ≡ is_to (further (last is f) a t e)
+      go : (a : Option Target) → ((v x y : ℕ) → is_to (last is f v x) ≡ is_to (last is f v y)) → is_to (further (last is f) a t d) ≡ is_to (further (last is f) a t e)
       go None k = refl
       go (Some aim) k = let v : ℕ = aim.place in let w : ℕ = aim.depth in k v (min d w) (min e w)
 
@@ -86,7 +86,7 @@ module _ (is : List Instr) where
   solved_next zero t h = absurd (true≢false (sym h))
   solved_next (suc f) t h = go (hop is t) h (λ v. solved_next f v)
     where
-      go : (a : Option Aim) → is_to (further (last is f) a t 0) ≡ true → ((v : ℕ) → is_to (last is f v 0) ≡ true → is_to (last is (suc f) v 0) ≡ true)
+      go : (a : Option Target) → is_to (further (last is f) a t 0) ≡ true → ((v : ℕ) → is_to (last is f v 0) ≡ true → is_to (last is (suc f) v 0) ≡ true)
           → is_to (further (last is (suc f)) a t 0) ≡ true
       go None e k = refl
       go (Some aim) e k = let v : ℕ = aim.place in let w : ℕ = aim.depth in any_depth (suc f) v (min 0 w) 0 ∙ k v (any_depth f v 0 (min 0 w) ∙ e)
@@ -117,7 +117,7 @@ module _ (is : List Instr) where
   late zero t n y = omega arith
   late (suc f) t n y = go (hop is t) refl n y (λ v. late f v)
     where
-      go : (a : Option Aim) → hop is t ≡ a → is_to (further (last is f) a t 0) ≡ false → is_to (further (last is (suc f)) a t 0) ≡ true
+      go : (a : Option Target) → hop is t ≡ a → is_to (further (last is f) a t 0) ≡ false → is_to (further (last is (suc f)) a t 0) ≡ true
           → ((v : ℕ) → is_to (last is f v 0) ≡ false → is_to (last is (suc f) v 0) ≡ true → f ≤ tally (found (suc f)) is 0) → suc f ≤ tally (found (suc (suc f))) is 0
       go None q m r k = absurd (true≢false m)
       go (Some aim) q m r k = let v : ℕ = aim.place in let w : ℕ = aim.depth in
@@ -138,7 +138,7 @@ module _ (is : List Instr) where
           absurd (true≢false (sym (solved_up (suc (length is)) (suc f) t (omega (arith, tally_most (found (suc f)) is 0)) e) ∙ h))
       go false e n = e
 
-  none_of : (a : Option Aim) → is_to a ≡ false → a ≡ None
+  none_of : (a : Option Target) → is_to a ≡ false → a ≡ None
   none_of None h = refl
   none_of (Some aim) h = absurd (true≢false h)
 
@@ -155,7 +155,7 @@ module _ (is : List Instr) where
   unfolding last
   ring_next t r = go (hop is t) refl (λ f. r (suc f) 0)
     where
-      go : (a : Option Aim) → hop is t ≡ a → ((f : ℕ) → further (last is f) a t 0 ≡ None) → (v : ℕ) × (w : ℕ) × (hop is t ≡ to v w) × Ring v
+      go : (a : Option Target) → hop is t ≡ a → ((f : ℕ) → further (last is f) a t 0 ≡ None) → (v : ℕ) × (w : ℕ) × (hop is t ≡ to v w) × Ring v
       go None q m = let h : to t 0 ≡ None = m 0 in let x : ◌≡◌ {A = ℕ} 0 1 = cc in absurd (omega arith)
       go (Some aim) q m = let v : ℕ = aim.place in let w : ℕ = aim.depth in (v, w, q, λ f d. none_of (last is f v d) (any_depth f v d (min 0 w) ∙ ap is_to (m f)))
 
@@ -164,7 +164,7 @@ module _ (is : List Instr) where
   last_next zero t d u e h = let x : ◌≡◌ {A = ℕ} 0 1 = cc in absurd (omega arith)
   last_next (suc f) t d u e h = go (hop is t) h (λ v w. last_next f v w u e)
     where
-      go : (a : Option Aim) → further (last is f) a t d ≡ to u e → ((v w : ℕ) → last is f v w ≡ to u e → last is (suc f) v w ≡ to u e) → further (last is (suc f)) a t d ≡ to u e
+      go : (a : Option Target) → further (last is f) a t d ≡ to u e → ((v w : ℕ) → last is f v w ≡ to u e → last is (suc f) v w ≡ to u e) → further (last is (suc f)) a t d ≡ to u e
       go None m k = m
       go (Some aim) m k = let v : ℕ = aim.place in let w : ℕ = aim.depth in k v (min d w) m
 
@@ -180,7 +180,7 @@ module _ (is : List Instr) where
   pub enough : (f t d u e : ℕ) → last is f t d ≡ to u e → last is (suc (length is)) t d ≡ to u e
   enough f t d u e h = go (last is (suc (length is)) t d) refl (dec_le f (suc (length is)))
     where
-      go : (a : Option Aim) → last is (suc (length is)) t d ≡ a → Dec (f ≤ suc (length is)) → a ≡ to u e
+      go : (a : Option Target) → last is (suc (length is)) t d ≡ a → Dec (f ≤ suc (length is)) → a ≡ to u e
       go None q l = sym (ring t d q f d) ∙ h
       go (Some aim) q (yes l) = let v : ℕ = aim.place in let w : ℕ = aim.depth in sym q ∙ last_up (suc (length is)) f t d u e l h
       go (Some aim) q (no l) = let v : ℕ = aim.place in let w : ℕ = aim.depth in sym (last_up f (suc (length is)) t d v w (omega arith) q) ∙ h

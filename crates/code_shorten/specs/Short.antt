@@ -2,24 +2,24 @@
 use Rattle.std.specs.Prelude.{ℕ, zero, suc, ◌+◌, min, Bool, false, ◌&&◌, ◌||◌, List, [], ◌∷◌, map, length, eqb, Option, Some, None}
 use Rattle.route_completion.specs.Sem.{pick, elem}
 use Rattle.code_flat.specs.Machine.{Instr, NONE, LIST, LEAVE, ASK, SELECT, OPEN, END, CASE, is_zero}
-use Rattle.code_shorten.specs.declared.Aim.{Aim}
+use Rattle.code_machine.specs.declared.Target.{Target}
 use Rattle.code_valid.specs.Instrs.{len, flat, parse, find, leads}
 
 -- To a place, at a depth.
-abbrev pub to : ℕ → ℕ → Option Aim
+abbrev pub to : ℕ → ℕ → Option Target
 to t d = Some (record { place = t; depth = d })
 
 -- Its place and its depth; 0 where it goes nowhere.
-abbrev pub place_in : Option Aim → ℕ
+abbrev pub place_in : Option Target → ℕ
 place_in None = 0
 place_in (Some aim) = aim.place
 
-abbrev pub depth_in : Option Aim → ℕ
+abbrev pub depth_in : Option Target → ℕ
 depth_in None = 0
 depth_in (Some aim) = aim.depth
 
 -- Where a jump goes, to a place at a depth; none where there is no jump.
-abbrev pub aim_of : Instr → Option Aim
+abbrev pub aim_of : Instr → Option Target
 aim_of NONE = None
 aim_of (LIST n) = None
 aim_of (LEAVE t d) = to t d
@@ -30,20 +30,20 @@ aim_of (END e) = None
 aim_of (CASE c t d) = to t d
 
 -- The jump that stands at t. The place 0 stands for what is pending, and no jump is there.
-unfoldable pub hop : List Instr → ℕ → Option Aim
+unfoldable pub hop : List Instr → ℕ → Option Target
 hop is t = pick (is_zero t) None (aim_of (find is 0 t))
 
-abbrev pub further : (ℕ → ℕ → Option Aim) → Option Aim → ℕ → ℕ → Option Aim
+abbrev pub further : (ℕ → ℕ → Option Target) → Option Target → ℕ → ℕ → Option Target
 further k None t d = to t d
 further k (Some aim) t d = k aim.place (min d aim.depth)
 
 -- The last target from t on, with the least depth on the way; none where more than f jumps follow one another: in a ring.
-unfoldable pub last : List Instr → ℕ → ℕ → ℕ → Option Aim
+unfoldable pub last : List Instr → ℕ → ℕ → ℕ → Option Target
 last is zero t d = None
 last is (suc f) t d = further (last is f) (hop is t) t d
 
 -- A jump that leads into a ring stays.
-abbrev pub aimed : Option Aim → (ℕ → ℕ → Instr) → Instr → Instr
+abbrev pub aimed : Option Target → (ℕ → ℕ → Instr) → Instr → Instr
 aimed None k i = i
 aimed (Some aim) k i = k aim.place aim.depth
 

@@ -7,7 +7,7 @@ use Rattle.code_flat.specs.Machine.{Instr, NONE, LIST, LEAVE, ASK, SELECT, OPEN,
 use Rattle.code_flat.specs.Machine.{is_none}
 use Rattle.code_flat.specs.Forward.{run}
 use Rattle.code_valid.specs.Instrs.{len, flat, find, names, runs_on}
-use Rattle.code_shorten.specs.declared.Aim.{Aim}
+use Rattle.code_machine.specs.declared.Target.{Target}
 use Rattle.code_shorten.specs.Short.{to, place_in, depth_in, aim_of, hop, further, last, aimed, thread, threaded}
 use Rattle.code_shorten.specs.Longer.{thread_length}
 use Rattle.code_shorten.specs.Reads.{fetched}
@@ -20,7 +20,7 @@ thread_none all NONE = refl
 thread_none all (LIST n) = refl
 thread_none all (LEAVE t d) = go (last all (suc (length all)) t d)
   where
-    go : (a : Option Aim) → is_none (aimed a LEAVE (LEAVE t d)) ≡ false
+    go : (a : Option Target) → is_none (aimed a LEAVE (LEAVE t d)) ≡ false
     go None = refl
     go (Some aim) = refl
 thread_none all (ASK n y z) = refl
@@ -29,7 +29,7 @@ thread_none all (OPEN f) = refl
 thread_none all (END e) = refl
 thread_none all (CASE c t d) = go (last all (suc (length all)) t d)
   where
-    go : (a : Option Aim) → is_none (aimed a (CASE c) (CASE c t d)) ≡ false
+    go : (a : Option Target) → is_none (aimed a (CASE c) (CASE c t d)) ≡ false
     go None = refl
     go (Some aim) = refl
 
@@ -38,7 +38,7 @@ thread_runs all NONE = refl
 thread_runs all (LIST n) = refl
 thread_runs all (LEAVE t d) = go (last all (suc (length all)) t d)
   where
-    go : (a : Option Aim) → runs_on (aimed a LEAVE (LEAVE t d)) ≡ false
+    go : (a : Option Target) → runs_on (aimed a LEAVE (LEAVE t d)) ≡ false
     go None = refl
     go (Some aim) = refl
 thread_runs all (ASK n y z) = refl
@@ -47,7 +47,7 @@ thread_runs all (OPEN f) = refl
 thread_runs all (END e) = refl
 thread_runs all (CASE c t d) = go (last all (suc (length all)) t d)
   where
-    go : (a : Option Aim) → runs_on (aimed a (CASE c) (CASE c t d)) ≡ false
+    go : (a : Option Target) → runs_on (aimed a (CASE c) (CASE c t d)) ≡ false
     go None = refl
     go (Some aim) = refl
 
@@ -103,7 +103,7 @@ unfolding last
 last_way is zero t d u e h = let x : ◌≡◌ {A = ℕ} 0 1 = cc in absurd (omega arith)
 last_way is (suc f) t d u e h = go (hop is t) refl h (λ v w. last_way is f v w u e)
   where
-    go : (a : Option Aim) → hop is t ≡ a → further (last is f) a t d ≡ to u e → ((v w : ℕ) → last is f v w ≡ to u e → (n : ℕ) × Way (flat is) n v w u e) → (n : ℕ) × Way (flat is) n t d u e
+    go : (a : Option Target) → hop is t ≡ a → further (last is f) a t d ≡ to u e → ((v w : ℕ) → last is f v w ≡ to u e → (n : ℕ) × Way (flat is) n v w u e) → (n : ℕ) × Way (flat is) n t d u e
     go None q m k = let x : t ≡ u = ap place_in m in let y : d ≡ e = ap depth_in m in (0, (x, y))
     go (Some aim) q m k = let v : ℕ = aim.place in let w : ℕ = aim.depth in
         let r : (n : ℕ) × Way (flat is) n v (min d w) u e = k v (min d w) m in
@@ -115,7 +115,7 @@ unfolding last
 last_begin is s zero t d u e b h = let x : ◌≡◌ {A = ℕ} 0 1 = cc in absurd (omega arith)
 last_begin is s (suc f) t d u e b h = go (hop is t) refl h (λ v w. last_begin is s f v w u e)
   where
-    go : (a : Option Aim) → hop is t ≡ a → further (last is f) a t d ≡ to u e → ((v w : ℕ) → Begin is v → last is f v w ≡ to u e → Begin is u) → Begin is u
+    go : (a : Option Target) → hop is t ≡ a → further (last is f) a t d ≡ to u e → ((v w : ℕ) → Begin is v → last is f v w ≡ to u e → Begin is u) → Begin is u
     go None q m k = let x : t ≡ u = ap place_in m in subst (Begin is) x b
     go (Some aim) q m k = let v : ℕ = aim.place in let w : ℕ = aim.depth in k v (min d w) (aim_all (Begin is) (find is 0 t) v w (hop_some is t v w q).1 (s.named t b)) m
 
@@ -133,7 +133,7 @@ module _ (is : List Instr) (s : Sound is) where
   does_it o (LIST x) n a r = (refl, r refl, refl)
   does_it o (LEAVE t d) n a r = go (last is (suc (length is)) t d) refl
     where
-      go : (b : Option Aim) → last is (suc (length is)) t d ≡ b → Does (flat is) (Begin is) (λ x. x) o (LEAVE t d) (aimed b LEAVE (LEAVE t d))
+      go : (b : Option Target) → last is (suc (length is)) t d ≡ b → Does (flat is) (Begin is) (λ x. x) o (LEAVE t d) (aimed b LEAVE (LEAVE t d))
       go None e = (t, d, refl, stays t d a.0)
       go (Some aim) e = let u : ℕ = aim.place in let w : ℕ = aim.depth in (u, w, refl, sent t d u w a.0 e)
   does_it o (ASK x y z) n a r = (refl, a.0, a.1.0)
@@ -142,7 +142,7 @@ module _ (is : List Instr) (s : Sound is) where
   does_it o (END e) n a r = refl
   does_it o (CASE c t d) n a r = go (last is (suc (length is)) t d) refl
     where
-      go : (b : Option Aim) → last is (suc (length is)) t d ≡ b → Does (flat is) (Begin is) (λ x. x) o (CASE c t d) (aimed b (CASE c) (CASE c t d))
+      go : (b : Option Target) → last is (suc (length is)) t d ≡ b → Does (flat is) (Begin is) (λ x. x) o (CASE c t d) (aimed b (CASE c) (CASE c t d))
       go None e = (t, d, refl, a.0, stays t d a.1.0)
       go (Some aim) e = let u : ℕ = aim.place in let w : ℕ = aim.depth in (u, w, refl, a.0, sent t d u w a.1.0 e)
 
@@ -168,7 +168,7 @@ module _ (is : List Instr) (s : Sound is) where
   names_over (LIST x) a = tt
   names_over (LEAVE t d) a = go (last is (suc (length is)) t d) refl
     where
-      go : (b : Option Aim) → last is (suc (length is)) t d ≡ b → All (Begin (threaded is)) (names (aimed b LEAVE (LEAVE t d)))
+      go : (b : Option Target) → last is (suc (length is)) t d ≡ b → All (Begin (threaded is)) (names (aimed b LEAVE (LEAVE t d)))
       go None e = (over t a.0, tt)
       go (Some aim) e = let u : ℕ = aim.place in let w : ℕ = aim.depth in (over u (last_begin is s (suc (length is)) t d u w a.0 e), tt)
   names_over (ASK x y z) a = (over y a.0, (over z a.1.0, tt))
@@ -177,7 +177,7 @@ module _ (is : List Instr) (s : Sound is) where
   names_over (END e) a = tt
   names_over (CASE c t d) a = go (last is (suc (length is)) t d) refl
     where
-      go : (b : Option Aim) → last is (suc (length is)) t d ≡ b → All (Begin (threaded is)) (names (aimed b (CASE c) (CASE c t d)))
+      go : (b : Option Target) → last is (suc (length is)) t d ≡ b → All (Begin (threaded is)) (names (aimed b (CASE c) (CASE c t d)))
       go None e = (over c a.0, (over t a.1.0, tt))
       go (Some aim) e = let u : ℕ = aim.place in let w : ℕ = aim.depth in (over c a.0, (over u (last_begin is s (suc (length is)) t d u w a.1.0 e), tt))
 

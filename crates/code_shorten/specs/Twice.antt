@@ -9,7 +9,7 @@ use Rattle.code_flat.specs.Machine.{Instr, NONE, LIST, LEAVE, ASK, SELECT, OPEN,
 use Rattle.code_flat.specs.Machine.{is_none}
 use Rattle.code_valid.specs.Instrs.{len, flat, parse, find, begins, names, runs_on}
 use Rattle.code_valid.specs.Valid.{is_last, Valid}
-use Rattle.code_shorten.specs.declared.Aim.{Aim}
+use Rattle.code_machine.specs.declared.Target.{Target}
 use Rattle.code_shorten.specs.Short.{to, place_in, depth_in, aim_of, hop, further, last, aimed, thread, threaded, reached, moved, relocate, kept, close_up, closed_up, shorter}
 use Rattle.code_shorten.specs.Sound.{AreInstrs, Begin, All, Sound, dec_eq, len_pos, find_here, find_there, find_low, find_begin, none_in, valid_sound}
 use Rattle.code_shorten.specs.Threads.{threaded_find, threaded_sound, aim_all, hop_some}
@@ -86,7 +86,7 @@ unfolding last
 last_end is zero t d u e h = let x : ◌≡◌ {A = ℕ} 0 1 = cc in absurd (omega arith)
 last_end is (suc f) t d u e h = go (hop is t) refl h (λ v w. last_end is f v w u e)
   where
-    go : (a : Option Aim) → hop is t ≡ a → further (last is f) a t d ≡ to u e → ((v w : ℕ) → last is f v w ≡ to u e → hop is u ≡ None) → hop is u ≡ None
+    go : (a : Option Target) → hop is t ≡ a → further (last is f) a t d ≡ to u e → ((v w : ℕ) → last is f v w ≡ to u e → hop is u ≡ None) → hop is u ≡ None
     go None q m k = let x : t ≡ u = ap place_in m in ap (hop is) (sym x) ∙ q
     go (Some aim) q m k = let v : ℕ = aim.place in let w : ℕ = aim.depth in k v (min d w) m
 
@@ -191,7 +191,7 @@ module _ (is : List Instr) (s : Sound is) where
   again (LIST n) a = refl
   again (LEAVE t d) a = go (last is (suc (length is)) t d) refl a
     where
-      go : (b : Option Aim) → last is (suc (length is)) t d ≡ b → All Stays (names (aimed b LEAVE (LEAVE t d)))
+      go : (b : Option Target) → last is (suc (length is)) t d ≡ b → All Stays (names (aimed b LEAVE (LEAVE t d)))
           → thread R (relocate new (aimed b LEAVE (LEAVE t d))) ≡ relocate new (aimed b LEAVE (LEAVE t d))
       go None h c = ap (λ x. aimed x LEAVE (LEAVE (new t) d)) (ring_new (suc (length R)) t d (ring is t d h) c.0)
       go (Some aim) h c = let u : ℕ = aim.place in let e : ℕ = aim.depth in ap (λ x. aimed x LEAVE (LEAVE (new u) e)) (last_new (length R) u e c.0 (last_end is (suc (length is)) t d u e h))
@@ -201,7 +201,7 @@ module _ (is : List Instr) (s : Sound is) where
   again (END e) a = refl
   again (CASE k t d) a = go (last is (suc (length is)) t d) refl a
     where
-      go : (b : Option Aim) → last is (suc (length is)) t d ≡ b → All Stays (names (aimed b (CASE k) (CASE k t d)))
+      go : (b : Option Target) → last is (suc (length is)) t d ≡ b → All Stays (names (aimed b (CASE k) (CASE k t d)))
           → thread R (relocate new (aimed b (CASE k) (CASE k t d))) ≡ relocate new (aimed b (CASE k) (CASE k t d))
       go None h c = ap (λ x. aimed x (CASE (new k)) (CASE (new k) (new t) d)) (ring_new (suc (length R)) t d (ring is t d h) c.1.0)
       go (Some aim) h c = let u : ℕ = aim.place in let e : ℕ = aim.depth in ap (λ x. aimed x (CASE (new k)) (CASE (new k) (new u) e)) (last_new (length R) u e c.1.0 (last_end is (suc (length is)) t d u e h))

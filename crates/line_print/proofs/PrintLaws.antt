@@ -55,6 +55,16 @@ length_decimal (suc k) n h = go (ltb n 10) refl (length_decimal k (n / 10))
         let p : 10 ^ suc (suc k) ≡ 10 ^ suc k * 10 = pow-suc 10 (suc k) in
         omega (arith, length_more n l, r (omega arith))
 
+-- .. by the power of ten at or below n
+pub length_power : (k n : ℕ) → 10 ^ k ≤ n → n < 10 * 10 ^ k → k + 1 ≡ length (decimal n)
+length_power zero n h l = sym (length_less n (omega arith))
+length_power (suc k) n h l =
+    let p : 10 ^ suc k ≡ 10 ^ k * 10 = pow-suc 10 k in
+    omega (arith, length_more n (omega arith), length_power k (n / 10) (omega arith) (omega arith))
+
+pub length_zero : (n : ℕ) → n ≡ 0 → 1 ≡ length (decimal n)
+length_zero n e = sym (length_less n (omega arith))
+
 pub length_word : (n : ℕ) → n < 18446744073709551616 → length (decimal n) ≤ 20
 length_word n h = length_decimal 19 n (omega arith)
 

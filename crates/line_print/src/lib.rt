@@ -29,18 +29,15 @@ impl Decimal for u64 {
     }
 }
 
-// How many decimal digits n has. Digits are counted and written by hand here, since `to_string` takes its text from the heap.
-#[tactic(auto, using(crate::proofs::PrintLaws::length_more, crate::proofs::PrintLaws::length_less, crate::proofs::PrintLaws::length_word))]
+// How many decimal digits n has. Digits are written by hand here, since `to_string` takes its text from the heap.
+#[tactic(auto, using(crate::proofs::PrintLaws::length_power, crate::proofs::PrintLaws::length_zero))]
 fn places(n: u64) -> usize
     ensures { (result ≡ length (decimal n)) × (result ≤ 20) }
 {
-    let mut k = 1;
-    let mut rest = n;
-    while 10 <= rest {
-        rest /= 10;
-        k += 1;
+    match n.checked_ilog10() {
+        Some(k) => k as usize + 1,
+        None => 1,
     }
-    k
 }
 
 fn glyph(d: u64) -> u8

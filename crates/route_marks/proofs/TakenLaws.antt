@@ -8,6 +8,7 @@ use Rattle.code_flat.proofs.Runs.{Ends, run_ends}
 use Rattle.code_marks.specs.Stop.{Stop, held, over, stopped, taken_up}
 use Rattle.code_marks.proofs.StopLaws.{finished, stopped_law, never_stopped}
 use Rattle.code_machine.specs.Halted.{stopped_end, route_to, StandsAt, Told}
+use Rattle.code_machine.specs.declared.Ran.{Ran}
 use Rattle.route_marks.specs.Marks.{mark_at, set_mark}
 use Rattle.route_marks.specs.Taken.{gone_on, stop_of, marks_after, marks_shown}
 use Rattle.route_marks.specs.declared.Begin.TheVariants.{Mark}
@@ -58,8 +59,8 @@ none_set M to len r = go (leb (length (route_to (over r)).list) len)
 
 -- What a run from one place tells, where it is another's.
 module _ (C qs : List ℕ) (stop : ℕ) (p q : Pos) (e : p ≡ q) where
-  pub told_from : (f g : List ℕ) (end n i : ℕ) → Told (stopped room C stop p qs) f g end n i → Told (stopped room C stop q qs) f g end n i
-  told_from f g end n i t = subst (λ x. Told (stopped room C stop x qs) f g end n i) e t
+  pub told_from : (f g : List ℕ) (ran : Ran) → Told (stopped room C stop p qs) f g ran → Told (stopped room C stop q qs) f g ran
+  told_from f g ran t = subst (λ x. Told (stopped room C stop x qs) f g ran) e t
 
   pub stands_from : (x : Pos) → StandsAt (stopped room C stop p qs) x → StandsAt (stopped room C stop q qs) x
   stands_from x t = subst (λ y. StandsAt (stopped room C stop y qs) x) e t

@@ -10,9 +10,9 @@ ghost use Rattle.code_machine.specs.Pending.{stack};
 ghost use Rattle.code_machine.specs.Halted.{route_to, StandsAt, Told};
 ghost use Rattle.route_viewer.specs.Shown.{shown_answer, shown_slice};
 ghost use Rattle.route_marks.specs.Marks.{marks as marksMany, part_at, is_set, place_of, ends_at, mark_at, ends_numbers, set_mark};
-ghost use Rattle.route_marks.specs.Taken.{begin_at, Ready, stop_of, marks_shown};
+ghost use Rattle.route_marks.specs.Taken.{begin_at, Ready, Tested, stop_of_leg, marks_shown};
 
-use code_machine::{Halt, Landing};
+use code_machine::{Ends, Halt, Landing, ROOM};
 use refusal_verdict::{Refusal, Refused};
 use route_list::run_end;
 use route_viewer::Route;
@@ -35,6 +35,15 @@ pub type Marks = [u32; MARKS as usize * PART];
 pub enum Begin {
     Start,
     Mark(u32),
+}
+
+// A leg of a route: where it begins, its answers, and behind how many of them it is stopped, under which mark.
+#[derive(Clone, Copy)]
+pub struct Leg<'a> {
+    pub begin: Begin,
+    pub answers: &'a [u32],
+    pub to: u32,
+    pub stop: u64,
 }
 
 fn part_at(mark: u32) -> usize
@@ -96,9 +105,8 @@ fn load(marks: &Marks, at: usize, pending: usize, ends: &mut [u64])
 }
 
 // Where a mark that is set stands, with its pending ends.
-fn taken_up(marks: &Marks, mark: u32, ends: &mut [u64]) -> Landing
+fn taken_up(marks: &Marks, mark: u32, ends: &mut Ends) -> Landing
     requires mark_value { is_set marks.now mark ≡ true }
-    requires ends_len { length ends.old ≡ room }
     ensures stands { pos result.place (stack ends.new result.pending) ≡ mark_at marks.now mark }
     ensures most { result.pending ≤ room }
 {
@@ -113,9 +121,8 @@ fn taken_up(marks: &Marks, mark: u32, ends: &mut [u64]) -> Landing
 
 // Where a route begins, with the pending ends there.
 #[tactic(auto, unfolding(code_machine::specs::Pending::stack))]
-fn begin_at(marks: &Marks, begin: Begin, ends: &mut [u64]) -> Landing
+fn begin_at(marks: &Marks, begin: Begin, ends: &mut Ends) -> Landing
     requires ready { Ready marks.now begin }
-    requires ends_len { length ends.old ≡ room }
     ensures stands { pos result.place (stack ends.new result.pending) ≡ begin_at marks.now begin }
     ensures most { result.pending ≤ room }
 {
@@ -145,10 +152,9 @@ fn save(marks: &mut Marks, at: usize, pending: usize, ends: &[u64])
 
 // Sets a mark where a route stands.
 #[tactic(auto, using(crate::proofs::MarksLaws::mark_written))]
-fn set_mark(marks: &mut Marks, mark: u32, place: u32, pending: usize, ends: &[u64])
+fn set_mark(marks: &mut Marks, mark: u32, place: u32, pending: usize, ends: &Ends)
     requires mark_lt_marks_many { mark < marksMany }
     requires pending_le_room { pending ≤ room }
-    requires ends_len { length ends.now ≡ room }
     ensures { marks.new ≡ set_mark marks.old mark (pos place (stack ends.now pending)) }
 {
     let part = part_at(mark);
@@ -157,58 +163,40 @@ fn set_mark(marks: &mut Marks, mark: u32, place: u32, pending: usize, ends: &[u6
     save(marks, part + 2, pending, ends);
 }
 
-// Runs the code from where the route begins until so many answers are taken.
-fn run_from(
-    marks: &Marks,
-    begin: Begin,
-    code: &[u32],
-    answers: &[u32],
-    ends: &mut [u64],
-    stop: u64,
-    out: &mut [u32],
-) -> Halt
-    requires ready { Ready marks.now begin }
-    requires ends_len { length ends.old ≡ room }
-    ensures told { Told (stop_of marks.now code.now answers.now begin stop) out.old out.new result.end result.entries result.taken }
-    ensures stands { StandsAt (stop_of marks.now code.now answers.now begin stop) (pos result.at.place (stack ends.new result.at.pending)) }
+// Runs the code from where the leg begins until so many of its answers are taken.
+fn run_leg(marks: &Marks, leg: &Leg, code: &[u32], ends: &mut Ends, out: &mut [u32]) -> Halt
+    requires ready { Ready marks.now leg.now.begin }
+    ensures told { Told (stop_of_leg marks.now code.now leg.now) out.old out.new result.ran }
+    ensures stands { StandsAt (stop_of_leg marks.now code.now leg.now) (pos result.at.place (stack ends.new result.at.pending)) }
     ensures most { result.at.pending ≤ room }
 {
-    let from = begin_at(marks, begin, ends);
-    code_machine::run_to(code, answers, ends, from, stop, out)
+    let from = begin_at(marks, leg.begin, ends);
+    code_machine::run_to(code, leg.answers, ends, from, leg.stop, out)
 }
 
-// Counts the route up to the stop, writes it where it fits, and sets the mark if the stop was reached.
+// Counts the leg up to the stop, writes it where it fits, and sets the mark if the stop was reached.
 #[tactic(auto, using(crate::proofs::TakenLaws::short_marks, crate::proofs::TakenLaws::held_marks, crate::proofs::TakenLaws::over_marks, route_viewer::proofs::ShownLaws::short_answer, route_viewer::proofs::ShownLaws::short_slice, route_viewer::proofs::ShownLaws::whole_answer, route_viewer::proofs::ShownLaws::whole_slice))]
-pub fn show(
-    marks: &mut Marks,
-    begin: Begin,
-    to: u32,
-    stop: u64,
-    code: &[u32],
-    answers: &[u32],
-    out: &mut [u32],
-) -> Result<Route, Refused>
-    requires ready { Ready marks.old begin }
-    requires to_lt_marks_many { to < marksMany }
-    ensures answer { result ≡ shown_answer (route_to (stop_of marks.old code.now answers.now begin stop)) (length out.old) }
-    ensures list { out.new ≡ shown_slice (route_to (stop_of marks.old code.now answers.now begin stop)) out.old }
-    ensures marks { marks.new ≡ marks_shown marks.old to (stop_of marks.old code.now answers.now begin stop) (length out.old) }
+pub fn show(marks: &mut Marks, leg: &Leg, code: &[u32], out: &mut [u32]) -> Result<Route, Refused>
+    requires { Tested marks.old leg.now }
+    ensures answer { result ≡ shown_answer (route_to (stop_of_leg marks.old code.now leg.now)) (length out.old) }
+    ensures list { out.new ≡ shown_slice (route_to (stop_of_leg marks.old code.now leg.now)) out.old }
+    ensures marks { marks.new ≡ marks_shown marks.old leg.now.to (stop_of_leg marks.old code.now leg.now) (length out.old) }
 {
-    let mut ends: [u64; 512] = [0; 512];
+    let mut ends: Ends = [0; ROOM];
     let mut none: [u32; 1] = [0; 1];
-    let counted = run_from(marks, begin, code, answers, &mut ends, stop, &mut none);
-    if (out.len() as u64) < counted.entries {
-        return Err(Refused::Short(Refusal::RouteSlice, counted.entries));
+    let counted = run_leg(marks, leg, code, &mut ends, &mut none);
+    if (out.len() as u64) < counted.ran.entries {
+        return Err(Refused::Short(Refusal::RouteSlice, counted.ran.entries));
     }
-    let halt = run_from(marks, begin, code, answers, &mut ends, stop, out);
-    if halt.end == run_end::STOPPED {
+    let halt = run_leg(marks, leg, code, &mut ends, out);
+    if halt.ran.end == run_end::STOPPED {
         let at = halt.at;
-        set_mark(marks, to, at.place, at.pending, &ends);
+        set_mark(marks, leg.to, at.place, at.pending, &ends);
     }
     let route = Route {
-        end: halt.end,
-        entries: halt.entries as usize,
-        taken: halt.taken,
+        end: halt.ran.end,
+        entries: halt.ran.entries as usize,
+        taken: halt.ran.taken,
     };
     Ok(route)
 }

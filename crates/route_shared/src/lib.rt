@@ -2,20 +2,19 @@
 // run in step, entry by entry.
 #![tactic(auto)]
 
-ghost use Rattle.std.specs.Prelude.{◌≡◌, length};
-ghost use Rattle.code_flat.specs.Machine.{room};
+ghost use Rattle.std.specs.Prelude.{◌≡◌};
 ghost use Rattle.route_shared.specs.Shared.{shared_entries};
+
+use code_machine::{Ends, ROOM};
 
 // Each run has an array of its own for its pending ends.
 fn shared_over(
     code: &[u32],
     first: &[u32],
     second: &[u32],
-    ends: &mut [u64],
-    others: &mut [u64],
+    ends: &mut Ends,
+    others: &mut Ends,
 ) -> u64
-    requires ends_len { length ends.old ≡ room }
-    requires others_len { length others.old ≡ room }
     ensures { result ≡ shared_entries code.now first.now second.now }
 {
     let mut p = code_machine::start(code);
@@ -41,7 +40,7 @@ fn shared_over(
 pub fn shared_entries(code: &[u32], first: &[u32], second: &[u32]) -> u64
     ensures { result ≡ shared_entries code.now first.now second.now }
 {
-    let mut ends: [u64; 512] = [0; 512];
-    let mut others: [u64; 512] = [0; 512];
+    let mut ends: Ends = [0; ROOM];
+    let mut others: Ends = [0; ROOM];
     shared_over(code, first, second, &mut ends, &mut others)
 }

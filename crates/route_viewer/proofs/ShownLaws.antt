@@ -7,7 +7,7 @@ use Rattle.route_completion.specs.Route.{Route}
 use Rattle.route_list.specs.Listing.{most, saturated, laid}
 use Rattle.refusal_verdict.specs.declared.Refusal.TheVariants as refusal
 use Rattle.refusal_verdict.specs.declared.Refused.TheVariants.{Short}
-use Rattle.route_viewer.specs.Shown.{Routed, routed, shown_answer, shown_slice}
+use Rattle.route_viewer.specs.Shown.{routed, shown_answer, shown_slice}
 
 module _ (r : Route) (s : List ℕ) (small : length s < most) (n : ℕ) (counted : n ≡ saturated (length r.list)) where
   pub short_answer : length s < n → shown_answer r (length s) ≡ Err (Short refusal.RouteSlice n)

@@ -8,6 +8,7 @@ ghost use Rattle.route_viewer.specs.Shown.{shown_answer, shown_slice};
 use refusal_verdict::{Refusal, Refused};
 
 // A route that is shown: its end, the entries listed and the answers taken.
+// A Ran counts the entries of any run; those of a route that is shown fit the lent slice.
 #[derive(Clone, Copy)]
 pub struct Route {
     pub end: u32,

@@ -12,7 +12,8 @@ pub mod roles;
 pub mod scope_flag;
 pub mod scopes;
 
-// A node, by its place in the node table.
+// A node, by its place in the node table: a number, as in the Rust and in document 01, since lent tables hold any numbers. A type of the ids within one table,
+// in place of `n.0 < count nodes.now`, would carry that table by a lifetime and a ghost list through each struct and array that holds ids: no plainer.
 #[derive(Clone, Copy, PartialEq, Eq)]
 pub struct NodeId(pub u32);
 

@@ -8,7 +8,7 @@ use Prim.Native.Nat.{◌≤◌}
 use Rattle.code_machine.proofs.run_to.Given as goal
 
 abbrev pub invariant-loop-p : goal.invariant-loop-p
-invariant-loop-p l = (length l.ends ≡ length l.initial.ends) × ((length l.out ≡ length l.initial.out) × ((l.p.pending ≤ room) × Kept l.code l.answers l.stop (stopped room l.code l.stop (pos l.initial.p.pc (stack l.initial.ends l.initial.p.pending)) l.answers) l.ends l.initial.out l.out l.p l.entries))
+invariant-loop-p l = (length l.out ≡ length l.initial.out) × ((l.p.pending ≤ room) × Kept l.code l.answers l.stop (stopped room l.code l.stop (pos l.initial.p.pc (stack l.initial.ends l.initial.p.pending)) l.answers) l.ends l.initial.out l.out l.p l.entries)
 
 abbrev pub decreases-loop-p : goal.decreases-loop-p
 decreases-loop-p l = measure l.code l.p.budget (drop l.p.at l.answers)
