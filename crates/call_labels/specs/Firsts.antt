@@ -37,7 +37,7 @@ Listed ns names (Err n) = first (unfit_at ns names) 0 (count ns) ≡ Some n.0
 Listed ns names (Ok kept) = (first (unfit_at ns names) 0 (count ns) ≡ None) × Firsts ns names kept.nodes kept.size (label_names ns names)
 
 -- what is known of tables whose labels are kept: the invariant of `Labels`, beside that of the `NamedNodes` in it
-pub record Ready (ns names : List ℕ) (kept : Kept) : Type 0 where
+pub record LabelsKept (ns names : List ℕ) (kept : Kept) : Type 0 where
   pub whole : length ns ≡ count ns * 10
   pub small : length names ≤ most_bytes
   pub firsts : Firsts ns names kept.nodes kept.size (label_names ns names)

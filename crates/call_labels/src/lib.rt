@@ -33,7 +33,7 @@ pub struct Kept {
     pub size: usize,
 }
 
-// The tables, with the first label of each name. That they are `Ready` is known where a function names a field.
+// The tables, with the first label of each name. That they are `LabelsKept` is known where a function names a field.
 #[derive(Drop)]
 pub struct Labels<'a> {
     pub named: &'a NamedNodes<'a>,
@@ -42,13 +42,13 @@ pub struct Labels<'a> {
 
 impl<'a> Model for Labels<'a> {
     ghost use Rattle.table_names.specs.Name.{NamedTable};
-    ghost use Rattle.call_labels.specs.Firsts.{Ready};
+    ghost use Rattle.call_labels.specs.Firsts.{LabelsKept};
 
     ghost Value = { NamedTable };
 
     ghost view = { λ a. a.named.now };
 
-    ghost invariant = { λ a. Ready a.named.now.nodes a.named.now.names a.kept.now };
+    ghost invariant = { λ a. LabelsKept a.named.now.nodes a.named.now.names a.kept.now };
 }
 
 fn is_label(nodes: &[u32], n: NodeId) -> bool

@@ -21,22 +21,22 @@ use Rattle.route_list.specs.Over.{over as onto}
 use Rattle.route_viewer.specs.Shown.{shown_answer, shown_slice}
 use Rattle.code_assemble.specs.Assembled.{short as code_short}
 use Rattle.route_marks.specs.Marks.{marks, first_of, is_set}
-use Rattle.route_marks.specs.Taken.{Ready, Tested, marks_shown}
+use Rattle.route_marks.specs.Taken.{CanBegin, Tested, marks_shown}
 use Rattle.route_marks.proofs.TakenLaws.{none_set}
 use Rattle.route_marks.specs.declared.Begin.{Begin}
 use Rattle.route_marks.specs.declared.Begin.TheVariants.{Start, Mark}
-use Rattle.route_marks.specs.declared.Leg.{Leg}
+use Rattle.route_marks.specs.declared.Section.{Section}
 use Rattle.call_routes.specs.Calls.{code_refusal, if_room}
 use Rattle.call_routes.proofs.CallsLaws.{both, ready, exact, by_room}
 use Rattle.call_marks.specs.Marked.{to_refusal, from_refusal, sixteen_of, code_of, mark_answer, mark_code, mark_slice, marks_left}
-use Rattle.call_marks.specs.Made.{shown_or, list_or, marks_or, made_answer, made_slice, made_marks, leg_answer, leg_code, leg_slice, leg_marks}
+use Rattle.call_marks.specs.Made.{shown_or, list_or, marks_or, made_answer, made_slice, made_marks, section_answer, section_code, section_slice, section_marks}
 
 tested : (b : Bool) (k : Refusal) (p : ℕ) → cond b Passed (Err (At k p)) ≡ Passed → b ≡ true
 tested true k p e = refl
 tested false k p e = no_pass (At k p) e
 
 -- A mark that is taken up is set, and there is one of the number under which the route is to be stopped.
-pub sixteen_passed : (M : List ℕ) (begin : Begin) (to : ℕ) → sixteen_of M begin to ≡ Passed → Ready M begin × (to < marks)
+pub sixteen_passed : (M : List ℕ) (begin : Begin) (to : ℕ) → sixteen_of M begin to ≡ Passed → CanBegin M begin × (to < marks)
 sixteen_passed M Start to e = (tt, ltb-true to marks (tested (ltb to marks) refusal.Mark to e))
 sixteen_passed M (Mark m) to e =
     let p = both (from_refusal M m) (to_refusal to) e in
@@ -50,28 +50,28 @@ sixteen_same M m = go (is_set M m) refl
     go true e = ap (λ x. cond x Passed (Err (At refusal.Mark m))) (and_left_lem (ltb m marks) (leb 1 (first_of M m) && leb (first_of M m) 513) e)
     go false e = refl
 
-module _ (C M : List ℕ) (l : Leg) (codeLen : ℕ) where
-  pub made_room : length C ≤ codeLen → (len : ℕ) → made_answer C M l codeLen len ≡ shown_or C M l len
+module _ (C M : List ℕ) (s : Section) (codeLen : ℕ) where
+  pub made_room : length C ≤ codeLen → (len : ℕ) → made_answer C M s codeLen len ≡ shown_or C M s len
   unfolding made_answer
   made_room h len = rw (le-leb (length C) codeLen h)
 
-  pub list_room_lem : length C ≤ codeLen → (o : List ℕ) → made_slice C M l codeLen o ≡ list_or C M l o
+  pub list_room_lem : length C ≤ codeLen → (o : List ℕ) → made_slice C M s codeLen o ≡ list_or C M s o
   unfolding made_slice
   list_room_lem h o = rw (le-leb (length C) codeLen h)
 
-  pub marks_room : length C ≤ codeLen → (len : ℕ) → made_marks C M l codeLen len ≡ marks_or C M l len
+  pub marks_room : length C ≤ codeLen → (len : ℕ) → made_marks C M s codeLen len ≡ marks_or C M s len
   unfolding made_marks
   marks_room h len = rw (le-leb (length C) codeLen h)
 
-  pub made_short : codeLen < length C → (len : ℕ) → made_answer C M l codeLen len ≡ code_short (length C)
+  pub made_short : codeLen < length C → (len : ℕ) → made_answer C M s codeLen len ≡ code_short (length C)
   unfolding made_answer
   made_short h len = rw (lt-leb (length C) codeLen h)
 
-  pub list_short : codeLen < length C → (o : List ℕ) → made_slice C M l codeLen o ≡ o
+  pub list_short : codeLen < length C → (o : List ℕ) → made_slice C M s codeLen o ≡ o
   unfolding made_slice
   list_short h o = rw (lt-leb (length C) codeLen h)
 
-  pub marks_short : codeLen < length C → (len : ℕ) → made_marks C M l codeLen len ≡ M
+  pub marks_short : codeLen < length C → (len : ℕ) → made_marks C M s codeLen len ≡ M
   unfolding made_marks
   marks_short h len = rw (lt-leb (length C) codeLen h)
 
@@ -108,41 +108,41 @@ module _ (r : Rule) (u : ℕ) (sixteen : Verdict) (f : Refused) (e : Err f ≡ r
       ap (λ (v : Verdict). unless v (λ e. M) (if_room r u codeLen (unless seventeen (λ e. M) (marks_shown M to s len)) M)) e
 
 -- No refusal before 11.
-module _ (r : Rule) (u : ℕ) (M : List ℕ) (l : Leg) (e : refused_or (code_refusal r u) (sixteen_of M l.begin l.to) ≡ Passed) where
+module _ (r : Rule) (u : ℕ) (M : List ℕ) (s : Section) (e : refused_or (code_refusal r u) (sixteen_of M s.begin s.to) ≡ Passed) where
   passed : code_refusal r u ≡ Passed
-  passed = (both (code_refusal r u) (sixteen_of M l.begin l.to) e).0
+  passed = (both (code_refusal r u) (sixteen_of M s.begin s.to) e).0
 
   pub unit_ready : Units.Ready r.nodes r.names u
   unit_ready = ready r.source_type r.async_bodies r.nodes r.scopes r.source r.names u passed
 
-  pub leg_tested : Tested M l
-  leg_tested =
-      let t = sixteen_passed M l.begin l.to (both (code_refusal r u) (sixteen_of M l.begin l.to) e).1 in
+  pub section_tested : Tested M s
+  section_tested =
+      let t = sixteen_passed M s.begin s.to (both (code_refusal r u) (sixteen_of M s.begin s.to) e).1 in
       record { begin = t.0; to = t.1 }
 
   long : length (code_of r u) ≡ code_length r.nodes u
   long = exact r.source_type r.async_bodies r.nodes r.scopes r.source r.names u passed
 
-  pub passed_answer : (codeLen len : ℕ) → made_answer (code_of r u) M l codeLen len ≡ leg_answer r u M l codeLen len
+  pub passed_answer : (codeLen len : ℕ) → made_answer (code_of r u) M s codeLen len ≡ section_answer r u M s codeLen len
   unfolding made_answer mark_answer
   passed_answer codeLen len =
-      by_room (refused_or (code_refusal r u) (sixteen_of M l.begin l.to)) e (length (code_of r u)) (code_length r.nodes u) codeLen long Err
-      (shown_or (code_of r u) M l len) code_short
+      by_room (refused_or (code_refusal r u) (sixteen_of M s.begin s.to)) e (length (code_of r u)) (code_length r.nodes u) codeLen long Err
+      (shown_or (code_of r u) M s len) code_short
 
-  pub passed_code : (k : List ℕ) → assembled_slice (code_of r u) k ≡ leg_code r u M l k
+  pub passed_code : (k : List ℕ) → assembled_slice (code_of r u) k ≡ section_code r u M s k
   unfolding assembled_slice mark_code
   passed_code k =
-      by_room (refused_or (code_refusal r u) (sixteen_of M l.begin l.to)) e (length (code_of r u)) (code_length r.nodes u) (length k) long (λ e. k)
+      by_room (refused_or (code_refusal r u) (sixteen_of M s.begin s.to)) e (length (code_of r u)) (code_length r.nodes u) (length k) long (λ e. k)
       (onto (code_of r u) k) (λ n. k)
 
-  pub passed_slice : (codeLen : ℕ) (o : List ℕ) → made_slice (code_of r u) M l codeLen o ≡ leg_slice r u M l codeLen o
+  pub passed_slice : (codeLen : ℕ) (o : List ℕ) → made_slice (code_of r u) M s codeLen o ≡ section_slice r u M s codeLen o
   unfolding made_slice mark_slice
   passed_slice codeLen o =
-      by_room (refused_or (code_refusal r u) (sixteen_of M l.begin l.to)) e (length (code_of r u)) (code_length r.nodes u) codeLen long (λ e. o)
-      (list_or (code_of r u) M l o) (λ n. o)
+      by_room (refused_or (code_refusal r u) (sixteen_of M s.begin s.to)) e (length (code_of r u)) (code_length r.nodes u) codeLen long (λ e. o)
+      (list_or (code_of r u) M s o) (λ n. o)
 
-  pub passed_marks : (codeLen len : ℕ) → made_marks (code_of r u) M l codeLen len ≡ leg_marks r u M l codeLen len
+  pub passed_marks : (codeLen len : ℕ) → made_marks (code_of r u) M s codeLen len ≡ section_marks r u M s codeLen len
   unfolding made_marks marks_left
   passed_marks codeLen len =
-      by_room (refused_or (code_refusal r u) (sixteen_of M l.begin l.to)) e (length (code_of r u)) (code_length r.nodes u) codeLen long (λ e. M)
-      (marks_or (code_of r u) M l len) (λ n. M)
+      by_room (refused_or (code_refusal r u) (sixteen_of M s.begin s.to)) e (length (code_of r u)) (code_length r.nodes u) codeLen long (λ e. M)
+      (marks_or (code_of r u) M s len) (λ n. M)

@@ -9,15 +9,15 @@ ghost use Rattle.code_flat.specs.Code.{unit as unitCode};
 ghost use Rattle.code_tree.specs.Statements.{unit_of};
 ghost use Rattle.code_assemble.specs.Assembled.{assembled_slice};
 ghost use Rattle.code_assemble.specs.Ready.{Ready};
-ghost use Rattle.route_marks.specs.Taken.{Ready as MarkReady, Tested, stop_of, gone_on};
+ghost use Rattle.route_marks.specs.Taken.{CanBegin, Tested, stop_of, gone_on};
 ghost use Rattle.route_marks.specs.declared.Begin.TheVariants as begins;
 ghost use Rattle.call_routes.specs.Calls.{code_refusal};
 ghost use Rattle.call_marks.specs.Marked.{code_of, to_refusal, from_refusal, place_refusal, sixteen_of, seventeen_of, mark_answer, mark_code, mark_slice, marks_left};
-ghost use Rattle.call_marks.specs.Made.{shown_or, list_or, marks_or, made_answer, made_slice, made_marks, leg_answer, leg_code, leg_slice, leg_marks};
+ghost use Rattle.call_marks.specs.Made.{shown_or, list_or, marks_or, made_answer, made_slice, made_marks, section_answer, section_code, section_slice, section_marks};
 
 use check_dispatch::Rule;
 use refusal_verdict::{Refusal, Refused};
-use route_marks::{Begin, Leg, MARKS, Marks};
+use route_marks::{Begin, MARKS, Marks, Section};
 use route_viewer::Route;
 use table_records::NodeId;
 
@@ -32,14 +32,14 @@ fn to_refusal(to: u32) -> Result<(), Refused>
 }
 
 // 16, of the mark taken up first.
-fn mark_refusal(marks: &Marks, leg: &Leg) -> Result<(), Refused>
-    ensures { result ≡ sixteen_of marks.now leg.now.begin leg.now.to }
+fn mark_refusal(marks: &Marks, section: &Section) -> Result<(), Refused>
+    ensures { result ≡ sixteen_of marks.now section.now.begin section.now.to }
 {
-    match leg.begin {
-        Begin::Start => to_refusal(leg.to),
+    match section.begin {
+        Begin::Start => to_refusal(section.to),
         Begin::Mark(mark) => {
             if route_marks::is_set(marks, mark) {
-                return to_refusal(leg.to);
+                return to_refusal(section.to);
             }
             Err(Refused::At(Refusal::Mark, mark))
         }
@@ -49,7 +49,7 @@ fn mark_refusal(marks: &Marks, leg: &Leg) -> Result<(), Refused>
 // 17.
 #[tactic(auto, using(route_marks::proofs::MarksLaws::set_facts))]
 fn place_refusal(marks: &Marks, begin: Begin, code: &[u32]) -> Result<(), Refused>
-    requires { MarkReady marks.now begin }
+    requires { CanBegin marks.now begin }
     ensures { result ≡ seventeen_of marks.now code.now begin }
 {
     match begin {
@@ -63,70 +63,83 @@ fn place_refusal(marks: &Marks, begin: Begin, code: &[u32]) -> Result<(), Refuse
     }
 }
 
-// The leg on the unit's code, where 17 does not refuse it.
+// The section on the unit's code, where 17 does not refuse it.
 #[tactic(auto, using(refusal_verdict::proofs::VerdictLaws::handed))]
-fn shown(marks: &mut Marks, leg: &Leg, code: &[u32], out: &mut [u32]) -> Result<Route, Refused>
-    requires { Tested marks.old leg.now }
-    ensures answer { result ≡ shown_or code.now marks.old leg.now (length out.old) }
-    ensures list { out.new ≡ list_or code.now marks.old leg.now out.old }
-    ensures marks { marks.new ≡ marks_or code.now marks.old leg.now (length out.old) }
+fn shown(
+    marks: &mut Marks,
+    section: &Section,
+    code: &[u32],
+    out: &mut [u32],
+) -> Result<Route, Refused>
+    requires { Tested marks.old section.now }
+    ensures answer { result ≡ shown_or code.now marks.old section.now (length out.old) }
+    ensures list { out.new ≡ list_or code.now marks.old section.now out.old }
+    ensures marks { marks.new ≡ marks_or code.now marks.old section.now (length out.old) }
 {
-    place_refusal(marks, leg.begin, code)?;
-    route_marks::show(marks, leg, code, out)
+    place_refusal(marks, section.begin, code)?;
+    route_marks::show(marks, section, code, out)
 }
 
-// Makes the code of a unit that is not refused, and shows the leg, where the code slice has room.
+// Makes the code of a unit that is not refused, and shows the section, where the code slice has room.
 #[tactic(auto, using(crate::proofs::MarkedLaws::made_short, crate::proofs::MarkedLaws::list_short, crate::proofs::MarkedLaws::marks_short, call_routes::proofs::CallsLaws::over_length, call_routes::proofs::CallsLaws::told_code, call_routes::proofs::CallsLaws::told_short, call_routes::proofs::CallsLaws::slice_over, refusal_verdict::proofs::VerdictLaws::handed))]
 fn made(
     nodes: &[u32],
     names: &[u8],
     u: NodeId,
     marks: &mut Marks,
-    leg: &Leg,
+    section: &Section,
     code: &mut [u32],
     out: &mut [u32],
 ) -> Result<Route, Refused>
     requires ready { Ready nodes.now names.now u.0 }
-    requires tested { Tested marks.old leg.now }
-    ensures answer { result ≡ made_answer (unitCode (unit_of nodes.now names.now u.0)) marks.old leg.now (length code.old) (length out.old) }
+    requires tested { Tested marks.old section.now }
+    ensures answer { result ≡ made_answer (unitCode (unit_of nodes.now names.now u.0)) marks.old section.now (length code.old) (length out.old) }
     ensures code { code.new ≡ assembled_slice (unitCode (unit_of nodes.now names.now u.0)) code.old }
-    ensures list { out.new ≡ made_slice (unitCode (unit_of nodes.now names.now u.0)) marks.old leg.now (length code.old) out.old }
-    ensures marks { marks.new ≡ made_marks (unitCode (unit_of nodes.now names.now u.0)) marks.old leg.now (length code.old) (length out.old) }
+    ensures list { out.new ≡ made_slice (unitCode (unit_of nodes.now names.now u.0)) marks.old section.now (length code.old) out.old }
+    ensures marks { marks.new ≡ made_marks (unitCode (unit_of nodes.now names.now u.0)) marks.old section.now (length code.old) (length out.old) }
 {
     let n = code_assemble::code_unit(nodes, names, u, code)?;
-    shown(marks, leg, call_routes::front(code, n), out)
+    shown(marks, section, call_routes::front(code, n), out)
 }
 
 // The refusals before 11.
 #[tactic(auto, using(refusal_verdict::proofs::VerdictLaws::handed))]
-fn refusal(rule: &Rule, unit: u32, marks: &Marks, leg: &Leg) -> Result<(), Refused>
-    ensures { result ≡ refused_or (code_refusal (rule_of rule.now) unit) (sixteen_of marks.now leg.now.begin leg.now.to) }
+fn refusal(rule: &Rule, unit: u32, marks: &Marks, section: &Section) -> Result<(), Refused>
+    ensures { result ≡ refused_or (code_refusal (rule_of rule.now) unit) (sixteen_of marks.now section.now.begin section.now.to) }
 {
     call_routes::refusal(rule, unit)?;
-    mark_refusal(marks, leg)
+    mark_refusal(marks, section)
 }
 
-// What the three calls have in common: any leg of a unit's route.
-#[tactic(auto, using(crate::proofs::MarkedLaws::refused_answer, crate::proofs::MarkedLaws::refused_code, crate::proofs::MarkedLaws::refused_slice, crate::proofs::MarkedLaws::refused_marks, crate::proofs::MarkedLaws::unit_ready, crate::proofs::MarkedLaws::leg_tested, refusal_verdict::proofs::VerdictLaws::handed))]
+// What the three calls have in common: any section of a unit's route.
+#[tactic(auto, using(crate::proofs::MarkedLaws::refused_answer, crate::proofs::MarkedLaws::refused_code, crate::proofs::MarkedLaws::refused_slice, crate::proofs::MarkedLaws::refused_marks, crate::proofs::MarkedLaws::unit_ready, crate::proofs::MarkedLaws::section_tested, refusal_verdict::proofs::VerdictLaws::handed))]
 fn marked(
     rule: &Rule,
     unit: u32,
-    leg: &Leg,
+    section: &Section,
     marks: &mut Marks,
     code: &mut [u32],
     out: &mut [u32],
 ) -> Result<Route, Refused>
-    ensures answer { result ≡ leg_answer (rule_of rule.now) unit marks.old leg.now (length code.old) (length out.old) }
-    ensures code { code.new ≡ leg_code (rule_of rule.now) unit marks.old leg.now code.old }
-    ensures list { out.new ≡ leg_slice (rule_of rule.now) unit marks.old leg.now (length code.old) out.old }
-    ensures marks { marks.new ≡ leg_marks (rule_of rule.now) unit marks.old leg.now (length code.old) (length out.old) }
+    ensures answer { result ≡ section_answer (rule_of rule.now) unit marks.old section.now (length code.old) (length out.old) }
+    ensures code { code.new ≡ section_code (rule_of rule.now) unit marks.old section.now code.old }
+    ensures list { out.new ≡ section_slice (rule_of rule.now) unit marks.old section.now (length code.old) out.old }
+    ensures marks { marks.new ≡ section_marks (rule_of rule.now) unit marks.old section.now (length code.old) (length out.old) }
 {
-    refusal(rule, unit, marks, leg)?;
-    made(rule.nodes, rule.names, NodeId(unit), marks, leg, code, out)
+    refusal(rule, unit, marks, section)?;
+    made(
+        rule.nodes,
+        rule.names,
+        NodeId(unit),
+        marks,
+        section,
+        code,
+        out,
+    )
 }
 
 // From the start, stopped under `mark` behind `stop` answers.
-// This call and the next two take one by one what a `Leg` holds, as the C interface has it.
+// This call and the next two take one by one what a `Section` holds, as the C interface has it.
 pub fn route_stop(
     rule: &Rule,
     unit: u32,
@@ -142,13 +155,13 @@ pub fn route_stop(
     ensures list { out.new ≡ mark_slice (rule_of rule.now) unit (to_refusal mark) (seventeen_of marks.old (code_of (rule_of rule.now) unit) begins.Start) (stop_of marks.old (code_of (rule_of rule.now) unit) answers.now begins.Start stop) (length code.old) out.old }
     ensures marks { marks.new ≡ marks_left (rule_of rule.now) unit (to_refusal mark) (seventeen_of marks.old (code_of (rule_of rule.now) unit) begins.Start) (stop_of marks.old (code_of (rule_of rule.now) unit) answers.now begins.Start stop) (length code.old) (length out.old) marks.old mark }
 {
-    let leg = Leg {
+    let section = Section {
         begin: Begin::Start,
         answers,
         to: mark,
         stop,
     };
-    marked(rule, unit, &leg, marks, code, out)
+    marked(rule, unit, &section, marks, code, out)
 }
 
 // Taken up at `mark`, and not stopped again: more answers than there are never stop it.
@@ -167,13 +180,13 @@ pub fn route_resume(
     ensures list { out.new ≡ mark_slice (rule_of rule.now) unit (from_refusal marks.old mark) (place_refusal marks.old (code_of (rule_of rule.now) unit) mark) (gone_on marks.old (code_of (rule_of rule.now) unit) answers.now mark) (length code.old) out.old }
     ensures marks { marks.new ≡ marks.old }
 {
-    let leg = Leg {
+    let section = Section {
         begin: Begin::Mark(mark),
         answers,
         to: mark,
         stop: answers.len() as u64 + 1,
     };
-    marked(rule, unit, &leg, marks, code, out)
+    marked(rule, unit, &section, marks, code, out)
 }
 
 // Taken up at `from`, and stopped again under `to` behind `stop` answers.
@@ -193,11 +206,11 @@ pub fn route_resume_stop(
     ensures list { out.new ≡ mark_slice (rule_of rule.now) unit (refused_or (from_refusal marks.old from) (to_refusal to)) (place_refusal marks.old (code_of (rule_of rule.now) unit) from) (stop_of marks.old (code_of (rule_of rule.now) unit) answers.now (begins.Mark from) stop) (length code.old) out.old }
     ensures marks { marks.new ≡ marks_left (rule_of rule.now) unit (refused_or (from_refusal marks.old from) (to_refusal to)) (place_refusal marks.old (code_of (rule_of rule.now) unit) from) (stop_of marks.old (code_of (rule_of rule.now) unit) answers.now (begins.Mark from) stop) (length code.old) (length out.old) marks.old to }
 {
-    let leg = Leg {
+    let section = Section {
         begin: Begin::Mark(from),
         answers,
         to,
         stop,
     };
-    marked(rule, unit, &leg, marks, code, out)
+    marked(rule, unit, &section, marks, code, out)
 }

@@ -15,7 +15,7 @@ use Rattle.refusal_input.proofs.InputLaws.{input_well_formed}
 use Rattle.route_list.specs.Over.{over}
 use Rattle.call_labels.specs.Unfit.{unfit_at}
 use Rattle.call_labels.specs.Order.{label_names}
-use Rattle.call_labels.specs.Firsts.{Firsts, Listed, Ready}
+use Rattle.call_labels.specs.Firsts.{Firsts, LabelsKept, Listed}
 use Rattle.call_labels.specs.declared.Kept.{Kept}
 use Rattle.call_labels.specs.Written.{most_bytes, nodes_renamed, names_renamed}
 use Rattle.call_rename.specs.Rename.{Renaming, written, labelled, renaming, after_unfit, after_input}
@@ -27,7 +27,7 @@ module _ (t : ℕ) (ns ss source names : List ℕ) where
       let w = input_well_formed t ns ss source names e in
       record { tree = w.input.tree; within = w.input.named; whole = w.sizes.whole; small = w.sizes.name_bytes }
 
-pub ready : (ns names : List ℕ) (kept : Kept) → Sized ns names → Firsts ns names kept.nodes kept.size (label_names ns names) → Ready ns names kept
+pub ready : (ns names : List ℕ) (kept : Kept) → Sized ns names → Firsts ns names kept.nodes kept.size (label_names ns names) → LabelsKept ns names kept
 ready ns names kept w f = record { whole = w.whole; small = w.small; firsts = f }
 
 -- by what the first labels came to

@@ -7,7 +7,7 @@ use Rattle.code_machine.specs.Halted.{route_to}
 use Rattle.route_marks.specs.Marks.{marks, is_set, mark_at, set_mark}
 use Rattle.route_marks.specs.declared.Begin.{Begin}
 use Rattle.route_marks.specs.declared.Begin.TheVariants.{Start, Mark}
-use Rattle.route_marks.specs.declared.Leg.{Leg}
+use Rattle.route_marks.specs.declared.Section.{Section}
 
 -- Where a route begins: at its start, or at a mark.
 abbrev pub begin_at : List ℕ → Begin → Pos
@@ -25,24 +25,24 @@ begins_at C x = leads C x x 0 && ltb 0 (width (get_or C x 0))
 
 -- A mark that is taken up is set: refusal 16 has been tested.
 -- A `requires` and no struct's invariant: it ties a number to the lent array of marks, which the same call changes.
-abbrev pub Ready : List ℕ → Begin → Type 0
-Ready M Start = Unit {0}
-Ready M (Mark m) = is_set M m ≡ true
+abbrev pub CanBegin : List ℕ → Begin → Type 0
+CanBegin M Start = Unit {0}
+CanBegin M (Mark m) = is_set M m ≡ true
 
--- 16 has been tested of a leg: the mark that it begins at is set, and there is one of the number that it is to be stopped under.
--- A `requires` too, and the number no ghost field of `Leg`: a call has its leg before this is known, since the refusals of the code call go first.
-pub record Tested (M : List ℕ) (l : Leg) : Type 0 where
-  pub begin : Ready M l.begin
-  pub to : l.to < marks
+-- 16 has been tested of a section: the mark that it begins at is set, and there is one of the number that it is to be stopped under.
+-- A `requires` too, and the number no ghost field of `Section`: a call has its section before this is known, since the refusals of the code call go first.
+pub record Tested (M : List ℕ) (s : Section) : Type 0 where
+  pub begin : CanBegin M s.begin
+  pub to : s.to < marks
 
 -- "A route may be stopped right after the entry that takes the last of a named number of answers (for 0, at its start) .. and taken up again from there";
 -- "its number, list length and answers taken count from the mark".
 abbrev pub stop_of : List ℕ → List ℕ → List ℕ → Begin → ℕ → Stop
 stop_of M C qs begin stop = stopped room C stop (begin_at M begin) qs
 
--- .. of a leg.
-abbrev pub stop_of_leg : List ℕ → List ℕ → Leg → Stop
-stop_of_leg M C l = stop_of M C l.answers.now l.begin l.stop
+-- .. of a section.
+abbrev pub stop_of_section : List ℕ → List ℕ → Section → Stop
+stop_of_section M C s = stop_of M C s.answers.now s.begin s.stop
 
 -- Taken up, and not stopped again: "with 5 where it comes to no other end", as the machine has it on any code, place and pending ends.
 abbrev pub gone_on : List ℕ → List ℕ → List ℕ → ℕ → Stop

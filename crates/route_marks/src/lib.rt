@@ -10,7 +10,7 @@ ghost use Rattle.code_machine.specs.Pending.{stack};
 ghost use Rattle.code_machine.specs.Halted.{route_to, StandsAt, Told};
 ghost use Rattle.route_viewer.specs.Shown.{shown_answer, shown_slice};
 ghost use Rattle.route_marks.specs.Marks.{marks as marksMany, part_at, is_set, place_of, ends_at, mark_at, ends_numbers, set_mark};
-ghost use Rattle.route_marks.specs.Taken.{begin_at, Ready, Tested, stop_of_leg, marks_shown};
+ghost use Rattle.route_marks.specs.Taken.{begin_at, CanBegin, Tested, stop_of_section, marks_shown};
 
 use code_machine::{Ends, Halt, Landing, ROOM};
 use refusal_verdict::{Refusal, Refused};
@@ -37,9 +37,9 @@ pub enum Begin {
     Mark(u32),
 }
 
-// A leg of a route: where it begins, its answers, and behind how many of them it is stopped, under which mark.
+// A section of a route: where it begins, its answers, and behind how many of them it is stopped, under which mark.
 #[derive(Clone, Copy)]
-pub struct Leg<'a> {
+pub struct Section<'a> {
     pub begin: Begin,
     pub answers: &'a [u32],
     pub to: u32,
@@ -76,6 +76,7 @@ fn width_at(code: &[u32], at: usize) -> usize
 }
 
 // An instruction of the code begins at a place: what refusal 17 asks.
+// The loop steps by hand: a `for` over `std::iter::successors` has the step in a closure, one way out more, and takes the same measure for its end.
 pub fn begins(code: &[u32], place: u32) -> bool
     ensures { (result ≡ true) ↔ Begins code.now place }
 {
@@ -122,7 +123,7 @@ fn taken_up(marks: &Marks, mark: u32, ends: &mut Ends) -> Landing
 // Where a route begins, with the pending ends there.
 #[tactic(auto, unfolding(code_machine::specs::Pending::stack))]
 fn begin_at(marks: &Marks, begin: Begin, ends: &mut Ends) -> Landing
-    requires ready { Ready marks.now begin }
+    requires can_begin { CanBegin marks.now begin }
     ensures stands { pos result.place (stack ends.new result.pending) ≡ begin_at marks.now begin }
     ensures most { result.pending ≤ room }
 {
@@ -163,35 +164,40 @@ fn set_mark(marks: &mut Marks, mark: u32, place: u32, pending: usize, ends: &End
     save(marks, part + 2, pending, ends);
 }
 
-// Runs the code from where the leg begins until so many of its answers are taken.
-fn run_leg(marks: &Marks, leg: &Leg, code: &[u32], ends: &mut Ends, out: &mut [u32]) -> Halt
-    requires ready { Ready marks.now leg.now.begin }
-    ensures told { Told (stop_of_leg marks.now code.now leg.now) out.old out.new result.ran }
-    ensures stands { StandsAt (stop_of_leg marks.now code.now leg.now) (pos result.at.place (stack ends.new result.at.pending)) }
+// Runs the code from where the section begins until so many of its answers are taken.
+fn run_section(marks: &Marks, section: &Section, code: &[u32], ends: &mut Ends, out: &mut [u32]) -> Halt
+    requires can_begin { CanBegin marks.now section.now.begin }
+    ensures told { Told (stop_of_section marks.now code.now section.now) out.old out.new result.ran }
+    ensures stands { StandsAt (stop_of_section marks.now code.now section.now) (pos result.at.place (stack ends.new result.at.pending)) }
     ensures most { result.at.pending ≤ room }
 {
-    let from = begin_at(marks, leg.begin, ends);
-    code_machine::run_to(code, leg.answers, ends, from, leg.stop, out)
+    let from = begin_at(marks, section.begin, ends);
+    code_machine::run_to(code, section.answers, ends, from, section.stop, out)
 }
 
-// Counts the leg up to the stop, writes it where it fits, and sets the mark if the stop was reached.
+// Counts the section up to the stop, writes it where it fits, and sets the mark if the stop was reached.
 #[tactic(auto, using(crate::proofs::TakenLaws::short_marks, crate::proofs::TakenLaws::held_marks, crate::proofs::TakenLaws::over_marks, route_viewer::proofs::ShownLaws::short_answer, route_viewer::proofs::ShownLaws::short_slice, route_viewer::proofs::ShownLaws::whole_answer, route_viewer::proofs::ShownLaws::whole_slice))]
-pub fn show(marks: &mut Marks, leg: &Leg, code: &[u32], out: &mut [u32]) -> Result<Route, Refused>
-    requires { Tested marks.old leg.now }
-    ensures answer { result ≡ shown_answer (route_to (stop_of_leg marks.old code.now leg.now)) (length out.old) }
-    ensures list { out.new ≡ shown_slice (route_to (stop_of_leg marks.old code.now leg.now)) out.old }
-    ensures marks { marks.new ≡ marks_shown marks.old leg.now.to (stop_of_leg marks.old code.now leg.now) (length out.old) }
+pub fn show(
+    marks: &mut Marks,
+    section: &Section,
+    code: &[u32],
+    out: &mut [u32],
+) -> Result<Route, Refused>
+    requires { Tested marks.old section.now }
+    ensures answer { result ≡ shown_answer (route_to (stop_of_section marks.old code.now section.now)) (length out.old) }
+    ensures list { out.new ≡ shown_slice (route_to (stop_of_section marks.old code.now section.now)) out.old }
+    ensures marks { marks.new ≡ marks_shown marks.old section.now.to (stop_of_section marks.old code.now section.now) (length out.old) }
 {
     let mut ends: Ends = [0; ROOM];
     let mut none: [u32; 1] = [0; 1];
-    let counted = run_leg(marks, leg, code, &mut ends, &mut none);
+    let counted = run_section(marks, section, code, &mut ends, &mut none);
     if (out.len() as u64) < counted.ran.entries {
         return Err(Refused::Short(Refusal::RouteSlice, counted.ran.entries));
     }
-    let halt = run_leg(marks, leg, code, &mut ends, out);
+    let halt = run_section(marks, section, code, &mut ends, out);
     if halt.ran.end == run_end::STOPPED {
         let at = halt.at;
-        set_mark(marks, leg.to, at.place, at.pending, &ends);
+        set_mark(marks, section.to, at.place, at.pending, &ends);
     }
     let route = Route {
         end: halt.ran.end,

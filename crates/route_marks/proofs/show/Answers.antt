@@ -7,5 +7,5 @@ use Rattle.route_marks.proofs.show.Goals as goal
 pub returns-then-halt-eq-STOPPED-clause-marks : goal.returns-then-halt-eq-STOPPED-clause-marks
 returns-then-halt-eq-STOPPED-clause-marks c =
     let a = c.args in
-    let told = c.run_leg-halt.ensures.told in
-    c.set_mark.ensures ∙ sym (held_marks a.marks.now a.code.now a.leg.now.answers.now (begin_at a.marks.now a.leg.now.begin) a.leg.now.stop a.leg.now.to _ _ (omega arith) told.entries (omega (arith, c.run_leg-counted.ensures.told.entries, told.entries)) _ told.end c.if-halt-eq-STOPPED.true _ c.run_leg-halt.ensures.stands)
+    let told = c.run_section-halt.ensures.told in
+    c.set_mark.ensures ∙ sym (held_marks a.marks.now a.code.now a.section.now.answers.now (begin_at a.marks.now a.section.now.begin) a.section.now.stop a.section.now.to _ _ (omega arith) told.entries (omega (arith, c.run_section-counted.ensures.told.entries, told.entries)) _ told.end c.if-halt-eq-STOPPED.true _ c.run_section-halt.ensures.stands)
