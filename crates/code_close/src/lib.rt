@@ -62,6 +62,7 @@ fn move_targets(code: &mut [u32], places: &Places, end: usize)
     ensures { (C : List ℕ) → PlacedBy C places.now → end ≡ length (shorter C) → Gathered C code.old places.now.split (length C) → Moved C code.new places.now.split }
 {
     let mut q = 0;
+    // The code is written as the walk goes, so an iterator can't hold it.
     while q < end {
         let size = size_at(code, q);
         if size == 0 {
@@ -77,6 +78,7 @@ fn make_plain(code: &mut [u32], from: usize, to: usize)
     ensures { (is : List Instr) → AreInstrs is → Starts is from to → Raised is code.old from to → Plain is code.old code.new from }
 {
     let mut p = from;
+    // The code is written as the walk goes, so an iterator can't hold it.
     while p < to {
         let size = size_at(code, p);
         if size == 0 {

@@ -7,6 +7,7 @@ use Rattle.std.proofs.Math.Bool.{true, false}
 use mathlib.Core.List.{List}
 use Rattle.std.proofs.Math.ListN.{length, get_or}
 use native.Mathlib.Omega.{arith}
+use Rattle.std.proofs.Math.Decide.{dec_lt}
 use Rattle.route_completion.specs.Sem.{elem}
 use Rattle.code_valid.specs.Instrs.{len, parse, find}
 use Rattle.code_valid.specs.Valid.{Valid}
@@ -51,6 +52,15 @@ module _ (C : List ℕ) (v : Valid C) (f : List ℕ) (split : ℕ) (h : Behind C
 
     pub entered_here : (x : ℕ) → comes x (entry_read f split p) ≡ true → entered C split x p ≡ true
     entered_here x q = entered_first x (len (standing_in f p)) refl ∙ ap (λ c. c || entered C split x (p + len (standing_in f p))) q
+
+  -- The walk comes to the end of the code.
+  pub at_done : (p end : ℕ) → At C p → split ≤ p → end ≡ length f → (end ≤ p) ⊎ (len (standing_in f p) ≡ 0) → length f ≤ p
+  at_done p end a l e (inl x) = omega arith
+  at_done p end a l e (inr z) = go (dec_lt p (length f))
+    where
+      go : Dec (p < length f) → length f ≤ p
+      go (yes x) = absurd (size_some p (at_begin C p (length f) h.same a x) l z)
+      go (no x) = omega arith
 
   pub entered_end : (x p : ℕ) → length f ≤ p → entered C split x p ≡ false
   entered_end x p l = back_end (entered_by C split x) false (parse C) 0 p (sound C v).some (omega (arith, total_is C v, h.same))

@@ -17,9 +17,10 @@ ghost use Rattle.code_places.specs.Placing.{PlacedBy, Tagged};
 ghost use Rattle.code_gather.specs.Gather.{way, place_in, Freed, hop_read, hop_sent, entry_read, comes, entered, is_jump, dropped, needed, Slots, Says, Saved, Behind, Pushed, Found, Gathering, target};
 
 use code_machine::{Target, opcodes, word};
-use code_mark::{RAISE, aim_at, hop, opcode_at, size_at};
+use code_mark::{RAISE, Raised, aim_at, hop, opcode_at, size_at};
 use code_places::CYCLE;
 use code_places::index::Places;
+use code_valid::Instructions;
 
 // A saved jump takes three numbers: its old place, and where it leads: a place, and a depth.
 const SAVED: usize = 3;
@@ -83,16 +84,10 @@ fn is_entered(code: &[u32], split: usize, from: usize, x: usize) -> bool
     ensures value { (C : List ℕ) → Valid C → Behind C code.now split → split ≤ from → Begin (parse C) from ⊎ (from ≡ length C) → result ≡ entered C split x from }
     ensures fits { result ≡ true → x ≤ 4294967295 }
 {
-    let mut p = from;
-    while p < code.len() {
-        let size = size_at(code, p);
-        if size == 0 {
-            return false;
-        }
-        if enters(code, split, p, x) {
+    for instruction in Instructions::between(Raised(code), from, code.len()) {
+        if enters(code, split, instruction.place, x) {
             return true;
         }
-        p += size;
     }
     false
 }
@@ -111,16 +106,10 @@ fn enters_dropped(code: &[u32], split: usize, p: usize) -> bool
 fn is_any_entered(code: &[u32], split: usize) -> bool
     ensures { (C : List ℕ) → Valid C → Split C split → Sent C code.now split → result ≡ false → (x : ℕ) → elem x (needed C split split) ≡ false }
 {
-    let mut p = split;
-    while p < code.len() {
-        let size = size_at(code, p);
-        if size == 0 {
-            return false;
-        }
-        if enters_dropped(code, split, p) {
+    for instruction in Instructions::between(Raised(code), split, code.len()) {
+        if enters_dropped(code, split, instruction.place) {
             return true;
         }
-        p += size;
     }
     false
 }
@@ -187,6 +176,7 @@ fn gather_front(code: &mut [u32], split: usize) -> Front
     let any = is_any_entered(code, split);
     let mut p = 0;
     let mut front = Front { kept: 0, saved: 0 };
+    // The code is written as the walk goes, so an iterator can't hold it.
     while p < split {
         let size = size_at(code, p);
         if size == 0 {
@@ -209,12 +199,10 @@ fn slot_of(code: &[u32], block: usize, split: usize, t: u32) -> Option<usize>
     requires { split ≤ length code.now }
     ensures { Found code.now block split t result }
 {
-    let mut at = block;
-    while at < split {
+    for at in (block..split).step_by(SAVED) {
         if word(code, at) == t {
             return Some(at);
         }
-        at += SAVED;
     }
     None
 }
@@ -339,6 +327,7 @@ fn gather_behind(code: &mut [u32], places: &Places, kept: usize, block: usize)
     let mut p = places.split;
     let mut q = kept;
     let mut block = block;
+    // The code is written as the walk goes, so an iterator can't hold it.
     while p < code.len() {
         let size = size_at(code, p);
         if size == 0 {

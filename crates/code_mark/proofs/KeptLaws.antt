@@ -11,15 +11,17 @@ use Rattle.std.proofs.Math.Decide.{dec_lt}
 use Rattle.route_completion.specs.Sem.{pick, elem}
 use Rattle.code_valid.specs.Instrs.{len, parse, find}
 use Rattle.code_valid.specs.Valid.{Valid}
+use Rattle.code_valid.specs.declared.Instruction.{Instruction}
+use Rattle.code_valid.specs.Walk.{Turn}
 use Rattle.code_shorten.specs.Short.{moved, close_up, shorter}
 use Rattle.code_shorten.specs.Longer.{flat_length, never_longer}
 use Rattle.code_shorten.specs.Sound.{Begin, len_pos}
 pub use Rattle.code_shorten.proofs.PlaceLaws.{len_most}
 use Rattle.code_pass.specs.Stages.{sent_on, kept_places, new_place, kept_to, mark, Marked, Split}
 use Rattle.code_mark.specs.Read.{standing_in}
-use Rattle.code_mark.proofs.ReadLaws.{marked_standing}
+use Rattle.code_mark.proofs.ReadLaws.{marked_standing, standing_fits}
 use Rattle.code_pass.proofs.KeptLaws.{kept_low, kept_mono, kept_next, kept_total, kept_less, place_is, sent_sound, sent_total, sent_len, sent_begin}
-use Rattle.code_mark.proofs.PlaceLaws.{sound, first_low, next_begin, no_overlap}
+use Rattle.code_mark.proofs.PlaceLaws.{sound, place_in, first_low, next_begin, no_overlap}
 
 -- Kept or not, by its number.
 pub kept_mark : (x : ℕ) (b : Bool) (n : ℕ) → x < mark → pick (ltb (x + pick b mark 0) mark) 0 n ≡ pick b n 0
@@ -62,6 +64,10 @@ module _ (C : List ℕ) (v : Valid C) where
   unfolding shorter close_up
   kept_end o h =
       kept_total S (moved S (sent_on C) 0 0) (sent_on C) 0 o (sent_sound C v).some (omega (arith, sent_total C v)) ∙ sym (flat_length (close_up S (sent_on C)))
+
+-- A walk goes no further than the end.
+pub turn_within : (f : List ℕ) (p : ℕ) (i : Instruction) (q : ℕ) → Turn (standing_in f) p i q → q ≤ length f
+turn_within f p i q t = let h = standing_fits f p t.some in let n = t.next in let e = t.size in omega arith
 
 -- A count of what is kept before a place, which has come to p.
 pub record Kept (C : List ℕ) (place p kept : ℕ) : Type 0 where
@@ -132,6 +138,15 @@ module _ (C : List ℕ) (v : Valid C) (f : List ℕ) (m : Marked C f) where
       go (yes l) = absurd (walk_some p k.at l z)
       go (no l) = kept_stop place p kept k (inr (omega arith))
 
+  pub kept_turn : (p : ℕ) (i : Instruction) (q : ℕ) → Turn (standing_in f) p i q → (place kept : ℕ) → Kept C place p kept → p < place
+      → Kept C place q (kept + pick (ltb (get_or f i.place 0) mark) 0 i.size)
+  kept_turn p i q t place kept k h =
+      let s = t.some in rw (t.next, t.place, t.size) (kept_step place p kept k h (omega (arith, standing_fits f p s, s)))
+
+  pub kept_done : (place p end kept : ℕ) → Kept C place p kept → end ≡ place → (end ≤ p) ⊎ (len (standing_in f p) ≡ 0) → kept ≡ kept_to C place
+  kept_done place p end kept k e (inl h) = kept_stop place p kept k (inl (omega arith))
+  kept_done place p end kept k e (inr z) = kept_cut place p kept k z
+
   pub kept_length : kept_to C (length f) ≡ length (shorter C)
   kept_length = kept_end C v (length f) (omega (arith, m.same))
 
@@ -161,3 +176,27 @@ module _ (C : List ℕ) (v : Valid C) (f : List ℕ) (m : Marked C f) where
 
   pub splitting_end : (p : ℕ) → Splitting C p → length (shorter C) ≤ p → Split C p
   splitting_end p g h = record { behind = h; near = g.near; begins = g.at; first = g.first }
+
+  pub splitting_turn : (p : ℕ) (i : Instruction) (q : ℕ) → Turn (standing_in f) p i q → Splitting C p → i.place < length (shorter C) → Splitting C q
+  splitting_turn p i q t g h =
+      let e = t.place in
+      let l : p < length (shorter C) = omega arith in
+      rw (t.next, t.size) (splitting_next p g l (splitting_in p l))
+
+  pub splitting_found : (p : ℕ) (i : Instruction) (q : ℕ) → Turn (standing_in f) p i q → Splitting C p → length (shorter C) ≤ i.place → Split C i.place
+  splitting_found p i q t g h = let e = t.place in rw e (splitting_end p g (omega arith))
+
+  -- The walk comes to the end of the code.
+  pub splitting_done : (p end : ℕ) → Splitting C p → end ≡ length f → (end ≤ p) ⊎ (len (standing_in f p) ≡ 0) → Split C (length f)
+  splitting_done p end g e s = subst (Split C) (last g.at) (splitting_end p g (omega (arith, never_longer C, m.same, last g.at)))
+    where
+      last : Begin (parse C) p ⊎ (p ≡ length C) → p ≡ length f
+      last (inr q) = omega (arith, m.same)
+      last (inl b) = absurd (go s)
+        where
+          h : p < length f
+          h = omega (arith, place_in C v p b, m.same)
+
+          go : (end ≤ p) ⊎ (len (standing_in f p) ≡ 0) → ⊥
+          go (inl l) = omega (arith, h)
+          go (inr z) = walk_some C v f m p (inl b) h z

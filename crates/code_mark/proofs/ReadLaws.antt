@@ -1,6 +1,6 @@
 -- Laws of what is read of a slice that holds a valid code with some of its numbers raised.
 use Prim.Native.Nat.{ℕ, suc, ◌+◌, ◌-◌, ◌*◌, ◌%◌, ◌≤◌, ◌<◌}
-use Rattle.std.specs.Prelude.{◌≡◌, Bool, leb}
+use Rattle.std.specs.Prelude.{◌≡◌, ◌≢◌, Bool, leb}
 use Rattle.std.proofs.Math.Path.{refl, sym, ap}
 use Rattle.std.proofs.Common.{◌∙◌, subst}
 use Rattle.std.proofs.Math.Bool.{true, false}
@@ -8,7 +8,7 @@ use mathlib.Core.List.{List}
 use Rattle.std.proofs.Math.ListN.{length, get_or}
 use Rattle.std.proofs.Math.Nat.{add-mul-mod_self_left, mod-eq_of_lt}
 use Rattle.std.proofs.lemmas.List.{get_or_past}
-use borrow.Author.Tests.{le-leb, lt-leb}
+use borrow.Author.Tests.{le-leb, lt-leb, leb-true}
 use native.Mathlib.Omega.{arith}
 use Rattle.route_completion.specs.Sem.{pick, elem}
 use Rattle.code_flat.specs.Machine.{Instr, NONE, decode, fetch}
@@ -34,6 +34,14 @@ marked_plain x false h = raised_plain x 0 h
 pub standing_whole : (f : List ℕ) (o : ℕ) (i : Instr) → read_at f o ≡ i → o + len i ≤ length f → standing_in f o ≡ i
 unfolding standing_in
 standing_whole f o i e l = ap (λ j. pick (leb (o + len j) (length f)) j NONE) e ∙ ap (λ b. pick b i NONE) (le-leb (o + len i) (length f) l)
+
+pub standing_fits : (f : List ℕ) (p : ℕ) → len (standing_in f p) ≢ 0 → p + len (standing_in f p) ≤ length f
+unfolding standing_in
+standing_fits f p = go (leb (p + len (read_at f p)) (length f)) refl
+  where
+    go : (b : Bool) → leb (p + len (read_at f p)) (length f) ≡ b → len (pick b (read_at f p) NONE) ≢ 0 → p + len (pick b (read_at f p) NONE) ≤ length f
+    go true e n = leb-true (p + len (read_at f p)) (length f) e
+    go false e n = absurd (n refl)
 
 -- What a function finds: past the end nothing stands.
 module _ (f : List ℕ) (p : ℕ) where

@@ -12,6 +12,7 @@ ghost use Rattle.code_mark.specs.Read.{read_at, standing_in, hop_in, rule_in, se
 ghost use Rattle.code_mark.specs.Marks.{leads_in, target_in, Inked, Rounded, Started, Reached};
 
 use code_machine::{Target, opcodes, word};
+use code_valid::{Code, Instruction, Instructions};
 
 // What a mark adds to the number that begins an instruction: no instruction's number is as large.
 pub const RAISE: u32 = 8;
@@ -38,12 +39,28 @@ pub fn size_at(code: &[u32], p: usize) -> usize
     0
 }
 
-// How many numbers of the instruction at p are kept: all if it is marked, none otherwise.
-pub fn kept_at(code: &[u32], p: usize, size: usize) -> usize
-    ensures value { result ≡ pick (ltb (get_or code.now p 0) mark) 0 size }
-    ensures upper_bound { result ≤ size }
+// A code in which the numbers that begin instructions may be raised.
+#[derive(Clone, Copy)]
+pub struct Raised<'a>(pub &'a [u32]);
+
+impl Code for Raised<'_> {
+    ghost instruction = { λ c. standing_in c.0.now };
+
+    fn size_at(self, p: usize) -> usize {
+        size_at(self.0, p)
+    }
+}
+
+// How many numbers of an instruction are kept: all if it is marked, none otherwise.
+pub fn kept_at(code: &[u32], instruction: Instruction) -> usize
+    ensures value { result ≡ pick (ltb (get_or code.now instruction.place 0) mark) 0 instruction.size }
+    ensures upper_bound { result ≤ instruction.size }
 {
-    if word(code, p) < RAISE { 0 } else { size }
+    if word(code, instruction.place) < RAISE {
+        0
+    } else {
+        instruction.size
+    }
 }
 
 // Where the jump at p goes; none where no jump stands. The number that begins it may be raised.
@@ -162,6 +179,7 @@ fn round(code: &mut [u32]) -> bool
 {
     let mut p = 0;
     let mut news = false;
+    // The code is written as the walk goes, so an iterator can't hold it.
     while p < code.len() {
         let size = size_at(code, p);
         if size == 0 {
@@ -198,15 +216,9 @@ pub fn kept_before(code: &[u32], place: usize) -> usize
     ensures value { (C : List ℕ) → Valid C → Marked C code.now → result ≡ kept_to C place }
     ensures upper_bound { result ≤ length code.now }
 {
-    let mut p = 0;
     let mut kept = 0;
-    while p < place {
-        let size = size_at(code, p);
-        if size == 0 {
-            return kept;
-        }
-        kept += kept_at(code, p, size);
-        p += size;
+    for instruction in Instructions::between(Raised(code), 0, place) {
+        kept += kept_at(code, instruction);
     }
     kept
 }
@@ -224,15 +236,12 @@ pub fn split_of(code: &[u32], new_length: usize) -> usize
     ensures value { (C : List ℕ) → Valid C → Marked C code.now → new_length ≡ length (shorter C) → Split C result }
     ensures upper_bound { result ≤ length code.now }
 {
-    let mut p = 0;
-    while p < new_length {
-        let size = size_at(code, p);
-        if size == 0 {
-            return p;
+    for instruction in Instructions::between(Raised(code), 0, code.len()) {
+        if new_length <= instruction.place {
+            return instruction.place;
         }
-        p += size;
     }
-    p
+    code.len()
 }
 
 // Sends the jump on whose place and depth stand at q. One that leads into a ring stays.
@@ -267,6 +276,7 @@ pub fn send_front(code: &mut [u32], split: usize)
     ensures { (C : List ℕ) → Valid C → Marked C code.old → Split C split → Sent C code.new split }
 {
     let mut p = 0;
+    // The code is written as the walk goes, so an iterator can't hold it.
     while p < split {
         let size = size_at(code, p);
         if size == 0 {

@@ -142,6 +142,15 @@ module _ (C f : List ℕ) (v : Valid C) (m : Marked C f) (strides stride : ℕ) 
                 (subst (λ b. Row C stride k b (get_or (set news k kept) k 0)) (sym (get_or-set_same begins k p 0 in_begins))
                 (subst (Row C stride k p) (sym (get_or-set_same news k kept 0 in_news)) here))
 
+    -- The walk comes to the end of the code.
+    pub filling_last : (end : ℕ) → p ≤ length f → end ≡ length f → (end ≤ p) ⊎ (len (standing_in f p) ≡ 0) → p ≡ length f
+    filling_last end l e (inl h) = omega arith
+    filling_last end l e (inr z) = go (dec_lt p (length f))
+      where
+        go : Dec (p < length f) → p ≡ length f
+        go (yes h) = absurd (filling_some h z)
+        go (no h) = omega arith
+
     pub filling_end : 2 ≤ strides → length f ≤ p → stride ≡ stride_for strides (length C) → stride < cycle → (b' n' : List ℕ) → length b' ≡ strides → length n' ≡ strides
         → ((j : ℕ) → j < k → get_or b' j 0 ≡ get_or begins j 0) → ((j : ℕ) → j < k → get_or n' j 0 ≡ get_or news j 0)
         → ((j : ℕ) → k ≤ j → j < strides → get_or b' j 0 ≡ p) → ((j : ℕ) → k ≤ j → j < strides → get_or n' j 0 ≡ kept)

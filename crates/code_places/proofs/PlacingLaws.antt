@@ -287,6 +287,15 @@ module _ (C begins news f : List ℕ) (stride split front o : ℕ) (k : Placed C
               in_row : kept_to C o + len (find (sent_on C) 0 o) ≤ get_or news (o / stride + 1) 0
               in_row = omega (arith, k.index.new (o / stride + 1) covered, kept_less C v o (get_or begins (o / stride + 1) 0) i (behind (k.index.from (o / stride + 1) covered)))
 
+      -- The walk stops.
+      pub seek_done : (end : ℕ) → end ≡ limit → (end ≤ q) ⊎ (len (standing_in f q) ≡ 0) → None ≡ kept_place C o
+      seek_done end e (inl h) = seek_end (omega arith)
+      seek_done end e (inr z) = go (dec_lt q limit)
+        where
+          go : Dec (q < limit) → None ≡ kept_place C o
+          go (yes h) = absurd (seek_some h z)
+          go (no h) = seek_end (omega arith)
+
 -- A walk over what a slice with marks keeps, which stands at p.
 pub record Counting (C : List ℕ) (split o p q : ℕ) : Type 0 where
   pub at : At C p
@@ -352,3 +361,11 @@ module _ (C begins news f : List ℕ) (stride split front o : ℕ) (k : Placed C
 
     pub count_end : o ≤ p → q ≡ new_place C o
     count_end h = c.count ∙ ap (kept_to C) (let e : p ≡ o = omega (arith, c.before) in e) ∙ sym (place_is C k.valid o stands)
+
+    pub count_done : (end : ℕ) → end ≡ o → (end ≤ p) ⊎ (len (standing_in f p) ≡ 0) → q ≡ new_place C o
+    count_done end e (inl h) = count_end (omega arith)
+    count_done end e (inr z) = go (dec_lt p o)
+      where
+        go : Dec (p < o) → q ≡ new_place C o
+        go (yes h) = absurd (count_some h z)
+        go (no h) = count_end (omega arith)

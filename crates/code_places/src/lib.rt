@@ -10,7 +10,8 @@ ghost use Rattle.code_pass.specs.Stages.{cycle, Marked, Index, kept_places, new_
 ghost use Rattle.code_places.specs.Placing.{begins, news, stride_in, stride_for, kept_place, Tagged, PlacedBy};
 
 use code_machine::word;
-use code_mark::{RAISE, kept_at, opcode_at, size_at};
+use code_mark::{RAISE, Raised, kept_at};
+use code_valid::Instructions;
 use index::{Places, Stride};
 
 pub mod index;
@@ -50,28 +51,22 @@ pub fn fill(code: &[u32], index: &mut [Stride])
     ensures { (C : List ℕ) → Valid C → Marked C code.now → Index C (begins index.new) (news index.new) (stride_for (length index.old) (length C)) }
 {
     let stride = stride_of(index.len(), code.len());
-    let mut p = 0;
     let mut kept = 0;
     let mut k = 0;
     let mut next = 0;
-    while p < code.len() {
-        let size = size_at(code, p);
-        if size == 0 {
-            return;
-        }
-        if k < index.len() && next <= p {
+    for instruction in Instructions::between(Raised(code), 0, code.len()) {
+        if k < index.len() && next <= instruction.place {
             index[k] = Stride {
-                begin: p,
+                begin: instruction.place,
                 new: kept,
             };
             k += 1;
             next += stride;
         }
-        kept += kept_at(code, p, size);
-        p += size;
+        kept += kept_at(code, instruction);
     }
     let end = Stride {
-        begin: p,
+        begin: code.len(),
         new: kept,
     };
     fill_rest(index, k, end);
@@ -94,16 +89,10 @@ impl Places<'_> {
         let k = o as usize / self.stride;
         let next = self.stride_at(k + 1);
         let end = next.new.min(self.front).min(code.len());
-        let mut q = self.stride_at(k).new;
-        while q < end {
-            if word(code, q) / RAISE == o % CYCLE {
-                return Some(q);
+        for instruction in Instructions::between(Raised(code), self.stride_at(k).new, end) {
+            if word(code, instruction.place) / RAISE == o % CYCLE {
+                return Some(instruction.place);
             }
-            let size = size_at(code, q);
-            if size == 0 {
-                return None;
-            }
-            q += size;
         }
         None
     }
@@ -112,20 +101,14 @@ impl Places<'_> {
     fn tail_place(&self, code: &[u32], o: u32) -> usize
         ensures { (C : List ℕ) → PlacedBy C self.now → Tagged C code.now self.now.split → self.now.split ≤ o → In (kept_places C) o → result ≡ new_place C o }
     {
-        let end = o as usize;
-        let k = end / self.stride;
+        let k = o as usize / self.stride;
         let Stride { begin, new } = self.stride_at(k);
-        let mut p = begin.max(self.split);
-        let mut q = if begin < self.split { self.front } else { new };
-        while p < end {
-            let size = size_at(code, p);
-            if size == 0 {
-                return 0;
-            }
-            q = q.saturating_add(kept_at(code, p, size));
-            p += size;
+        let start = begin.max(self.split);
+        let mut place = if begin < self.split { self.front } else { new };
+        for instruction in Instructions::between(Raised(code), start, o as usize) {
+            place = place.saturating_add(kept_at(code, instruction));
         }
-        q
+        place
     }
 
     // Where the kept instruction at o comes to stand.

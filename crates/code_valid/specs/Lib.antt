@@ -1,3 +1,4 @@
 pub mod Instrs
 pub mod Valid
 pub mod Reading
+pub mod Walk

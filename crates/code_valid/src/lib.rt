@@ -2,11 +2,13 @@
 #![tactic(auto)]
 
 ghost use Rattle.std.proofs.Props.{props};
-ghost use Rattle.std.specs.Prelude.{◌≡◌, ◌≢◌, ◌&&◌, [], ◌∷◌, ℕ, ◌+◌, ◌-◌, ◌≤◌, ◌<◌, get_or, length, set};
-ghost use Rattle.code_flat.specs.Machine.{decode};
+ghost use Rattle.std.specs.Prelude.{◌≡◌, ◌≢◌, ◌&&◌, [], ◌∷◌, ℕ, ◌+◌, ◌-◌, ◌^◌, ◌≤◌, ◌<◌, get_or, length, set};
+ghost use Rattle.code_flat.specs.Machine.{Instr, decode};
 ghost use Rattle.code_valid.specs.Instrs.{len, parse, begins, names, runs_on};
 ghost use Rattle.code_valid.specs.Valid.{all_begin, sound, first_bad, check};
+ghost use Rattle.std.specs.Iterator.{at_most};
 ghost use Rattle.code_valid.specs.Reading.{standing, from, Table};
+ghost use Rattle.code_valid.specs.Walk.{Gives};
 
 use code_machine::opcodes;
 
@@ -32,19 +34,87 @@ pub fn size_at(code: &[u32], p: usize) -> usize
     0
 }
 
+// A code, by how its instructions are read.
+pub trait Code: Copy {
+    // The instruction that begins at a place; NONE where there is none, or the end cuts it off.
+    ghost instruction: { Self → ℕ → Instr };
+
+    // How many numbers the instruction takes that begins at p; 0 where none does, or the end cuts it off.
+    fn size_at(self, p: usize) -> usize
+        ensures value { result ≡ len (instruction self p) }
+        ensures fits { p + result < 2 ^ 64 };
+}
+
+// One that is read as it stands.
+#[derive(Clone, Copy)]
+pub struct Plain<'a>(pub &'a [u32]);
+
+impl Code for Plain<'_> {
+    ghost instruction = { λ c. standing c.0.now };
+
+    fn size_at(self, p: usize) -> usize {
+        size_at(self.0, p)
+    }
+}
+
+// Where an instruction begins, and how many numbers it takes.
+#[derive(Clone, Copy)]
+pub struct Instruction {
+    pub place: usize,
+    pub size: usize,
+}
+
+// The instructions that begin from a place on and before another, up to where none begins.
+#[derive(Drop)]
+pub struct Instructions<C> {
+    pub code: C,
+    pub at: usize,
+    pub end: usize,
+}
+
+impl<C> Instructions<C> {
+    pub fn between(code: C, from: usize, to: usize) -> Self
+        ensures { result ≡ record { code = code; at = from; end = to } }
+    {
+        Instructions {
+            code,
+            at: from,
+            end: to,
+        }
+    }
+}
+
+impl<C: Code> Iterator for Instructions<C> {
+    type Item = Instruction;
+
+    ghost next_gives = { Gives C.instruction };
+
+    ghost remaining = { λ s. at_most (s.end - s.at) };
+
+    fn next(&mut self) -> Option<Instruction> {
+        let place = self.at;
+        if self.end <= place {
+            return None;
+        }
+        let size = self.code.size_at(place);
+        if size == 0 {
+            return None;
+        }
+        self.at += size;
+        Some(Instruction { place, size })
+    }
+}
+
 // An instruction begins at `to`, by those from `start` on.
 fn begins_from(code: &[u32], start: usize, to: usize) -> bool
     ensures { result ≡ begins (from code.now start) start to }
 {
-    let mut p = start;
-    while p < to {
-        let size = size_at(code, p);
-        if size == 0 {
-            return false;
+    for instruction in Instructions::between(Plain(code), start, code.len()) {
+        if to <= instruction.place {
+            return instruction.place == to;
         }
-        p += size;
     }
-    p == to && size_at(code, p) != 0
+    false
 }
 
 // How many places the table names. A code of 655,358 numbers, the longest that a unit has, is searched in steps of 163 numbers.
@@ -62,17 +132,11 @@ fn fill(code: &[u32], table: &mut [usize], stride: usize)
     requires { Table code.now table.old stride }
     ensures { Table code.now table.new stride }
 {
-    let mut p = 0;
-    while p < code.len() {
-        let size = size_at(code, p);
-        if size == 0 {
-            return;
-        }
-        let k = p / stride + 1;
+    for instruction in Instructions::between(Plain(code), 0, code.len()) {
+        let k = instruction.place / stride + 1;
         if k < table.len() {
-            table[k] = p;
+            table[k] = instruction.place;
         }
-        p += size;
     }
 }
 
@@ -146,13 +210,14 @@ impl Indexed<'_> {
     fn first_bad(&self) -> Result<(), u64>
         ensures { result ≡ first_bad (parse self.now.code.now) (parse self.now.code.now) 0 }
     {
-        let mut p = 0;
-        while p < self.code.len() {
-            let size = size_at(self.code, p);
-            if size == 0 || !self.sound_at(p, size) {
-                return Err(p as u64);
+        let mut instructions = Instructions::between(Plain(self.code), 0, self.code.len());
+        while let Some(instruction) = instructions.next() {
+            if !self.sound_at(instruction.place, instruction.size) {
+                return Err(instruction.place as u64);
             }
-            p += size;
+        }
+        if instructions.at < self.code.len() {
+            return Err(instructions.at as u64);
         }
         Ok(())
     }

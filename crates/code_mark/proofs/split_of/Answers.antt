@@ -1,25 +1,32 @@
-use Rattle.code_mark.proofs.KeptLaws.{Splitting, walk_some, splitting_first, splitting_next, splitting_in, splitting_end}
-use native.Mathlib.Omega.{arith}
-use mathlib.Core.Path.{sym, ◌∙◌, subst}
-use Prim.Native.Nat.{◌+◌}
+use Rattle.std.proofs.Common.{refl, ap, ◌∙◌, arith}
+use Rattle.code_mark.proofs.KeptLaws.{turn_within, splitting_first, splitting_turn, splitting_found, splitting_done}
 use Rattle.code_mark.proofs.split_of.Goals as goal
 
-pub loop-p-init : goal.loop-p-init
-loop-p-init c = (omega arith, λ C v m e. splitting_first C v c.args.code.now m)
+pub returns-then-new_length-instruction : goal.returns-then-new_length-instruction
+returns-then-new_length-instruction c =
+    let l = c.loop-instruction in
+    let t = rw l.invariant.code at c.in-Some.ensures.steps.turn in record {
+      value = λ C v m e. splitting_found C v c.args.code.now m _ _ _ t (l.invariant.splitting C v m e) (omega arith);
+      upper_bound = omega (arith, turn_within c.args.code.now _ _ _ t, t.next, t.place);
+    }
 
-pub returns-then-size-eq0-clause-value : goal.returns-then-size-eq0-clause-value
-returns-then-size-eq0-clause-value c =
-    λ C v m e. absurd (walk_some C v c.args.code.now m c.loop-p.p (c.loop-p.invariant.1 C v m e).at (splitting_in C v c.args.code.now m c.loop-p.p (omega arith)) (sym c.size_at-size.ensures.value ∙ c.if-size-eq0.true))
+pub loop-instruction-init : goal.loop-instruction-init
+loop-instruction-init c =
+    rw (c.into_iter-instruction-iterator.ensures.into_iter_gives, c.between-instruction-items.ensures)
+    (record { code = refl; end = refl; splitting = λ C v m e. splitting_first C v c.args.code.now m })
 
-pub loop-p-preserved : goal.loop-p-preserved
-loop-p-preserved c =
-    let f = c.args.code.now in
-    let l = c.loop-p in (
-      omega (arith, c.size_at-size.ensures.upper_bound),
-      λ C v m e.
-          subst (λ w. Splitting C (l.p + w)) (sym c.size_at-size.ensures.value)
-          (splitting_next C v f m l.p (l.invariant.1 C v m e) (omega arith) (omega (arith, c.size_at-size.ensures.upper_bound))),
-    )
+pub loop-instruction-preserved : goal.loop-instruction-preserved
+loop-instruction-preserved c =
+    let l = c.loop-instruction in
+    let s = c.in-Some.ensures.steps in
+    let t = rw l.invariant.code at s.turn in record {
+      code = ap (λ w. w.0.now) s.code ∙ l.invariant.code;
+      end = s.end ∙ l.invariant.end;
+      splitting = λ C v m e. splitting_turn C v c.args.code.now m _ _ _ t (l.invariant.splitting C v m e) (omega arith);
+    }
 
 pub returns-clause-value : goal.returns-clause-value
-returns-clause-value c = λ C v m e. splitting_end C v c.args.code.now m c.loop-p.p (c.loop-p.invariant.1 C v m e) (omega arith)
+returns-clause-value c =
+    λ C v m e.
+    let l = c.loop-instruction in
+    splitting_done C v c.args.code.now m _ _ (l.invariant.splitting C v m e) l.invariant.end (rw l.invariant.code at c.in-None.ensures.steps.none)

@@ -1,23 +1,25 @@
-use Rattle.code_valid.proofs.ReadingLaws.{search_none, search_on, search_at, search_past}
-use Rattle.code_valid.specs.Reading.{from}
-use Rattle.code_valid.specs.Instrs.{begins}
-use borrow.Author.Tests.{ne_eqb}
-use native.Mathlib.Omega.{arith}
-use mathlib.Core.Path.{◌≡◌, sym, ◌∙◌, subst}
-use Prim.Native.Nat.{◌+◌}
+use Rattle.std.proofs.Common.{ap, sym, ◌∙◌}
+use Rattle.code_valid.proofs.ReadingLaws.{search_none}
+use Rattle.code_valid.proofs.WalkLaws.{none_left, turn_search, turn_found}
 use Rattle.code_valid.proofs.begins_from.Goals as goal
 
-pub returns-then-size-eq0 : goal.returns-then-size-eq0
-returns-then-size-eq0 c = sym (search_none c.args.code.now c.loop-p.p c.args.to (sym c.size_at-size.ensures.value ∙ c.if-size-eq0.true)) ∙ c.loop-p.invariant
+pub returns-then-to-instruction : goal.returns-then-to-instruction
+returns-then-to-instruction c =
+    let l = c.loop-instruction in
+    let t = rw l.invariant.code at c.in-Some.ensures.steps.turn in turn_found _ _ _ _ t c.args.to c.if-to-instruction.true ∙ l.invariant.search
 
-pub loop-p-preserved : goal.loop-p-preserved
-loop-p-preserved c =
-    let a = c.args in
-    subst (λ w. begins (from a.code.now (c.loop-p.p + w)) (c.loop-p.p + w) a.to ≡ begins (from a.code.now a.start) a.start a.to) (sym c.size_at-size.ensures.value)
-    (sym (search_on a.code.now c.loop-p.p a.to (λ z. c.if-size-eq0.false (c.size_at-size.ensures.value ∙ z)) (omega arith)) ∙ c.loop-p.invariant)
+pub loop-instruction-preserved : goal.loop-instruction-preserved
+loop-instruction-preserved c =
+    let l = c.loop-instruction in
+    let s = c.in-Some.ensures.steps in
+    let t = rw l.invariant.code at s.turn in record {
+      code = ap (λ k. k.0.now) s.code ∙ l.invariant.code;
+      end = s.end ∙ l.invariant.end;
+      search = turn_search _ _ _ _ t c.args.to c.if-to-instruction.false ∙ l.invariant.search;
+    }
 
-pub returns-then-p-to : goal.returns-then-p-to
-returns-then-p-to c = search_at c.args.code.now c.loop-p.p c.args.to c.size_at.result c.size_at.ensures.value (omega arith) ∙ c.loop-p.invariant
-
-pub returns-else-p-to : goal.returns-else-p-to
-returns-else-p-to c = ne_eqb _ _ c.if-p-to.false ∙ sym (search_past c.args.code.now c.loop-p.p c.args.to (omega arith)) ∙ c.loop-p.invariant
+pub returns : goal.returns
+returns c =
+    let l = c.loop-instruction in
+    let s = c.in-None.ensures.steps in
+    sym (search_none c.args.code.now l.instruction-iterator.at c.args.to (none_left _ _ _ l.invariant.end (rw l.invariant.code at s.none))) ∙ l.invariant.search

@@ -1,25 +1,29 @@
-use Rattle.code_valid.proofs.ReadingLaws.{entry_next, table_more}
-use Rattle.code_valid.specs.Reading.{Entry}
-use native.Mathlib.Omega.{arith}
-use lib.ListN.{set}
-use lib.Seq.{set_out}
-use mathlib.Core.Path.{◌≡◌, sym, ◌∙◌, subst}
-use Prim.Native.Nat.{◌+◌, ◌/◌}
-use borrow.Author.Rules.{rules}
-use Rattle.code_valid.proofs.fill.Goals.{then-k-table, else-k-table}
+use Rattle.std.proofs.Common.{ap, ◌∙◌, rules}
+use Rattle.code_valid.proofs.ReadingLaws.{table_more}
+use Rattle.code_valid.proofs.WalkLaws.{turn_inside, turn_entry}
 use Rattle.code_valid.proofs.fill.Goals as goal
 
-pub loop-p-preserved : goal.loop-p-preserved
-loop-p-preserved c =
-    let C = c.args.code.now in
-    let l = c.loop-p in
-    let t : c.if-k-table.table ≡ set l.table (l.p / c.args.stride + 1) l.p = elim c.if-k-table.branch [
-      | then-k-table w ↦ w.table-is
-      | else-k-table w ↦ w.table-is ∙ sym (set_out l.table (l.p / c.args.stride + 1) l.p (omega arith))
-    ] in (
-      search rules,
-      (
-        rw t (table_more C l.table c.args.stride l.p l.invariant.1.0 l.invariant.1.1),
-        subst (λ w. Entry C (l.p + w)) (sym c.size_at-size.ensures.value) (entry_next C l.p l.invariant.1.1 (λ z. c.if-size-eq0.false (c.size_at-size.ensures.value ∙ z))),
-      ),
-    )
+pub overflow_add-k : goal.overflow_add-k
+overflow_add-k c =
+    let h = turn_inside _ _ _ _ (rw c.loop-instruction.invariant.code at c.in-Some.ensures.steps.turn) in search rules
+
+pub loop-instruction-preserved-then-k-table : goal.loop-instruction-preserved-then-k-table
+loop-instruction-preserved-then-k-table c =
+    let l = c.loop-instruction in
+    let s = c.in-Some.ensures.steps in
+    let t = rw l.invariant.code at s.turn in record {
+      code = ap (λ k. k.0.now) s.code ∙ l.invariant.code;
+      same = search rules;
+      table = rw t.place (table_more _ _ _ _ l.invariant.table l.invariant.entry);
+      entry = turn_entry _ _ _ _ t l.invariant.entry;
+    }
+
+pub loop-instruction-preserved : goal.loop-instruction-preserved
+loop-instruction-preserved c =
+    let l = c.loop-instruction in
+    let s = c.in-Some.ensures.steps in record {
+      code = ap (λ k. k.0.now) s.code ∙ l.invariant.code;
+      same = l.invariant.same;
+      table = l.invariant.table;
+      entry = turn_entry _ _ _ _ (rw l.invariant.code at s.turn) l.invariant.entry;
+    }

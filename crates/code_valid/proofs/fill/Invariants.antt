@@ -1,11 +1,11 @@
+use Rattle.std.proofs.Common.{◌≡◌, length}
 use Rattle.code_valid.specs.Reading.{Entry, Table}
-use lib.ListN.{length}
-use mathlib.Core.Path.{◌≡◌}
-use Prim.Native.Nat.{◌-◌}
 use Rattle.code_valid.proofs.fill.Given as goal
 
-abbrev pub invariant-loop-p : goal.invariant-loop-p
-invariant-loop-p l = (length l.table ≡ length l.initial.table) × (Table l.code l.table l.stride × Entry l.code l.p)
-
-abbrev pub decreases-loop-p : goal.decreases-loop-p
-decreases-loop-p l = length l.code - l.p
+abbrev pub invariant-loop-instruction : goal.invariant-loop-instruction
+invariant-loop-instruction l = record {
+  code : l.instruction-iterator.code.0.now ≡ l.code;
+  same : length l.table ≡ length l.initial.table;
+  table : Table l.code l.table l.stride;
+  entry : Entry l.code l.instruction-iterator.at;
+}

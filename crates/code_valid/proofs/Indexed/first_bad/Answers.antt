@@ -1,34 +1,37 @@
-use Rattle.code_valid.proofs.ReadingLaws.{bad_none, bad_here, bad_on, bad_end}
-use Rattle.code_valid.specs.Reading.{standing, from}
-use Rattle.code_valid.specs.Valid.{sound, first_bad}
+use Rattle.std.proofs.Common.{Err, ap, sym, ◌∙◌, arith}
 use Rattle.code_valid.specs.Instrs.{parse}
-use native.Mathlib.Omega.{arith}
-use mathlib.Core.Path.{◌≡◌, sym, ◌∙◌, subst}
-use mathlib.Core.Bool.{true, false}
-use Prim.Native.Nat.{◌+◌}
-use Rattle.code_valid.proofs.Indexed.first_bad.Goals.{then-size-eq0-via-then-size-eq0, then-size-eq0-via-else-size-eq0+then-not-sound_at}
+use Rattle.code_valid.proofs.ReadingLaws.{bad_end, bad_none}
+use Rattle.code_valid.proofs.WalkLaws.{none_left, turn_sound, turn_bad}
 use Rattle.code_valid.proofs.Indexed.first_bad.Goals as goal
 
-pub returns-then-size-eq0 : goal.returns-then-size-eq0
-returns-then-size-eq0 c =
-    let C = c.args.self.now.code.now in
-    let p = c.loop-p.p in
-    let v = c.size_at-size.ensures.value in
-    elim c.then-size-eq0.branch [
-      | then-size-eq0-via-then-size-eq0 w ↦ sym (bad_none C (parse C) p (omega arith) (sym v ∙ w.if-size-eq0.true)) ∙ c.loop-p.invariant
-      | then-size-eq0-via-else-size-eq0+then-not-sound_at w ↦
-          sym (bad_here C (parse C) p (λ z. w.if-size-eq0.false (v ∙ z))
-          (subst (λ n. sound (parse C) (standing C p) (from C (p + n)) ≡ false) v (sym w.sound_at.ensures ∙ w.if-not-sound_at.true))) ∙ c.loop-p.invariant
-    ]
+pub returns-then-not-sound_at : goal.returns-then-not-sound_at
+returns-then-not-sound_at c =
+    let l = c.loop-instruction in
+    let t = rw l.invariant.code at c.in-Some.ensures.steps.turn in
+    turn_bad _ _ _ _ t (parse c.args.self.now.code.now) (sym c.sound_at.ensures ∙ c.if-not-sound_at.true) ∙ l.invariant.judged
 
-pub loop-p-preserved : goal.loop-p-preserved
-loop-p-preserved c =
+pub loop-instruction-preserved : goal.loop-instruction-preserved
+loop-instruction-preserved c =
+    let l = c.loop-instruction in
+    let s = c.in-Some.ensures.steps in
+    let t = rw l.invariant.code at s.turn in record {
+      code = ap (λ k. k.0.now) s.code ∙ l.invariant.code;
+      end = s.end ∙ l.invariant.end;
+      judged = turn_sound _ _ _ _ t (parse c.args.self.now.code.now) (sym c.sound_at.ensures ∙ c.if-not-sound_at.false) ∙ l.invariant.judged;
+    }
+
+pub returns-then-instructions-self : goal.returns-then-instructions-self
+returns-then-instructions-self c =
     let C = c.args.self.now.code.now in
-    let p = c.loop-p.p in
-    let v = c.size_at-size.ensures.value in
-    subst (λ w. first_bad (parse C) (from C (p + w)) (p + w) ≡ first_bad (parse C) (parse C) 0) (sym v)
-    (sym (bad_on C (parse C) p (λ z. c.if-size-eq0.false (v ∙ z))
-    (subst (λ w. sound (parse C) (standing C p) (from C (p + w)) ≡ true) v (sym c.sound_at.ensures ∙ c.if-not-sound_at.false))) ∙ c.loop-p.invariant)
+    let l = c.loop-instruction in
+    let s = c.in_default.ensures.steps in
+    let h = c.if-instructions-self.true in
+    let e = ap (λ w. w.at) s.same in
+    ap Err e ∙ sym (bad_none C (parse C) l.instructions.at (omega arith) (none_left C _ _ l.invariant.end (rw l.invariant.code at s.none))) ∙ l.invariant.judged
 
 pub returns : goal.returns
-returns c = sym (bad_end c.args.self.now.code.now (parse c.args.self.now.code.now) c.loop-p.p (omega arith)) ∙ c.loop-p.invariant
+returns c =
+    let C = c.args.self.now.code.now in
+    let l = c.loop-instruction in
+    let h = c.if-instructions-self.false in
+    let e = ap (λ w. w.at) c.in_default.ensures.steps.same in sym (bad_end C (parse C) l.instructions.at (omega arith)) ∙ l.invariant.judged
