@@ -78,10 +78,11 @@ same() {
 
 proved_but_instructions() { proved | grep -v '^INSTRUCTION '; }
 marks() {
-    local count part
+    local count part room
     count=$(sed -nE 's/^pub const MARKS: u32 = ([0-9]+);$/\1/p' crates/route_marks/src/lib.rt)
-    part=$(sed -nE 's/^const PART: usize = ([0-9]+);$/\1/p' crates/route_marks/src/lib.rt)
-    once_of_header | grep -qx "MARKS $((count * part))"
+    part=$(sed -nE 's/^const PART: usize = ([0-9ROM +*]+);$/\1/p' crates/route_marks/src/lib.rt)
+    room=$(sed -nE 's/^pub const ROOM: usize = ([0-9]+);$/\1/p' crates/code_machine/src/lib.rt)
+    once_of_header | grep -qx "MARKS $((count * (${part/ROOM/$room})))"
 }
 
 # another REPLACEMENT: the header with a change, which must be told

@@ -62,7 +62,7 @@ enum Passing {
     Below(Target),
 }
 
-// Where a jump comes to, or a run begins: a place, and how many ends are pending there.
+// Where a jump comes to, or a run begins: a place, and how many ends are pending there. A target's depth says at most how many: it is any word of the code.
 #[derive(Clone, Copy)]
 pub struct Landing {
     pub place: u32,

@@ -20,11 +20,11 @@ use route_viewer::Route;
 // How many marks the array has.
 pub const MARKS: u32 = 8;
 
-// A mark's part of the array: a first number, the place, and two numbers for each of 512 pending ends.
-const PART: usize = 1026;
+// A mark's part of the array: a first number, the place, and two numbers for each pending end.
+const PART: usize = 2 + 2 * ROOM;
 
-// The first number of a mark that is set is one more than its pending ends, of which there are at most 512.
-const MOST_FIRST: u32 = 513;
+// The first number of a mark that is set is one more than its pending ends.
+const MOST_FIRST: u32 = ROOM as u32 + 1;
 
 // All parts.
 pub type Marks = [u32; MARKS as usize * PART];
@@ -76,7 +76,7 @@ fn width_at(code: &[u32], at: usize) -> usize
 }
 
 // An instruction of the code begins at a place: what refusal 17 asks.
-// The loop steps by hand: a `for` over `std::iter::successors` has the step in a closure, one way out more, and takes the same measure for its end.
+// The loop steps by hand: a `for` over `std::iter::successors` is no shorter, has the step in a closure, and takes the same measure for its end.
 pub fn begins(code: &[u32], place: u32) -> bool
     ensures { (result ≡ true) ↔ Begins code.now place }
 {
@@ -165,7 +165,13 @@ fn set_mark(marks: &mut Marks, mark: u32, place: u32, pending: usize, ends: &End
 }
 
 // Runs the code from where the section begins until so many of its answers are taken.
-fn run_section(marks: &Marks, section: &Section, code: &[u32], ends: &mut Ends, out: &mut [u32]) -> Halt
+fn run_section(
+    marks: &Marks,
+    section: &Section,
+    code: &[u32],
+    ends: &mut Ends,
+    out: &mut [u32],
+) -> Halt
     requires can_begin { CanBegin marks.now section.now.begin }
     ensures told { Told (stop_of_section marks.now code.now section.now) out.old out.new result.ran }
     ensures stands { StandsAt (stop_of_section marks.now code.now section.now) (pos result.at.place (stack ends.new result.at.pending)) }

@@ -10,8 +10,10 @@ use Rattle.route_completion.specs.Route.{node_of, asks, end_of, route}
 use Rattle.route_completion.proofs.TakenLaws.{asks_append}
 use Rattle.route_list.specs.Listing.{most, next, Listing}
 use Rattle.route_list.proofs.ListingLaws.{listing_first, listing_more}
+use Rattle.route_walk.specs.declared.Progress.{Progress}
 use Rattle.route_walk.specs.declared.Run.{Run}
-use Rattle.route_walk.specs.Walk.{comp_at, label_in, written, counted, Walked, Shows}
+use Rattle.route_walk.specs.declared.Completion.{Completion}
+use Rattle.route_walk.specs.Walk.{Read, comp_at, label_in, written, counted, Walked, Shows}
 
 written_append : (f : List ℕ) (n : ℕ) (a b : List Entry) → written f n (a ++ b) ≡ written (written f n a) (counted n a) b
 unfolding written counted
@@ -31,34 +33,44 @@ listing_all f₀ m f l n (e ∷ es) h =
     subst (λ k. Listing f₀ (written (set f n (node_of e)) (next n) es) k (counted (next n) es)) (append_snoc l (node_of e) (map node_of es))
     (listing_all f₀ m (set f n (node_of e)) (l ++ node_of e ∷ []) (next n) es (listing_more f₀ f l n (node_of e) m h))
 
-module _ (ns names qs : List ℕ) where
+module _ (s : Read) where
   -- Nothing is done.
-  pub still : (f : List ℕ) (start r : Run) (c : Comp) → r.entries ≡ start.entries → r.taken ≡ start.taken → start.taken ≤ length qs → c ≡ comp_at ns names r.how → label_in ns r.how
-      → Walked ns names qs f start (out [] c (drop start.taken qs)) f r
+  pub still : (start r : Progress) (c : Comp) (how : Completion) → r ≡ start → start.taken ≤ length s.answers → c ≡ comp_at s.nodes s.names how → label_in s.nodes how
+      → Walked s start (out [] c (drop start.taken s.answers)) r how
   unfolding written counted asks
-  still f start r c e t h q l =
-      record { wrote = refl; counts = e; took = omega (arith, t); rest = ap (λ k. drop k qs) (sym t); inside = omega (arith, t); ended = q; label = l }
+  still start r c how e h q l =
+      let t = ap (λ p. p.taken) e in
+      record {
+        same_slice = ap (λ p. p.out.ghost_name) e;
+        wrote = ap (λ p. p.out.now) e;
+        counts = ap (λ p. p.entries) e;
+        took = omega (arith, t);
+        rest = ap (λ k. drop k s.answers) (sym t);
+        inside = omega (arith, t);
+        ended = q;
+        label = l;
+      }
 
   -- A node is listed.
-  pub lists : (f : List ℕ) (start r : Run) (n : ℕ) (c : Comp) (g : List ℕ) → g ≡ set f start.entries n → r.entries ≡ next start.entries → r.taken ≡ start.taken → start.taken ≤ length qs
-      → c ≡ comp_at ns names r.how → label_in ns r.how → Walked ns names qs f start (out (plain n ∷ []) c (drop start.taken qs)) g r
+  pub lists : (start r : Progress) (n : ℕ) (c : Comp) (how : Completion) → r.out.ghost_name ≡ start.out.ghost_name → r.out.now ≡ set start.out.now start.entries n → r.entries ≡ next start.entries → r.taken ≡ start.taken
+      → start.taken ≤ length s.answers → c ≡ comp_at s.nodes s.names how → label_in s.nodes how → Walked s start (out (plain n ∷ []) c (drop start.taken s.answers)) r how
   unfolding written counted asks
-  lists f start r n c g w e t h q l =
-      record { wrote = w; counts = e; took = omega (arith, t); rest = ap (λ k. drop k qs) (sym t); inside = omega (arith, t); ended = q; label = l }
+  lists start r n c how b w e t h q l =
+      record { same_slice = b; wrote = w; counts = e; took = omega (arith, t); rest = ap (λ k. drop k s.answers) (sym t); inside = omega (arith, t); ended = q; label = l }
 
   -- A node is listed as it takes an answer.
-  pub takes : (f : List ℕ) (start r : Run) (n : ℕ) (g : List ℕ) → g ≡ set f start.entries n → r.entries ≡ next start.entries → r.taken ≡ start.taken + 1 → start.taken < length qs
-      → normal ≡ comp_at ns names r.how → label_in ns r.how → Walked ns names qs f start (out (asked n ∷ []) normal (drop (start.taken + 1) qs)) g r
+  pub takes : (start r : Progress) (n : ℕ) (how : Completion) → r.out.ghost_name ≡ start.out.ghost_name → r.out.now ≡ set start.out.now start.entries n → r.entries ≡ next start.entries → r.taken ≡ start.taken + 1
+      → start.taken < length s.answers → normal ≡ comp_at s.nodes s.names how → label_in s.nodes how → Walked s start (out (asked n ∷ []) normal (drop (start.taken + 1) s.answers)) r how
   unfolding written counted asks
-  takes f start r n g w e t h q l =
-      record { wrote = w; counts = e; took = omega (arith, t); rest = ap (λ k. drop k qs) (sym t); inside = omega (arith, t); ended = q; label = l }
+  takes start r n how b w e t h q l =
+      record { same_slice = b; wrote = w; counts = e; took = omega (arith, t); rest = ap (λ k. drop k s.answers) (sym t); inside = omega (arith, t); ended = q; label = l }
 
   -- One behind the other.
-  pub then : (f g h : List ℕ) (start mid r : Run) (o p : Out) → Walked ns names qs f start o g mid → Walked ns names qs g mid p h r
-      → Walked ns names qs f start (more o.nodes p) h r
-  then f g h start mid r o p u v =
+  pub then : (start mid r : Progress) (o p : Out) (how how' : Completion) → Walked s start o mid how → Walked s mid p r how' → Walked s start (more o.nodes p) r how'
+  then start mid r o p how how' u v =
       record {
-        wrote = v.wrote ∙ (λ i. written (u.wrote i) (u.counts i) p.nodes) ∙ sym (written_append f start.entries o.nodes p.nodes);
+        same_slice = v.same_slice ∙ u.same_slice;
+        wrote = v.wrote ∙ (λ i. written (u.wrote i) (u.counts i) p.nodes) ∙ sym (written_append start.out.now start.entries o.nodes p.nodes);
         counts = v.counts ∙ ap (λ k. counted k p.nodes) u.counts ∙ sym (counted_append start.entries o.nodes p.nodes);
         took = let e = asks_append o.nodes p.nodes in omega (arith, u.took, v.took, e);
         rest = v.rest;
@@ -68,64 +80,75 @@ module _ (ns names qs : List ℕ) where
       }
 
   -- Goes on, or stays.
-  pub goes : (f g h : List ℕ) (start mid r : Run) (o : Out) (k : List ℕ → Out) (b : Bool) → b ≡ true → Walked ns names qs f start o g mid → Walked ns names qs g mid (k (drop mid.taken qs)) h r
-      → Walked ns names qs f start (go_on b o k) h r
-  goes f g h start mid r o k b e u v =
-      subst (λ x. Walked ns names qs f start (go_on x o k) h r) (sym e)
-      (then f g h start mid r o (k o.rest) u (subst (λ x. Walked ns names qs g mid (k x) h r) (sym u.rest) v))
+  pub goes : (start mid r : Progress) (o : Out) (how how' : Completion) (k : List ℕ → Out) (b : Bool) → b ≡ true → Walked s start o mid how → Walked s mid (k (drop mid.taken s.answers)) r how'
+      → Walked s start (go_on b o k) r how'
+  goes start mid r o how how' k b e u v =
+      subst (λ x. Walked s start (go_on x o k) r how') (sym e)
+      (then start mid r o (k o.rest) how how' u (subst (λ x. Walked s mid (k x) r how') (sym u.rest) v))
 
-  pub stays : (f g : List ℕ) (start r : Run) (o : Out) (k : List ℕ → Out) (b : Bool) → b ≡ false → Walked ns names qs f start o g r → Walked ns names qs f start (go_on b o k) g r
-  stays f g start r o k b e u = subst (λ x. Walked ns names qs f start (go_on x o k) g r) (sym e) u
+  pub stays : (start r : Progress) (o : Out) (how : Completion) (k : List ℕ → Out) (b : Bool) → b ≡ false → Walked s start o r how → Walked s start (go_on b o k) r how
+  stays start r o how k b e u = subst (λ x. Walked s start (go_on x o k) r how) (sym e) u
+
+  -- What is listed, and then k.
+  pub lists_then : (start mid r : Progress) (n : ℕ) (how how' : Completion) (k : List ℕ → Out) → Walked s start (out (plain n ∷ []) normal (drop start.taken s.answers)) mid how
+      → Walked s mid (k (drop mid.taken s.answers)) r how' → Walked s start (more (plain n ∷ []) (k (drop start.taken s.answers))) r how'
+  lists_then start mid r n how how' k u v =
+      then start mid r (out (plain n ∷ []) normal (drop start.taken s.answers)) (k (drop start.taken s.answers)) how how' u (subst (λ x. Walked s mid (k x) r how') (sym u.rest) v)
 
   -- An answer is taken, and k goes on; or none is left.
-  pub asks_on : (f g h : List ℕ) (start mid r : Run) (n a : ℕ) (k : ℕ → List ℕ → Out) → start.taken < length qs → a ≡ get_or qs start.taken 0 → mid.taken ≡ start.taken + 1
-      → Walked ns names qs f start (out (asked n ∷ []) normal (drop (start.taken + 1) qs)) g mid → Walked ns names qs g mid (k a (drop mid.taken qs)) h r
-      → Walked ns names qs f start (ask n (drop start.taken qs) k) h r
-  asks_on f g h start mid r n a k l e t u v =
-      subst (λ x. Walked ns names qs f start (ask n x k) h r) (sym (drop-cons qs start.taken 0 l))
-      (then f g h start mid r (out (asked n ∷ []) normal (drop (start.taken + 1) qs)) (k (get_or qs start.taken 0) (drop (suc start.taken) qs)) u
+  pub asks_on : (start mid r : Progress) (n a : ℕ) (how how' : Completion) (k : ℕ → List ℕ → Out) → start.taken < length s.answers → a ≡ get_or s.answers start.taken 0 → mid.taken ≡ start.taken + 1
+      → Walked s start (out (asked n ∷ []) normal (drop (start.taken + 1) s.answers)) mid how → Walked s mid (k a (drop mid.taken s.answers)) r how'
+      → Walked s start (ask n (drop start.taken s.answers) k) r how'
+  asks_on start mid r n a how how' k l e t u v =
+      let qs = s.answers in
+      subst (λ x. Walked s start (ask n x k) r how') (sym (drop-cons qs start.taken 0 l))
+      (then start mid r (out (asked n ∷ []) normal (drop (start.taken + 1) qs)) (k (get_or qs start.taken 0) (drop (suc start.taken) qs)) how how' u
       (let z : mid.taken ≡ suc start.taken = omega (arith, t) in
-      subst (λ x. Walked ns names qs g mid (k (get_or qs start.taken 0) (drop x qs)) h r) z (subst (λ x. Walked ns names qs g mid (k x (drop mid.taken qs)) h r) e v)))
+      subst (λ x. Walked s mid (k (get_or qs start.taken 0) (drop x qs)) r how') z (subst (λ x. Walked s mid (k x (drop mid.taken qs)) r how') e v)))
 
-  pub asks_none : (f : List ℕ) (start r : Run) (n : ℕ) (k : ℕ → List ℕ → Out) → length qs ≤ start.taken → start.taken ≤ length qs → r.entries ≡ start.entries → r.taken ≡ start.taken
-      → spent ≡ comp_at ns names r.how → label_in ns r.how → Walked ns names qs f start (ask n (drop start.taken qs) k) f r
-  asks_none f start r n k l m e t q w =
-      let z : drop start.taken qs ≡ [] = drop_of_length-le qs l in
-      subst (λ x. Walked ns names qs f start (ask n x k) f r) (sym z)
-      (subst (λ x. Walked ns names qs f start (out [] spent x) f r) z (still f start r spent e t m q w))
+  pub asks_none : (start r : Progress) (n : ℕ) (how : Completion) (k : ℕ → List ℕ → Out) → length s.answers ≤ start.taken → start.taken ≤ length s.answers → r ≡ start
+      → spent ≡ comp_at s.nodes s.names how → label_in s.nodes how → Walked s start (ask n (drop start.taken s.answers) k) r how
+  asks_none start r n how k l m e q w =
+      let z : drop start.taken s.answers ≡ [] = drop_of_length-le s.answers l in
+      subst (λ x. Walked s start (ask n x k) r how) (sym z)
+      (subst (λ x. Walked s start (out [] spent x) r how) z (still start r spent how e m q w))
 
   -- Its completion alone is changed.
-  pub ends_as : (f g : List ℕ) (start mid r : Run) (o : Out) (c : Comp) → r.entries ≡ mid.entries → r.taken ≡ mid.taken → c ≡ comp_at ns names r.how → label_in ns r.how
-      → Walked ns names qs f start o g mid → Walked ns names qs f start (out o.nodes c o.rest) g r
-  ends_as f g start mid r o c e t q l u =
-      record { wrote = u.wrote; counts = e ∙ u.counts; took = t ∙ u.took; rest = u.rest ∙ ap (λ k. drop k qs) (sym t); inside = omega (arith, t, u.inside); ended = q; label = l }
+  pub ends_as : (start r : Progress) (o : Out) (c : Comp) (how how' : Completion) → c ≡ comp_at s.nodes s.names how' → label_in s.nodes how' → Walked s start o r how
+      → Walked s start (out o.nodes c o.rest) r how'
+  ends_as start r o c how how' q l u =
+      record { same_slice = u.same_slice; wrote = u.wrote; counts = u.counts; took = u.took; rest = u.rest; inside = u.inside; ended = q; label = l }
 
   -- 14.15.3: "If F is a normal completion, set F to B".
-  pub lasts : (f g h : List ℕ) (start mid last r : Run) (o : Out) (k : List ℕ → Out) → is_spent o.comp ≡ false → Walked ns names qs f start o g mid → Walked ns names qs g mid (k (drop mid.taken qs)) h last
-      → r.entries ≡ last.entries → r.taken ≡ last.taken → comp_at ns names r.how ≡ pick (is_normal (comp_at ns names last.how)) (comp_at ns names mid.how) (comp_at ns names last.how) → label_in ns r.how
-      → Walked ns names qs f start (finally o k) h r
-  lasts f g h start mid last r o k s u v e t q l =
-      subst (λ x. Walked ns names qs f start (finally_if x o k) h r) (sym s)
-      (ends_as f h start last r (more o.nodes (k o.rest)) (pick (is_normal (k o.rest).comp) o.comp (k o.rest).comp) e t
-      (let w = subst (λ x. Walked ns names qs g mid (k x) h last) (sym u.rest) v in
+  pub lasts : (start mid r : Progress) (o : Out) (how how' end : Completion) (k : List ℕ → Out) → is_spent o.comp ≡ false → Walked s start o mid how → Walked s mid (k (drop mid.taken s.answers)) r how'
+      → comp_at s.nodes s.names end ≡ pick (is_normal (comp_at s.nodes s.names how')) (comp_at s.nodes s.names how) (comp_at s.nodes s.names how') → label_in s.nodes end
+      → Walked s start (finally o k) r end
+  lasts start mid r o how how' end k f u v q l =
+      subst (λ x. Walked s start (finally_if x o k) r end) (sym f)
+      (ends_as start r (more o.nodes (k o.rest)) (pick (is_normal (k o.rest).comp) o.comp (k o.rest).comp) how' end
+      (let w = subst (λ x. Walked s mid (k x) r how') (sym u.rest) v in
       (λ i. pick (is_normal (w.ended i)) (u.ended i) (w.ended i)) ∙ sym q) l
-      (then f g h start mid last o (k o.rest) u (subst (λ x. Walked ns names qs g mid (k x) h last) (sym u.rest) v)))
+      (then start mid r o (k o.rest) how how' u (subst (λ x. Walked s mid (k x) r how') (sym u.rest) v)))
 
-  -- From the first answer on, a walk of the statements ss is their route.
-  module _ (f : List ℕ) (start r : Run) (none : start.entries ≡ 0) (first : start.taken ≡ 0) (m : length f ≤ most) where
-    pub whole : (g : List ℕ) (ss : Stmts) → Walked ns names qs f start (execs ss (drop start.taken qs)) g r → Shows ns names (route ss qs) f g r
-    whole g ss w =
-        let o = execs ss qs in
-        let v = subst (λ k. Walked ns names qs f start (execs ss (drop k qs)) g r) first w in
-        let l = listing_all f m f [] 0 o.nodes (listing_first f) in
-        record {
-          counts = v.counts ∙ ap (λ k. counted k o.nodes) none ∙ l.counts;
-          wrote = v.wrote ∙ ap (λ k. written f k o.nodes) none ∙ l.wrote;
-          took = omega (arith, v.took, first);
-          ended = ap end_of (sym v.ended);
-        }
+  -- From the first answer on, a walk of the statements ss is their route; g is the slice then.
+  pub whole : (start r : Progress) (how : Completion) (g : List ℕ) → start.entries ≡ 0 → start.taken ≡ 0 → length start.out.now ≤ most → g ≡ r.out.now → (ss : Stmts) → Walked s start (execs ss (drop start.taken s.answers)) r how
+      → Shows s.nodes s.names (route ss s.answers) start.out.now g (record { entries = r.entries; taken = r.taken; how = how })
+  whole start r how g none first m e ss w =
+      let qs = s.answers in
+      let f = start.out.now in
+      let o = execs ss qs in
+      let v = subst (λ k. Walked s start (execs ss (drop k qs)) r how) first w in
+      let l = listing_all f m f [] 0 o.nodes (listing_first f) in
+      record {
+        counts = v.counts ∙ ap (λ k. counted k o.nodes) none ∙ l.counts;
+        wrote = e ∙ v.wrote ∙ ap (λ k. written f k o.nodes) none ∙ l.wrote;
+        took = omega (arith, v.took, first);
+        ended = ap end_of (sym v.ended);
+      }
 
-    -- A unit without statements.
-    pub whole_none : r.entries ≡ start.entries → r.taken ≡ start.taken → normal ≡ comp_at ns names r.how → label_in ns r.how → Shows ns names (route nil qs) f f r
-    unfolding exec
-    whole_none e t q l = whole f nil (still f start r normal e t (omega (arith, first)) q l)
+-- A unit without statements: nothing is listed or taken.
+pub whole_none : (ns names qs f : List ℕ) (r : Run) → length f ≤ most → r.entries ≡ 0 → r.taken ≡ 0 → normal ≡ comp_at ns names r.how → Shows ns names (route nil qs) f f r
+unfolding exec written counted asks
+whole_none ns names qs f r m e t q =
+    let l = listing_all f m f [] 0 [] (listing_first f) in
+    record { counts = e ∙ l.counts; wrote = l.wrote; took = t; ended = ap end_of (sym q) }

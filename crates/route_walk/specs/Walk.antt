@@ -1,15 +1,16 @@
 -- A walk of the tree by the completion rules: what it lists, what it takes, how it completes.
-use Rattle.std.specs.Prelude.{ℕ, ◌+◌, ◌≤◌, ◌<◌, ◌≡◌, List, [], ◌∷◌, length, drop, set, Some}
+use Rattle.std.specs.Prelude.{ℕ, ◌+◌, ◌≤◌, ◌<◌, ◌≡◌, List, [], ◌∷◌, length, drop, set, get_or, Option, Some, None}
 use Rattle.table_records.specs.Table.{count}
 use Rattle.table_records.specs.Facts.{Tree, Named}
 use Rattle.route_completion.specs.Tree.{near, named}
-use Rattle.route_completion.specs.Sem.{Entry, Comp, normal, breaks, continues, returns, throws, spent, Out}
+use Rattle.route_completion.specs.Sem.{Entry, asked, Comp, normal, breaks, continues, returns, throws, spent, Out, out}
 use Rattle.route_completion.specs.Route.{node_of, asks, end_of, Route}
 use Rattle.route_list.specs.Listing.{next, saturated, laid}
 use Rattle.code_tree.specs.Labels.{name_id}
 use Rattle.code_tree.specs.Statements.{holder_of}
 use Rattle.code_layout.specs.Shaped.{Good, Held}
 use Rattle.route_walk.specs.declared.Run.{Run}
+use Rattle.route_walk.specs.declared.Progress.{Progress}
 use Rattle.route_walk.specs.declared.Completion.{Completion}
 use Rattle.route_walk.specs.declared.Completion.TheVariants as how
 
@@ -62,15 +63,33 @@ unfoldable pub counted : ℕ → List Entry → ℕ
 counted n [] = n
 counted n (e ∷ es) = counted (next n) es
 
--- From `start`, with the slice f, the walk has done what o says, and stands at r, with the slice g; qs are all answers.
-pub record Walked (ns names qs f : List ℕ) (start : Run) (o : Out) (g : List ℕ) (r : Run) : Type 0 where
-  pub wrote : g ≡ written f start.entries o.nodes
+-- From `start` on a walk has done what o says, stands at r and completes as `how` says; s is what it reads.
+pub record Walked (s : Read) (start : Progress) (o : Out) (r : Progress) (how : Completion) : Type 0 where
+  pub same_slice : r.out.ghost_name ≡ start.out.ghost_name
+  pub wrote : r.out.now ≡ written start.out.now start.entries o.nodes
   pub counts : r.entries ≡ counted start.entries o.nodes
   pub took : r.taken ≡ start.taken + asks o.nodes
-  pub rest : o.rest ≡ drop r.taken qs
-  pub inside : r.taken ≤ length qs
-  pub ended : o.comp ≡ comp_at ns names r.how
-  pub label : label_in ns r.how
+  pub rest : o.rest ≡ drop r.taken s.answers
+  pub inside : r.taken ≤ length s.answers
+  pub ended : o.comp ≡ comp_at s.nodes s.names how
+  pub label : label_in s.nodes how
+
+-- The node n takes the next answer, a, and is listed as it does.
+pub record Answered (s : Read) (start : Progress) (n a : ℕ) (r : Progress) : Type 0 where
+  pub left : start.taken < length s.answers
+  pub answer : a ≡ get_or s.answers start.taken 0
+  pub taken : r.taken ≡ start.taken + 1
+  pub walked : Walked s start (out (asked n ∷ []) normal (drop (start.taken + 1) s.answers)) r how.Normal
+
+-- No answer is left, and nothing is done.
+pub record Unanswered (s : Read) (start r : Progress) : Type 0 where
+  pub none : length s.answers ≤ start.taken
+  pub same : r ≡ start
+
+-- The node n takes the next answer, where one is left.
+abbrev pub Takes : Read → Progress → ℕ → Progress → Option ℕ → Type 0
+Takes s start n r (Some a) = Answered s start n a r
+Takes s start n r None = Unanswered s start r
 
 -- What a whole walk comes to is the route w: its list, counted and laid over the slice f, which is then g; the answers taken; the end.
 pub record Shows (ns names : List ℕ) (w : Route) (f g : List ℕ) (r : Run) : Type 0 where

@@ -4,12 +4,12 @@
 ghost use Rattle.std.specs.Prelude.{◌≡◌, List, [], ◌∷◌, ℕ, ◌+◌, ◌<◌, ◌≤◌, length, drop};
 ghost use Rattle.table_records.specs.Table.{count};
 ghost use Rattle.table_records.specs.Roles as role;
-ghost use Rattle.route_completion.specs.Sem.{Out, plain, asked as ask', normal, out as outcome, is_normal, is_throw, is_spent, elem, loop_continues, comp_of, ask, loops, no_break, no_label, unbreak, unlabel, rounds, exec, execs};
+ghost use Rattle.route_completion.specs.Sem.{plain, normal, out as outcome, is_normal, is_throw, is_spent, elem, loop_continues, comp_of, ask, loops, no_break, no_label, unbreak, unlabel, rounds, exec, execs};
 ghost use Rattle.route_completion.specs.Route.{end_of, route};
 ghost use Rattle.code_tree.specs.Labels.{name_id, id_at};
 ghost use Rattle.code_tree.specs.Parts.{up_of, parts};
 ghost use Rattle.code_tree.specs.Statements.{leaf_at, before_at, test_at, list_of, one_of, unit_of};
-ghost use Rattle.route_walk.specs.Walk.{Enterable, comp_at, label_in, Walked, Shows};
+ghost use Rattle.route_walk.specs.Walk.{Read, Enterable, comp_at, label_in, Walked, Takes, Shows};
 ghost use Rattle.route_steps.specs.Statement.{labels_of, statement};
 ghost use Rattle.route_steps.specs.Steps.{First, part_of, branch_of, cases_from, from_default, role_in, ran_of, caught_by, finally_by};
 
@@ -34,7 +34,7 @@ pub enum Completion {
     Spent,
 }
 
-// How far a walk has come: the entries listed, the answers taken, and how its last statement completed.
+// What a walk comes to: the entries listed, the answers taken, and how its last statement completed.
 #[derive(Clone, Copy)]
 pub struct Run {
     pub entries: u64,
@@ -58,6 +58,15 @@ impl<'a> Model for Given<'a> {
     ghost view = { λ a. record { nodes = a.nodes.now; names = a.names.now; answers = a.answers.now } };
 
     ghost invariant = { λ a. Walkable a.nodes.now a.names.now };
+}
+
+// What a walk writes, and how far it has come: the list as its caller gets it, the entries listed, the answers taken. It stands beside what the walk reads: one
+// struct of both was tried, in which each function promises that the tables and answers stay, and the proof of that form didn't close.
+#[derive(Drop)]
+struct Progress<'a> {
+    out: &'a mut [u32],
+    entries: u64,
+    taken: usize,
 }
 
 fn is_normal(how: Completion) -> bool
@@ -90,6 +99,7 @@ fn unbroken(how: Completion) -> Completion
 }
 
 // A break to the label of p, at p.
+#[inline(never)]
 fn unlabelled(given: &Given, p: NodeId, how: Completion) -> Completion
     requires p_bound { p.0 < count given.now.nodes }
     requires label_in { label_in given.now.nodes how }
@@ -106,7 +116,9 @@ fn unlabelled(given: &Given, p: NodeId, how: Completion) -> Completion
     }
 }
 
-// Whether a Labeled of the name of l is p, or stands right above it.
+// Whether a Labeled of the name of l is p, or stands right above it. It stands apart from the loops that ask for it: put into them, their frames, which each
+// level of loops takes, would be half as large again.
+#[inline(never)]
 #[tactic(auto, using(route_steps::proofs::StatementLaws::labels_hit, route_steps::proofs::StatementLaws::labels_next, route_steps::proofs::StatementLaws::labels_stop, route_steps::proofs::StatementLaws::labeled_inner))]
 fn has_label(given: &Given, p: NodeId, l: NodeId) -> bool
     requires p_bound { p.0 < count given.now.nodes }
@@ -255,267 +267,203 @@ fn part_with_role(given: &Given, p: NodeId, r: u32) -> Option<NodeId>
     }
 }
 
-// A node is listed.
-#[inline(never)]
-fn listed(out: &mut [u32], n: NodeId, start: Run) -> Run
-    ensures by_index { (ns names qs : List ℕ) → start.taken ≤ length qs → Walked ns names qs out.old start (outcome (plain n.0 ∷ []) normal (drop start.taken qs)) out.new result }
-    ensures taken_value { result.taken ≡ start.taken }
-{
-    Run {
-        entries: route_list::add(out, start.entries, n.0),
-        how: Completion::Normal,
-        ..start
+impl<'a> Progress<'a> {
+    // A node is listed.
+    #[inline(never)]
+    fn list(&mut self, n: NodeId)
+        ensures { (s : Read) → self.old.taken ≤ length s.answers → Walked s self.old (outcome (plain n.0 ∷ []) normal (drop self.old.taken s.answers)) self.new Completion.Normal }
+    {
+        self.entries = route_list::add(self.out, self.entries, n.0);
     }
-}
 
-// A node is listed as it takes an answer.
-#[inline(never)]
-fn asked(given: &Given, out: &mut [u32], n: NodeId, start: Run) -> Run
-    requires { start.taken < length given.now.answers }
-    ensures by_index { (ns names : List ℕ) → Walked ns names given.now.answers out.old start (outcome (ask' n.0 ∷ []) normal (drop (start.taken + 1) given.now.answers)) out.new result }
-    ensures taken_value { result.taken ≡ start.taken + 1 }
-{
-    let _ = &given.answers; // names a field, so that the invariant is known
-    Run {
-        entries: route_list::add(out, start.entries, n.0),
-        taken: start.taken + 1,
-        how: Completion::Normal,
+    // The next answer, which the node n takes and is listed as it does; none where none is left.
+    #[inline(never)]
+    fn take_answer(&mut self, given: &Given, n: NodeId) -> Option<u32>
+        requires { self.old.taken ≤ length given.now.answers }
+        ensures { Takes given.now self.old n.0 self.new result }
+    {
+        let at = self.taken;
+        if given.answers.len() <= at {
+            return None;
+        }
+        self.entries = route_list::add(self.out, self.entries, n.0);
+        self.taken = at + 1;
+        Some(given.answers[at])
     }
 }
 
 // A statement without parts.
 #[inline(never)]
-fn walk_leaf(given: &Given, out: &mut [u32], n: NodeId, start: Run) -> Run
+fn walk_leaf(given: &Given, progress: &mut Progress, n: NodeId) -> Completion
     requires n_bound { n.0 < count given.now.nodes }
-    ensures { (qs : List ℕ) → start.taken ≤ length qs → Walked given.now.nodes given.now.names qs out.old start (outcome (plain n.0 ∷ []) (comp_of (leaf_at given.now.nodes given.now.names n.0)) (drop start.taken qs)) out.new result }
+    ensures { (qs : List ℕ) → progress.old.taken ≤ length qs → Walked (record given.now { answers = qs }) progress.old (outcome (plain n.0 ∷ []) (comp_of (leaf_at given.now.nodes given.now.names n.0)) (drop progress.old.taken qs)) progress.new result }
 {
-    let how = completion_of(given, n);
-    Run {
-        entries: route_list::add(out, start.entries, n.0),
-        how,
-        ..start
-    }
-}
-
-// What a loop or a switch leaves: a break without a label ends there.
-fn left(run: Run) -> Run
-    ensures { (ns names qs f g : List ℕ) (start : Run) (o : Out) → Walked ns names qs f start o g run → Walked ns names qs f start (unbreak o) g result }
-{
-    Run {
-        how: unbroken(run.how),
-        ..run
-    }
-}
-
-// What the Labeled p leaves: a break to its label ends there.
-#[inline(never)]
-#[tactic(auto, using(crate::proofs::WalkLaws::ends_as))]
-fn left_label(given: &Given, p: NodeId, run: Run) -> Run
-    requires p_bound { p.0 < count given.now.nodes }
-    requires label_in { label_in given.now.nodes run.how }
-    ensures { (qs f g : List ℕ) (start : Run) (o : Out) → Walked given.now.nodes given.now.names qs f start o g run → Walked given.now.nodes given.now.names qs f start (unlabel (id_at given.now.nodes given.now.names p.0) o) g result }
-{
-    Run {
-        how: unlabelled(given, p, run.how),
-        ..run
-    }
+    progress.list(n);
+    completion_of(given, n)
 }
 
 // This and what else `walk_node` calls is `inline(never)`: put into it, the frames of all would be one, which each level of statements would take.
 // What the node n holds, where that is one statement.
 #[inline(never)]
 #[cycle(walk)]
-fn walk_one(given: &Given, out: &mut [u32], n: NodeId, start: Run) -> Run
+fn walk_one(given: &Given, progress: &mut Progress, n: NodeId) -> Completion
     requires n_bound { n.0 < count given.now.nodes }
-    requires taken_in_bounds { start.taken ≤ length given.now.answers }
-    ensures { Walked given.now.nodes given.now.names given.now.answers out.old start (exec (one_of (statement given.now.nodes given.now.names) (parts given.now.nodes n.0 (n.0 + 1))) (labels_of given.now.nodes given.now.names n.0) (drop start.taken given.now.answers)) out.new result }
+    requires taken_in_bounds { progress.old.taken ≤ length given.now.answers }
+    ensures { Walked given.now progress.old (exec (one_of (statement given.now.nodes given.now.names) (parts given.now.nodes n.0 (n.0 + 1))) (labels_of given.now.nodes given.now.names n.0) (drop progress.old.taken given.now.answers)) progress.new result }
 {
     let _ = &given.nodes; // names a field, so that the invariant is known
     let Some(c) = next_part(given, n, n.0 + 1) else {
-        return Run {
-            how: Completion::Normal,
-            ..start
-        };
+        return Completion::Normal;
     };
-    walk_node(given, out, c, start)
+    walk_node(given, progress, c)
 }
 
 // 14.2.2, StatementList: the parts of n from a node on, one behind the other.
 #[tactic(auto, using(route_steps::proofs::StepsLaws::first_low_lem))]
 #[cycle(walk)]
-fn walk_parts(given: &Given, out: &mut [u32], n: NodeId, from: u32, start: Run) -> Run
+fn walk_parts(given: &Given, progress: &mut Progress, n: NodeId, from: u32) -> Completion
     requires n_lt_from { n.0 < from }
     requires from_bound { from ≤ count given.now.nodes }
     requires n_value { labels_of given.now.nodes given.now.names n.0 ≡ [] }
-    requires taken_in_bounds { start.taken ≤ length given.now.answers }
-    ensures { Walked given.now.nodes given.now.names given.now.answers out.old start (execs (list_of (statement given.now.nodes given.now.names) (parts given.now.nodes n.0 from)) (drop start.taken given.now.answers)) out.new result }
+    requires taken_in_bounds { progress.old.taken ≤ length given.now.answers }
+    ensures { Walked given.now progress.old (execs (list_of (statement given.now.nodes given.now.names) (parts given.now.nodes n.0 from)) (drop progress.old.taken given.now.answers)) progress.new result }
 {
     let _ = &given.nodes; // names a field, so that the invariant is known
-    let mut run = start;
     let mut i = from;
-    loop {
-        let Some(c) = next_part(given, n, i) else {
-            return Run {
-                how: Completion::Normal,
-                ..run
-            };
-        };
-        let done = walk_node(given, out, c, run);
-        if !is_normal(done.how) {
+    while let Some(c) = next_part(given, n, i) {
+        let done = walk_node(given, progress, c);
+        if !is_normal(done) {
             return done;
         }
-        run = done;
         i = c.0 + 1;
     }
+    Completion::Normal
 }
 
 // 14.6.2, the If n.
 #[inline(never)]
 #[cycle(walk)]
-fn walk_if(given: &Given, out: &mut [u32], n: NodeId, start: Run) -> Run
+fn walk_if(given: &Given, progress: &mut Progress, n: NodeId) -> Completion
     requires n_bound { n.0 < count given.now.nodes }
     requires n_value { labels_of given.now.nodes given.now.names n.0 ≡ [] }
-    requires taken_in_bounds { start.taken ≤ length given.now.answers }
-    ensures { Walked given.now.nodes given.now.names given.now.answers out.old start (ask n.0 (drop start.taken given.now.answers) (λ a r. ran_of (statement given.now.nodes given.now.names) (branch_of given.now.nodes (parts given.now.nodes n.0 (n.0 + 1)) a) r)) out.new result }
+    requires taken_in_bounds { progress.old.taken ≤ length given.now.answers }
+    ensures { Walked given.now progress.old (ask n.0 (drop progress.old.taken given.now.answers) (λ a r. ran_of (statement given.now.nodes given.now.names) (branch_of given.now.nodes (parts given.now.nodes n.0 (n.0 + 1)) a) r)) progress.new result }
 {
-    let at = start.taken;
-    if given.answers.len() <= at {
-        return Run {
-            how: Completion::Spent,
-            ..start
-        };
-    }
-    let a = given.answers[at];
-    let next = asked(given, out, n, start);
-    let Some(c) = branch_of(given, n, a) else {
-        return next;
+    let Some(a) = progress.take_answer(given, n) else {
+        return Completion::Spent;
     };
-    walk_node(given, out, c, next)
+    let Some(c) = branch_of(given, n, a) else {
+        return Completion::Normal;
+    };
+    walk_node(given, progress, c)
 }
 
 // 14.7.3.2, the turns of the loop n, from its next answer on.
 #[inline(never)]
 #[cycle(walk)]
-fn walk_turns(given: &Given, out: &mut [u32], n: NodeId, start: Run) -> Run
+fn walk_turns(given: &Given, progress: &mut Progress, n: NodeId) -> Completion
     requires n_nonzero { 0 < n.0 }
     requires n_bound { n.0 < count given.now.nodes }
     requires n_value { labels_of given.now.nodes given.now.names n.0 ≡ [] }
-    requires taken_in_bounds { start.taken ≤ length given.now.answers }
-    ensures { Walked given.now.nodes given.now.names given.now.answers out.old start (rounds n.0 (test_at given.now.nodes n.0) (labels_of given.now.nodes given.now.names (up_of given.now.nodes n.0)) (λ r. exec (one_of (statement given.now.nodes given.now.names) (parts given.now.nodes n.0 (n.0 + 1))) [] r) (drop start.taken given.now.answers)) out.new result }
+    requires taken_in_bounds { progress.old.taken ≤ length given.now.answers }
+    ensures { Walked given.now progress.old (rounds n.0 (test_at given.now.nodes n.0) (labels_of given.now.nodes given.now.names (up_of given.now.nodes n.0)) (λ r. exec (one_of (statement given.now.nodes given.now.names) (parts given.now.nodes n.0 (n.0 + 1))) [] r) (drop progress.old.taken given.now.answers)) progress.new result }
 {
     let heeds = code_shapes::has_test(given.nodes, n);
-    let mut run = start;
-    while run.taken < given.answers.len() {
-        let at = run.taken;
-        let a = given.answers[at];
-        let next = asked(given, out, n, run);
+    while let Some(a) = progress.take_answer(given, n) {
         if heeds && a == 0 {
-            return next;
+            return Completion::Normal;
         }
-        let done = walk_one(given, out, n, next);
-        if !loop_continues(given, n, done.how) {
+        let done = walk_one(given, progress, n);
+        if !loop_continues(given, n, done) {
             return done;
         }
-        run = done;
     }
-    Run {
-        how: Completion::Spent,
-        ..run
-    }
+    Completion::Spent
 }
 
 // 14.7.1.2, the loop n: a DoWhile runs its body before the first answer.
 #[inline(never)]
 #[cycle(walk)]
-fn walk_loop(given: &Given, out: &mut [u32], n: NodeId, start: Run) -> Run
+fn walk_loop(given: &Given, progress: &mut Progress, n: NodeId) -> Completion
     requires n_nonzero { 0 < n.0 }
     requires n_bound { n.0 < count given.now.nodes }
     requires n_value { labels_of given.now.nodes given.now.names n.0 ≡ [] }
-    requires taken_in_bounds { start.taken ≤ length given.now.answers }
-    ensures { Walked given.now.nodes given.now.names given.now.answers out.old start (unbreak (loops (before_at given.now.nodes n.0) n.0 (test_at given.now.nodes n.0) (labels_of given.now.nodes given.now.names (up_of given.now.nodes n.0)) (λ r. exec (one_of (statement given.now.nodes given.now.names) (parts given.now.nodes n.0 (n.0 + 1))) [] r) (drop start.taken given.now.answers))) out.new result }
+    requires taken_in_bounds { progress.old.taken ≤ length given.now.answers }
+    ensures { Walked given.now progress.old (unbreak (loops (before_at given.now.nodes n.0) n.0 (test_at given.now.nodes n.0) (labels_of given.now.nodes given.now.names (up_of given.now.nodes n.0)) (λ r. exec (one_of (statement given.now.nodes given.now.names) (parts given.now.nodes n.0 (n.0 + 1))) [] r) (drop progress.old.taken given.now.answers))) progress.new result }
 {
     if code_shapes::is_before(given.nodes, n) {
-        let done = walk_turns(given, out, n, start);
-        return left(done);
+        let done = walk_turns(given, progress, n);
+        return unbroken(done);
     }
-    let first = walk_one(given, out, n, start);
-    if !loop_continues(given, n, first.how) {
-        return left(first);
+    let first = walk_one(given, progress, n);
+    if !loop_continues(given, n, first) {
+        return unbroken(first);
     }
-    let done = walk_turns(given, out, n, first);
-    left(done)
+    let done = walk_turns(given, progress, n);
+    unbroken(done)
 }
 
 // 14.12.2, the switch n: from the case that the answer picks, "later cases follow".
 #[inline(never)]
 #[cycle(walk)]
-fn walk_switch(given: &Given, out: &mut [u32], n: NodeId, start: Run) -> Run
+fn walk_switch(given: &Given, progress: &mut Progress, n: NodeId) -> Completion
     requires n_bound { n.0 < count given.now.nodes }
     requires n_value { labels_of given.now.nodes given.now.names n.0 ≡ [] }
-    requires taken_in_bounds { start.taken ≤ length given.now.answers }
-    ensures { Walked given.now.nodes given.now.names given.now.answers out.old start (ask n.0 (drop start.taken given.now.answers) (λ a r. unbreak (execs (list_of (statement given.now.nodes given.now.names) (cases_from given.now.nodes (parts given.now.nodes n.0 (n.0 + 1)) a)) r))) out.new result }
+    requires taken_in_bounds { progress.old.taken ≤ length given.now.answers }
+    ensures { Walked given.now progress.old (ask n.0 (drop progress.old.taken given.now.answers) (λ a r. unbreak (execs (list_of (statement given.now.nodes given.now.names) (cases_from given.now.nodes (parts given.now.nodes n.0 (n.0 + 1)) a)) r))) progress.new result }
 {
-    let at = start.taken;
-    if given.answers.len() <= at {
-        return Run {
-            how: Completion::Spent,
-            ..start
-        };
-    }
-    let a = given.answers[at];
-    let next = asked(given, out, n, start);
-    let Some(c) = case_of(given, n, a) else {
-        return next;
+    let _ = &given.nodes; // names a field, so that the invariant is known
+    let Some(a) = progress.take_answer(given, n) else {
+        return Completion::Spent;
     };
-    let done = walk_parts(given, out, n, c.0, next);
-    left(done)
+    let Some(c) = case_of(given, n, a) else {
+        return Completion::Normal;
+    };
+    let done = walk_parts(given, progress, n, c.0);
+    unbroken(done)
 }
 
 // 14.15.3, the Block of the Try n, and its catch where that throws.
 #[inline(never)]
 #[cycle(walk)]
-fn walk_caught(given: &Given, out: &mut [u32], n: NodeId, start: Run) -> Run
+fn walk_caught(given: &Given, progress: &mut Progress, n: NodeId) -> Completion
     requires n_bound { n.0 < count given.now.nodes }
     requires n_value { labels_of given.now.nodes given.now.names n.0 ≡ [] }
-    requires taken_in_bounds { start.taken ≤ length given.now.answers }
-    ensures { Walked given.now.nodes given.now.names given.now.answers out.old start (caught_by (statement given.now.nodes given.now.names) (role_in given.now.nodes n.0 role.Alternate) (ran_of (statement given.now.nodes given.now.names) (role_in given.now.nodes n.0 role.Held) (drop start.taken given.now.answers))) out.new result }
+    requires taken_in_bounds { progress.old.taken ≤ length given.now.answers }
+    ensures { Walked given.now progress.old (caught_by (statement given.now.nodes given.now.names) (role_in given.now.nodes n.0 role.Alternate) (ran_of (statement given.now.nodes given.now.names) (role_in given.now.nodes n.0 role.Held) (drop progress.old.taken given.now.answers))) progress.new result }
 {
     let Some(block) = part_with_role(given, n, roles::HELD) else {
-        return Run {
-            how: Completion::Normal,
-            ..start
-        };
+        return Completion::Normal;
     };
-    let done = walk_node(given, out, block, start);
+    let done = walk_node(given, progress, block);
     let Some(catch) = part_with_role(given, n, roles::ALTERNATE) else {
         return done;
     };
-    if !is_throw(done.how) {
+    if !is_throw(done) {
         return done;
     }
-    walk_node(given, out, catch, done)
+    walk_node(given, progress, catch)
 }
 
 // 14.15.3, the Try n: its finally runs on each way out, but where the answers are spent.
 #[inline(never)]
 #[cycle(walk)]
-fn walk_try(given: &Given, out: &mut [u32], n: NodeId, start: Run) -> Run
+fn walk_try(given: &Given, progress: &mut Progress, n: NodeId) -> Completion
     requires n_bound { n.0 < count given.now.nodes }
     requires n_value { labels_of given.now.nodes given.now.names n.0 ≡ [] }
-    requires taken_in_bounds { start.taken ≤ length given.now.answers }
-    ensures { Walked given.now.nodes given.now.names given.now.answers out.old start (finally_by (statement given.now.nodes given.now.names) (role_in given.now.nodes n.0 role.Finally) (caught_by (statement given.now.nodes given.now.names) (role_in given.now.nodes n.0 role.Alternate) (ran_of (statement given.now.nodes given.now.names) (role_in given.now.nodes n.0 role.Held) (drop start.taken given.now.answers)))) out.new result }
+    requires taken_in_bounds { progress.old.taken ≤ length given.now.answers }
+    ensures { Walked given.now progress.old (finally_by (statement given.now.nodes given.now.names) (role_in given.now.nodes n.0 role.Finally) (caught_by (statement given.now.nodes given.now.names) (role_in given.now.nodes n.0 role.Alternate) (ran_of (statement given.now.nodes given.now.names) (role_in given.now.nodes n.0 role.Held) (drop progress.old.taken given.now.answers)))) progress.new result }
 {
-    let done = walk_caught(given, out, n, start);
-    let how = done.how;
+    let done = walk_caught(given, progress, n);
     let Some(last) = part_with_role(given, n, roles::FINALLY) else {
         return done;
     };
-    if is_spent(how) {
+    if is_spent(done) {
         return done;
     }
-    let end = walk_node(given, out, last, done);
-    if is_normal(end.how) {
-        return Run { how, ..end };
+    let end = walk_node(given, progress, last);
+    if is_normal(end) {
+        return done;
     }
     end
 }
@@ -523,32 +471,32 @@ fn walk_try(given: &Given, out: &mut [u32], n: NodeId, start: Run) -> Run
 // One statement, by its shape.
 #[tactic(auto, using(route_steps::proofs::StatementLaws::labels_off, route_steps::proofs::StatementLaws::leaf_is, route_steps::proofs::StatementLaws::if_is, route_steps::proofs::StatementLaws::block_is_lem, route_steps::proofs::StatementLaws::case_is, route_steps::proofs::StatementLaws::loop_is, route_steps::proofs::StatementLaws::switch_is, route_steps::proofs::StatementLaws::try_is, route_steps::proofs::StatementLaws::catch_is))]
 #[cycle(walk)]
-fn walk_node(given: &Given, out: &mut [u32], n: NodeId, start: Run) -> Run
+fn walk_node(given: &Given, progress: &mut Progress, n: NodeId) -> Completion
     requires n_nonzero { 0 < n.0 }
     requires n_bound { n.0 < count given.now.nodes }
-    requires taken_in_bounds { start.taken ≤ length given.now.answers }
-    ensures { Walked given.now.nodes given.now.names given.now.answers out.old start (exec (statement given.now.nodes given.now.names n.0) (labels_of given.now.nodes given.now.names (up_of given.now.nodes n.0)) (drop start.taken given.now.answers)) out.new result }
+    requires taken_in_bounds { progress.old.taken ≤ length given.now.answers }
+    ensures { Walked given.now progress.old (exec (statement given.now.nodes given.now.names n.0) (labels_of given.now.nodes given.now.names (up_of given.now.nodes n.0)) (drop progress.old.taken given.now.answers)) progress.new result }
 {
     match shape_of(given.nodes, n) {
-        Shape::Leaf => walk_leaf(given, out, n, start),
+        Shape::Leaf => walk_leaf(given, progress, n),
         Shape::Class => {
-            let next = listed(out, n, start);
-            walk_parts(given, out, n, n.0 + 1, next)
+            progress.list(n);
+            walk_parts(given, progress, n, n.0 + 1)
         }
-        Shape::If => walk_if(given, out, n, start),
+        Shape::If => walk_if(given, progress, n),
         Shape::With => {
-            let next = listed(out, n, start);
-            walk_one(given, out, n, next)
+            progress.list(n);
+            walk_one(given, progress, n)
         }
-        Shape::Block | Shape::Case => walk_parts(given, out, n, n.0 + 1, start),
+        Shape::Block | Shape::Case => walk_parts(given, progress, n, n.0 + 1),
         Shape::Label => {
-            let done = walk_one(given, out, n, start);
-            left_label(given, n, done)
+            let done = walk_one(given, progress, n);
+            unlabelled(given, n, done)
         }
-        Shape::Loop => walk_loop(given, out, n, start),
-        Shape::Switch => walk_switch(given, out, n, start),
-        Shape::Try => walk_try(given, out, n, start),
-        Shape::Catch => walk_one(given, out, n, start),
+        Shape::Loop => walk_loop(given, progress, n),
+        Shape::Switch => walk_switch(given, progress, n),
+        Shape::Try => walk_try(given, progress, n),
+        Shape::Catch => walk_one(given, progress, n),
     }
 }
 
@@ -574,18 +522,27 @@ pub fn walk_unit(nodes: &[u32], names: &[u8], answers: &[u32], out: &mut [u32], 
     ensures { Shows nodes.now names.now (route (unit_of nodes.now names.now u.0) answers.now) out.old out.new result }
 {
     let nodes = &Nodes { numbers: nodes };
-    let start = Run {
-        entries: 0,
-        taken: 0,
-        how: Completion::Normal,
-    };
     let Some(b) = code_shapes::holder(nodes, u) else {
-        return start;
+        return Run {
+            entries: 0,
+            taken: 0,
+            how: Completion::Normal,
+        };
     };
     let given = Given {
         nodes,
         names,
         answers,
     };
-    walk_parts(&given, out, b, b.0 + 1, start)
+    let mut progress = Progress {
+        out,
+        entries: 0,
+        taken: 0,
+    };
+    let how = walk_parts(&given, &mut progress, b, b.0 + 1);
+    Run {
+        entries: progress.entries,
+        taken: progress.taken,
+        how,
+    }
 }
