@@ -11,11 +11,12 @@ pub struct Shape {
     pub routes: bool,
 }
 
-pub const SHAPES: [Shape; 19] = [
+pub const SHAPES: [Shape; 20] = [
     Shape { name: "depth 512", sizes: [8_192, 65_535], make: deep, routes: true },
     Shape { name: "one long block", sizes: [8_192, 65_535], make: long_block, routes: true },
     Shape { name: "labels nested", sizes: [8_192, 65_535], make: nested_labels, routes: true },
     Shape { name: "breaks deep down", sizes: [8_192, 65_535], make: deep_breaks, routes: true },
+    Shape { name: "loops in one another", sizes: [8_192, 65_535], make: loops, routes: true },
     Shape { name: "labelled breaks deep down", sizes: [8_192, 65_535], make: labelled_breaks, routes: true },
     Shape { name: "labels behind bodies, 16 around breaks", sizes: [1_024, 8_192], make: late_labels, routes: true },
     Shape { name: "class: private elements", sizes: [2_500, 20_000], make: private_elements, routes: false },
@@ -189,6 +190,17 @@ fn deep_breaks(nodes: usize) -> OwnedTables {
     m.open(10, 3, NAMELESS);
     (2..=510).for_each(|_| m.open(5, 3, NAMELESS));
     (m.nodes()..nodes).for_each(|_| m.leaf(18, 3, NAMELESS));
+    m.t
+}
+
+/// Chains of While, each with a statement at the bottom.
+fn loops(nodes: usize) -> OwnedTables {
+    let mut m = Maker::new();
+    while m.nodes() + 511 <= nodes {
+        (1..=510).for_each(|_| m.open(10, 3, NAMELESS));
+        m.leaf(22, 3, NAMELESS);
+        m.close_to(1);
+    }
     m.t
 }
 

@@ -3,6 +3,7 @@
 use std::hint::black_box;
 use std::thread;
 
+use plain::reader::OwnedTables;
 use velkunshe::{Marks, Rule, Stop};
 
 use crate::calls::{CALLS, Input, Slices};
@@ -49,9 +50,14 @@ pub fn print() {
     let small =
         || SHAPES.iter().flat_map(|s| [250, SMALL].map(|size| (s.make)(size))).filter(|t| t.nodes.len() / 10 <= SMALL);
     let large = || SHAPES.iter().map(|s| (s.make)(s.sizes[1]));
-    let inputs =
-        |tables: Vec<_>| -> Vec<Input> { tables.into_iter().map(|t| Input::new(t, shapes::answers(SMALL))).collect() };
-    let (small, large) = (inputs(small().collect()), inputs(large().collect()));
+    // the answers of the shapes, and as many yes as let a route into the innermost of all loops
+    let inputs = |tables: &dyn Fn() -> Vec<OwnedTables>| -> Vec<Input> {
+        [shapes::answers(SMALL), vec![1; SMALL]]
+            .into_iter()
+            .flat_map(|answers| tables().into_iter().map(move |t| Input::new(t, answers.clone())))
+            .collect()
+    };
+    let (small, large) = (inputs(&|| small().collect()), inputs(&|| large().collect()));
     let (mut narrow, mut wide) = (Slices::for_all(&small), Slices::for_all(&large));
     println!("stack: the most bytes that a call takes on the shapes, up to {SMALL} nodes and up to 65,535");
     println!("{:44} {:>10} {:>10}", "call", "small", "large");

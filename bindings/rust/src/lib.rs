@@ -20,7 +20,7 @@
 //! another limit.
 //!
 //! The library asks for no memory of its own. It needs stack, at most [`STACK`] bytes: the main thread and a thread that Rust makes have more,
-//! unless they are asked for less.
+//! unless they are asked for less. For a rule of at most 1,024 nodes and 1,024 scopes 128 KB are enough.
 //!
 //! Codes, contexts, ends, reasons of refusals and kinds of node are enums that may grow: a number that this version does not know is
 //! `Unknown`, with that number. Each has its [`number`](Code::number), and says in words what it is.

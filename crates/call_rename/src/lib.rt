@@ -65,7 +65,8 @@ fn labels(
     }
 }
 
-// Writes the tables of a rule with its labels renamed to short names.
+// Writes the tables of a rule with its labels renamed to short names. It takes five parts of a rule, and no `Rule`: nothing here asks for the option on
+// async bodies.
 #[tactic(auto, using(refusal_verdict::proofs::VerdictLaws::handed, crate::proofs::RenameLaws::sized, crate::proofs::RenameLaws::input_refused, crate::proofs::RenameLaws::input_passed))]
 pub fn rename(
     source_type: u32,

@@ -42,17 +42,18 @@ pub fn check_async_bodies(nodes: &Nodes, scopes: &[u32], n: NodeId, findings: &m
     ensures adds { Adds findings.old findings.new (async_bodies_at nodes.now scopes.now n.0) }
     ensures upper_bound { findings.new.raised ≤ findings.old.raised + 14 }
 {
-    if table_scoping::strict_mode(nodes, scopes, n) {
+    let numbers = nodes.numbers;
+    if table_scoping::strict_mode(numbers, scopes, n) {
         return;
     }
-    match table_records::kind(nodes, n) {
+    match table_records::kind(numbers, n) {
         kinds::IF => {
-            let a = check_async_body(nodes, n, table_children::held_of(nodes, n));
-            let b = check_async_body(nodes, n, table_children::alternate_of(nodes, n));
+            let a = check_async_body(numbers, n, table_children::held_of(nodes, n));
+            let b = check_async_body(numbers, n, table_children::alternate_of(nodes, n));
             findings.raise_all(&[a, b]);
         }
         kinds::LABELED => {
-            let a = check_async_body(nodes, n, table_children::held_of(nodes, n));
+            let a = check_async_body(numbers, n, table_children::held_of(nodes, n));
             findings.raise(a);
         }
         _ => (),

@@ -47,8 +47,8 @@ pub fn hash(name: &[u8]) -> u32
     ensures { result ≡ hash name.now }
 {
     let mut h: u32 = 0;
-    for i in 0..name.len() {
-        h = h.wrapping_mul(33).wrapping_add(name[i] as u32);
+    for byte in name {
+        h = h.wrapping_mul(33).wrapping_add(u32::from(*byte));
     }
     h
 }

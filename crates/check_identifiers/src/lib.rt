@@ -83,7 +83,7 @@ pub fn check_identifier(
     requires n_bound { n.0 < count nodes.now }
     ensures { result ≡ check_identifier source_type nodes.now scopes.now names.now n.0 }
 {
-    let nodes = &Nodes { numbers: nodes };
+    let tree = &Nodes { numbers: nodes };
     if name_is(nodes, names, n, b"await") {
         return check_await(source_type, nodes, scopes, n);
     }
@@ -93,7 +93,7 @@ pub fn check_identifier(
     if !strict_mode(nodes, scopes, n) {
         return None;
     }
-    let context = unexpected_identifier_assign_context(source_type, nodes, n);
+    let context = unexpected_identifier_assign_context(source_type, tree, n);
     error_at(nodes, codes::RESERVED_KEYWORD, n, n, context)
 }
 
@@ -152,16 +152,16 @@ pub fn check_binding_identifier(
     requires n_bound { n.0 < count nodes.now }
     ensures { result ≡ check_binding_identifier source_type nodes.now scopes.now names.now n.0 }
 {
-    let nodes = &Nodes { numbers: nodes };
+    let tree = &Nodes { numbers: nodes };
     if strict_mode(nodes, scopes, n) {
         if is_eval_or_arguments(nodes, names, n) {
-            let context = unexpected_identifier_assign_context(source_type, nodes, n);
+            let context = unexpected_identifier_assign_context(source_type, tree, n);
             return error_at(nodes, codes::UNEXPECTED_IDENTIFIER_ASSIGN, n, n, context);
         }
         return None;
     }
     if name_is(nodes, names, n, b"let") {
-        return let_declared(nodes, n);
+        return let_declared(tree, n);
     }
     None
 }
@@ -191,19 +191,19 @@ fn arguments_in_class(nodes: &Nodes, n: NodeId) -> Option<Finding>
     requires n_bound { n.0 < count nodes.now }
     ensures { result ≡ arguments_from nodes.now n.0 n.0 }
 {
-    let _ = &nodes.numbers; // names the field, so that its invariant is known
+    let numbers = nodes.numbers; // names the field, so that its invariant is known
     let mut previous = n;
     loop {
         if previous.0 == 0 {
             break None;
         }
         let at = up(nodes, previous);
-        let k = table_records::kind(nodes, at);
+        let k = table_records::kind(numbers, at);
         if k == kinds::FUNCTION {
             break None;
         }
         if k == kinds::STATIC_BLOCK || is_field_value(nodes, at, previous) {
-            break error_at(nodes, codes::UNEXPECTED_ARGUMENTS, n, n, contexts::NONE);
+            break error_at(numbers, codes::UNEXPECTED_ARGUMENTS, n, n, contexts::NONE);
         }
         previous = at;
     }
@@ -232,18 +232,18 @@ pub fn check_identifier_reference(
     requires n_bound { n.0 < count nodes.now }
     ensures { result ≡ check_identifier_reference source_type nodes.now scopes.now names.now n.0 }
 {
-    let nodes = &Nodes { numbers: nodes };
+    let tree = &Nodes { numbers: nodes };
     if is_invalid_target(nodes, scopes, names, n) {
-        let context = unexpected_identifier_assign_context(source_type, nodes, n);
+        let context = unexpected_identifier_assign_context(source_type, tree, n);
         return error_at(nodes, codes::UNEXPECTED_IDENTIFIER_ASSIGN, n, n, context);
     }
     if !name_is(nodes, names, n, b"arguments") {
         return None;
     }
-    if !has_ancestor(nodes, n, kinds::CLASS_BODY, kinds::CLASS_BODY) {
+    if !has_ancestor(tree, n, kinds::CLASS_BODY, kinds::CLASS_BODY) {
         return None;
     }
-    arguments_in_class(nodes, n)
+    arguments_in_class(tree, n)
 }
 
 // The node whose scope is current at n: n itself or one above it.
@@ -280,7 +280,7 @@ pub fn check_directive(nodes: &[u32], scopes: &[u32], names: &[u8], n: NodeId) -
     requires n_bound { n.0 < count nodes.now }
     ensures { result ≡ check_directive nodes.now scopes.now names.now n.0 }
 {
-    let nodes = &Nodes { numbers: nodes };
+    let tree = &Nodes { numbers: nodes };
     if !name_is(nodes, names, n, b"use strict") {
         return None;
     }
@@ -290,7 +290,7 @@ pub fn check_directive(nodes: &[u32], scopes: &[u32], names: &[u8], n: NodeId) -
     ) {
         return None;
     }
-    if !is_not_simple(nodes, current_scope_node(nodes, scopes, n)) {
+    if !is_not_simple(nodes, current_scope_node(tree, scopes, n)) {
         return None;
     }
     error_at(nodes, codes::ILLEGAL_USE_STRICT, n, n, contexts::NONE)

@@ -68,7 +68,8 @@ fn labeled_item(nodes: &Nodes, labeled: NodeId) -> NodeId
     }
 }
 
-// A break without a label, or else a continue: the nearest loop is its target, and of a break the nearest switch too.
+// A break without a label, or else a continue: the nearest loop is its target, and of a break the nearest switch too. A flag and no closure for the test:
+// the gate holds each walk up free of divisions (tests/walks.sh), and follows calls by name.
 #[tactic(auto, using(crate::proofs::JumpsLaws::walk_up_lem, crate::proofs::JumpsLaws::walk_root), unfolding(crate::specs::Jumps::plain_break_at, crate::specs::Jumps::plain_continue_at))]
 fn plain_jump(nodes: &Nodes, n: NodeId, is_break: bool) -> Option<Finding>
     requires n_bound { n.0 < count nodes.now }

@@ -108,21 +108,22 @@ pub fn check_string_literal(
     requires n_bound { n.0 < count nodes.now }
     ensures { result ≡ check_string_literal nodes.now scopes.now source.now n.0 }
 {
-    if !table_scoping::strict_mode(nodes, scopes, n) {
+    let numbers = nodes.numbers;
+    if !table_scoping::strict_mode(numbers, scopes, n) {
         return None;
     }
     if table_ancestry::parent_kind(nodes, n) == kinds::JSX_ATTRIBUTE {
         return None;
     }
-    let raw = source_text(nodes, source, n);
+    let raw = source_text(numbers, source, n);
     // every escape is longer than what it stands for, and the quotes are two bytes
-    if raw.len() == table_records::extra(nodes, n) as usize + 2 {
+    if raw.len() == table_records::extra(numbers, n) as usize + 2 {
         return None;
     }
     match first_bad_escape(raw) {
-        Some(Escape::LegacyOctal(i)) => error_escape(nodes, codes::LEGACY_OCTAL, n, i),
+        Some(Escape::LegacyOctal(i)) => error_escape(numbers, codes::LEGACY_OCTAL, n, i),
         Some(Escape::NonOctalDecimal(i)) => error_escape(
-            nodes,
+            numbers,
             codes::NON_OCTAL_DECIMAL_ESCAPE_SEQUENCE,
             n,
             i,

@@ -117,12 +117,12 @@ fn first_class(nodes: &Nodes) -> Option<NodeId>
     ensures value { result ≡ first_class nodes.now }
     ensures below { below nodes.now result }
 {
-    let _ = &nodes.numbers; // names the field, so that its invariant is known
+    let numbers = nodes.numbers; // names the field, so that its invariant is known
     for i in 0.. {
-        if !table_records::is_node(nodes, i) {
+        if !table_records::is_node(numbers, i) {
             break;
         }
-        if table_records::kind(nodes, NodeId(i)) == kinds::CLASS_BODY {
+        if table_records::kind(numbers, NodeId(i)) == kinds::CLASS_BODY {
             return Some(NodeId(i));
         }
     }

@@ -22,7 +22,8 @@ use table_names::named::NamedNodes;
 use table_records::nodes::Nodes;
 use table_records::{NodeId, kinds, roles};
 
-// The tables, the node that holds the unit's statements, and the arrays of the code maker, once each node has its place.
+// The tables, the node that holds the unit's statements, and the arrays of the code maker, once each node has its place. Two functions make a `NamedNodes` of the
+// tables; with one in their place, all that read the nodes would go by it.
 #[derive(Drop)]
 pub struct Layout<'a> {
     pub nodes: &'a Nodes<'a>,

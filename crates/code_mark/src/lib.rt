@@ -202,7 +202,7 @@ fn mark_rest(code: &mut [u32])
     }
 }
 
-// Marks what a path reaches from the code's start.
+// Marks what a path reaches from the code's start. That the numbers are a code is a `requires` and no type: they are written here, and are none afterwards.
 pub fn mark_reached(code: &mut [u32])
     requires { Valid code.old }
     ensures { Marked code.old code.new }
@@ -232,6 +232,7 @@ pub fn new_length(code: &[u32]) -> usize
 }
 
 // Where the front ends: the first place behind the new length where an instruction begins, or the end.
+#[tactic(auto, using(crate::proofs::KeptLaws::splitting_first))]
 pub fn split_of(code: &[u32], new_length: usize) -> usize
     ensures value { (C : List ℕ) → Valid C → Marked C code.now → new_length ≡ length (shorter C) → Split C result }
     ensures upper_bound { result ≤ length code.now }

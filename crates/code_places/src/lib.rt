@@ -40,8 +40,8 @@ fn fill_rest(index: &mut [Stride], from: usize, stride: Stride)
     ensures before { (k : ℕ) → k < from → stride_in index.new k ≡ stride_in index.old k }
     ensures rest { (k : ℕ) → from ≤ k → k < length index.old → stride_in index.new k ≡ stride }
 {
-    for k in from..index.len() {
-        index[k] = stride;
+    if from < index.len() {
+        index[from..].fill(stride);
     }
 }
 

@@ -36,10 +36,10 @@ pub fn size_at(code: &[u32], p: usize) -> usize
 
 // A code, by how its instructions are read.
 pub trait Code: Copy {
-    // The instruction that begins at a place; NONE where there is none, or the end cuts it off.
+    // The instruction that is read at a place; NONE where none is.
     ghost instruction: { Self → ℕ → Instr };
 
-    // How many numbers the instruction takes that begins at p; 0 where none does, or the end cuts it off.
+    // How many numbers the instruction takes that is read at p; 0 where none is.
     fn size_at(self, p: usize) -> usize
         ensures value { result ≡ len (instruction self p) }
         ensures fits { p + result < 2 ^ 64 };
@@ -211,6 +211,7 @@ impl Indexed<'_> {
         ensures { result ≡ first_bad (parse self.now.code.now) (parse self.now.code.now) 0 }
     {
         let mut instructions = Instructions::between(Plain(self.code), 0, self.code.len());
+        // A `for` over a `&mut` was tried: behind it the proof has no name of its own for where the walk stopped.
         while let Some(instruction) = instructions.next() {
             if !self.sound_at(instruction.place, instruction.size) {
                 return Err(instruction.place as u64);

@@ -202,6 +202,7 @@ impl Noted<'_> {
     }
 }
 
+// One function for each sentence of refusal 14. Some differ in the sort that they ask for alone: what they share is `has_one`, `has_more` and `has_none`.
 #[tactic(auto, unfolding(crate::specs::Counts::wrong_body))]
 fn wrong_body(noted: &Noted) -> bool
     ensures { result ≡ wrong_body noted.now.nodes.now noted.now.node.0 }

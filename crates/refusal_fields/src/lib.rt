@@ -27,7 +27,7 @@ fn wrong_table(len: usize, width: usize) -> bool
     len == 0 || len % width != 0 || MOST_RECORDS < len / width
 }
 
-// Whether a size is wrong.
+// Whether a size is wrong. It takes the parts of a rule that have a size, and no `Rule`: the option on async bodies has none.
 #[tactic(auto, unfolding(crate::specs::Fields::wrong_sizes))]
 pub fn wrong_sizes(
     source_type: u32,

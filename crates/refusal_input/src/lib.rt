@@ -20,12 +20,11 @@ fn failing(nodes: &Nodes, scopes: &Scopes) -> Option<u32>
     requires scoped { Scoped nodes.now scopes.now }
     ensures { result ≡ first (fails_at nodes.now scopes.now) 0 (count nodes.now) }
 {
-    for i in 0..table_records::size(nodes) {
-        if check_super_search::fails_at(nodes, scopes, NodeId(i)) {
-            return Some(i);
-        }
-    }
-    None
+    (0..table_records::size(nodes)).find(|&i| check_super_search::fails_at(
+        nodes,
+        scopes,
+        NodeId(i),
+    ))
 }
 
 // 13, 14, 6 and 15, each over the whole tree.
@@ -40,8 +39,8 @@ fn shape_refusal(nodes: &Nodes, scopes: &Scopes) -> Result<(), Refused>
     Refusal::ReturnInStatic.at(refusal_return::return_in_static(nodes))
 }
 
-// The refusal of the input.
-#[tactic(auto, using(refusal_verdict::proofs::VerdictLaws::handed, refusal_verdict::proofs::VerdictLaws::stopped, refusal_verdict::proofs::VerdictLaws::cleared, refusal_verdict::proofs::VerdictLaws::went_on, refusal_fields::proofs::FieldsLaws::sizes_of, refusal_scopes::proofs::ScopesLaws::chained_of, refusal_scopes::proofs::ScopesLaws::scoped_of, refusal_tree::proofs::TreeLaws::tree_of), unfolding(crate::specs::Input::input_refusal, crate::specs::Input::tables_or))]
+// The refusal of the input. It takes five parts of a rule, and no `Rule`: no refusal asks for the option on async bodies.
+#[tactic(auto, using(refusal_verdict::proofs::VerdictLaws::handed, refusal_verdict::proofs::VerdictLaws::stopped, refusal_verdict::proofs::VerdictLaws::went_on, refusal_fields::proofs::FieldsLaws::sizes_of), unfolding(crate::specs::Input::input_refusal, crate::specs::Input::tables_or))]
 pub fn refusal(
     source_type: u32,
     nodes: &[u32],

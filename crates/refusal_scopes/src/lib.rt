@@ -107,6 +107,7 @@ fn shares_scope(nodes: &Nodes, n: NodeId) -> bool
 }
 
 // The lowest node whose scope is missing or does not fit it, over the filled array.
+// A loop and no `find`: a node that shares its parent's scope fits since the nodes before it did, which a closure doesn't know.
 #[tactic(auto, using(refusal_verdict::proofs::FirstLaws::first_on, refusal_verdict::proofs::FirstLaws::first_stop, refusal_verdict::proofs::FirstLaws::first_end, crate::proofs::ScopesLaws::shares_fits))]
 fn misscoped_by(nodes: &Nodes, scopes: &Scopes, deep: &[u32]) -> Option<u32>
     requires scopes_in_bounds { count_scopes scopes.now ≤ length deep.now }

@@ -89,6 +89,7 @@ fn stray_in_switch(child: Child) -> bool
     child.above == kinds::SWITCH && child.role == roles::HELD && child.kind != kinds::SWITCH_CASE
 }
 
+// This and `stray_clause` are a sentence of refusal 13 each, alike but for the numbers that they name.
 #[tactic(auto, unfolding(crate::specs::Standing::stray_case))]
 fn stray_case(child: Child) -> bool
     ensures { result ≡ stray_case child.kind child.role child.above }

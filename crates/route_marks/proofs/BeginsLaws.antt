@@ -1,15 +1,19 @@
 -- One scan over the code finds whether an instruction begins at a place.
 use Prim.Native.Nat.{ℕ, zero, suc, ◌+◌, ◌≤◌, ◌<◌}
-use Rattle.std.specs.Prelude.{◌≡◌, Bool, ◌||◌, ◌↔◌, List, get_or, ltb}
+use Rattle.std.specs.Prelude.{◌≡◌, ◌≢◌, ◌⊎◌, Bool, ◌||◌, ◌↔◌, List, get_or, ltb}
 use Rattle.std.proofs.Math.Path.{refl}
-use Rattle.std.proofs.Common.{sym, ◌∙◌, ap, true≢false, arith}
+use Rattle.std.proofs.Common.{inl, inr, sym, ◌∙◌, ap, subst, true≢false, arith}
 use Rattle.std.proofs.Math.Bool.{true, false}
 use Rattle.std.proofs.Math.Dec.{eqb}
 use borrow.Author.Tests.{eqb-true, eqb-false, eq-eqb, ltb-true, lt-ltb}
 use Rattle.route_completion.specs.Sem.{pick}
 use Rattle.code_flat.specs.Opcodes as op
+use Rattle.code_flat.specs.Machine.{NONE, LIST, LEAVE, ASK, SELECT, OPEN, END, CASE, fetch}
 use Rattle.base_common.proofs.UptoLaws.{and_left_lem, and_right_lem}
 use Rattle.code_marks.specs.Begins.{width, offset, Begins}
+use Rattle.code_valid.specs.declared.Instruction.{Instruction}
+use Rattle.code_valid.specs.Instrs.{len}
+use Rattle.code_valid.specs.Walk.{Turn}
 use Rattle.route_marks.specs.Taken.{leads, begins_at}
 
 -- An instruction takes at most four numbers.
@@ -25,6 +29,24 @@ width_most x = go (eqb x op.List) (eqb x op.Leave) (eqb x op.Ask) (eqb x op.Sele
     go false false false false false true g = omega arith
     go false false false false false false true = omega arith
     go false false false false false false false = omega arith
+
+-- So many are those of what the machine reads there.
+pub width_read : (C : List ℕ) (o : ℕ) → width (get_or C o 0) ≡ len (fetch C o)
+unfolding fetch
+width_read C o =
+    let x = get_or C o 0 in
+    go (eqb x op.List) (eqb x op.Leave) (eqb x op.Ask) (eqb x op.Select) (eqb x op.Open) (eqb x op.End) (eqb x op.Case) (get_or C (suc o) 0) (get_or C (suc (suc o)) 0) (get_or C (suc (suc (suc o))) 0)
+  where
+    go : (a b c d e f g : Bool) (u v w : ℕ) → pick a 2 (pick b 3 (pick c 4 (pick d 4 (pick e 2 (pick f 2 (pick g 4 0))))))
+        ≡ len (pick a (LIST u) (pick b (LEAVE u v) (pick c (ASK u v w) (pick d (SELECT u v w) (pick e (OPEN u) (pick f (END u) (pick g (CASE u v w) NONE)))))))
+    go true b c d e f g u v w = refl
+    go false true c d e f g u v w = refl
+    go false false true d e f g u v w = refl
+    go false false false true e f g u v w = refl
+    go false false false false true f g u v w = refl
+    go false false false false false true g u v w = refl
+    go false false false false false false true u v w = refl
+    go false false false false false false false u v w = refl
 
 module _ (C : List ℕ) where
   offset_last : (o k : ℕ) → offset C o (suc k) ≡ offset C o k + width (get_or C (offset C o k) 0)
@@ -52,32 +74,42 @@ pub scan_first : (C : List ℕ) (x : ℕ) → Scanned C x 0
 scan_first C x = record { index = 0; place = refl; ahead = λ k e. (k, e) }
 
 module _ (C : List ℕ) (x o : ℕ) (s : Scanned C x o) where
-  pub scan_more : o < x → (w : ℕ) → w ≡ width (get_or C o 0) → Scanned C x (o + w)
-  scan_more h w e =
-      record {
-        index = suc s.index;
-        place = offset_last C 0 s.index ∙ ap (λ p. p + width (get_or C p 0)) s.place ∙ ap (λ v. o + v) (sym e);
-        ahead = λ k q. go (s.ahead k q);
-      }
-    where
-      go : (j : ℕ) × (offset C o j ≡ x) → (j : ℕ) × (offset C (o + w) j ≡ x)
-      go (zero, q) = absurd (omega arith)
-      go (suc j, q) = (j, ap (λ v. offset C (o + v) j) e ∙ q)
+  module _ (i : Instruction) (q : ℕ) (t : Turn (fetch C) o i q) where
+    behind : o + width (get_or C o 0) ≡ q
+    behind = ap (λ v. o + v) (width_read C o ∙ sym t.size) ∙ sym t.next
 
-  pub scan_none : o < x → (w : ℕ) → w ≡ width (get_or C o 0) → w ≡ 0 → Begins C x → ⊥
-  scan_none h w e z b = go (s.ahead b.index b.place)
+    pub scan_more : i.place ≢ x → Scanned C x q
+    scan_more h =
+        record {
+          index = suc s.index;
+          place = offset_last C 0 s.index ∙ ap (λ p. p + width (get_or C p 0)) s.place ∙ behind;
+          ahead = λ k e. go (s.ahead k e);
+        }
+      where
+        go : (j : ℕ) × (offset C o j ≡ x) → (j : ℕ) × (offset C q j ≡ x)
+        go (zero, e) = absurd (h (t.place ∙ e))
+        go (suc j, e) = (j, ap (λ v. offset C v j) (sym behind) ∙ e)
+
+    pub scan_here : i.place ≡ x → Begins C x
+    scan_here h =
+        let e : o ≡ x = sym t.place ∙ h in
+        record { index = s.index; place = s.place ∙ e; some = subst (λ v. 0 < width (get_or C v 0)) e (omega (arith, width_read C o, t.some)) }
+
+  scan_none : width (get_or C o 0) ≡ 0 → Begins C x → ⊥
+  scan_none z b = go (s.ahead b.index b.place)
     where
       go : (j : ℕ) × (offset C o j ≡ x) → ⊥
-      go (j, q) = omega (arith, stays C o j (omega arith), q)
+      go (j, e) = omega (arith, ap (λ v. width (get_or C v 0)) (sym (stays C o j z) ∙ e), z, b.some)
 
-  pub scan_past : x < o → Begins C x → ⊥
+  scan_past : x < o → Begins C x → ⊥
   scan_past h b = go (s.ahead b.index b.place)
     where
       go : (j : ℕ) × (offset C o j ≡ x) → ⊥
-      go (j, q) = omega (arith, further C o j, q)
+      go (j, e) = omega (arith, further C o j, e)
 
-  pub scan_here : o ≡ x → (w : ℕ) → w ≡ width (get_or C x 0) → 0 < w → Begins C x
-  scan_here e w q h = record { index = s.index; place = s.place ∙ e; some = omega arith }
+  pub scan_end : (end : ℕ) → x < end → (end ≤ o) ⊎ (len (fetch C o) ≡ 0) → Begins C x → ⊥
+  scan_end end l (inl m) = scan_past (omega arith)
+  scan_end end l (inr z) = scan_none (width_read C o ∙ z)
 
 -- The test of 17 is what `Begins` says.
 module _ (C : List ℕ) (x : ℕ) where

@@ -2,10 +2,10 @@
 // at a mark, is stopped, and is shown where it fits.
 #![tactic(auto)]
 
-ghost use Rattle.std.specs.Prelude.{◌≡◌, true, ◌↔◌, ◌+◌, ◌*◌, ◌<◌, ◌≤◌, length, get_or};
+ghost use Rattle.std.specs.Prelude.{◌≡◌, true, ◌↔◌, ◌+◌, ◌*◌, ◌<◌, ◌≤◌, length};
 ghost use Rattle.std.proofs.lemmas.List.Edits.{sets};
-ghost use Rattle.code_flat.specs.Machine.{room, pos};
-ghost use Rattle.code_marks.specs.Begins.{width, Begins};
+ghost use Rattle.code_flat.specs.Machine.{room, pos, fetch};
+ghost use Rattle.code_marks.specs.Begins.{Begins};
 ghost use Rattle.code_machine.specs.Pending.{stack};
 ghost use Rattle.code_machine.specs.Halted.{route_to, StandsAt, Told};
 ghost use Rattle.route_viewer.specs.Shown.{shown_answer, shown_slice};
@@ -13,6 +13,7 @@ ghost use Rattle.route_marks.specs.Marks.{marks as marksMany, part_at, is_set, p
 ghost use Rattle.route_marks.specs.Taken.{begin_at, CanBegin, Tested, stop_of_section, marks_shown};
 
 use code_machine::{Ends, Halt, Landing, ROOM};
+use code_valid::{Code, Instructions};
 use refusal_verdict::{Refusal, Refused};
 use route_list::run_end;
 use route_viewer::Route;
@@ -68,28 +69,29 @@ pub fn place_at(marks: &Marks, mark: u32) -> u32
     marks[part_at(mark) + 1]
 }
 
-// How many numbers the instruction takes that begins at a place; 0 where none does, and past the code.
-fn width_at(code: &[u32], at: usize) -> usize
-    ensures { result ≡ width (get_or code.now at 0) }
-{
-    code_machine::width(code_machine::word(code, at))
+// A code as the machine reads it: zeros stand behind its end, which cuts no instruction off.
+#[derive(Clone, Copy)]
+struct Padded<'a>(&'a [u32]);
+
+impl Code for Padded<'_> {
+    ghost instruction = { λ c. fetch c.0.now };
+
+    fn size_at(self, p: usize) -> usize {
+        code_machine::width(code_machine::word(self.0, p))
+    }
 }
 
 // An instruction of the code begins at a place: what refusal 17 asks.
-// The loop steps by hand: a `for` over `std::iter::successors` is no shorter, has the step in a closure, and takes the same measure for its end.
 pub fn begins(code: &[u32], place: u32) -> bool
     ensures { (result ≡ true) ↔ Begins code.now place }
 {
     let x = place as usize;
-    let mut at = 0;
-    while at < x {
-        let w = width_at(code, at);
-        if w == 0 {
-            return false;
+    for instruction in Instructions::between(Padded(code), 0, x + 1) {
+        if instruction.place == x {
+            return true;
         }
-        at += w;
     }
-    at == x && width_at(code, x) != 0
+    false
 }
 
 // Reads so many pending ends of the array from a place on.

@@ -22,6 +22,7 @@ use table_records::nodes::Nodes;
 use table_records::{NodeId, kinds, roles};
 
 // How a statement completes, as ECMA-262's Completion Record: a break or continue with its label's node where it has one. Or no answer was left.
+// Cases of their own for those with a label: with an `Option` it would come back by memory, and a walk would take twice the stack.
 #[derive(Clone, Copy, PartialEq, Eq)]
 pub enum Completion {
     Normal,
@@ -42,7 +43,8 @@ pub struct Run {
     pub how: Completion,
 }
 
-// What a walk reads: the tables and the answers. That the tables are `Walkable` is known where a function names a field.
+// What a walk reads: the tables and the answers. That the tables are `Walkable` is known where a function names a field. Two functions make a `NamedNodes` of the
+// tables; with one in their place, all that read the nodes would go by it.
 #[derive(Drop)]
 struct Given<'a> {
     nodes: &'a Nodes<'a>,

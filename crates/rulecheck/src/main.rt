@@ -17,7 +17,7 @@ use std::io::{Read, Write};
 // The option on async and generator bodies, which `rulecheck` has off.
 const ASYNC_BODIES_OFF: u32 = 0;
 
-// Writes the text of the tables. Says where it ends.
+// Writes the text of the tables. Says where it ends. It takes no `Rule`: the lines of this program have no option on async bodies.
 #[tactic(auto, using(crate::proofs::ResponseLaws::check_text_lem, crate::proofs::ResponseLaws::check_counted, crate::proofs::ResponseLaws::put_front))]
 fn check_text(
     source_type: u32,

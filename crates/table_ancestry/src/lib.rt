@@ -37,10 +37,10 @@ pub fn is_on_path(nodes: &Nodes, a: u32, n: NodeId) -> bool
     requires n_bound { n.0 < count nodes.now }
     ensures { result ≡ on (parent_of nodes.now) a n.0 }
 {
-    let _ = &nodes.numbers; // names the field, so that its invariant is known
+    let numbers = nodes.numbers; // names the field, so that its invariant is known
     let mut at = n;
     while a < at.0 {
-        at = table_records::parent(nodes, at);
+        at = table_records::parent(numbers, at);
     }
     at.0 == a
 }

@@ -80,15 +80,15 @@ pub fn next_child(nodes: &Nodes, p: NodeId, part: Part, from: u32) -> Option<Nod
     ensures value { result ≡ next_child nodes.now p.0 part.low part.high part.first part.last from }
     ensures below { below nodes.now result }
 {
-    let _ = &nodes.numbers; // names the field, so that its invariant is known
+    let numbers = nodes.numbers; // names the field, so that its invariant is known
     for i in from.. {
-        if !table_records::is_node(nodes, i) {
+        if !table_records::is_node(numbers, i) {
             break;
         }
-        if table_records::parent(nodes, NodeId(i)).0 < p.0 {
+        if table_records::parent(numbers, NodeId(i)).0 < p.0 {
             break;
         }
-        if is_child(nodes, p, part, NodeId(i)) {
+        if is_child(numbers, p, part, NodeId(i)) {
             return Some(NodeId(i));
         }
     }
@@ -111,13 +111,13 @@ pub fn how_many(nodes: &Nodes, p: NodeId, part: Part) -> u32
     requires p_bound { p.0 < count nodes.now }
     ensures { result ≡ how_many nodes.now p.0 part.low part.high part.first part.last }
 {
-    let _ = &nodes.numbers; // names the field, so that its invariant is known
+    let numbers = nodes.numbers; // names the field, so that its invariant is known
     let mut c = 0;
-    for i in p.0 + 1..table_records::size(nodes) {
-        if table_records::parent(nodes, NodeId(i)).0 < p.0 {
+    for i in p.0 + 1..table_records::size(numbers) {
+        if table_records::parent(numbers, NodeId(i)).0 < p.0 {
             return c;
         }
-        c += u32::from(is_child(nodes, p, part, NodeId(i)));
+        c += u32::from(is_child(numbers, p, part, NodeId(i)));
     }
     c
 }

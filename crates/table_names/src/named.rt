@@ -1,4 +1,4 @@
-// A node table with the bytes of its names: made where it is known that each name lies within them, and lent by those that ask for it. It stands in a file of its own, since what is said of it in specs/ names it.
+// A node table with the bytes of its names: made where it is known that each name lies within them, and lent by those that ask for it.
 use std::marker::Model;
 use table_records::nodes::Nodes;
 

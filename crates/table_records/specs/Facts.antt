@@ -34,13 +34,14 @@ pub record IsOfChain (ss numbers : List ℕ) : Type 0 where
   pub same : numbers ≡ ss
   pub chained : Chained ss
 
--- every node's name lies within the bytes
--- A `requires` and no struct's invariant: it ties two lent slices, and most functions that are lent the nodes take no names.
+-- Every node's name lies within the bytes. Functions that ask for it of a `Nodes` take a `NamedNodes` (table_names), whose invariant it is.
+-- A `requires` of the five that take the nodes as a slice, in table_names and check_identifiers: a `NamedNodes` there would ask of their callers that the nodes are a tree.
 pub record Named (ns names : List ℕ) : Type 0 where
   pub inside : (i : ℕ) → i < count ns → name_start_of ns i + name_len_of ns i ≤ length names
 
 -- what is known where the scope of no node is missing or does not fit it
--- A `requires` and no struct's invariant: it ties two lent slices, and most functions that are lent the nodes take no scopes.
+-- A `requires` and no struct's invariant: of the 31 functions that ask for it nine take both tables as slices, 12 a `Nodes` and the scopes as a slice, three the nodes as a slice and a `Scopes`, and seven a
+-- `Nodes` and a `Scopes`. A struct of both tables would serve one of these four sorts, or ask more of callers.
 pub record Scoped (ns ss : List ℕ) : Type 0 where
   pub scope : (i : ℕ) → i < count ns → scope_of ns i < count_scopes ss
   pub own : (i : ℕ) → i < count ns → kind_of ns i ≡ 26 → extra_of ns i < count_scopes ss

@@ -77,6 +77,7 @@ pub fn is_node(nodes: &[u32], n: u32) -> bool
     n as usize * 10 + 9 < nodes.len()
 }
 
+// The readers of a record are one index each, of the column that each is named for.
 pub fn kind(nodes: &[u32], n: NodeId) -> u32
     requires { n.0 < count nodes.now }
     ensures { result ≡ kind_of nodes.now n.0 }

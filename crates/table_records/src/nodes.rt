@@ -4,6 +4,8 @@ ghost use Rattle.table_records.specs.Facts.{IsOfTree};
 use std::marker::Model;
 use std::ops::DerefSlice;
 
+// Not `Copy`, since what derives that may have no `Model`. Functions that are called before the fact is known, or that are lent a rule, take the slice and
+// make one where it is known.
 // In a clause it is the list of its numbers. That they are a tree is known where a function hands it on as a slice of numbers, or names the field.
 #[derive(Drop)]
 pub struct Nodes<'a> {

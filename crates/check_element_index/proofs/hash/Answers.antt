@@ -7,4 +7,4 @@ use Rattle.check_element_index.proofs.hash.Goals as goal
 
 pub returns : goal.returns
 unfolding hash
-returns c = c.loop-i.invariant ∙ ap (λ (xs : List ℕ). fold hash_step 0 xs) (take_all c.loop-i.i c.args.name.now (omega arith))
+returns c = c.loop-byte.invariant ∙ ap (λ (xs : List ℕ). fold hash_step 0 xs) (take_all c.loop-byte.byte-index c.args.name.now (omega arith))

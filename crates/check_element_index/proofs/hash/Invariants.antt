@@ -4,5 +4,5 @@ use Rattle.std.specs.List.{fold}
 use Rattle.check_element_index.specs.Index.{hash_step}
 use Rattle.check_element_index.proofs.hash.Given as goal
 
-abbrev pub invariant-loop-i : goal.invariant-loop-i
-invariant-loop-i l = l.h ≡ fold hash_step 0 (take l.i l.name)
+abbrev pub invariant-loop-byte : goal.invariant-loop-byte
+invariant-loop-byte l = l.h ≡ fold hash_step 0 (take l.byte-index l.name)

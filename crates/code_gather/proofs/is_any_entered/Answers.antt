@@ -1,13 +1,8 @@
-use Rattle.std.proofs.Common.{◌≤◌, refl, ap, sym, ◌∙◌, true≢false, arith}
+use Rattle.std.proofs.Common.{◌≤◌, ap, sym, ◌∙◌, true≢false, arith}
 use Rattle.code_valid.proofs.WalkLaws.{turn_here}
 use Rattle.code_gather.specs.Gather.{comes, entry_read}
 use Rattle.code_gather.proofs.EnteredLaws.{at_begin, split_behind, at_next, at_done, entered_next, entered_end, needed_none, dropped_low, if_not}
 use Rattle.code_gather.proofs.is_any_entered.Goals as goal
-
-pub loop-instruction-init : goal.loop-instruction-init
-loop-instruction-init c =
-    rw (c.into_iter-instruction-iterator.ensures.into_iter_gives, c.between-instruction-items.ensures)
-    (record { code = refl; end = refl; low = omega arith; none = λ C v s f. (s.begins, λ x d. refl) })
 
 pub loop-instruction-preserved : goal.loop-instruction-preserved
 loop-instruction-preserved c =

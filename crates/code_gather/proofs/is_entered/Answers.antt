@@ -1,12 +1,7 @@
-use Rattle.std.proofs.Common.{◌≤◌, refl, ap, sym, ◌∙◌, arith}
+use Rattle.std.proofs.Common.{◌≤◌, ap, sym, ◌∙◌, arith}
 use Rattle.code_valid.proofs.WalkLaws.{turn_here}
 use Rattle.code_gather.proofs.EnteredLaws.{at_begin, at_next, at_done, entered_next, entered_here, entered_end}
 use Rattle.code_gather.proofs.is_entered.Goals as goal
-
-pub loop-instruction-init : goal.loop-instruction-init
-loop-instruction-init c =
-    rw (c.into_iter-instruction-iterator.ensures.into_iter_gives, c.between-instruction-items.ensures)
-    (record { code = refl; end = refl; low = omega arith; entered = λ C v h l a. (a, refl) })
 
 pub returns-then-enters-clause-value : goal.returns-then-enters-clause-value
 returns-then-enters-clause-value c =

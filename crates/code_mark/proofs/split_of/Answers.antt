@@ -1,5 +1,5 @@
-use Rattle.std.proofs.Common.{refl, ap, ◌∙◌, arith}
-use Rattle.code_mark.proofs.KeptLaws.{turn_within, splitting_first, splitting_turn, splitting_found, splitting_done}
+use Rattle.std.proofs.Common.{ap, ◌∙◌, arith}
+use Rattle.code_mark.proofs.KeptLaws.{turn_within, splitting_turn, splitting_found, splitting_done}
 use Rattle.code_mark.proofs.split_of.Goals as goal
 
 pub returns-then-new_length-instruction : goal.returns-then-new_length-instruction
@@ -9,11 +9,6 @@ returns-then-new_length-instruction c =
       value = λ C v m e. splitting_found C v c.args.code.now m _ _ _ t (l.invariant.splitting C v m e) (omega arith);
       upper_bound = omega (arith, turn_within c.args.code.now _ _ _ t, t.next, t.place);
     }
-
-pub loop-instruction-init : goal.loop-instruction-init
-loop-instruction-init c =
-    rw (c.into_iter-instruction-iterator.ensures.into_iter_gives, c.between-instruction-items.ensures)
-    (record { code = refl; end = refl; splitting = λ C v m e. splitting_first C v c.args.code.now m })
 
 pub loop-instruction-preserved : goal.loop-instruction-preserved
 loop-instruction-preserved c =

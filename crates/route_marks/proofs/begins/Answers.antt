@@ -1,19 +1,27 @@
-use mathlib.Core.Path.{sym}
-use Rattle.route_marks.proofs.BeginsLaws.{scan_more, scan_none, scan_past}
-use native.Mathlib.Omega.{arith}
-use mathlib.Core.Bool.{true≢false}
-use borrow.Author.Tests.{eqb-true}
+use Rattle.std.proofs.Common.{refl, ap, sym, ◌∙◌, true≢false, arith}
+use Rattle.route_marks.proofs.BeginsLaws.{scan_more, scan_here, scan_end}
 use Rattle.route_marks.proofs.begins.Goals as goal
 
-pub returns-then-w-eq0 : goal.returns-then-w-eq0
-returns-then-w-eq0 c =
-    let l = c.loop-at in
-    ((λ e. absurd (true≢false (sym e))), λ b. absurd (scan_none c.args.code.now c.args.place l.at l.invariant (omega arith) c.width_at-w.result c.width_at-w.ensures (omega arith) b))
+pub returns-then-instruction-x : goal.returns-then-instruction-x
+returns-then-instruction-x c =
+    let l = c.loop-instruction in
+    let t = rw l.invariant.code at c.in-Some.ensures.steps.turn in
+    ((λ e. scan_here _ _ _ l.invariant.scanned _ _ t c.if-instruction-x.true), λ b. refl)
 
-pub loop-at-preserved : goal.loop-at-preserved
-loop-at-preserved c = scan_more c.args.code.now c.args.place c.loop-at.at c.loop-at.invariant (omega arith) c.width_at-w.result c.width_at-w.ensures
+pub loop-instruction-preserved : goal.loop-instruction-preserved
+loop-instruction-preserved c =
+    let l = c.loop-instruction in
+    let s = c.in-Some.ensures.steps in
+    let t = rw l.invariant.code at s.turn in record {
+      code = ap (λ k. k.0.now) s.code ∙ l.invariant.code;
+      reaches = omega (arith, s.end, l.invariant.reaches);
+      scanned = scan_more _ _ _ l.invariant.scanned _ _ t c.if-instruction-x.false;
+    }
 
-pub returns-else-at-x : goal.returns-else-at-x
-returns-else-at-x c =
-    let l = c.loop-at in
-    ((λ e. absurd (c.if-at-x.false (eqb-true _ _ e))), λ b. absurd (scan_past c.args.code.now c.args.place l.at l.invariant (omega arith) b))
+pub returns : goal.returns
+returns c =
+    let l = c.loop-instruction in
+    let s = c.in-None.ensures.steps in (
+      λ e. absurd (true≢false (sym e)),
+      λ b. absurd (scan_end _ _ _ l.invariant.scanned _ l.invariant.reaches (rw l.invariant.code at s.none) b),
+    )

@@ -1,9 +1,11 @@
+use Rattle.std.proofs.Common.{◌≡◌}
+use Prim.Native.Nat.{◌<◌}
 use Rattle.route_marks.proofs.BeginsLaws.{Scanned}
-use Prim.Native.Nat.{◌-◌}
 use Rattle.route_marks.proofs.begins.Given as goal
 
-abbrev pub invariant-loop-at : goal.invariant-loop-at
-invariant-loop-at l = Scanned l.code l.place l.at
-
-abbrev pub decreases-loop-at : goal.decreases-loop-at
-decreases-loop-at l = l.x - l.at
+abbrev pub invariant-loop-instruction : goal.invariant-loop-instruction
+invariant-loop-instruction l = record {
+  code : l.instruction-iterator.code.0.now ≡ l.code;
+  reaches : l.x < l.instruction-iterator.end;
+  scanned : Scanned l.code l.place l.instruction-iterator.at;
+}
