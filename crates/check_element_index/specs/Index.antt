@@ -1,5 +1,5 @@
 -- The index of class elements: each element is in a bucket that its class and its key give, and each bucket is a chain from its last element to its first.
-use Rattle.std.specs.Prelude.{ℕ, zero, suc, ◌+◌, ◌*◌, ◌-◌, ◌%◌, ◌≤◌, ◌<◌, ◌≡◌, List, Bool, true, cond, ◌&&◌, eqb, length, get_or, Option, Some, None}
+use Rattle.std.specs.Prelude.{ℕ, zero, suc, ◌+◌, ◌*◌, ◌-◌, ◌%◌, min, ◌≤◌, ◌<◌, ◌≡◌, List, Bool, true, cond, ◌&&◌, eqb, leb, length, take, drop, get_or, Option, Some, None}
 use Rattle.std.specs.Int.Bits.{bit_and}
 use Rattle.std.specs.List.{fold}
 use Rattle.table_records.specs.Table.{count, parent_of}
@@ -13,12 +13,25 @@ use Rattle.check_element_index.specs.declared.Entry.{Entry}
 abbrev wrap : ℕ → ℕ
 wrap n = n % 4294967296
 
--- the hash of a name: nothing rests on it but that it depends on the bytes alone
+-- one byte more
 abbrev pub hash_step : ℕ → ℕ → ℕ
 hash_step h byte = wrap (wrap (h * 33) + byte)
 
+-- what is hashed so far, and with it some bytes
+abbrev pub hash_on : ℕ → List ℕ → ℕ
+hash_on hashed bytes = fold hash_step hashed bytes
+
+-- how many bytes of a long name are hashed at its front, and at its end
+abbrev pub name_ends : ℕ
+name_ends = 32
+
+-- the length of a name, as a number of 32 bits
+abbrev pub short_length : List ℕ → ℕ
+short_length name = min (length name) 4294967295
+
+-- the hash of a name, by its length and its bytes, of a long name those at its ends: nothing rests on it but that it depends on the bytes alone
 unfoldable pub hash : List ℕ → ℕ
-hash name = fold hash_step 0 name
+hash name = cond (leb (length name) (name_ends + name_ends)) (hash_on (short_length name) name) (hash_on (hash_on (short_length name) (take name_ends name)) (drop (length name - name_ends) name))
 
 abbrev pub seed : Bool → ℕ
 seed private = cond private 40503 30011

@@ -5,7 +5,7 @@ ghost use Rattle.std.specs.Prelude.{◌≡◌, true, ◌+◌, ◌<◌, ◌≤◌
 ghost use Rattle.table_records.specs.Table.{count};
 ghost use Rattle.table_children.specs.Children.{below};
 ghost use Rattle.check_class_table.specs.Elements.{element_name, has_private, is_declared};
-ghost use Rattle.check_element_index.specs.Index.{hash, seed, bucket, bucket_of, is_element, key_number, entry_in, Entered, Indexed, has_key};
+ghost use Rattle.check_element_index.specs.Index.{hash_on, hash, seed, bucket, bucket_of, is_element, key_number, entry_in, Entered, Indexed, has_key};
 
 use std::marker::Model;
 use table_names::named::NamedNodes;
@@ -42,15 +42,32 @@ impl<'a> Model for Elements<'a> {
     ghost invariant = { λ s. Known (record { source_type = s.source_type; nodes = s.named.now.nodes; names = s.named.now.names; last = s.last.now; entries = s.entries.now }) };
 }
 
-// What the bytes of a name are hashed to. A shift and two additions a byte, since long names are read whole for each reference to them.
-pub fn hash(name: &[u8]) -> u32
-    ensures { result ≡ hash name.now }
+// How many bytes of a long name are hashed at its front, and at its end.
+const ENDS: usize = 32;
+
+// What is hashed so far, and with it some bytes. A shift and two additions a byte.
+fn hash_on(hashed: u32, bytes: &[u8]) -> u32
+    ensures { result ≡ hash_on hashed bytes.now }
 {
-    let mut h: u32 = 0;
-    for byte in name {
+    let mut h = hashed;
+    for byte in bytes {
         h = h.wrapping_mul(33).wrapping_add(u32::from(*byte));
     }
     h
+}
+
+// What a name is hashed to: its length, and its bytes, of a long name those at its ends. Names may overlap in their table, so that all of them are far longer
+// than it; and a name that no other is compared with need not be read.
+#[tactic(auto, unfolding(crate::specs::Index::hash))]
+pub fn hash(name: &[u8]) -> u32
+    ensures { result ≡ hash name.now }
+{
+    let length = name.len().min(u32::MAX as usize) as u32;
+    if name.len() <= ENDS + ENDS {
+        return hash_on(length, name);
+    }
+    let front = hash_on(length, &name[..ENDS]);
+    hash_on(front, &name[name.len() - ENDS..])
 }
 
 // Private names and others are spread apart.
