@@ -41,6 +41,17 @@ differ true false = refl
 differ false true = refl
 differ false false = refl
 
+-- .. by the first of them
+pub differ_true : (b : Bool) → not b ≡ xor true b
+unfolding xor
+differ_true true = refl
+differ_true false = refl
+
+pub differ_false : (b : Bool) → b ≡ xor false b
+unfolding xor
+differ_false true = refl
+differ_false false = refl
+
 -- what is last passes the test
 last_by_lem : (q : ℕ → Bool) (l : List ℕ) (p : Place) → (there p ≡ true → q (number p) ≡ true) → there (foldl (step q) p l) ≡ true → q (number (foldl (step q) p l)) ≡ true
 last_by_lem q [] p h e = h e
@@ -169,6 +180,15 @@ module _ (t : ℕ) (ns names : List ℕ) where
   pub all_start : classes_from t ns names 0 ≡ duplicate_elements t ns names
   unfolding classes_from duplicate_elements class_at classes_of
   all_start = sym (flat_keep (duplicates_in t ns names) (is_class_body ns) (upto 0 (count ns)))
+
+  -- the findings of a node that is a class body, and of another
+  pub class_here : (i : ℕ) → is_class_body ns i ≡ true → class_at t ns names i ≡ duplicates_in t ns names i
+  unfolding class_at
+  class_here i e = rw e
+
+  pub class_other : (i : ℕ) → is_class_body ns i ≡ false → class_at t ns names i ≡ []
+  unfolding class_at
+  class_other i e = rw e
 
   pub all_turn : (i : ℕ) → i < count ns → classes_from t ns names i ≡ class_at t ns names i ++ classes_from t ns names (i + 1)
   unfolding classes_from

@@ -1,2 +1,3 @@
 pub mod DuplicatesLaws
 pub mod PreviousLaws
+pub mod ScanLaws
