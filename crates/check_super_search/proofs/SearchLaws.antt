@@ -32,7 +32,7 @@ use Rattle.check_supers.specs.declared.Reach.{Reach}
 use Rattle.check_supers.specs.declared.Reach.TheVariants.{Legal, Illegal, Underived, Fails}
 use Rattle.check_supers.specs.declared.Step.{Step}
 use Rattle.check_supers.specs.declared.Step.TheVariants.{Stop, Leave, On}
-use Rattle.check_super_search.specs.Search.{is_stop, stop_reach, underived_in, around_of, scopes_in, AroundSuper}
+use Rattle.check_super_search.specs.Search.{is_stop, stop_reach, underived_in, around_of, scopes_in, at_most, AroundSuper}
 
 -- a step that is none that ends the search
 pub not_stop : (x : Step) → ((r : Reach) → x ≡ Stop r → ⊥) → is_stop x ≡ false
@@ -220,6 +220,10 @@ module _ (ss : List ℕ) (c : Chained ss) (s : ℕ) (l : s < count_scopes ss) (l
       go : (t : Bool) → eqb s 0 ≡ t → P (cond t None (Some (record { 0 = scope_parent_of ss s })))
       go true e = p (eqb-true s 0 e)
       go false e = q (let h = eqb-false s 0 e in omega arith)
+
+  -- there are fewer of them than scopes up to s, which is why a search ends
+  pub around_less : at_most left < suc s
+  around_less = around_by (λ x. at_most x < suc s) (λ e. omega arith) (λ h. omega (arith, c.falls s h l))
 
   pub around_super : (ns : List ℕ) (n : ℕ) → scope_of ns n < count_scopes ss → on (scope_parent_of ss) s (scope_of ns n) ≡ true → AroundSuper ns ss n left
   around_super ns n k o =
