@@ -1,6 +1,7 @@
 -- Laws of counting, and what is known where no node has a wrong number of children.
-use Rattle.std.specs.Prelude.{ℕ, ◌+◌, ◌≤◌, ◌<◌, ◌≡◌, List, ◌∷◌, Bool, not, ◌&&◌, ◌||◌, eqb, ltb, None}
+use Rattle.std.specs.Prelude.{ℕ, zero, suc, ◌+◌, ◌≤◌, ◌<◌, ◌≡◌, List, ◌∷◌, Bool, not, ◌&&◌, ◌||◌, eqb, ltb, None}
 use Rattle.std.proofs.Math.Path.{refl}
+use Rattle.std.proofs.Common.{sym, ◌∙◌, ⊎_elim}
 use Rattle.std.proofs.Math.Bool.{true, false, cond}
 use native.Mathlib.Omega.{arith}
 use borrow.Author.Tests.{eq-eqb, ne_eqb, eqb-true, eqb-false, leb-true, ltb-false, not-false}
@@ -9,14 +10,17 @@ use Rattle.base_common.specs.Tests.{within}
 use Rattle.std.proofs.Math.ListN.{length}
 use Rattle.base_common.specs.Upto.{upto}
 use Rattle.base_common.proofs.UptoLaws.{upto_nil, upto_cons}
-use Rattle.base_common.proofs.Bools.{or_first, or_second, or3, or4, in_range_lem}
-use Rattle.table_records.specs.Table.{kind_of, count}
+use Rattle.base_common.proofs.Bools.{never, or_first, or_second, or3, or4, or5, in_range_lem}
+use Rattle.base_walk.proofs.PreorderLaws.{no_child}
+use Rattle.table_records.specs.Table.{kind_of, parent_of, count}
+use Rattle.table_records.specs.Facts.{Tree}
 use Rattle.table_records.specs.Kinds as k
 use Rattle.table_records.specs.Roles as r
 use Rattle.refusal_verdict.specs.First.{first}
-use Rattle.refusal_verdict.proofs.FirstLaws.{first_none}
+use Rattle.refusal_verdict.proofs.FirstLaws.{first_none, le_or_lt}
 use Rattle.table_children.specs.Children.{keep, how_many}
-use Rattle.refusal_counts.specs.Counts.{with_role, with_kind, labels, defaults, wrong_body, wrong_alternate, wrong_default, wrong_try, wrong_clause, wrong_label, wrong_function, wrong_class, wrong_value, wrong_element, wrong_statement, wrong_part, wrong_home, wrong_count_at, Counted}
+use Rattle.table_children.proofs.ChildrenLaws.{child_other}
+use Rattle.refusal_counts.specs.Counts.{with_role, with_kind, labels, is_default, defaults, wrong_body, wrong_alternate, wrong_default, wrong_try, wrong_clause, wrong_label, wrong_function, wrong_class, wrong_value, wrong_element, wrong_statement, wrong_part, wrong_home, wrong_count_at, is_counted, Counted}
 
 -- how many of the numbers from i up to n pass a test, as a loop meets them
 unfoldable pub tally_by : (ℕ → Bool) → ℕ → ℕ → ℕ
@@ -34,6 +38,29 @@ module _ (q : ℕ → Bool) (n : ℕ) where
   pub by_end : (i : ℕ) → n ≤ i → tally_by q i n ≡ 0
   unfolding tally_by keep
   by_end i h = rw (upto_nil i n h)
+
+  -- none, where none passes
+  none_by : (f i : ℕ) → n ≤ i + f → ((j : ℕ) → i ≤ j → j < n → q j ≡ false) → tally_by q i n ≡ 0
+  none_by zero i hf w = by_end i (omega arith)
+  none_by (suc f) i hf w =
+      ⊎_elim (λ (h : n ≤ i). by_end i h)
+      (λ (h : i < n). by_turn i h ∙ rw (w i (omega arith) h) (omega (arith, none_by f (i + 1) (omega arith) (λ j x y. w j (omega arith) y))))
+      (le_or_lt n i)
+
+  pub by_none : (i : ℕ) → ((j : ℕ) → i ≤ j → j < n → q j ≡ false) → tally_by q i n ≡ 0
+  by_none i w = none_by n i (omega arith) w
+
+module _ (ns : List ℕ) (p : ℕ) where
+  -- the defaults of p as a loop over the nodes behind it counts them
+  pub defaults_all : defaults ns p ≡ tally_by (is_default ns p) (p + 1) (count ns)
+  unfolding defaults tally_by
+  defaults_all = refl
+
+  -- past the nodes below p there is no case of p
+  pub defaults_out : Tree ns → (i : ℕ) → p < i → i < count ns → parent_of ns i < p → tally_by (is_default ns p) i (count ns) ≡ 0
+  unfolding is_default
+  defaults_out t i h l u = by_none (is_default ns p) (count ns) i
+      (λ j x y. rw (child_other ns p 15 15 3 3 j (λ e. no_child (parent_of ns) (count ns) t.order p i j h u x y e)))
 
 pub outside : (k lo hi : ℕ) → (lo ≤ k → k ≤ hi → ⊥) → within k lo hi ≡ false
 outside k lo hi n = go (leb lo k) (leb k hi) refl refl
@@ -55,6 +82,23 @@ module _ (ns : List ℕ) (i : ℕ) (h : k.AccessorProperty < kind_of ns i) where
   unfolding wrong_count_at wrong_statement wrong_part wrong_home wrong_body wrong_alternate wrong_label wrong_default wrong_try wrong_clause wrong_function wrong_class wrong_element
   uncounted =
       rw (past 6 13 (omega arith), other 12 (omega arith), other 6 (omega arith), past 18 19 (omega arith), other 14 (omega arith), other 16 (omega arith), other 17 (omega arith), past 1 2 (omega arith), other 26 (omega arith), past 28 30 (omega arith))
+
+-- .. nor those of a kind that is not `is_counted`
+narrow : (n lo hi a b : ℕ) → lo ≤ a → b ≤ hi → within n lo hi ≡ false → within n a b ≡ false
+narrow n lo hi a b p q e = outside n a b (λ x y. never (sym (in_range_lem n lo hi (omega arith) (omega arith)) ∙ e))
+
+single : (n lo hi j : ℕ) → lo ≤ j → j ≤ hi → within n lo hi ≡ false → eqb n j ≡ false
+single n lo hi j p q e = ne_eqb n j (λ d. never (sym (in_range_lem n lo hi (omega arith) (omega arith)) ∙ e))
+
+pub uncounted_kind : (ns : List ℕ) (i : ℕ) → is_counted (kind_of ns i) ≡ false → wrong_count_at ns i ≡ false
+unfolding is_counted wrong_count_at wrong_statement wrong_part wrong_home wrong_body wrong_alternate wrong_label wrong_default wrong_try wrong_clause wrong_function wrong_class wrong_element
+uncounted_kind ns i e =
+    let n = kind_of ns i in
+    let w = or5 (within n 1 2) (within n 6 14) (within n 16 19) (eqb n 26) (within n 28 30) e in
+    let statement = single n 6 14 in
+    let part = single n 16 19 in
+    rw
+    (narrow n 6 14 6 13 (omega arith) (omega arith) w.1, statement 12 (omega arith) (omega arith) w.1, statement 6 (omega arith) (omega arith) w.1, narrow n 16 19 18 19 (omega arith) (omega arith) w.2, statement 14 (omega arith) (omega arith) w.1, part 16 (omega arith) (omega arith) w.2, part 17 (omega arith) (omega arith) w.2, w.0, w.3, w.4)
 
 one_of_lem : (n : ℕ) → not (eqb n 1) ≡ false → n ≡ 1
 one_of_lem n e = eqb-true n 1 (not-false (eqb n 1) e)

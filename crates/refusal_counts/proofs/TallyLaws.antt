@@ -8,7 +8,7 @@ use Rattle.std.proofs.Math.Nat.{min-eq_left, zero-div}
 use Rattle.base_common.specs.Upto.{upto}
 use Rattle.base_common.specs.Tests.{within}
 use Rattle.base_common.proofs.UptoLaws.{upto_nil, upto_snoc}
-use Rattle.base_walk.proofs.PreorderLaws.{lt_or_ge}
+use Rattle.base_walk.proofs.PreorderLaws.{lt_or_ge, no_child}
 use Rattle.table_records.specs.Table.{kind_of, parent_of, role_of, count}
 use Rattle.table_records.specs.Kinds as k
 use Rattle.table_records.specs.Facts.{Tree}
@@ -295,6 +295,14 @@ module _ (ns : List ℕ) (p : ℕ) (s : Sort) where
       (λ (h : m ≤ p). so_far_early (m + 1) (omega arith) ∙ sym (so_far_early m (omega arith)))
       (lt_or_ge p m)
 
+  -- past the nodes below p there is none of its children
+  so_far_out : Tree ns → (i : ℕ) → p < i → i < count ns → parent_of ns i < p → (f j : ℕ) → i ≤ j → j ≤ count ns → count ns ≤ j + f → so_far ns p s (count ns) ≡ so_far ns p s j
+  so_far_out t i h l u zero j x y z = ap (so_far ns p s) (omega arith)
+  so_far_out t i h l u (suc f) j x y z =
+      ⊎_elim (λ (m : j < count ns). so_far_out t i h l u f (j + 1) (omega arith) (omega arith) (omega arith) ∙ so_far_apart j (λ e. no_child (parent_of ns) (count ns) t.order p i j h u x m e))
+      (λ (m : count ns ≤ j). ap (so_far ns p s) (omega arith))
+      (lt_or_ge j (count ns))
+
 -- .. and of all nodes
 so_far_all : (ns : List ℕ) (p : ℕ) (s : Sort) → so_far ns p s (count ns) ≡ number ns p s
 unfolding so_far how_many children is_child defaults
@@ -366,6 +374,22 @@ zeros (suc n) (suc k) = zeros n k
 
 pub tallied_start : (ns : List ℕ) (n : ℕ) → Tallied ns (replicate {A = ℕ} n 0) 1
 tallied_start ns n p h = rw (zeros n p) (record { small = omega arith; digits = λ s. rw (blank s, so_far_early ns p s 1 (omega arith)) })
+
+-- what is noted of one node alone: over the nodes behind it, one more, and past those below it
+pub notes_start : (ns : List ℕ) (p : ℕ) → Notes ns p 0 (p + 1)
+notes_start ns p = record { small = omega arith; digits = λ s. rw (blank s, so_far_early ns p s (p + 1) (omega arith)) }
+
+pub notes_more : (ns : List ℕ) (p c seen after : ℕ) → p < c → Notes ns p seen c → Adds ns p c seen after → Notes ns p after (c + 1)
+notes_more ns p c seen after h w d = record {
+  small = d.small;
+  digits = λ s. d.digits s ∙ rw (w.digits s, so_far_more ns p s c h) (up_min (so_far ns p s c) (is_of ns p s c));
+}
+
+pub notes_out : (ns : List ℕ) → Tree ns → (p i seen : ℕ) → p < i → i < count ns → parent_of ns i < p → Notes ns p seen i → Notes ns p seen (count ns)
+notes_out ns t p i seen h l u w = record {
+  small = w.small;
+  digits = λ s. w.digits s ∙ ap (min 2) (sym (so_far_out ns p s t i h l u (count ns) i (omega arith) (omega arith) (omega arith)));
+}
 
 same_or_not : (a b : ℕ) → (a ≡ b) ⊎ (a ≢ b)
 same_or_not a b = go (eqb a b) refl

@@ -84,6 +84,10 @@ wrong_home ns i = wrong_function ns i || (wrong_class ns i || wrong_element ns i
 unfoldable pub wrong_count_at : List ℕ → ℕ → Bool
 wrong_count_at ns i = wrong_statement ns i || (wrong_part ns i || wrong_home ns i)
 
+-- the kinds whose children a sentence counts
+unfoldable pub is_counted : ℕ → Bool
+is_counted kind = within kind k.Function k.Arrow || (within kind k.Labeled k.Switch || (within kind k.Try k.Continue || (eqb kind k.Class || within kind k.MethodDefinition k.AccessorProperty)))
+
 -- what is known where no node has a wrong number of children
 pub record Counted (ns : List ℕ) : Type 0 where
   pub body : (i : ℕ) → i < count ns → k.Labeled ≤ kind_of ns i → kind_of ns i ≤ k.With → with_role ns i r.Held ≡ 1

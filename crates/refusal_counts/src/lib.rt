@@ -4,7 +4,7 @@
 ghost use Rattle.std.specs.Prelude.{ℕ, ◌≡◌, ◌≤◌, ◌<◌, ◌+◌, true, false, eqb, ltb, cond, ◌&&◌, length};
 ghost use Rattle.table_records.specs.Table.{count, kind_of};
 ghost use Rattle.refusal_verdict.specs.First.{first};
-ghost use Rattle.refusal_counts.specs.Counts.{is_default, wrong_body, wrong_alternate, wrong_default, wrong_try, wrong_clause, wrong_label, wrong_function, wrong_class, wrong_value, wrong_element, wrong_statement, wrong_part, wrong_home, wrong_count_at};
+ghost use Rattle.refusal_counts.specs.Counts.{is_default, wrong_body, wrong_alternate, wrong_default, wrong_try, wrong_clause, wrong_label, wrong_function, wrong_class, wrong_value, wrong_element, wrong_statement, wrong_part, wrong_home, wrong_count_at, is_counted};
 ghost use Rattle.refusal_counts.specs.declared.Sort.{Sort};
 ghost use Rattle.refusal_counts.specs.Tally.{is_of, number, weight, digit, Adds, Notes, Tallied};
 
@@ -310,7 +310,7 @@ fn wrong_home(noted: &Noted) -> bool
 }
 
 #[tactic(auto, unfolding(crate::specs::Counts::wrong_count_at), using(crate::proofs::CountsLaws::uncounted))]
-fn wrong_count_at(nodes: &Nodes, n: NodeId, seen: u32) -> bool
+fn wrong_count_of(nodes: &Nodes, n: NodeId, seen: u32) -> bool
     requires n_bound { n.0 < count nodes.now }
     requires seen { Notes nodes.now n.0 seen (count nodes.now) }
     ensures { result ≡ wrong_count_at nodes.now n.0 }
@@ -327,13 +327,45 @@ fn wrong_count_at(nodes: &Nodes, n: NodeId, seen: u32) -> bool
     wrong_statement(noted) || wrong_part(noted) || wrong_home(noted)
 }
 
+// Whether a sentence counts the children of this kind.
+#[tactic(auto, unfolding(crate::specs::Counts::is_counted))]
+fn is_counted(kind: u32) -> bool
+    ensures { result ≡ is_counted kind }
+{
+    matches!(kind, kinds::FUNCTION..=kinds::ARROW)
+        || matches!(kind, kinds::LABELED..=kinds::SWITCH)
+        || matches!(kind, kinds::TRY..=kinds::CONTINUE)
+        || kind == kinds::CLASS
+        || matches!(kind, kinds::METHOD_DEFINITION..=kinds::ACCESSOR_PROPERTY)
+}
+
+// Whether node n has a wrong number of children: what `tally` notes of all nodes is noted of this one alone, by a pass over what is below it.
+#[tactic(auto, using(crate::proofs::CountsLaws::uncounted_kind))]
+pub fn wrong_count_at(nodes: &Nodes, n: NodeId) -> bool
+    requires { n.0 < count nodes.now }
+    ensures { result ≡ wrong_count_at nodes.now n.0 }
+{
+    let _ = &nodes.numbers; // names the field, so that its invariant is known
+    if !is_counted(table_records::kind(nodes, n)) {
+        return false;
+    }
+    let mut seen = 0;
+    for c in n.0 + 1..table_records::size(nodes) {
+        if table_records::parent(nodes, NodeId(c)).0 < n.0 {
+            break;
+        }
+        seen = with_child(nodes, n, NodeId(c), seen);
+    }
+    wrong_count_of(nodes, n, seen)
+}
+
 // The lowest node with a wrong number of children, over the filled array.
 fn wrong_count_by(nodes: &Nodes, seen: &[u32]) -> Option<u32>
     requires room { count nodes.now ≤ length seen.now }
     requires tallied { Tallied nodes.now seen.now (count nodes.now) }
     ensures { result ≡ first (wrong_count_at nodes.now) 0 (count nodes.now) }
 {
-    (0..table_records::size(nodes)).find(|&i| wrong_count_at(nodes, NodeId(i), seen[i as usize]))
+    (0..table_records::size(nodes)).find(|&i| wrong_count_of(nodes, NodeId(i), seen[i as usize]))
 }
 
 // With an array of N numbers, which is on the stack while this function runs alone.
