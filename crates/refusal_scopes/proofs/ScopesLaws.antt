@@ -1,8 +1,8 @@
 -- Laws of scopes, and what is known where refusal 5 does not apply.
-use Rattle.std.specs.Prelude.{ℕ, zero, suc, ◌≤◌, ◌<◌, ◌≡◌, refl, List, [], ◌∷◌, Bool, true, false, cond, not, ◌&&◌, ◌||◌, eqb, ltb, Option, Some, None}
-use Rattle.std.proofs.Common.{sym, subst, ◌∙◌, ⊎_elim, eq-or-lt_of_le, arith}
+use Rattle.std.specs.Prelude.{ℕ, zero, suc, ◌+◌, ◌≤◌, ◌<◌, ◌≡◌, refl, List, [], ◌∷◌, Bool, true, false, cond, not, ◌&&◌, ◌||◌, eqb, ltb, length, get_or, set, Option, Some, None}
+use Rattle.std.proofs.Common.{sym, subst, ◌∙◌, ⊎_elim, eq-or-lt_of_le, arith, get_or-set_same, get_or-set_other}
 use Rattle.std.proofs.Math.Bool.{and-true, and-false}
-use borrow.Author.Tests.{eq-eqb, ne_eqb, eqb-true, ltb-true, ltb-false, leb-false, not-true, not-false}
+use borrow.Author.Tests.{eq-eqb, ne_eqb, le-leb, lt-leb, eqb-true, ltb-true, ltb-false, leb-false, not-true, not-false}
 use Rattle.std.proofs.Math.Dec.{leb}
 use Rattle.base_common.specs.Upto.{all}
 use Rattle.base_common.proofs.UptoLaws.{and_left_lem, and_right_lem}
@@ -16,7 +16,7 @@ use Rattle.table_records.specs.Facts.{Tree, Chained, Scoped}
 use Rattle.refusal_verdict.specs.First.{first}
 use Rattle.refusal_verdict.proofs.FirstLaws.{first_none, first_here_lem}
 use Rattle.refusal_scopes.specs.Scopes.{broken_at, chain_on, misscoped_at}
-use Rattle.refusal_scopes.specs.OwnScopes.{Meets, shares_scope}
+use Rattle.refusal_scopes.specs.OwnScopes.{Meets, Deep, shares_scope}
 
 -- the scope around another is a lower one: a lemma of its own, which `using` can name
 pub scope_falls : (ss : List ℕ) → Chained ss → (s : ℕ) → 0 < s → s < count_scopes ss → scope_parent_of ss s < s
@@ -72,6 +72,37 @@ module _ (ns : List ℕ) (t : Tree ns) where
           (lt_or_ge a b)
       go true false p q = refl
       go false y p q = refl
+
+-- the array of `Deep`: the first scope's number, and one scope more
+module _ (ns ss deep : List ℕ) where
+  pub deep_start : 0 < length deep → Deep ns ss (set deep 0 (scope_node_of ss 0)) 1
+  deep_start h s l i k =
+      let q : s ≡ 0 = omega arith in
+      subst (λ (x : ℕ). on (parent_of ns) (get_or (set deep 0 (scope_node_of ss 0)) x 0) i ≡ chain_on ns ss x i) (sym q)
+      (rw (get_or-set_same deep 0 (scope_node_of ss 0) 0 h) (sym (chain_root ns ss i)))
+
+  pub deep_more : Chained ss → (s m : ℕ) → 0 < s → s < count_scopes ss → s < length deep → Deep ns ss deep s
+      → Meets ns m (scope_node_of ss s) (get_or deep (scope_parent_of ss s) 0) → Deep ns ss (set deep s m) (s + 1)
+  deep_more c s m h l r d w j k i b =
+      ⊎_elim (λ (q : j ≡ s).
+      subst (λ (x : ℕ). on (parent_of ns) (get_or (set deep s m) x 0) i ≡ chain_on ns ss x i) (sym q)
+      (rw (get_or-set_same deep s m 0 r) (w i b ∙ rw (d (scope_parent_of ss s) (c.falls s h l) i b) (sym (chain_up ns ss c s i h l)))))
+      (λ (q : j < s). rw (get_or-set_other deep s j m 0 (λ e. omega arith)) (d j q i b))
+      (eq-or-lt_of_le (omega arith))
+
+-- the test of a node, by its parts: a scope that is not in the table, a class's own that is not, and the chain
+module _ (ns ss : List ℕ) (i : ℕ) where
+  pub mis_missing : count_scopes ss ≤ scope_of ns i → misscoped_at ns ss i ≡ true
+  unfolding misscoped_at
+  mis_missing h = rw (le-leb (count_scopes ss) (scope_of ns i) h)
+
+  pub mis_extra : scope_of ns i < count_scopes ss → (eqb (kind_of ns i) 26 && leb (count_scopes ss) (extra_of ns i)) ≡ true → misscoped_at ns ss i ≡ true
+  unfolding misscoped_at
+  mis_extra h e = rw (lt-leb (count_scopes ss) (scope_of ns i) h, e)
+
+  pub mis_chain : scope_of ns i < count_scopes ss → (eqb (kind_of ns i) 26 && leb (count_scopes ss) (extra_of ns i)) ≡ false → misscoped_at ns ss i ≡ not (chain_on ns ss (scope_of ns i) i)
+  unfolding misscoped_at
+  mis_chain h e = rw (lt-leb (count_scopes ss) (scope_of ns i) h, e)
 
 -- no scope record is broken: the facts
 pub chained_of : (ss : List ℕ) → IsTableSize (count_scopes ss) → first (broken_at ss) 0 (count_scopes ss) ≡ None → Chained ss
