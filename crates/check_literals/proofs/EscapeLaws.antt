@@ -92,12 +92,12 @@ bad_ends i (b ∷ c ∷ l) =
     (ends_by m (i + 1 + length (c ∷ l)) (bad_escape (i + 1) (c ∷ l)) (omega arith) (bad_ends (i + 1) (c ∷ l)))
 
 -- the escape of a string ends within its span
-abbrev Spanned : List ℕ → ℕ → Option Escape → Type 0
+abbrev pub Spanned : List ℕ → ℕ → Option Escape → Type 0
 Spanned ns n (Some (LegacyOctal i)) = span_start_of ns n + i + 2 ≤ span_end_of ns n
 Spanned ns n (Some (NonOctalDecimal i)) = span_start_of ns n + i + 2 ≤ span_end_of ns n
 Spanned ns n None = Unit {0}
 
-escape_spanned : (ns source : List ℕ) (n : ℕ) (e : Option Escape) → e ≡ bad_escape 0 (source_text ns source n) → Spanned ns n e
+pub escape_spanned : (ns source : List ℕ) (n : ℕ) (e : Option Escape) → e ≡ bad_escape 0 (source_text ns source n) → Spanned ns n e
 unfolding source_text
 escape_spanned ns source n e q = go e (rw (← q) at (bad_ends 0 (source_text ns source n)))
   where
