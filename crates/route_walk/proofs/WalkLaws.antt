@@ -1,11 +1,13 @@
 -- Walks one behind the other, walks that take an answer, and what a whole walk has listed.
-use Rattle.std.specs.Prelude.{ℕ, suc, ◌+◌, ◌≤◌, ◌<◌, ◌≡◌, refl, List, [], ◌∷◌, ◌++◌, map, Bool, true, false, length, set, get_or}
+use Rattle.std.specs.Prelude.{ℕ, suc, ◌+◌, ◌≤◌, ◌<◌, ◌≡◌, refl, List, [], ◌∷◌, ◌++◌, map, Bool, true, false, length, set, get_or, eqb}
 use Rattle.std.proofs.Math.Path.{ap}
 use Rattle.std.proofs.Common.{sym, ◌∙◌, subst, append-nil, drop_of_length-le, drop-cons, arith}
 use Rattle.std.proofs.Math.ListN.{drop}
 use Rattle.std.proofs.Math.Seq.{append_snoc}
-use Rattle.route_completion.specs.Sem.{Entry, plain, asked, Comp, normal, spent, Out, out, more, ask, go_on, pick, is_normal, is_spent, finally, finally_if, exec, execs}
+use Rattle.route_completion.specs.Sem.{Entry, plain, asked, Comp, normal, spent, Out, out, more, ask, go_on, pick, is_normal, is_spent, finally, finally_if, no_label, exec, execs}
 use Rattle.route_completion.specs.Tree.{Stmts, nil}
+use Rattle.code_tree.specs.Labels.{name_id}
+use Rattle.table_records.specs.declared.NodeId.{NodeId}
 use Rattle.route_completion.specs.Route.{node_of, asks, end_of, route}
 use Rattle.route_completion.proofs.TakenLaws.{asks_append}
 use Rattle.route_list.specs.Listing.{most, next, Listing}
@@ -13,6 +15,7 @@ use Rattle.route_list.proofs.ListingLaws.{listing_first, listing_more}
 use Rattle.route_walk.specs.declared.Progress.{Progress}
 use Rattle.route_walk.specs.declared.Run.{Run}
 use Rattle.route_walk.specs.declared.Completion.{Completion}
+use Rattle.route_walk.specs.declared.Completion.TheVariants.{BreakTo}
 use Rattle.route_walk.specs.Walk.{Read, comp_at, label_in, written, counted, Walked, Shows}
 
 written_append : (f : List ℕ) (n : ℕ) (a b : List Entry) → written f n (a ++ b) ≡ written (written f n a) (counted n a) b
@@ -129,6 +132,17 @@ module _ (s : Read) where
       (let w = subst (λ x. Walked s mid (k x) r how') (sym u.rest) v in
       (λ i. pick (is_normal (w.ended i)) (u.ended i) (w.ended i)) ∙ sym q) l
       (then start mid r o (k o.rest) how how' u (subst (λ x. Walked s mid (k x) r how') (sym u.rest) v)))
+
+  -- Where no answer was left, the finally block isn't walked.
+  pub lasts_spent : (start r : Progress) (o : Out) (how : Completion) (k : List ℕ → Out) → is_spent o.comp ≡ true → Walked s start o r how → Walked s start (finally o k) r how
+  lasts_spent start r o how k f u = subst (λ x. Walked s start (finally_if x o k) r how) (sym f) u
+
+  -- A break to a label, at a Labeled.
+  pub unlabel_hit : (h : Completion) (l : NodeId) (i : ℕ) (b : Bool) → h ≡ BreakTo l → b ≡ eqb (name_id s.nodes s.names l.0) i → b ≡ true → normal ≡ no_label i (comp_at s.nodes s.names h)
+  unlabel_hit h l i b e q t = sym (ap (λ x. no_label i (comp_at s.nodes s.names x)) e ∙ ap (λ x. pick x normal (comp_at s.nodes s.names (BreakTo l))) (sym q ∙ t))
+
+  pub unlabel_miss : (h : Completion) (l : NodeId) (i : ℕ) (b : Bool) → h ≡ BreakTo l → b ≡ eqb (name_id s.nodes s.names l.0) i → b ≡ false → comp_at s.nodes s.names (BreakTo l) ≡ no_label i (comp_at s.nodes s.names h)
+  unlabel_miss h l i b e q t = sym (ap (λ x. no_label i (comp_at s.nodes s.names x)) e ∙ ap (λ x. pick x normal (comp_at s.nodes s.names (BreakTo l))) (sym q ∙ t))
 
   -- From the first answer on, a walk of the statements ss is their route; g is the slice then.
   pub whole : (start r : Progress) (how : Completion) (g : List ℕ) → start.entries ≡ 0 → start.taken ≡ 0 → length start.out.now ≤ most → g ≡ r.out.now → (ss : Stmts) → Walked s start (execs ss (drop start.taken s.answers)) r how
