@@ -291,6 +291,9 @@ module _ (ns names : List ℕ) (g : Good ns) where
     unfolding exec
     list_end e = ap (λ k. execs (list_of S k) qs) e
 
+    pub one_on : (ls : List ℕ) (c : ℕ) (cs : List ℕ) → ps ≡ c ∷ cs → exec (one_of S ps) ls qs ≡ exec (S c) ls qs
+    one_on ls c cs e = ap (λ k. exec (one_of S k) ls qs) e
+
     pub one_end : (ls : List ℕ) → ps ≡ [] → exec (one_of S ps) ls qs ≡ out [] normal qs
     unfolding exec
     one_end ls e = ap (λ k. exec (one_of S k) ls qs) e
