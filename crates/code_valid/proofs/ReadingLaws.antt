@@ -2,7 +2,7 @@
 use Prim.Native.Nat.{ℕ, zero, suc, ◌+◌, ◌*◌, ◌-◌, ◌/◌, ◌≤◌, ◌<◌}
 use Rattle.std.specs.Prelude.{◌≡◌, ◌≢◌, Bool, ◌&&◌, ◌||◌, List, [], ◌∷◌, drop, set, replicate, eqb, Ok, Err}
 use Rattle.std.proofs.Math.Path.{refl, ap}
-use Rattle.std.proofs.Common.{sym, ◌∙◌, subst, length-drop, drop_of_length-le, get_or-drop, drop-drop, get_or-set_same, get_or-set_other, add-mul}
+use Rattle.std.proofs.Common.{sym, ◌∙◌, subst, length-drop, drop_of_length-le, get_or-drop, drop-drop, get_or-set_same, get_or-set_other, add-mul, div-mul-le_self}
 use Rattle.std.proofs.Math.Bool.{true, false, not}
 use Rattle.std.proofs.Math.ListN.{length, get_or}
 use Rattle.std.proofs.Math.Seq.{set_out}
@@ -186,6 +186,9 @@ begins_past [] p o h = refl
 begins_past (i ∷ is) p o h =
     ap (λ b. (b && not (is_none i)) || begins is (p + len i) o) (ne_eqb p o (λ e. omega arith)) ∙ begins_past is (p + len i) o (omega arith)
 
+or_true : (b : Bool) → (true || b) ≡ true
+or_true b = refl
+
 module _ (C : List ℕ) (p o : ℕ) where
   pub search_past : o < p → begins (from C p) p o ≡ false
   search_past h = begins_past (from C p) p o h
@@ -287,6 +290,17 @@ module _ (x a b c : ℕ) where
       go true q = refl
       go false true = refl
       go false false = refl
+
+  pub runs_on_not : x ≢ op.List → x ≢ op.Open → runs_on (decode x a b c) ≡ false
+  runs_on_not h k = rw (ne_eqb x op.List h, ne_eqb x op.Open k) (go (eqb x op.Leave) (eqb x op.Ask) (eqb x op.Select) (eqb x op.End) (eqb x op.Case))
+    where
+      go : (p q r s t : Bool) → runs_on (pick p (LEAVE a b) (pick q (ASK a b c) (pick r (SELECT a b c) (pick s (END a) (pick t (CASE a b c) NONE))))) ≡ false
+      go true q r s t = refl
+      go false true r s t = refl
+      go false false true s t = refl
+      go false false false true t = refl
+      go false false false false true = refl
+      go false false false false false = refl
 
 and_true : (b : Bool) → (b && true) ≡ b
 and_true true = refl
@@ -393,6 +407,14 @@ search_at C p o r e q = go (dec_eq r)
     go : Dec (r ≡ 0) → not (eqb r 0) ≡ begins (from C p) p o
     go (yes z) = ap not (eq-eqb r 0 z) ∙ sym (search_none C p o (sym e ∙ z))
     go (no z) = ap not (ne_eqb r 0 z) ∙ sym (search_here C p o (λ w. z (e ∙ w)) q)
+
+-- Where a search of the table's begins.
+pub table_at : (C table : List ℕ) (stride o : ℕ) → Table C table stride
+    → begins (from C (get_or table (o / stride) 0)) (get_or table (o / stride) 0) o ≡ begins (parse C) 0 o
+table_at C table stride o t =
+    let u : o / stride * stride ≤ o = div-mul-le_self o stride in
+    let v : get_or table (o / stride) 0 ≤ o / stride * stride = t.low (o / stride) in
+    t.entry (o / stride) o (omega arith)
 
 pub check_none : (C : List ℕ) → length C ≡ 0 → check C ≡ Err 0
 unfolding check parse
