@@ -74,34 +74,45 @@ pub scan_first : (C : List ℕ) (x : ℕ) → Scanned C x 0
 scan_first C x = record { index = 0; place = refl; ahead = λ k e. (k, e) }
 
 module _ (C : List ℕ) (x o : ℕ) (s : Scanned C x o) where
+  -- It goes on, where it isn't at x.
+  scan_on : o ≢ x → (w : ℕ) → w ≡ width (get_or C o 0) → Scanned C x (o + w)
+  scan_on h w e =
+      record {
+        index = suc s.index;
+        place = offset_last C 0 s.index ∙ ap (λ p. p + width (get_or C p 0)) s.place ∙ ap (λ v. o + v) (sym e);
+        ahead = λ k q. go (s.ahead k q);
+      }
+    where
+      go : (j : ℕ) × (offset C o j ≡ x) → (j : ℕ) × (offset C (o + w) j ≡ x)
+      go (zero, q) = absurd (h q)
+      go (suc j, q) = (j, ap (λ v. offset C (o + v) j) e ∙ q)
+
+  pub scan_more : o < x → (w : ℕ) → w ≡ width (get_or C o 0) → Scanned C x (o + w)
+  scan_more h w e = scan_on (λ q. omega arith) w e
+
+  pub scan_here : o ≡ x → (w : ℕ) → w ≡ width (get_or C x 0) → 0 < w → Begins C x
+  scan_here e w q h = record { index = s.index; place = s.place ∙ e; some = omega arith }
+
+  -- By a turn of the walk over the instructions.
   module _ (i : Instruction) (q : ℕ) (t : Turn (fetch C) o i q) where
     behind : o + width (get_or C o 0) ≡ q
     behind = ap (λ v. o + v) (width_read C o ∙ sym t.size) ∙ sym t.next
 
-    pub scan_more : i.place ≢ x → Scanned C x q
-    scan_more h =
-        record {
-          index = suc s.index;
-          place = offset_last C 0 s.index ∙ ap (λ p. p + width (get_or C p 0)) s.place ∙ behind;
-          ahead = λ k e. go (s.ahead k e);
-        }
-      where
-        go : (j : ℕ) × (offset C o j ≡ x) → (j : ℕ) × (offset C q j ≡ x)
-        go (zero, e) = absurd (h (t.place ∙ e))
-        go (suc j, e) = (j, ap (λ v. offset C v j) (sym behind) ∙ e)
+    pub turn_more : i.place ≢ x → Scanned C x q
+    turn_more h = subst (Scanned C x) behind (scan_on (λ e. h (t.place ∙ e)) (width (get_or C o 0)) refl)
 
-    pub scan_here : i.place ≡ x → Begins C x
-    scan_here h =
+    pub turn_here : i.place ≡ x → Begins C x
+    turn_here h =
         let e : o ≡ x = sym t.place ∙ h in
-        record { index = s.index; place = s.place ∙ e; some = subst (λ v. 0 < width (get_or C v 0)) e (omega (arith, width_read C o, t.some)) }
+        scan_here e (width (get_or C x 0)) refl (subst (λ v. 0 < width (get_or C v 0)) e (omega (arith, width_read C o, t.some)))
 
-  scan_none : width (get_or C o 0) ≡ 0 → Begins C x → ⊥
+  pub scan_none : width (get_or C o 0) ≡ 0 → Begins C x → ⊥
   scan_none z b = go (s.ahead b.index b.place)
     where
       go : (j : ℕ) × (offset C o j ≡ x) → ⊥
       go (j, e) = omega (arith, ap (λ v. width (get_or C v 0)) (sym (stays C o j z) ∙ e), z, b.some)
 
-  scan_past : x < o → Begins C x → ⊥
+  pub scan_past : x < o → Begins C x → ⊥
   scan_past h b = go (s.ahead b.index b.place)
     where
       go : (j : ℕ) × (offset C o j ≡ x) → ⊥
