@@ -1,6 +1,6 @@
 -- The text as the code comes to it: from the answer of `check` and its slice, and from the slices that were read.
 use Rattle.std.specs.Prelude.{Result, Ok, Err, ℕ, ◌*◌, ◌≡◌, Bool, leb, take}
-use Rattle.std.proofs.Math.Path.{refl, ap, subst}
+use Rattle.std.proofs.Math.Path.{refl, ap, sym, subst}
 use Rattle.std.proofs.Common.{◌∙◌, zero-add, leb-true}
 use Rattle.std.proofs.Math.Bool.{true, false, cond}
 use mathlib.Core.List.{List, [], ◌∷◌, ◌++◌}
@@ -9,6 +9,7 @@ use Rattle.base_common.specs.Wrote.{put}
 use Rattle.check_diagnostics.specs.declared.Finding.{Finding}
 use Rattle.check_diagnostics.specs.Finding.{numbers, flat}
 use Rattle.refusal_verdict.specs.declared.Refusal.TheVariants as refusal
+use Rattle.refusal_verdict.specs.declared.Refused.{Refused}
 use Rattle.refusal_verdict.specs.declared.Refused.TheVariants.{At, Short}
 use Rattle.refusal_verdict.specs.Verdict.{Verdict, Passed, unless}
 use Rattle.refusal_input.specs.Input.{input_refusal}
@@ -72,6 +73,14 @@ module _ (kind : ℕ) (ns ss source names : List ℕ) where
   unfolding check_answer
   check_counted len = by_counted (input_refusal kind ns ss source names) (reported (rule kind 0 ns ss source names)) len
 
+-- the same of the slices as the code has them
+module _ (kind : ℕ) (s g : List ℕ) (r : Result ℕ Refused) (ns ss xs ms : List ℕ) (h : length s ≡ findings_room) (a : r ≡ check_answer (rule kind 0 ns ss xs ms) (length s)) (b : g ≡ check_slice (rule kind 0 ns ss xs ms) s) where
+  pub checked_counted : length g ≡ length s → Counted r (length g)
+  checked_counted e = rw (e, a) (check_counted kind ns ss xs ms (length s))
+
+  pub checked_text : (ns' ss' xs' ms' : List ℕ) → ns ≡ ns' → ss ≡ ss' → xs ≡ xs' → ms ≡ ms' → answer_text r g ≡ check_text kind ns' ss' xs' ms'
+  checked_text ns' ss' xs' ms' p q u v = rw (a, b, sym p, sym q, sym u, sym v) (check_text_lem kind ns ss xs ms s h)
+
 -- the text by what `read` answers
 module _ (b : List ℕ) where
   pub text_unread : (d : Unread) → (read_input lent b).answer ≡ Err d → response b ≡ refusal_text (At refusal.Unread d.line)
@@ -89,6 +98,12 @@ module _ (b : List ℕ) where
 -- a text put at a slice's start
 pub put_front : (f t : List ℕ) → put f 0 t ≡ front t f
 put_front f t = ap (λ (k : ℕ). t ++ drop k f) (zero-add (length t))
+
+pub front_put : (f g t u : List ℕ) (r : ℕ) → t ≡ u → (r ≡ length t) × (g ≡ put f 0 t) → (r ≡ length u) × (g ≡ front u f)
+front_put f g t u r e p = (p.0 ∙ ap length e, p.1 ∙ put_front f t ∙ ap (λ (x : List ℕ). front x f) e)
+
+pub front_same : (f g t u : List ℕ) (r : ℕ) → t ≡ u → (r ≡ length t) × (g ≡ front t f) → (r ≡ length u) × (g ≡ front u f)
+front_same f g t u r e p = rw (sym e) p
 
 -- Nothing is cut: the program reads at most `enough` bytes, and more of them change nothing.
 pub response_whole : (b : List ℕ) → response (take enough b) ≡ response b
