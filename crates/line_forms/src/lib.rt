@@ -28,18 +28,22 @@ pub fn lettered(l: &[u8], c: u8) -> bool
 pub fn is_numbers(l: &[u8], c: u8, n: usize) -> bool
     ensures { result ≡ is_numbers c n l.now }
 {
+    if !lettered(l, c) {
+        return false;
+    }
     let tail = line_fields::onward(l, COMMA);
-    lettered(l, c) && line_fields::count(tail) == n && line_fields::are_numbers(tail, n)
+    line_fields::count(tail) == n && line_fields::are_numbers(tail, n)
 }
 
 #[tactic(auto, using(crate::proofs::FormLaws::node_letter, crate::proofs::FormLaws::node_few_tested, crate::proofs::FormLaws::node_is_tested))]
 pub fn is_node(l: &[u8]) -> bool
     ensures { result ≡ is_n l.now }
 {
+    if !lettered(l, b'N') {
+        return false;
+    }
     let tail = line_fields::onward(l, COMMA);
-    lettered(l, b'N')
-        && NODE_NUMBERS < line_fields::count(tail)
-        && line_fields::are_numbers(tail, NODE_NUMBERS)
+    NODE_NUMBERS < line_fields::count(tail) && line_fields::are_numbers(tail, NODE_NUMBERS)
 }
 
 // The rest of a node's line, behind its eight numbers.
@@ -62,10 +66,13 @@ pub fn fits(n: usize, each: usize, room: usize) -> bool
 pub fn is_source(l: &[u8], room: usize) -> bool
     ensures { result ≡ is_x room l.now }
 {
+    if !lettered(l, b'X') {
+        return false;
+    }
     let tail = line_fields::onward(l, COMMA);
+    if line_fields::count(tail) != 1 {
+        return false;
+    }
     let digits = line_fields::field(tail);
-    lettered(l, b'X')
-        && line_fields::count(tail) == 1
-        && line_digits::is_hex(digits)
-        && fits(digits.len() / 2, 1, room)
+    line_digits::is_hex(digits) && fits(digits.len() / 2, 1, room)
 }

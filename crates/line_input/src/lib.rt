@@ -233,11 +233,12 @@ pub fn read(
 fn is_answers(l: &[u8], room: usize) -> bool
     ensures { result ≡ is_a room l.now }
 {
+    if !line_forms::lettered(l, b'A') {
+        return false;
+    }
     let tail = line_fields::onward(l, COMMA);
     let n = line_fields::count(tail);
-    line_forms::lettered(l, b'A')
-        && line_fields::are_numbers(tail, n)
-        && line_forms::fits(n, 1, room)
+    line_fields::are_numbers(tail, n) && line_forms::fits(n, 1, room)
 }
 
 #[tactic(auto, using(crate::proofs::RouteLaws::unit_told))]
