@@ -13,6 +13,13 @@ pub record Room (ns : List ℕ) (d : Draft) : Type 0 where
   pub offsets : count ns ≤ length d.offsets.now
   pub follows : count ns ≤ length d.follows.now
 
+-- The arrays that were lent are the draft's still, each where it was.
+pub record SameArrays (before after : Draft) : Type 0 where
+  pub widths : after.widths.ghost_name ≡ before.widths.ghost_name
+  pub levels : after.levels.ghost_name ≡ before.levels.ghost_name
+  pub offsets : after.offsets.ghost_name ≡ before.offsets.ghost_name
+  pub follows : after.follows.ghost_name ≡ before.follows.ghost_name
+
 -- n, behind b, is the unit's, and the unit's nodes before it have their places.
 -- A `requires` and no struct's invariant: `lay_at` writes array by array, so that it holds between turns and not at each write.
 pub record Turn (ns names : List ℕ) (b n : ℕ) (d : Draft) : Type 0 where

@@ -10,7 +10,7 @@ ghost use Rattle.code_layout.specs.Widths.{has_role, is_try, sum, in_unit, own_w
 ghost use Rattle.code_layout.specs.Context.{offset_at};
 ghost use Rattle.code_widths.specs.Widths.{Units, Widths, counted};
 ghost use Rattle.code_contexts.specs.Contexts.{Ready, Wide, goes_by, Follow, Places};
-ghost use Rattle.code_contexts.specs.Turn.{Room, Turn};
+ghost use Rattle.code_contexts.specs.Turn.{Room, SameArrays, Turn};
 
 use code_shapes::{is_try, shape_of, up_of};
 use code_tree::Shape;
@@ -149,6 +149,7 @@ fn level_of(nodes: &Nodes, names: &[u8], b: NodeId, p: NodeId, l: u16) -> u16
 #[tactic(auto, using(crate::proofs::PlacesLaws::level_is_lem, crate::proofs::PlacesLaws::places_turn, crate::proofs::TurnLaws::holder_lt, crate::proofs::TurnLaws::holder_level, crate::proofs::TurnLaws::level_small))]
 fn lay_node(nodes: &Nodes, names: &[u8], b: NodeId, n: NodeId, draft: &mut Draft)
     requires { Turn nodes.now names.now b.0 n.0 draft.old }
+    ensures same_arrays { SameArrays draft.old draft.new }
     ensures room { Room nodes.now draft.new }
     ensures widths { draft.new.widths.now ≡ draft.old.widths.now }
     ensures places { Places nodes.now names.now b.0 (n.0 + 1) draft.new.levels.now draft.new.offsets.now draft.new.follows.now }
@@ -170,6 +171,7 @@ fn lay_at(nodes: &Nodes, names: &[u8], b: NodeId, n: NodeId, draft: &mut Draft)
     requires room { Room nodes.now draft.old }
     requires wide { Wide nodes.now b.0 draft.old.widths.now }
     requires places { Places nodes.now names.now b.0 n.0 draft.old.levels.now draft.old.offsets.now draft.old.follows.now }
+    ensures same_arrays { SameArrays draft.old draft.new }
     ensures room { Room nodes.now draft.new }
     ensures widths { draft.new.widths.now ≡ draft.old.widths.now }
     ensures places { Places nodes.now names.now b.0 (n.0 + 1) draft.new.levels.now draft.new.offsets.now draft.new.follows.now }
@@ -186,6 +188,7 @@ pub fn fill_places(nodes: &Nodes, names: &[u8], b: NodeId, draft: &mut Draft)
     requires room { Room nodes.now draft.old }
     requires units { Units nodes.now b.0 (count nodes.now) draft.old.levels.now }
     requires widths { Widths nodes.now b.0 draft.old.widths.now draft.old.offsets.now }
+    ensures same_arrays { SameArrays draft.old draft.new }
     ensures room { Room nodes.now draft.new }
     ensures widths { draft.new.widths.now ≡ draft.old.widths.now }
     ensures places { Places nodes.now names.now b.0 (count nodes.now) draft.new.levels.now draft.new.offsets.now draft.new.follows.now }

@@ -12,6 +12,7 @@ loop-j-init c =
     let r = c.requires.room in
     let root = c.requires.ready.held.root in
     record {
+      same_arrays = record { widths = refl; levels = refl; offsets = refl; follows = refl };
       room = record { widths = r.widths; levels = r.levels; offsets = omega (arith, length-set {A = ℕ}); follows = omega (arith, length-set {A = ℕ}) };
       widths = refl;
       places = places_start a.nodes.now a.names.now a.b.0 c.requires.ready d.levels.now d.offsets.now d.follows.now (omega arith) (omega arith) c.requires.units c.requires.widths.after;
