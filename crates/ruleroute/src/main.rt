@@ -63,7 +63,7 @@ fn last_line(answer: Result<Route, Refused>, out: &mut [u8]) -> usize
 
 // The answer for the bytes `input`, with slices for the tables and for the code; `out` holds the route then. The tables' have room for
 // 1,024 nodes of ten numbers, 1,024 scopes of three, and 1,024 bytes of source and of names: the most that are read.
-#[tactic(auto, using(crate::proofs::AnswerLaws::routed_unasked, crate::proofs::AnswerLaws::entries_unasked, crate::proofs::AnswerLaws::routed_asked, crate::proofs::AnswerLaws::entries_asked))]
+#[tactic(auto, using(crate::proofs::AnswerLaws::answer_unasked, crate::proofs::AnswerLaws::entries_unasked, crate::proofs::AnswerLaws::answer_asked, crate::proofs::AnswerLaws::entries_asked))]
 fn respond_by(
     input: &[u8],
     nodes: &mut [u32],
@@ -128,7 +128,7 @@ fn print_entry<O: Write>(writer: &mut O, node: u32, text: &mut [u8]) -> io::Resu
     writer.write_all(line_print::front(text, end))
 }
 
-#[tactic(auto, using(crate::proofs::AnswerLaws::lines_next), unfolding(crate::specs::Answer::lines_for))]
+#[tactic(auto, using(crate::proofs::AnswerLaws::lines_appended), unfolding(crate::specs::Answer::lines_for))]
 fn print_entries<O: Write>(writer: &mut O, entries: &[u32], text: &mut [u8]) -> io::Result<()>
     requires { length text.old ≡ line_room }
     ensures { OnOk result (Appends (O.contents writer.old) (O.contents writer.new) (lines_for entries.now)) }
