@@ -4,7 +4,7 @@
 ghost use Rattle.std.specs.Prelude.{◌≡◌, true, ◌+◌, ◌<◌, ◌≤◌, length, replicate};
 ghost use Rattle.table_records.specs.Table.{count};
 ghost use Rattle.table_children.specs.Children.{below};
-ghost use Rattle.check_class_table.specs.Elements.{element_name, has_private, is_declared};
+ghost use Rattle.check_class_table.specs.Elements.{element_name, has_private, is_declared, is_named};
 ghost use Rattle.check_element_index.specs.Index.{hash_on, hash, seed, bucket, bucket_of, is_element, key_number, entry_in, Entered, Indexed, has_key};
 
 use std::marker::Model;
@@ -194,6 +194,20 @@ pub fn has_key(elements: &Elements, c: ClassId, private: bool, name: &[u8], e: E
         && table_names::same(key_name(elements, e), name)
 }
 
+// Whether a node is a private element of class c of this name, without a look in its bucket: whether it enters is asked last, since that costs most.
+#[tactic(auto, unfolding(check_class_table::specs::Elements::is_named, check_class_table::specs::Elements::is_definition_in))]
+fn is_named(elements: &Elements, c: ClassId, name: &[u8], e: ElementId) -> bool
+    requires e_bound { e.0 < count elements.now.nodes }
+    ensures { result ≡ is_named elements.now.source_type elements.now.nodes elements.now.names c.0 true name.now e.0 }
+{
+    let named = elements.named;
+    table_records::parent(named.nodes, NodeId::from(e)) == NodeId::from(c)
+        && check_class_table::is_private(named.nodes, e)
+        && check_class_table::is_definition(named.nodes, e)
+        && table_names::same(check_class_table::element_name(named, e), name)
+        && check_class_table::enters(elements.source_type, named.nodes, e)
+}
+
 // Whether a class has a private element of this name, which is hashed to `hashed`.
 pub fn has_private_definition(elements: &Elements, c: ClassId, name: &[u8], hashed: u32) -> bool
     requires c_bound { c.0 < count elements.now.nodes }
@@ -205,11 +219,20 @@ pub fn has_private_definition(elements: &Elements, c: ClassId, name: &[u8], hash
     let _ = &nodes.numbers; // names the field, so that its invariant is known
     let b = bucket(elements.last.len(), c, true, hashed);
     let mut at = elements.last[b] as u32;
+    // the class itself from its front on, in step: names can be chosen so that elements of other classes fill the bucket
+    let mut front = c.0 + 1;
     while c.0 + 1 < at {
         let e = ElementId(at - 1);
         if has_key(elements, c, true, name, e) {
             return true;
         }
+        if table_records::parent(nodes, NodeId(front)).0 < c.0 {
+            return false;
+        }
+        if is_named(elements, c, name, ElementId(front)) {
+            return true;
+        }
+        front += 1;
         at = earlier(elements, e);
     }
     false
