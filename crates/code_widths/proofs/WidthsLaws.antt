@@ -158,7 +158,7 @@ module _ (ns names : List ℕ) (b : ℕ) (h : Held ns names b) where
   pub fits : (j : ℕ) → j < count ns → in_unit ns b j ≡ true → offset_at ns names b j + width_at ns b j ≤ width_at ns b b
   fits j hc e = fits_by (suc j) j (omega arith) hc e
 
-  width_small : (j : ℕ) → j < count ns → in_unit ns b j ≡ true → width_at ns b j ≤ 786420
+  pub width_small : (j : ℕ) → j < count ns → in_unit ns b j ≡ true → width_at ns b j ≤ 786420
   width_small j hc e = let f = fits j hc e in let r = root_small in let s = h.good.tree.small in omega arith
 
   -- The words of some parts of a node of the unit.
@@ -202,7 +202,7 @@ module _ (ns names : List ℕ) (b : ℕ) (h : Held ns names b) where
     abbrev rest : ℕ
     rest = get_or widths up 0
 
-    own_is : in_unit ns b i ≡ true → own ≡ width_at ns b i
+    pub own_is : in_unit ns b i ≡ true → own ≡ width_at ns b i
     own_is e = let w = c.before i (omega arith) (omega arith) e in let t = width_turn i hb hc in omega arith
 
     pub own_small : in_unit ns b i ≡ true → get_or widths i 0 ≤ 786420
