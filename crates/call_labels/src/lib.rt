@@ -209,6 +209,16 @@ pub fn names_length(labels: &Labels) -> usize
     w
 }
 
+// A name, from place w on. Byte by byte: what a slice's method calls for it is `memmove`, which the C library that calls this would have to have.
+fn put_bytes(bytes: &[u8], out: &mut [u8], w: usize)
+    requires { w + length bytes.now ≤ length out.old }
+    ensures { out.new ≡ put out.old w bytes.now }
+{
+    for i in 0..bytes.len() {
+        out[w + i] = bytes[i];
+    }
+}
+
 // Writes the new name of n at w.
 #[tactic(auto, using(crate::proofs::ShortLaws::put_none, crate::proofs::FirstsLaws::firsts_length, crate::proofs::WrittenLaws::nameless_new, crate::proofs::WrittenLaws::other_new, crate::proofs::WrittenLaws::short_new, crate::proofs::WrittenLaws::label_below, table_names::proofs::NameLaws::name_length))]
 fn put_name(labels: &Labels, n: NodeId, out: &mut [u8], w: usize)
@@ -221,7 +231,7 @@ fn put_name(labels: &Labels, n: NodeId, out: &mut [u8], w: usize)
         return;
     }
     if !is_label(named.nodes, n) {
-        table_put::copy(name(named.nodes, named.names, n), out, w);
+        put_bytes(name(named.nodes, named.names, n), out, w);
         return;
     }
     put_short(place_in(named, labels.kept, n), out, w);
