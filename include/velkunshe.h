@@ -15,7 +15,7 @@
  *
  * Whatever the numbers are, a call ends, reads and writes nothing but what it is lent, keeps nothing, and answers what is proved of it.
  * Calls may run at the same time on different threads where nothing that one of them writes is lent to another.
- * It has no global state, calls nothing but memcpy, memmove and memset of the C library, and needs up to VELKUNSHE_STACK bytes of stack; velkunshe_check
+ * It has no global state, calls nothing but memcpy and memset of the C library, and needs up to VELKUNSHE_STACK bytes of stack; velkunshe_check
  * and velkunshe_walk, which calls itself as deep as statements are nested, up to 420 KB. For a rule of at most 1,024 nodes and 1,024 scopes no call needs more
  * than 128 KB.
  *
